@@ -1,0 +1,2 @@
+pub mod HmacLemmas
+mod Rfc4231

@@ -1,0 +1,2 @@
+pub mod BlockCountLemmas
+pub mod PlainLemmas

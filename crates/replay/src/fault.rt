@@ -1,0 +1,38 @@
+//! The refusals of this crate.
+ghost use Rattle.std.specs.Prelude.{◌≡◌};
+ghost use Rattle.replay.specs.Faults.{code_of};
+
+use thiserror::Error;
+
+/// Why a window refused.
+#[derive(Clone, Copy, Debug, PartialEq, Eq, Error)]
+pub enum ReplayFault {
+    /// There was no memory for one more number. The window is as it was.
+    #[error("E20: no memory for the replay window")]
+    Memory,
+}
+
+impl ReplayFault {
+    /// The refusal's number, as programs print it behind `E`.
+    pub fn code(self) -> u8
+        ensures { result ≡ code_of self }
+    {
+        match self {
+            ReplayFault::Memory => 20,
+        }
+    }
+}
+
+#[cfg(test)]
+mod tests {
+    use super::*;
+    use std::test::Fail;
+
+    #[test]
+    fn names_the_fault(rt: HostRuntime) -> Result<(), Fail> {
+        assert_eq!(rt; ReplayFault::Memory.code(), 20);
+        let text = format!(in rt.alloc(); "{}", ReplayFault::Memory)?;
+        assert_eq!(rt; text.as_str(), "E20: no memory for the replay window");
+        Ok(())
+    }
+}

@@ -1,0 +1,26 @@
+//! Sequence numbers of ESP: what number a packet has, and whether it came before (RFC 4303 sections 2.2 and 3.4.3).
+//!
+//! A packet carries the low 32 bits of its number. [`recover`] finds the number that they stand for, which an
+//! association with extended numbers needs. A [`Window`] remembers the numbers that were taken: asking
+//! ([`Window::judge`]) is apart from taking ([`Window::take`]), so that a packet's number is taken only after its check
+//! value was found right.
+//!
+//! ```text
+//! let mut window = PlainWindow::new(alloc, 2);    // spans 64 numbers
+//! window.take(65)?;
+//! window.judge(2)     // Fresh
+//! window.judge(1)     // Old
+//! window.judge(65)    // Taken
+//! window.judge(0)     // Zero
+//! ```
+#![tactic(auto)]
+
+mod fault;
+mod plain;
+mod recovery;
+mod window;
+
+pub use fault::ReplayFault;
+pub use plain::PlainWindow;
+pub use recovery::{recover, recovers_one_number};
+pub use window::{Judgement, Window, is_block_count};

@@ -1,0 +1,74 @@
+//! What a replay window is, however it keeps its numbers.
+ghost use Rattle.std.specs.Prelude.{◌≡◌, IsTrue, ◌↔◌, OnOk, OnErr};
+ghost use Rattle.replay.specs.Window.{Seen, IsBlockCount};
+
+use crate::ReplayFault;
+
+/// What a window says of a number.
+#[derive(Clone, Copy, Debug, PartialEq, Eq)]
+pub enum Judgement {
+    /// The number is 0, which no packet has.
+    Zero,
+    /// The number lies below the window's span, so nothing is known of it.
+    Old,
+    /// The number lies in the span and was taken.
+    Taken,
+    /// The number was not taken, and lies in the span or above it.
+    Fresh,
+}
+
+/// Whether a window can be made of `m` blocks of 64 numbers: a power of two from 2 to 128.
+pub fn is_block_count(m: u32) -> bool
+    ensures { IsTrue result ↔ IsBlockCount m }
+{
+    matches!(m, 2 | 4 | 8 | 16 | 32 | 64 | 128)
+}
+
+/// The numbers of an association that were taken, as far as they are remembered (RFC 4303 section 3.4.3).
+///
+/// Asking about a number is apart from taking it: a receiver asks, checks the packet's integrity, and only then takes.
+pub trait Window {
+    ghost use Rattle.std.specs.Prelude.{ℕ};
+    ghost use Rattle.replay.specs.Window.{Seen, IsSound, judgement, Takes};
+
+    /// The window as contracts see it.
+    ghost seen: { Self → Seen };
+
+    /// Holds of a kind of window that may refuse a number for want of memory.
+    ghost may_want: { Type 0 };
+
+    /// The greatest number taken, 0 where none was.
+    fn top(&self) -> u64
+        ensures { result ≡ (seen self.now).top };
+
+    /// How many numbers the window spans, up to the greatest one taken.
+    fn size(&self) -> u64
+        ensures { result ≡ (seen self.now).size };
+
+    /// What is known of a number.
+    fn judge(&self, n: u64) -> Judgement
+        ensures { result ≡ judgement (seen self.now) n };
+
+    /// Takes a number that [`Window::judge`] calls fresh. A greater number than all before moves the span up, and what
+    /// falls out of it is forgotten. [`ReplayFault::Memory`] leaves the window as it was.
+    fn take(&mut self, n: u64) -> Result<(), ReplayFault>
+        requires { judgement (seen self.old) n ≡ Judgement.Fresh }
+        ensures taken { OnOk result (Takes (seen self.old) n (seen self.new)) }
+        ensures refused { OnErr result ((seen self.new ≡ seen self.old) × may_want) };
+
+    /// What holds of every window.
+    ghost sound: { (w : Self) → IsSound (seen w) };
+}
+
+#[cfg(test)]
+mod tests {
+    use super::*;
+
+    #[test]
+    fn seven_counts_of_blocks(rt: HostRuntime) {
+        let counts = [2, 4, 8, 16, 32, 64, 128];
+        for m in 0..=300 {
+            assert_eq!(rt; is_block_count(m), counts.contains(&m), "at {m}");
+        }
+    }
+}
