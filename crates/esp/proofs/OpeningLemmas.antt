@@ -1,0 +1,131 @@
+-- From what the steps of opening find to what is said of the whole.
+use Rattle.std.proofs.Common.{◌≡◌, ℕ, zero, suc, ◌+◌, ◌-◌, ◌*◌, ◌/◌, ◌%◌, ◌^◌, ◌<◌, ◌≤◌, Bool, true, false, List, [], ◌∷◌, ◌++◌, length, take, drop, get_or, refl, sym, ap, ◌∙◌, subst, arith, inl, inr, Result, Ok, Err, length-append, length-drop}
+use Rattle.std.specs.Prelude.{OnOk, OnErr, slice_index}
+use Rattle.std.specs.Result.{is_err}
+use Rattle.std.specs.Int.{w32, from_be_bytes, to_be_bytes}
+use Rattle.std.proofs.lemmas.List.{take-append-drop, drop-drop, take-take, drop-take, take_at, drop_at, get_or-take, get_or-drop, get_or_past, length-take-le}
+use Rattle.std.proofs.lemmas.Nat.{be_bytes_4}
+use Rattle.std.proofs.lemmas.Bool.{cases_Bool, cases_lt}
+use Rattle.byteorder.specs.Endian.{big_bytes, big_number}
+use Rattle.replay.specs.Window.{Seen, IsSound, Takes, judgement}
+use Rattle.replay.specs.WindowFacts.{IsFresh, fresh}
+use Rattle.esp.specs.declared.association.Association.{Association}
+use Rattle.esp.specs.Packet.{number_limit, head, check_value, PassesIntegrity, IsContents}
+use Rattle.esp.specs.Judging.{IsJudgedLength, low_half, IsNumber, Judges}
+use Rattle.esp.specs.Views.{Receiving}
+use Rattle.esp.proofs.ContentsLemmas.{payload_at}
+use Rattle.esp.specs.Opening.{IsFreshNumber, TakesNumber, HandsUp, WastesNumber}
+
+pub on_err : {T E : Type 0} (r : Result T E) (P : Type 0) → is_err r ≡ true → OnErr r P → P
+on_err (Ok x) P e h = absurd (cc)
+on_err (Err x) P e h = h
+
+pub on_ok : {T E : Type 0} (r : Result T E) (P : Type 0) → is_err r ≡ false → OnOk r P → P
+on_ok (Ok x) P e h = h
+on_ok (Err x) P e h = absurd (cc)
+
+-- a list of octets
+abbrev AreOctets : List ℕ → Type 0
+AreOctets b = (i : ℕ) → get_or b i 0 < 256
+
+-- the low half is what four octets spell
+low_half_octet : (b : List ℕ) (i : ℕ) → i < 4 → get_or (take 4 (drop 4 b)) i 0 ≡ get_or (drop 4 b) i 0
+low_half_octet b i h = get_or-take 4 (drop 4 b) i 0 h
+
+pub low_half_below : (b : List ℕ) → AreOctets b → low_half b < 2 ^ 32
+low_half_below b octets =
+    let o0 = octets 4 in let o1 = octets 5 in let o2 = octets 6 in let o3 = octets 7 in
+    let e0 = get_or-drop 4 b 0 0 in let e1 = get_or-drop 4 b 1 0 in let e2 = get_or-drop 4 b 2 0 in let e3 = get_or-drop 4 b 3 0 in
+    omega arith
+
+four_octets : (b : List ℕ) (i : ℕ) → length (take 4 (drop 4 b)) ≡ 4 → AreOctets b → get_or (take 4 (drop 4 b)) i 0 < 256
+four_octets b i len octets = elim (cases_lt i 4) [
+  | inl within ↦
+      let e = low_half_octet b i within in
+      let d = get_or-drop 4 b i 0 in
+      let o = octets (4 + i) in
+      omega arith
+  | inr past ↦ let e = get_or_past (take 4 (drop 4 b)) i 0 (omega arith) in omega arith
+]
+
+pub low_half_spells : (b : List ℕ) → 8 ≤ length b → AreOctets b → big_bytes 4 (low_half b) ≡ take 4 (drop 4 b)
+low_half_spells b long octets =
+    let four : List ℕ = take 4 (drop 4 b) in
+    let e0 = low_half_octet b 0 (omega arith) in let e1 = low_half_octet b 1 (omega arith) in let e2 = low_half_octet b 2 (omega arith) in let e3 = low_half_octet b 3 (omega arith) in
+    let len : length (take 4 (drop 4 b)) ≡ 4 = length-take-le 4 (drop 4 b) (omega (arith, length-drop 4 b)) in
+    be_bytes_4 (take 4 (drop 4 b)) (low_half b) len (λ i. four_octets b i len octets) (omega arith)
+
+-- a packet's head, where its first four octets are the SPI
+head_is : (a : Association) (b : List ℕ) (n : ℕ) → 8 ≤ length b → AreOctets b → take 4 b ≡ big_bytes 4 a.spi → n % 2 ^ 32 ≡ low_half b → take 8 b ≡ head a n
+head_is a b n long octets spi low =
+    sym (take-append-drop 4 (take 8 b))
+    ∙ ap (λ (xs : List ℕ). xs ++ drop 4 (take 8 b)) (take-take 4 8 b (omega arith) ∙ spi)
+    ∙ ap (λ (xs : List ℕ). big_bytes 4 a.spi ++ xs) (drop-take 4 4 b ∙ sym (low_half_spells b long octets) ∙ ap (big_bytes 4) (sym low))
+
+-- octets whose check value is right pass the integrity check
+pub intact : (a : Association) (b : List ℕ) (n : ℕ) → 24 ≤ length b → AreOctets b → take 4 b ≡ big_bytes 4 a.spi → n % 2 ^ 32 ≡ low_half b → n < number_limit a.extended
+    → drop (length b - 16) b ≡ check_value a n (take (length b - 16) b) → PassesIntegrity a n b
+intact a b n long octets spi low fits right = record {
+  rest = take (length b - 16) b;
+  check = drop (length b - 16) b;
+  octets = sym (take-append-drop (length b - 16) b);
+  sixteen = omega (arith, length-drop (length b - 16) b);
+  begins = take-take 8 (length b - 16) b (omega arith) ∙ head_is a b n (omega arith) octets spi low;
+  fits = fits;
+  right = right;
+}
+
+-- and those that pass have the right one
+pub right_check : (a : Association) (b : List ℕ) (n : ℕ) → PassesIntegrity a n b → drop (length b - 16) b ≡ check_value a n (take (length b - 16) b)
+right_check a b n p =
+    let len : length b ≡ length p.rest + 16 = ap length p.octets ∙ length-append p.rest p.check ∙ ap (λ (k : ℕ). length p.rest + k) p.sixteen in
+    let at : length p.rest ≡ length b - 16 = omega arith in
+    let tail : drop (length b - 16) b ≡ p.check = ap (drop (length b - 16)) p.octets ∙ drop_at p.rest p.check (length b - 16) at in
+    let front : take (length b - 16) b ≡ p.rest = ap (take (length b - 16)) p.octets ∙ take_at p.rest p.check (length b - 16) at in
+    tail ∙ p.right ∙ ap (check_value a n) (sym front)
+
+-- the low half and the bound of a packet's number
+number_low : (e : Bool) (w : Seen) (low n : ℕ) → low < 2 ^ 32 → IsNumber e w low n → n % 2 ^ 32 ≡ low
+number_low false w low n small h = let same = h.0 in omega arith
+number_low true w low n small h = h.low_half
+
+number_fits : (e : Bool) (w : Seen) (low n : ℕ) → low < 2 ^ 32 → IsNumber e w low n → n < number_limit e
+number_fits false w low n small h = let same = h.0 in omega arith
+number_fits true w low n small h = h.fits
+
+-- a packet whose number is fresh and whose check value is right is judged as that number
+pub judged : (r : Receiving) (b : List ℕ) (n : ℕ) → (4 ≤ length b → take 4 b ≡ big_bytes 4 r.association.spi) → AreOctets b → IsFreshNumber r b n
+    → drop (length b - 16) b ≡ check_value r.association n (take (length b - 16) b) → Judges r.association r.window b n
+judged r b n spi octets f right =
+    let is_fresh = fresh r.window n f.fresh in
+    let long = f.whole.least in
+    let e = r.association.extended in
+    let small = low_half_below b octets in
+    record {
+      whole = f.whole;
+      number = f.number;
+      in_reach = is_fresh.not_old;
+      new = is_fresh.not_taken;
+      intact = intact r.association b n (omega arith) octets (spi (omega arith))
+          (number_low e r.window (low_half b) n small f.number) (number_fits e r.window (low_half b) n small f.number) right;
+    }
+
+-- the receiver, from its parts
+abbrev pub receiving : Association → Seen → Receiving
+receiving a w = record { association = a; window = w }
+
+pub takes_number : (a : Association) (w w' : Seen) (old : Receiving) (n : ℕ) → receiving a w ≡ old → Takes w n w' → TakesNumber old n (receiving a w')
+takes_number a w w' old n is takes = record {
+  association = ap (λ (r : Receiving). r.association) is;
+  window = subst (λ (r : Receiving). Takes r.window n w') is takes;
+}
+
+pub unchanged : (a : Association) (w w' : Seen) (old : Receiving) → receiving a w ≡ old → w' ≡ w → receiving a w' ≡ old
+unchanged a w w' old is same = ap (receiving a) same ∙ is
+
+-- what is handed up, as an answer in a list says it
+pub up_answer : (old : Receiving) (b : List ℕ) (n next : ℕ) (payload : List ℕ) (new : Receiving) → HandsUp old b n next payload new
+    → HandsUp old b n next (take (length payload) (drop 8 b)) new × (◌≡◌ {A = ℕ} 8 8) × (8 + length payload ≤ length b)
+up_answer old b n next payload new h =
+    let at = payload_at b next payload h.contents in
+    (record { judged = h.judged; taken = h.taken; contents = subst (λ (xs : List ℕ). IsContents b next xs) at.1 h.contents }, refl, at.0)

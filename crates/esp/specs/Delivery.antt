@@ -1,0 +1,169 @@
+-- What becomes of a list of deliveries (RFC 4303 section 3.4): which packets are judged, in words that know nothing of how a
+-- window forgets.
+use Rattle.std.specs.Prelude.{◌≡◌, ℕ, ◌+◌, ◌<◌, ◌≤◌, true, false, ◌↔◌, ◌&&◌, nat_lt, max, List, [], ◌∷◌, ◌++◌, length, take, drop, slice_get, Option, Some, None}
+use Rattle.std.specs.Ordering.{nat_cmp}
+use Rattle.std.specs.FinSet as set
+use Rattle.std.specs.FinMap as map
+use Rattle.replay.specs.Window.{Seen}
+use Rattle.esp.specs.declared.association.Association.{Association}
+use Rattle.esp.specs.Packet.{PassesIntegrity, IsContents}
+use Rattle.esp.specs.Judging.{IsJudgedLength, low_half, IsNumber, Judges}
+use Rattle.esp.specs.Opening.{IsRefusal}
+use Rattle.esp.specs.Views.{Receiving}
+use Rattle.esp.specs.declared.answer.Answer.{Answer}
+use Rattle.esp.specs.declared.answer.Answer.TheVariants.{Up, Refused}
+use Rattle.esp.specs.declared.fault.ListFault.{ListFault}
+use Rattle.esp.specs.declared.fault.ListFault.TheVariants.{NoRoom}
+use Rattle.esp.specs.declared.fault.EspFault.TheVariants.{BadPadding, Memory}
+
+-- the greatest of these numbers, 0 where there is none
+abbrev pub greatest_of : List ℕ → ℕ
+greatest_of [] = 0
+greatest_of (n ∷ ns) = max n (greatest_of ns)
+
+abbrev pub greatest : set.FinSet nat_cmp → ℕ
+greatest taken = greatest_of (set.items taken)
+
+-- all numbers that were taken, as a window of this size that never forgot one
+abbrev pub all_taken : ℕ → set.FinSet nat_cmp → Seen
+all_taken size taken = record { top = greatest taken; size = size; taken = taken }
+
+-- the numbers taken after a list in which these packets were judged as these numbers, if any
+abbrev pub taken_after : set.FinSet nat_cmp → List (Option ℕ) → set.FinSet nat_cmp
+taken_after taken [] = taken
+taken_after taken (None ∷ ns) = taken_after taken ns
+taken_after taken (Some n ∷ ns) = taken_after (set.insert taken n) ns
+
+-- packets that were delivered in order, and how they were judged
+pub record History : Type 0 where
+  pub association : Association
+  -- the size of the replay window
+  pub size : ℕ
+  -- the numbers that were taken before the list
+  pub before : set.FinSet nat_cmp
+  pub packets : List (List ℕ)
+  -- the number that each packet was judged as, if any
+  pub numbers : List (Option ℕ)
+
+-- the numbers taken before position i, of which none is forgotten
+abbrev pub taken_at : History → ℕ → Seen
+taken_at h i = all_taken h.size (taken_after h.before (take i h.numbers))
+
+-- each packet was judged as a number exactly if the rule judges it so at the numbers taken before it
+pub record IsJudged (h : History) : Type 0 where
+  pub each : length h.numbers ≡ length h.packets
+  pub judged : (i n : ℕ) (b : List ℕ) → slice_get h.packets i ≡ Some b
+      → (slice_get h.numbers i ≡ Some (Some n)) ↔ Judges h.association (taken_at h i) b n
+
+-- The answer to a packet that was judged as a number: its payload, or bad padding. To another: why it was refused.
+abbrev pub IsAnswer : Association → Seen → List ℕ → Option ℕ → Answer → Type 0
+IsAnswer a w b (Some n) (Up number next start len) =
+    (number ≡ n) × (start ≡ 8) × (start + len ≤ length b) × IsContents b next (take len (drop start b))
+IsAnswer a w b (Some n) (Refused BadPadding) = (next : ℕ) (payload : List ℕ) → ¬ IsContents b next payload
+IsAnswer a w b (Some n) (Refused e) = ⊥
+IsAnswer a w b None (Up number next start len) = ⊥
+IsAnswer a w b None (Refused e) = IsRefusal a w b e
+
+-- each packet has the answer that is due at the numbers taken before it
+pub record AreAnswers (h : History) (answers : List Answer) : Type 0 where
+  pub each : length answers ≡ length h.packets
+  pub due : (i : ℕ) (b : List ℕ) (n : Option ℕ) (r : Answer) → slice_get h.packets i ≡ Some b
+      → slice_get h.numbers i ≡ Some n → slice_get answers i ≡ Some r → IsAnswer h.association (taken_at h i) b n r
+
+-- no number is judged twice, nor one that was taken before the list
+pub record AtMostOnce (h : History) : Type 0 where
+  pub new : (i n : ℕ) → slice_get h.numbers i ≡ Some (Some n) → set.contains h.before n ≡ false
+  pub once : (i j n : ℕ) → slice_get h.numbers i ≡ Some (Some n) → slice_get h.numbers j ≡ Some (Some n) → i ≡ j
+
+-- The premise that no check value was forged. sent is what was sent, from number to octets: each entry passes the
+-- integrity check under its number and has a length that is judged, and whatever passes at a delivery under the number of
+-- that packet there is that number's entry.
+pub record Unforged (h : History) (sent : map.FinMap nat_cmp (List ℕ)) : Type 0 where
+  pub whole : (n : ℕ) (b : List ℕ) → map.get sent n ≡ Some b → IsJudgedLength (length b)
+  pub intact : (n : ℕ) (b : List ℕ) → map.get sent n ≡ Some b → PassesIntegrity h.association n b
+  pub no_other : (i n : ℕ) (b : List ℕ) → slice_get h.packets i ≡ Some b → IsJudgedLength (length b)
+      → IsNumber h.association.extended (taken_at h i) (low_half b) n → PassesIntegrity h.association n b
+      → map.get sent n ≡ Some b
+
+-- at position i the octets sent as n are delivered, the packet's number there is n, and n lies above the greatest number
+-- taken less the size
+pub record Arrives (h : History) (sent : map.FinMap nat_cmp (List ℕ)) (n i : ℕ) : Type 0 where
+  pub packet : List ℕ
+  pub delivered_here : slice_get h.packets i ≡ Some packet
+  pub sent_so : map.get sent n ≡ Some packet
+  pub number : IsNumber h.association.extended (taken_at h i) (low_half packet) n
+  pub in_reach : (taken_at h i).top < n + h.size
+
+-- i is the first position at which what was sent as n arrives, and n was not taken before the list
+pub record IsFirstArrival (h : History) (sent : map.FinMap nat_cmp (List ℕ)) (n i : ℕ) : Type 0 where
+  pub new : set.contains h.before n ≡ false
+  pub arrives : Arrives h sent n i
+  pub first : (j : ℕ) → j < i → ¬ Arrives h sent n j
+
+-- a packet is judged exactly at the first arrival of what was sent
+abbrev pub ExactlyAtFirst : History → map.FinMap nat_cmp (List ℕ) → Type 0
+ExactlyAtFirst h sent = (i n : ℕ) → (slice_get h.numbers i ≡ Some (Some n)) ↔ IsFirstArrival h sent n i
+
+-- A packet that was refused for memory counts as not delivered. The packets that count, and their answers:
+abbrev pub delivered : List (List ℕ) → List Answer → List (List ℕ)
+delivered (b ∷ bs) (Refused Memory ∷ rs) = delivered bs rs
+delivered (b ∷ bs) (r ∷ rs) = b ∷ delivered bs rs
+delivered bs rs = []
+
+abbrev pub answered : List Answer → List Answer
+answered [] = []
+answered (Refused Memory ∷ rs) = answered rs
+answered (r ∷ rs) = r ∷ answered rs
+
+-- memory is wanted only for a packet that would have been judged, and only where the window may want it
+abbrev pub WantsWhereJudged : Type 0 → Association → ℕ → set.FinSet nat_cmp → List (List ℕ) → List Answer → List (Option ℕ) → Type 0
+WantsWhereJudged want a size taken [] [] [] = Unit {0}
+WantsWhereJudged want a size taken (b ∷ bs) (Refused Memory ∷ rs) ns =
+    want × ((n : ℕ) × Judges a (all_taken size taken) b n) × WantsWhereJudged want a size taken bs rs ns
+WantsWhereJudged want a size taken (b ∷ bs) (r ∷ rs) (n ∷ ns) =
+    WantsWhereJudged want a size (taken_after taken (n ∷ [])) bs rs ns
+WantsWhereJudged want a size taken bs rs ns = ⊥
+
+-- the window shows these numbers, as far as it spans them
+pub record Shows (w : Seen) (size : ℕ) (taken : set.FinSet nat_cmp) : Type 0 where
+  pub top : w.top ≡ greatest taken
+  pub size_kept : w.size ≡ size
+  pub in_span : (n : ℕ) → set.contains w.taken n ≡ (set.contains taken n && nat_lt w.top (n + size))
+
+-- what came of these packets at this end
+abbrev pub history : Receiving → List (List ℕ) → List (Option ℕ) → History
+history r packets numbers = record {
+  association = r.association;
+  size = r.window.size;
+  before = r.window.taken;
+  packets = packets;
+  numbers = numbers;
+}
+
+-- These packets, delivered in order, were given these answers.
+pub record Deliveries (want : Type 0) (old : Receiving) (packets : List (List ℕ)) (answers : List Answer) (new : Receiving) : Type 0 where
+  pub each_answered : length answers ≡ length packets
+  -- how the packets that count as delivered were judged: there is one such list
+  pub numbers : List (Option ℕ)
+  pub judged : IsJudged (history old (delivered packets answers) numbers)
+  pub answers_due : AreAnswers (history old (delivered packets answers) numbers) (answered answers)
+  pub memory : WantsWhereJudged want old.association old.window.size old.window.taken packets answers numbers
+  -- at most once, whatever was delivered
+  pub at_most_once : AtMostOnce (history old (delivered packets answers) numbers)
+  -- exactly at the first delivery, where no check value was forged
+  pub exactly_at_first : (sent : map.FinMap nat_cmp (List ℕ)) → Unforged (history old (delivered packets answers) numbers) sent
+      → ExactlyAtFirst (history old (delivered packets answers) numbers) sent
+  -- what the end is afterwards
+  pub association : new.association ≡ old.association
+  pub window : Shows new.window old.window.size (taken_after old.window.taken numbers)
+
+-- The first k of these packets were delivered in order, and their answers were appended.
+pub record AnswersFirst (want : Type 0) (k : ℕ) (old : Receiving) (packets : List (List ℕ)) (before : List Answer) (new : Receiving) (after : List Answer) : Type 0 where
+  pub answers : List Answer
+  pub appended : after ≡ before ++ answers
+  pub count : length answers ≡ k
+  pub deliveries : Deliveries want old (take k packets) answers new
+
+-- There was no room for one more answer: the list was left after some of its packets, and not at its end.
+abbrev pub IsStop : Type 0 → Receiving → List (List ℕ) → List Answer → ListFault → Receiving → List Answer → Type 0
+IsStop want old packets before (NoRoom k) new after = (k < length packets) × AnswersFirst want k old packets before new after

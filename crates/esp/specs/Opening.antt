@@ -1,0 +1,69 @@
+-- What opening one packet does (RFC 4303 section 3.4).
+use Rattle.std.specs.Prelude.{◌≡◌, ℕ, ◌+◌, ◌<◌, ◌≤◌, true, false, List, length, take, drop}
+use Rattle.std.specs.FinSet as set
+use Rattle.replay.specs.Window.{Seen, Takes, judgement}
+use Rattle.replay.specs.declared.window.Judgement.TheVariants.{Fresh}
+use Rattle.esp.specs.declared.association.Association.{Association}
+use Rattle.esp.specs.Packet.{PassesIntegrity, IsContents}
+use Rattle.esp.specs.Judging.{IsJudgedLength, low_half, IsNumber, Judges}
+use Rattle.esp.specs.Views.{Receiving}
+use Rattle.esp.specs.declared.answer.Answer.{Answer}
+use Rattle.esp.specs.declared.answer.Answer.TheVariants.{Up, Refused}
+use Rattle.esp.specs.declared.fault.EspFault.{EspFault}
+use Rattle.esp.specs.declared.fault.EspFault.TheVariants.{Exhausted, PayloadSize, BadLength, Old, Replayed, BadNumber, BadIcv, BadPadding, Memory}
+
+-- The refusals of a packet that is not judged, each where those before it don't apply: its length, its number, a number
+-- below the window, one that was taken, the check value.
+abbrev pub IsRefusal : Association → Seen → List ℕ → EspFault → Type 0
+IsRefusal a w b BadLength = ¬ IsJudgedLength (length b)
+IsRefusal a w b BadNumber = IsJudgedLength (length b) × ((n : ℕ) → ¬ IsNumber a.extended w (low_half b) n)
+IsRefusal a w b Old =
+    IsJudgedLength (length b)
+    × ((n : ℕ) × IsNumber a.extended w (low_half b) n × (n + w.size ≤ w.top))
+IsRefusal a w b Replayed =
+    IsJudgedLength (length b)
+    × ((n : ℕ) × IsNumber a.extended w (low_half b) n × (w.top < n + w.size) × (set.contains w.taken n ≡ true))
+IsRefusal a w b BadIcv =
+    IsJudgedLength (length b)
+    × ((n : ℕ) × IsNumber a.extended w (low_half b) n × (w.top < n + w.size) × (set.contains w.taken n ≡ false)
+    × (¬ PassesIntegrity a n b))
+IsRefusal a w b Exhausted = ⊥
+IsRefusal a w b PayloadSize = ⊥
+IsRefusal a w b BadPadding = ⊥
+IsRefusal a w b Memory = ⊥
+
+-- n is the packet's number at this end, and was not taken
+pub record IsFreshNumber (r : Receiving) (b : List ℕ) (n : ℕ) : Type 0 where
+  pub whole : IsJudgedLength (length b)
+  pub number : IsNumber r.association.extended r.window (low_half b) n
+  pub fresh : judgement r.window n ≡ Fresh
+
+-- the end takes n, and changes nothing else
+pub record TakesNumber (old : Receiving) (n : ℕ) (new : Receiving) : Type 0 where
+  pub association : new.association ≡ old.association
+  pub window : Takes old.window n new.window
+
+-- the packet is judged as n, which is taken, and its payload is handed up
+pub record HandsUp (old : Receiving) (b : List ℕ) (n next : ℕ) (payload : List ℕ) (new : Receiving) : Type 0 where
+  pub judged : Judges old.association old.window b n
+  pub taken : TakesNumber old n new
+  pub contents : IsContents b next payload
+
+-- the packet is judged as n, which is taken, and has no contents to hand up
+pub record WastesNumber (old : Receiving) (b : List ℕ) (n : ℕ) (new : Receiving) : Type 0 where
+  pub judged : Judges old.association old.window b n
+  pub taken : TakesNumber old n new
+  pub contents : (next : ℕ) (payload : List ℕ) → ¬ IsContents b next payload
+
+-- The packet is refused. Only bad padding leaves its number taken; every other refusal changes nothing. want says whether
+-- taking a number may want memory.
+abbrev pub Refuses : Type 0 → Receiving → List ℕ → EspFault → Receiving → Type 0
+Refuses want old b BadPadding new = (n : ℕ) × WastesNumber old b n new
+Refuses want old b Memory new = want × ((n : ℕ) × Judges old.association old.window b n) × (new ≡ old)
+Refuses want old b e new = IsRefusal old.association old.window b e × (new ≡ old)
+
+-- one packet, its answer, and the end before and after it
+abbrev pub Step : Type 0 → Receiving → List ℕ → Answer → Receiving → Type 0
+Step want old b (Up number next start len) new =
+    HandsUp old b number next (take len (drop start b)) new × (start ≡ 8) × (start + len ≤ length b)
+Step want old b (Refused e) new = Refuses want old b e new

@@ -1,0 +1,75 @@
+//! The refusals of this crate.
+ghost use Rattle.std.specs.Prelude.{◌≡◌};
+ghost use Rattle.esp.specs.Faults.{code_of};
+
+use thiserror::Error;
+
+/// Why a packet was not sealed or not opened.
+#[derive(Clone, Copy, Debug, PartialEq, Eq, Error)]
+pub enum EspFault {
+    /// The association's last number was used; it seals no more (RFC 4303 section 3.3.3).
+    #[error("E12: the sequence numbers are exhausted")]
+    Exhausted,
+    /// The payload has more than 16,384 octets.
+    #[error("E13: the payload has more than 16384 octets")]
+    PayloadSize,
+    /// The packet's length is not a multiple of 4, or below 28 or above 16,664 octets.
+    #[error("E14: the packet's length is not that of a packet")]
+    BadLength,
+    /// The packet's number lies below the replay window.
+    #[error("E15: the number lies below the replay window")]
+    Old,
+    /// The packet's number was taken already.
+    #[error("E16: the number was taken already")]
+    Replayed,
+    /// The packet has no number: its low half is 0, or nothing is recovered from it.
+    #[error("E17: the packet has no sequence number")]
+    BadNumber,
+    /// The check value is not that of the octets before it.
+    #[error("E18: the check value is wrong")]
+    BadIcv,
+    /// The padding is not 1, 2, .. or doesn't fit. The packet's number stays taken.
+    #[error("E19: the padding is wrong")]
+    BadPadding,
+    /// There was no memory.
+    #[error("E20: no memory")]
+    Memory,
+}
+
+impl EspFault {
+    /// The refusal's number, as programs print it behind `E`.
+    pub fn code(self) -> u8
+        ensures { result ≡ code_of self }
+    {
+        match self {
+            EspFault::Exhausted => 12,
+            EspFault::PayloadSize => 13,
+            EspFault::BadLength => 14,
+            EspFault::Old => 15,
+            EspFault::Replayed => 16,
+            EspFault::BadNumber => 17,
+            EspFault::BadIcv => 18,
+            EspFault::BadPadding => 19,
+            EspFault::Memory => 20,
+        }
+    }
+}
+
+/// Why a list of packets was not opened to its end.
+#[derive(Clone, Copy, Debug, PartialEq, Eq, Error)]
+pub enum ListFault {
+    /// There was no memory for one more answer. So many packets were opened and answered, and none after them.
+    #[error("E38: no room for an answer after {0} packets")]
+    NoRoom(usize),
+}
+
+impl ListFault {
+    /// The refusal's number, as programs print it behind `E`.
+    pub fn code(self) -> u8
+        ensures { result ≡ 38 }
+    {
+        match self {
+            ListFault::NoRoom(_) => 38,
+        }
+    }
+}

@@ -1,0 +1,27 @@
+//! ESP in tunnel mode, one association at a time: packets are sealed and opened (RFC 4303 sections 2 and 3), with NULL
+//! encryption (RFC 2410) and HMAC-SHA-256-128 (RFC 4868).
+//!
+//! An [`Outbound`] seals payloads into packets with rising numbers. An [`Inbound`] opens packets: a packet is judged at
+//! most once, and only if its check value is right. It is generic in the replay window.
+//!
+//! ```text
+//! let mut sender = Outbound::new(256, &key, false, 6);
+//! let mut receiver = Inbound::new(256, &key, false, PlainWindow::new(alloc, 2));
+//! let mut packet = Vec::new(alloc);
+//! sender.seal(4, payload, &mut packet)?;      // 7
+//! let opened = receiver.open(&packet)?;       // number 7, next header 4, the payload as a slice of the packet
+//! receiver.open(&packet)                      // Err(EspFault::Replayed)
+//! ```
+#![tactic(auto)]
+
+mod answer;
+mod association;
+mod fault;
+mod inbound;
+mod outbound;
+mod packet;
+
+pub use answer::Answer;
+pub use fault::{EspFault, ListFault};
+pub use inbound::{Inbound, Opened};
+pub use outbound::Outbound;

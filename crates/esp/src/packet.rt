@@ -1,0 +1,85 @@
+//! The layout of a packet (RFC 4303 section 2): the SPI in four octets, the low half of the number in four, the payload,
+//! padding, its length in one octet, the next header in one, and the check value in sixteen.
+ghost use Rattle.std.specs.Prelude.{◌≡◌, ℕ, ◌+◌, ◌-◌, ◌%◌, ◌<◌, ◌≤◌, ◌++◌, List, length, take, drop, ◌^◌, ◌/◌, IsTrue, ◌↔◌, IfSome, IfNone};
+ghost use Rattle.byteorder.specs.Endian.{big_bytes};
+ghost use Rattle.esp.specs.Packet.{IsContents, padding};
+ghost use Rattle.esp.specs.Judging.{IsJudgedLength, low_half};
+
+use byteorder::{BigEndian, ByteOrder};
+
+/// The octets before the payload: SPI and low half of the number.
+pub const HEAD: usize = 8;
+
+/// The octets of the check value.
+pub const CHECK: usize = 16;
+
+/// The octets of pad length and next header.
+pub const TAIL: usize = 2;
+
+/// The longest payload that is sealed, in octets.
+pub const MOST_PAYLOAD: usize = 16_384;
+
+/// The longest packet that is opened, in octets: [`MOST_PAYLOAD`] and the longest padding, which is 254 octets there.
+pub const MOST_PACKET: usize = 16_664;
+
+/// Whether a packet of so many octets is judged at all.
+pub fn is_judged_length(octets: usize) -> bool
+    ensures { IsTrue result ↔ IsJudgedLength octets }
+{
+    octets % 4 == 0 && octets >= HEAD + TAIL + CHECK + TAIL && octets <= MOST_PACKET
+}
+
+/// SPI and low half of the number, as a packet begins.
+pub fn head_of(spi: u32, number: u64) -> [u8; 8]
+    ensures { result ≡ big_bytes 4 spi ++ big_bytes 4 (number % 2 ^ 32) }
+{
+    let mut head = [0; HEAD];
+    BigEndian::write_u32(&mut head[..4], spi);
+    BigEndian::write_u32(&mut head[4..], (number % (1 << 32)) as u32);
+    head
+}
+
+/// The high half of a number, which is covered by the check value where numbers are extended and is never sent.
+pub fn high_half(number: u64) -> [u8; 4]
+    ensures { result ≡ big_bytes 4 (number / 2 ^ 32) }
+{
+    let mut half = [0; 4];
+    BigEndian::write_u32(&mut half, (number >> 32) as u32);
+    half
+}
+
+/// The low half of a packet's number.
+pub fn low_half_of(packet: &[u8]) -> u32
+    requires { 8 ≤ length packet.now }
+    ensures { result ≡ low_half packet.now }
+{
+    BigEndian::read_u32(&packet[4..])
+}
+
+/// The next header and the payload's length in octets; `None` where the padding doesn't fit or is not 1, 2, .. .
+pub fn contents(packet: &[u8]) -> Option<(u8, usize)>
+    requires { IsJudgedLength (length packet.now) }
+    ensures found { IfSome result (λ found. (8 + found.1 ≤ length packet.now) × IsContents packet.now found.0 (take found.1 (drop 8 packet.now))) }
+    ensures none { IfNone result ((next : ℕ) (payload : List ℕ) → ¬ IsContents packet.now next payload) }
+{
+    let end = packet.len() - CHECK - TAIL;
+    let pad = usize::from(packet[end]);
+    let next = packet[end + 1];
+    if pad <= end - HEAD && is_padding(&packet[end - pad..end]) {
+        Some((next, end - pad - HEAD))
+    } else {
+        None
+    }
+}
+
+/// Whether the octets are 1, 2, .. .
+fn is_padding(octets: &[u8]) -> bool
+    ensures { IsTrue result ↔ (octets.now ≡ padding (length octets.now)) }
+{
+    for (place, octet) in octets.iter().enumerate() {
+        if usize::from(*octet) != place + 1 {
+            return false;
+        }
+    }
+    true
+}
