@@ -11,7 +11,7 @@ use Rattle.esp.specs.declared.association.Association.{Association}
 use Rattle.esp.specs.Packet.{PassesIntegrity}
 use Rattle.esp.specs.Judging.{low_half, IsNumber, Judges}
 use Rattle.esp.specs.Views.{Receiving}
-use Rattle.esp.specs.Opening.{IsRefusal, Step, TakesNumber}
+use Rattle.esp.specs.Opening.{IsRefusal, Step, Run, TakesNumber}
 use Rattle.esp.specs.Delivery.{greatest, all_taken, taken_after, History, taken_at, IsJudged, IsAnswer, AreAnswers, delivered, answered, WantsWhereJudged, Shows, history, Deliveries, AnswersFirst}
 use Rattle.esp.specs.declared.answer.Answer.{Answer}
 use Rattle.esp.specs.declared.answer.Answer.TheVariants.{Up, Refused}
@@ -19,13 +19,6 @@ use Rattle.esp.specs.declared.fault.EspFault.{EspFault}
 use Rattle.esp.specs.declared.fault.EspFault.TheVariants.{Exhausted, PayloadSize, BadLength, Old, Replayed, BadNumber, BadIcv, BadPadding, Memory}
 use Rattle.esp.proofs.NumberLemmas.{one_number_of, judged_as_one, judged_positive, contains-insert_nat, greatest-insert, greatest-is}
 use Rattle.esp.proofs.HistoryLemmas.{at_most_once, exactly_at_first}
-
--- several packets, one after the other
-abbrev pub Run : Type 0 → Receiving → List (List ℕ) → List Answer → Receiving → Type 0
-Run want old [] [] new = new ≡ old
-Run want old (b ∷ bs) (r ∷ rs) new = (mid : Receiving) × Step want old b r mid × Run want mid bs rs new
-Run want old [] (r ∷ rs) new = ⊥
-Run want old (b ∷ bs) [] new = ⊥
 
 -- one more packet
 pub run_more : (want : Type 0) (old : Receiving) (bs : List (List ℕ)) (rs : List Answer) (mid : Receiving) (b : List ℕ) (r : Answer) (new : Receiving)
@@ -346,6 +339,14 @@ module _ (want : Type 0) (a : Association) (size : ℕ) where
   outcome taken old (b ∷ bs) (Refused Exhausted ∷ rs) new stands run = absurd run.1.0
   outcome taken old (b ∷ bs) (Refused PayloadSize ∷ rs) new stands run = absurd run.1.0
 
+-- one run after another
+pub run_joined : (want : Type 0) (old : Receiving) (bs : List (List ℕ)) (rs : List Answer) (mid : Receiving) (cs : List (List ℕ)) (qs : List Answer) (new : Receiving)
+    → Run want old bs rs mid → Run want mid cs qs new → Run want old (bs ++ cs) (rs ++ qs) new
+run_joined want old [] [] mid cs qs new run next = subst (λ (o : Receiving). Run want o cs qs new) run next
+run_joined want old (b ∷ bs) (r ∷ rs) mid cs qs new run next = (run.0, run.1, run_joined want run.0 bs rs mid cs qs new run.2 next)
+run_joined want old [] (r ∷ rs) mid cs qs new run next = absurd run
+run_joined want old (b ∷ bs) [] mid cs qs new run next = absurd run
+
 -- each packet of a run has its answer
 run_each : (want : Type 0) (old : Receiving) (bs : List (List ℕ)) (rs : List Answer) (new : Receiving) → Run want old bs rs new → length rs ≡ length bs
 run_each want old [] [] new run = refl
@@ -354,7 +355,7 @@ run_each want old [] (r ∷ rs) new run = absurd run
 run_each want old (b ∷ bs) [] new run = absurd run
 
 -- the theorem on a list of deliveries
-deliveries : (want : Type 0) (old : Receiving) (packets : List (List ℕ)) (answers : List Answer) (new : Receiving)
+pub deliveries : (want : Type 0) (old : Receiving) (packets : List (List ℕ)) (answers : List Answer) (new : Receiving)
     → IsSound old.window → Run want old packets answers new → Deliveries want old packets answers new
 deliveries want old packets answers new sound run =
     let a = old.association in
@@ -400,6 +401,7 @@ answers_first want k old packets before new after answers sound appended count r
   answers = answers;
   appended = appended;
   count = count;
+  run = run;
   deliveries = deliveries want old (take k packets) answers new sound run;
 }
 

@@ -8,7 +8,7 @@ use Rattle.replay.specs.Window.{Seen}
 use Rattle.esp.specs.declared.association.Association.{Association}
 use Rattle.esp.specs.Packet.{PassesIntegrity, IsContents}
 use Rattle.esp.specs.Judging.{IsJudgedLength, low_half, IsNumber, Judges}
-use Rattle.esp.specs.Opening.{IsRefusal}
+use Rattle.esp.specs.Opening.{IsRefusal, Run}
 use Rattle.esp.specs.Views.{Receiving}
 use Rattle.esp.specs.declared.answer.Answer.{Answer}
 use Rattle.esp.specs.declared.answer.Answer.TheVariants.{Up, Refused}
@@ -162,6 +162,8 @@ pub record AnswersFirst (want : Type 0) (k : ℕ) (old : Receiving) (packets : L
   pub answers : List Answer
   pub appended : after ≡ before ++ answers
   pub count : length answers ≡ k
+  -- packet by packet, so that calls in a row can be joined to one run
+  pub run : Run want old (take k packets) answers new
   pub deliveries : Deliveries want old (take k packets) answers new
 
 -- There was no room for one more answer: the list was left after some of its packets, and not at its end.

@@ -5,3 +5,4 @@ pub mod Faults
 pub mod Opening
 pub mod Sealing
 pub mod Delivery
+pub mod Worked

@@ -1,5 +1,5 @@
 -- What opening one packet does (RFC 4303 section 3.4).
-use Rattle.std.specs.Prelude.{◌≡◌, ℕ, ◌+◌, ◌<◌, ◌≤◌, true, false, List, length, take, drop}
+use Rattle.std.specs.Prelude.{◌≡◌, ℕ, ◌+◌, ◌<◌, ◌≤◌, true, false, List, [], ◌∷◌, length, take, drop}
 use Rattle.std.specs.FinSet as set
 use Rattle.replay.specs.Window.{Seen, Takes, judgement}
 use Rattle.replay.specs.declared.window.Judgement.TheVariants.{Fresh}
@@ -67,3 +67,10 @@ abbrev pub Step : Type 0 → Receiving → List ℕ → Answer → Receiving →
 Step want old b (Up number next start len) new =
     HandsUp old b number next (take len (drop start b)) new × (start ≡ 8) × (start + len ≤ length b)
 Step want old b (Refused e) new = Refuses want old b e new
+
+-- several packets, one after the other
+abbrev pub Run : Type 0 → Receiving → List (List ℕ) → List Answer → Receiving → Type 0
+Run want old [] [] new = new ≡ old
+Run want old (b ∷ bs) (r ∷ rs) new = (mid : Receiving) × Step want old b r mid × Run want mid bs rs new
+Run want old [] (r ∷ rs) new = ⊥
+Run want old (b ∷ bs) [] new = ⊥

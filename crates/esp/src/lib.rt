@@ -1,8 +1,8 @@
 //! ESP in tunnel mode, one association at a time: packets are sealed and opened (RFC 4303 sections 2 and 3), with NULL
 //! encryption (RFC 2410) and HMAC-SHA-256-128 (RFC 4868).
 //!
-//! An [`Outbound`] seals payloads into packets with rising numbers. An [`Inbound`] opens packets: a packet is judged at
-//! most once, and only if its check value is right. It is generic in the replay window.
+//! An [`Outbound`] seals payloads into packets with rising numbers. An [`Inbound`] opens packets: each number is judged at
+//! most once, and a packet only if its check value is right. It is generic in the replay window.
 //!
 //! ```text
 //! let mut sender = Outbound::new(256, &key, false, 6);
@@ -18,10 +18,12 @@ mod answer;
 mod association;
 mod fault;
 mod inbound;
+mod laws;
 mod outbound;
 mod packet;
 
 pub use answer::Answer;
 pub use fault::{EspFault, ListFault};
 pub use inbound::{Inbound, Opened};
+pub use laws::{calls_in_a_row_are_one_run, premise_is_met, sealed_packets_open};
 pub use outbound::Outbound;

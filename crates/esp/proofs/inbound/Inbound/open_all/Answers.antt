@@ -4,10 +4,10 @@ use Rattle.byteorder.specs.Endian.{big_bytes}
 use Rattle.replay.specs.Window.{IsSound}
 use Rattle.esp.specs.declared.association.Association.{Association}
 use Rattle.esp.specs.Views.{Receiving}
-use Rattle.esp.specs.Opening.{Step}
+use Rattle.esp.specs.Opening.{Step, Run}
 use Rattle.esp.specs.Delivery.{AnswersFirst}
 use Rattle.esp.specs.declared.answer.Answer.{Answer}
-use Rattle.esp.proofs.Runs.{Run, run_more, step_keeps, take-map_more, answers_first, pushed}
+use Rattle.esp.proofs.Runs.{run_more, step_keeps, take-map_more, answers_first, pushed}
 use Rattle.esp.proofs.inbound.Inbound.open_all.Goals as goal
 
 pub returns-then-is_err-clause-stopped : goal.returns-then-is_err-clause-stopped

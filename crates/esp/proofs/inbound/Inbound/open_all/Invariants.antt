@@ -1,6 +1,6 @@
 use Rattle.std.proofs.Common.{◌≡◌, ◌++◌, List, length, map, take}
 use Rattle.esp.specs.declared.answer.Answer.{Answer}
-use Rattle.esp.proofs.Runs.{Run}
+use Rattle.esp.specs.Opening.{Run}
 use Rattle.esp.proofs.inbound.Inbound.open_all.Given as goal
 
 -- the packets so far were delivered in order, and their answers appended

@@ -1,0 +1,38 @@
+//! Facts about the definitions, each the contract of a function that does nothing: what a sealed packet is to its receiver,
+//! that calls in a row are one run, and that the premise of the theorem on deliveries can be met.
+ghost use Rattle.std.specs.Prelude.{ℕ, List, ◌++◌, length};
+ghost use Rattle.replay.specs.Window.{IsSound};
+ghost use Rattle.esp.specs.declared.association.Association.{Association};
+ghost use Rattle.esp.specs.declared.answer.Answer.{Answer};
+ghost use Rattle.esp.specs.Sealing.{IsShortestPacket, FitsPacket};
+ghost use Rattle.esp.specs.Views.{Receiving};
+ghost use Rattle.esp.specs.Opening.{HandsUp, Run, Step};
+ghost use Rattle.esp.specs.Delivery.{Deliveries};
+ghost use Rattle.esp.specs.Worked.{IsOpenable, IsWorked, repeated, repeated_sent, crossing, crossing_sent};
+
+use replay::Window;
+
+/// What [`Outbound::seal`](crate::Outbound::seal) appends has a length that is judged, passes the integrity check under its
+/// number, and carries its payload and no other.
+pub fn sealed_packets_open()
+    ensures { (a : Association) (n next : ℕ) (payload b : List ℕ)
+        → IsShortestPacket a n next payload b → FitsPacket payload → IsOpenable a n next payload b }
+{}
+
+/// Calls of [`Inbound::open`](crate::Inbound::open) and [`Inbound::open_all`](crate::Inbound::open_all) in a row are one run:
+/// a packet that is handed up is a step, runs can be joined, and what is said of the deliveries of one list holds of a whole run: no number is judged twice over all of them.
+pub fn calls_in_a_row_are_one_run<W: Window>()
+    ensures opened { (r s : Receiving) (b payload : List ℕ) (n next : ℕ)
+        → HandsUp r b n next payload s → Step W.may_want r b (Answer.Up n next 8 (length payload)) s }
+    ensures joined { (r s t : Receiving) (bs cs : List (List ℕ)) (xs ys : List Answer)
+        → Run W.may_want r bs xs s → Run W.may_want s cs ys t → Run W.may_want r (bs ++ cs) (xs ++ ys) t }
+    ensures whole { (r s : Receiving) (bs : List (List ℕ)) (xs : List Answer)
+        → IsSound r.window → Run W.may_want r bs xs s → Deliveries W.may_want r bs xs s }
+{}
+
+/// The premise that no check value was forged is met: by a packet that comes twice, and with extended numbers by two packets
+/// across 2^32.
+pub fn premise_is_met()
+    ensures repeated { IsWorked repeated repeated_sent }
+    ensures crossing { IsWorked crossing crossing_sent }
+{}
