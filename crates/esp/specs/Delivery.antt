@@ -1,9 +1,10 @@
 -- What becomes of a list of deliveries (RFC 4303 section 3.4): which packets are judged, in words that know nothing of how a
 -- window forgets.
-use Rattle.std.specs.Prelude.{◌≡◌, ℕ, ◌+◌, ◌<◌, ◌≤◌, true, false, ◌↔◌, ◌&&◌, nat_lt, max, List, [], ◌∷◌, ◌++◌, length, take, drop, slice_get, Option, Some, None}
+use Rattle.std.specs.Prelude.{◌≡◌, ℕ, ◌+◌, ◌<◌, ◌≤◌, true, false, ◌↔◌, ◌&&◌, nat_lt, max, map, List, [], ◌∷◌, ◌++◌, length, take, drop, slice_get, Option, Some, None}
+use Rattle.std.specs.Global.{Vec}
 use Rattle.std.specs.Ordering.{nat_cmp}
 use Rattle.std.specs.FinSet as set
-use Rattle.std.specs.FinMap as map
+use Rattle.std.specs.FinMap as finite_map
 use Rattle.replay.specs.Window.{Seen}
 use Rattle.esp.specs.declared.association.Association.{Association}
 use Rattle.esp.specs.Packet.{PassesIntegrity, IsContents}
@@ -78,30 +79,30 @@ pub record AtMostOnce (h : History) : Type 0 where
 -- The premise that no check value was forged. sent is what was sent, from number to octets: each entry passes the
 -- integrity check under its number and has a length that is judged, and whatever passes at a delivery under the number of
 -- that packet there is that number's entry.
-pub record Unforged (h : History) (sent : map.FinMap nat_cmp (List ℕ)) : Type 0 where
-  pub whole : (n : ℕ) (b : List ℕ) → map.get sent n ≡ Some b → IsJudgedLength (length b)
-  pub intact : (n : ℕ) (b : List ℕ) → map.get sent n ≡ Some b → PassesIntegrity h.association n b
+pub record Unforged (h : History) (sent : finite_map.FinMap nat_cmp (List ℕ)) : Type 0 where
+  pub whole : (n : ℕ) (b : List ℕ) → finite_map.get sent n ≡ Some b → IsJudgedLength (length b)
+  pub intact : (n : ℕ) (b : List ℕ) → finite_map.get sent n ≡ Some b → PassesIntegrity h.association n b
   pub no_other : (i n : ℕ) (b : List ℕ) → slice_get h.packets i ≡ Some b → IsJudgedLength (length b)
       → IsNumber h.association.extended (taken_at h i) (low_half b) n → PassesIntegrity h.association n b
-      → map.get sent n ≡ Some b
+      → finite_map.get sent n ≡ Some b
 
 -- at position i the octets sent as n are delivered, the packet's number there is n, and n lies above the greatest number
 -- taken less the size
-pub record Arrives (h : History) (sent : map.FinMap nat_cmp (List ℕ)) (n i : ℕ) : Type 0 where
+pub record Arrives (h : History) (sent : finite_map.FinMap nat_cmp (List ℕ)) (n i : ℕ) : Type 0 where
   pub packet : List ℕ
   pub delivered_here : slice_get h.packets i ≡ Some packet
-  pub sent_so : map.get sent n ≡ Some packet
+  pub sent_so : finite_map.get sent n ≡ Some packet
   pub number : IsNumber h.association.extended (taken_at h i) (low_half packet) n
   pub in_reach : (taken_at h i).top < n + h.size
 
 -- i is the first position at which what was sent as n arrives, and n was not taken before the list
-pub record IsFirstArrival (h : History) (sent : map.FinMap nat_cmp (List ℕ)) (n i : ℕ) : Type 0 where
+pub record IsFirstArrival (h : History) (sent : finite_map.FinMap nat_cmp (List ℕ)) (n i : ℕ) : Type 0 where
   pub new : set.contains h.before n ≡ false
   pub arrives : Arrives h sent n i
   pub first : (j : ℕ) → j < i → ¬ Arrives h sent n j
 
 -- a packet is judged exactly at the first arrival of what was sent
-abbrev pub ExactlyAtFirst : History → map.FinMap nat_cmp (List ℕ) → Type 0
+abbrev pub ExactlyAtFirst : History → finite_map.FinMap nat_cmp (List ℕ) → Type 0
 ExactlyAtFirst h sent = (i n : ℕ) → (slice_get h.numbers i ≡ Some (Some n)) ↔ IsFirstArrival h sent n i
 
 -- A packet that was refused for memory counts as not delivered. The packets that count, and their answers:
@@ -130,6 +131,10 @@ pub record Shows (w : Seen) (size : ℕ) (taken : set.FinSet nat_cmp) : Type 0 w
   pub size_kept : w.size ≡ size
   pub in_span : (n : ℕ) → set.contains w.taken n ≡ (set.contains taken n && nat_lt w.top (n + size))
 
+-- packets in memory, as their octets
+abbrev pub octets_of : List (Vec ℕ) → List (List ℕ)
+octets_of packets = map (λ p. p.items) packets
+
 -- what came of these packets at this end
 abbrev pub history : Receiving → List (List ℕ) → List (Option ℕ) → History
 history r packets numbers = record {
@@ -151,7 +156,7 @@ pub record Deliveries (want : Type 0) (old : Receiving) (packets : List (List �
   -- at most once, whatever was delivered
   pub at_most_once : AtMostOnce (history old (delivered packets answers) numbers)
   -- exactly at the first delivery, where no check value was forged
-  pub exactly_at_first : (sent : map.FinMap nat_cmp (List ℕ)) → Unforged (history old (delivered packets answers) numbers) sent
+  pub exactly_at_first : (sent : finite_map.FinMap nat_cmp (List ℕ)) → Unforged (history old (delivered packets answers) numbers) sent
       → ExactlyAtFirst (history old (delivered packets answers) numbers) sent
   -- what the end is afterwards
   pub association : new.association ≡ old.association

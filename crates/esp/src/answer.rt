@@ -15,6 +15,7 @@ pub enum Answer {
         /// The payload's length in octets.
         length: usize,
     },
-    /// The packet was refused.
+    /// The packet was refused. Its number is taken after bad padding alone; after want of memory the packet counts as not
+    /// delivered.
     Refused(EspFault),
 }

@@ -22,7 +22,8 @@ pub enum EspFault {
     /// The packet's number was taken already.
     #[error("E16: the number was taken already")]
     Replayed,
-    /// The packet has no number: its low half is 0, or nothing is recovered from it.
+    /// The packet has no number: without extended numbers its low half is 0; with them nothing is recovered from it
+    /// (RFC 4303 appendix A2).
     #[error("E17: the packet has no sequence number")]
     BadNumber,
     /// The check value is not that of the octets before it.
@@ -31,7 +32,7 @@ pub enum EspFault {
     /// The padding is not 1, 2, .. or doesn't fit. The packet's number stays taken.
     #[error("E19: the padding is wrong")]
     BadPadding,
-    /// There was no memory.
+    /// There was no memory for the packet to be sealed, or for the number in the replay window. Nothing was changed.
     #[error("E20: no memory")]
     Memory,
 }

@@ -1,11 +1,10 @@
 //! The receiver's end of an association (RFC 4303 section 3.4).
-ghost use Rattle.std.specs.Prelude.{◌≡◌, ℕ, ◌+◌, ◌%◌, ◌<◌, ◌≤◌, List, ◌++◌, [], length, map, take, drop, ◌-◌, All, IsTrue, ◌↔◌, OnOk, IfOk, IfErr, IfSome, IfNone};
-ghost use Rattle.byteorder.specs.Endian.{big_bytes};
-ghost use Rattle.replay.specs.Window.{IsSound};
-ghost use Rattle.esp.specs.Judging.{IsJudgedLength, IsNumber};
-ghost use Rattle.esp.specs.Packet.{check_value};
+ghost use Rattle.std.specs.Prelude.{◌≡◌, ℕ, ◌-◌, ◌≤◌, length, take, drop};
+ghost use Rattle.std.specs.Prelude.{All, IsTrue, ◌↔◌, OnOk, IfOk, IfErr, IfSome, IfNone};
+ghost use Rattle.esp.specs.Judging.{IsNumber};
+ghost use Rattle.esp.specs.Packet.{check_value, IsOf};
 ghost use Rattle.esp.specs.Opening.{IsRefusal, IsFreshNumber, HandsUp, Refuses, Step};
-ghost use Rattle.esp.specs.Delivery.{AnswersFirst, IsStop};
+ghost use Rattle.esp.specs.Delivery.{AnswersFirst, IsStop, octets_of};
 
 use crate::association::Association;
 use crate::packet::{CHECK, HEAD, contents, is_judged_length, low_half_of};
@@ -43,9 +42,13 @@ pub struct Opened<'a> {
 }
 
 impl<W: Window> Inbound<W> {
-    /// The end with this SPI, key of 32 octets and replay window. Numbers have 64 bits if `extended`, else 32.
+    /// The end with this SPI, key of 32 octets and replay window, which knows the numbers taken so far. Numbers have 64
+    /// bits if `extended`, else 32.
     pub fn new(spi: u32, key: &[u8; 32], extended: bool, window: W) -> Inbound<W>
-        ensures { result ≡ record { association = record { spi = spi; key = key.now; extended = extended }; window = W.seen window } }
+        ensures { result ≡ record {
+          association = record { spi = spi; key = key.now; extended = extended };
+          window = W.seen window;
+        } }
     {
         let key = IcvKey::new(key);
         Inbound {
@@ -54,17 +57,23 @@ impl<W: Window> Inbound<W> {
         }
     }
 
-    /// Opens a packet of this association's SPI: judges it, takes its number, and hands up its payload as a part of it.
+    /// Opens a packet: judges it, takes its number, and hands up its payload as a part of it (RFC 4303 section 3.4).
+    /// The caller asks only with packets whose first four octets, where there are four, are the SPI.
     ///
-    /// Refused, in this order, with nothing changed: [`EspFault::BadLength`] unless the length is a multiple of 4 from 28
-    /// to 16,664 octets; [`EspFault::BadNumber`] where the packet has no number; [`EspFault::Old`] and
-    /// [`EspFault::Replayed`] by the window; [`EspFault::BadIcv`]; [`EspFault::Memory`] where the window wants memory to take
-    /// the number. Then the number is taken, and [`EspFault::BadPadding`] leaves it so.
+    /// Refused, in this order, with nothing changed:
+    /// - [`EspFault::BadLength`] unless the length is a multiple of 4 from 28 to 16,664 octets;
+    /// - [`EspFault::BadNumber`] where the low half of the number is 0, or, with extended numbers, where
+    ///   [`replay::recover`] finds none;
+    /// - [`EspFault::Old`] where the number lies below the window, [`EspFault::Replayed`] where it was taken;
+    /// - [`EspFault::BadIcv`] where the last 16 octets are not the check value of the rest (RFC 4303 section 3.4.4);
+    /// - [`EspFault::Memory`] where the window wants memory to take the number.
+    ///
+    /// Then the number is taken, and [`EspFault::BadPadding`] leaves it so.
     ///
     /// No memory but the window's is taken, and nothing is copied. A packet whose check value covers n octets costs
     /// ceil((n + 9) / 64) + 1 compressions of SHA-256.
     pub fn open<'a>(&mut self, packet: &'a [u8]) -> Result<Opened<'a>, EspFault>
-        requires { 4 ≤ length packet.now → take 4 packet.now ≡ big_bytes 4 self.old.association.spi }
+        requires { IsOf self.old.association packet.now }
         ensures up { IfOk result (λ o. HandsUp self.old packet.now o.number o.next o.payload.now self.new) }
         ensures refused { IfErr result (λ e. Refuses W.may_want self.old packet.now e self.new) }
     {
@@ -87,8 +96,8 @@ impl<W: Window> Inbound<W> {
 
     /// The packet's number, if it has one that was not taken.
     fn fresh_number(&self, packet: &[u8]) -> Result<u64, EspFault>
-        ensures fresh { IfOk result (λ n. IsFreshNumber self.now packet.now n) }
-        ensures refused { IfErr result (λ e. IsRefusal self.now.association self.now.window packet.now e) }
+        ensures fresh { IfOk result (IsFreshNumber self.now packet.now) }
+        ensures refused { IfErr result (IsRefusal self.now.association self.now.window packet.now) }
     {
         if !is_judged_length(packet.len()) {
             return Err(EspFault::BadLength);
@@ -106,8 +115,9 @@ impl<W: Window> Inbound<W> {
 
     /// The number that a low half stands for.
     fn number_of(&self, low: u32) -> Option<u64>
-        ensures some { IfSome result (λ n. IsNumber self.now.association.extended self.now.window low n) }
-        ensures none { IfNone result ((n : ℕ) → ¬ IsNumber self.now.association.extended self.now.window low n) }
+        ensures some { IfSome result (IsNumber self.now.association.extended self.now.window low) }
+        ensures none { IfNone result
+            ((n : ℕ) → ¬ IsNumber self.now.association.extended self.now.window low n) }
     {
         if self.association.extended {
             recover(self.window.top(), self.window.size(), low)
@@ -119,20 +129,29 @@ impl<W: Window> Inbound<W> {
     /// Whether the packet's last octets are the check value for this number over the rest.
     fn is_intact(&self, packet: &[u8], number: u64) -> bool
         requires { 16 ≤ length packet.now }
-        ensures { IsTrue result ↔ (drop (length packet.now - 16) packet.now ≡ check_value self.now.association number (take (length packet.now - 16) packet.now)) }
+        ensures { IsTrue result ↔ (drop (length packet.now - 16) packet.now
+            ≡ check_value self.now.association number (take (length packet.now - 16) packet.now)) }
     {
         let (covered, check) = packet.split_at(packet.len() - CHECK);
         self.association.check_value(number, covered).as_slice() == check
     }
 
-    /// Opens packets of this association's SPI in order, and appends an answer for each.
+    /// Opens packets in order, and appends an answer for each. The caller asks only with packets whose first four octets,
+    /// where there are four, are the SPI.
     ///
-    /// [`ListFault::NoRoom`] with the number of packets that were opened and answered, where there was no memory for the next
-    /// answer. The place of an answer is reserved before its packet is opened, so no packet is opened without its answer.
+    /// Whatever was delivered, no number is judged twice. If nothing but what was sent passes the integrity check, a packet
+    /// is judged exactly at its first delivery at which its number is rightly recovered and lies inside or above the
+    /// window; at every other delivery nothing is handed up and no number is taken. A packet that is refused for memory
+    /// counts as not delivered.
+    ///
+    /// [`ListFault::NoRoom`] with the number of packets that were opened and answered, where there was no memory for the
+    /// next answer. The place of an answer is reserved before its packet is opened: none is opened without its answer.
     pub fn open_all(&mut self, packets: &[Vec<u8>], out: &mut Vec<Answer>) -> Result<(), ListFault>
-        requires { All (λ p. 4 ≤ length p.items → take 4 p.items ≡ big_bytes 4 self.old.association.spi) packets.now }
-        ensures all { OnOk result (AnswersFirst W.may_want (length packets.now) self.old (map (λ p. p.items) packets.now) out.old.items self.new out.new.items) }
-        ensures stopped { IfErr result (λ e. IsStop W.may_want self.old (map (λ p. p.items) packets.now) out.old.items e self.new out.new.items) }
+        requires { All (IsOf self.old.association) (octets_of packets.now) }
+        ensures all { OnOk result (AnswersFirst W.may_want (length packets.now) self.old
+            (octets_of packets.now) out.old.items self.new out.new.items) }
+        ensures stopped { IfErr result (λ fault. IsStop W.may_want self.old
+            (octets_of packets.now) out.old.items fault self.new out.new.items) }
     {
         // Every window is sound, also where no packet comes.
         let _ = &self.window;
@@ -148,7 +167,7 @@ impl<W: Window> Inbound<W> {
 
     /// Opens one packet of a list.
     fn answer(&mut self, packet: &[u8]) -> Answer
-        requires { 4 ≤ length packet.now → take 4 packet.now ≡ big_bytes 4 self.old.association.spi }
+        requires { IsOf self.old.association packet.now }
         ensures { Step W.may_want self.old packet.now result self.new }
     {
         match self.open(packet) {

@@ -1,5 +1,5 @@
 //! The sender's end of an association (RFC 4303 section 3.3).
-ghost use Rattle.std.specs.Prelude.{◌≡◌, ℕ, ◌+◌, ◌%◌, ◌<◌, ◌≤◌, ◌++◌, length, vec_len, IfOk, IfErr};
+ghost use Rattle.std.specs.Prelude.{◌≡◌, ◌+◌, ◌%◌, ◌<◌, ◌≤◌, ◌++◌, length, vec_len, IfOk, IfErr};
 ghost use Rattle.std.specs.Vec.{vec_capacity};
 ghost use Rattle.esp.specs.Packet.{joined, packet};
 ghost use Rattle.esp.specs.Sealing.{Seals, SealRefusal};
@@ -34,7 +34,10 @@ impl Outbound {
     /// The end with this SPI and key of 32 octets, which sealed its last packet with the number `last` (0 where there was
     /// none). Numbers have 64 bits if `extended`, else 32.
     pub fn new(spi: u32, key: &[u8; 32], extended: bool, last: u64) -> Outbound
-        ensures { result ≡ record { association = record { spi = spi; key = key.now; extended = extended }; last = last } }
+        ensures { result ≡ record {
+          association = record { spi = spi; key = key.now; extended = extended };
+          last = last;
+        } }
     {
         let key = IcvKey::new(key);
         Outbound {
@@ -43,15 +46,18 @@ impl Outbound {
         }
     }
 
-    /// Appends one packet with the next number and the least padding to `out`, and answers its number.
+    /// Appends to `out` the packet that carries `payload` under the next header `next`, with the number after the last and
+    /// the least padding, and answers its number (RFC 4303 section 3.3).
     ///
-    /// Refused, with nothing changed, in this order: [`EspFault::Exhausted`] where the last number was 2^32 - 1, or
+    /// Refused, with nothing changed, in this order: [`EspFault::Exhausted`] where the last number was 2^32 - 1 or more, or
     /// 2^64 - 1 with extended numbers; [`EspFault::PayloadSize`] above 16,384 octets; [`EspFault::Memory`].
     ///
     /// A packet whose check value covers n octets costs ceil((n + 9) / 64) + 1 compressions of SHA-256.
     pub fn seal(&mut self, next: u8, payload: &[u8], out: &mut Vec<u8>) -> Result<u64, EspFault>
-        ensures sealed { IfOk result (λ n. Seals self.old next payload.now out.old.items n self.new out.new.items) }
-        ensures refused { IfErr result (λ e. SealRefusal self.old payload.now e × (self.new ≡ self.old) × (out.new.items ≡ out.old.items)) }
+        ensures sealed { IfOk result (λ number.
+            Seals self.old next payload.now out.old.items number self.new out.new.items) }
+        ensures refused { IfErr result (λ fault. SealRefusal self.old payload.now fault
+            × (self.new ≡ self.old) × (out.new.items ≡ out.old.items)) }
     {
         let Some(number) = self.association.number_after(self.last) else {
             return Err(EspFault::Exhausted);

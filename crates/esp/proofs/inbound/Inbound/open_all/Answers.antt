@@ -1,11 +1,12 @@
-use Rattle.std.proofs.Common.{◌≡◌, ℕ, ◌+◌, ◌<◌, ◌≤◌, List, [], ◌∷◌, ◌++◌, length, map, take, refl, sym, ap, ◌∙◌, subst, arith}
-use Rattle.std.proofs.lemmas.List.{append_assoc, length_push, length-map}
-use Rattle.byteorder.specs.Endian.{big_bytes}
+use Rattle.std.proofs.Common.{◌≡◌, ℕ, ◌+◌, ◌<◌, ◌≤◌, List, [], ◌∷◌, ◌++◌, length, map, get_or, take, refl, sym, ap, ◌∙◌, subst, arith}
+use Rattle.std.proofs.lemmas.List.{append_assoc, length_push, length-map, get_or-map}
+use Rattle.std.specs.Global.{Vec}
 use Rattle.replay.specs.Window.{IsSound}
 use Rattle.esp.specs.declared.association.Association.{Association}
+use Rattle.esp.specs.Packet.{IsOf}
 use Rattle.esp.specs.Views.{Receiving}
 use Rattle.esp.specs.Opening.{Step, Run}
-use Rattle.esp.specs.Delivery.{AnswersFirst}
+use Rattle.esp.specs.Delivery.{AnswersFirst, octets_of}
 use Rattle.esp.specs.declared.answer.Answer.{Answer}
 use Rattle.esp.proofs.Runs.{run_more, step_keeps, take-map_more, answers_first, pushed}
 use Rattle.esp.proofs.inbound.Inbound.open_all.Goals as goal
@@ -15,17 +16,24 @@ returns-then-is_err-clause-stopped g c =
     let i = c.loop-done.invariant in
     let sound : IsSound c.args.self.now.window = subst (λ (r : Receiving). IsSound r.window) c.self.view_is (g.met.W.Window.sound c.self.inside.window) in
     let h = c.loop-done-test.true in
-    (simp length-map (omega arith), answers_first _ c.loop-done.done c.args.self.now _ c.args.out.now.items c.loop-done.self c.reserve.new.self.items i.answers sound (c.reserve.ensures.items ∙ i.appended) i.count i.run)
+    let same : c.reserve.new.self.items ≡ c.args.out.now.items ++ i.answers = c.reserve.ensures.items ∙ i.appended in
+    (simp length-map (omega arith), answers_first _ c.loop-done.done c.args.self.now _ c.args.out.now.items c.loop-done.self c.reserve.new.self.items i.answers sound same i.count i.run)
 
 pub answer-answer-requires : goal.answer-answer-requires
 answer-answer-requires g c =
     let i = c.loop-done.invariant in
-    let P : Association → List ℕ → Type 0 = λ a b. 4 ≤ length b → take 4 b ≡ big_bytes 4 a.spi in
-    let spi : P c.args.self.now.association c.index-packets-done.result.items =
-    subst (λ (p : _). P c.args.self.now.association p.items) (sym c.index-packets-done.is) (c.requires c.loop-done.done c.index-packets-done.result c.loop-done-test.true)
+    let packets = c.args.packets.now in
+    let k = c.loop-done.done in
+    let packet = c.index-packets-done.result in
+    let h = c.loop-done-test.true in
+    let here : get_or (octets_of packets) k packet.items ≡ packet.items =
+    get_or-map (λ p. p.items) packets k packet packet.items h ∙ ap (λ (p : Vec ℕ). p.items) (sym c.index-packets-done.is)
     in
-    let here : P c.loop-done.self.association c.index-packets-done.result.items = subst (λ (a : Association). P a c.index-packets-done.result.items) (sym i.association) spi in
-    subst (P c.loop-done.self.association) (sym c.deref.ensures.value) here
+    let asked : IsOf c.args.self.now.association packet.items =
+    subst (IsOf c.args.self.now.association) here (c.requires k packet.items (simp length-map h))
+    in
+    let still : IsOf c.loop-done.self.association packet.items = subst (λ (a : Association). IsOf a packet.items) (sym i.association) asked in
+    subst (IsOf c.loop-done.self.association) (sym c.deref.ensures.value) still
 
 pub loop-done-preserved : goal.loop-done-preserved
 loop-done-preserved g c =
