@@ -1,5 +1,4 @@
-// The integrity algorithm HMAC-SHA-256-128 (RFC 4868).
-
+//! The integrity algorithm HMAC-SHA-256-128 (RFC 4868).
 ghost use Rattle.std.specs.Prelude.{◌≡◌, ⊤, take};
 ghost use Rattle.std.specs.List.{flat_map};
 ghost use Rattle.mac.specs.Hmac.{icv_sha256};

@@ -1,5 +1,4 @@
-// HMAC (RFC 2104) over SHA-256.
-
+//! HMAC (RFC 2104) over SHA-256.
 ghost use Rattle.std.specs.Prelude.{◌≡◌, ◌≤◌, ⊤, ℕ, List, ◌++◌, length};
 ghost use Rattle.std.specs.List.{flat_map};
 ghost use Rattle.sha2.specs.Hashers.{Holds256};
@@ -58,7 +57,7 @@ impl HmacKey {
         }
     }
 
-    /// HMAC-SHA-256 of the parts, joined to one message.
+    /// HMAC-SHA-256 of the parts, joined to one message (RFC 2104, section 2).
     pub fn tag(&self, parts: &[&[u8]]) -> [u8; 32]
         ensures { result ≡ keyed_hash self.now (flat_map (λ part. part.now) parts.now) }
     {

@@ -16,7 +16,7 @@ const OCTETS: [u8; 65] = [
     50, 51, 52, 53, 54, 55, 56, 57, 58, 59, 60, 61, 62, 63, 64,
 ];
 
-// The tag is the same under a prepared key and a copy of it, and in one part and in several.
+// The tag is the same under the key and under the prepared key, in one part and in several.
 fn expect(rt: &impl Abort, case: &Case) {
     let key = HmacKey::new(case.key);
     let (front, rest) = case.data.split_at(case.data.len() / 3);
