@@ -1,5 +1,5 @@
 -- What follows for a list of deliveries from the rule by which each one is judged.
-use Rattle.std.proofs.Common.{◌≡◌, ℕ, zero, suc, ◌+◌, ◌<◌, ◌≤◌, true, false, List, [], ◌∷◌, length, take, get_or, sym, ap, ◌∙◌, arith, inl, inr, ◌⊎◌, Some, None, Option}
+use Rattle.std.proofs.Common.{◌≡◌, ℕ, zero, suc, ◌+◌, ◌<◌, ◌≤◌, true, false, List, [], ◌∷◌, ◌++◌, length, take, get_or, refl, subst, add-one, sym, ap, ◌∙◌, arith, inl, inr, ◌⊎◌, Some, None, Option}
 use Rattle.std.specs.Prelude.{slice_get, nat_eq}
 use Rattle.std.specs.Ordering.{nat_cmp}
 use Rattle.std.specs.FinSet as set
@@ -7,8 +7,10 @@ use Rattle.std.specs.FinMap as map
 use Rattle.std.proofs.lemmas.Bool.{or_cases, or_left, or_right, eqb-true, eq-eqb, cases_Bool, cases_order, both_ways}
 use Rattle.std.proofs.lemmas.Option.{slice_get_within, slice_get-get_or, slice_get_past}
 use Rattle.std.proofs.lemmas.Bool.{cases_lt}
+use Rattle.std.proofs.lemmas.List.{take_more, take_all}
+use Rattle.esp.specs.declared.association.Association.{Association}
 use Rattle.esp.specs.Judging.{Judges}
-use Rattle.esp.specs.Delivery.{taken_after, History, taken_at, IsJudged, AtMostOnce, Unforged, Arrives, IsFirstArrival, ExactlyAtFirst}
+use Rattle.esp.specs.Delivery.{all_taken, taken_after, History, taken_at, IsJudged, AtMostOnce, Unforged, Arrives, IsFirstArrival, ExactlyAtFirst}
 use Rattle.esp.proofs.NumberLemmas.{contains-insert_nat}
 
 -- what is taken stays taken
@@ -139,3 +141,46 @@ module _ (h : History) (is : IsJudged h) where
 
     pub exactly_at_first : ExactlyAtFirst h sent
     exactly_at_first = λ i n. (judged_is_first i n, first_is_judged i n)
+
+-- how packets were judged is determined by the packets
+module _ (a : Association) (size : ℕ) (before : set.FinSet nat_cmp) (bs : List (List ℕ)) where
+  abbrev with : List (Option ℕ) → History
+  with ns = record { association = a; size = size; before = before; packets = bs; numbers = ns }
+
+  -- a number judged in one history, after the same numbers, was judged in the other
+  follows : (ns ms : List (Option ℕ)) (i n : ℕ) → IsJudged (with ns) → IsJudged (with ms) → take i ns ≡ take i ms → slice_get ns i ≡ Some (Some n) → slice_get ms i ≡ Some (Some n)
+  follows ns ms i n is other pre e =
+      let r = judged_at (with ns) is i n e in
+      (other.judged i n r.packet r.here).1 (subst (λ (xs : List (Option ℕ)). Judges a (all_taken size (taken_after before xs)) r.packet n) pre r.judged)
+
+  same_here : (o q : Option ℕ) → ((n : ℕ) → o ≡ Some n → q ≡ Some n) → ((n : ℕ) → q ≡ Some n → o ≡ Some n) → o ≡ q
+  same_here None None f g = refl
+  same_here (Some n) q f g = sym (f n refl)
+  same_here None (Some n) f g = g n refl
+
+  same_at : (ns ms : List (Option ℕ)) (i : ℕ) → IsJudged (with ns) → IsJudged (with ms) → take i ns ≡ take i ms → i < length bs → get_or ns i None ≡ get_or ms i None
+  same_at ns ms i is other pre within =
+      let each = is.each in
+      let each' = other.each in
+      let at_ns : slice_get ns i ≡ Some (get_or ns i None) = slice_get-get_or ns i None (omega arith) in
+      let at_ms : slice_get ms i ≡ Some (get_or ms i None) = slice_get-get_or ms i None (omega arith) in
+      same_here (get_or ns i None) (get_or ms i None)
+      (λ n e. let there = follows ns ms i n is other pre (at_ns ∙ ap Some e) in cc)
+      (λ n e. let there = follows ms ns i n other is (sym pre) (at_ms ∙ ap Some e) in cc)
+
+  same_prefix : (ns ms : List (Option ℕ)) (i : ℕ) → IsJudged (with ns) → IsJudged (with ms) → i ≤ length bs → take i ns ≡ take i ms
+  same_prefix ns ms zero is other within = refl
+  same_prefix ns ms (suc i) is other within =
+      let each = is.each in
+      let each' = other.each in
+      let pre = same_prefix ns ms i is other (omega arith) in
+      let here = same_at ns ms i is other pre (omega arith) in
+      let one : i + 1 ≡ suc i = add-one i in
+      subst (λ (k : ℕ). take k ns ≡ take k ms) one
+      (take_more ns i None (omega arith) ∙ ap (λ (xs : List (Option ℕ)). xs ++ get_or ns i None ∷ []) pre ∙ ap (λ (o : Option ℕ). take i ms ++ o ∷ []) here ∙ sym (take_more ms i None (omega arith)))
+
+  pub one_history : (ns ms : List (Option ℕ)) → IsJudged (with ns) → IsJudged (with ms) → ns ≡ ms
+  one_history ns ms is other =
+      let each = is.each in
+      let each' = other.each in
+      sym (take_all (length bs) ns (omega arith)) ∙ same_prefix ns ms (length bs) is other (omega arith) ∙ take_all (length bs) ms (omega arith)

@@ -1,13 +1,13 @@
 //! Facts about the definitions, each the contract of a function that does nothing: what a sealed packet is to its receiver,
 //! that calls in a row are one run, and that the premise of the theorem on deliveries can be met.
-ghost use Rattle.std.specs.Prelude.{ℕ, List, ◌++◌, length};
+ghost use Rattle.std.specs.Prelude.{◌≡◌, ℕ, List, ◌++◌, length, Option};
 ghost use Rattle.replay.specs.Window.{IsSound};
 ghost use Rattle.esp.specs.declared.association.Association.{Association};
 ghost use Rattle.esp.specs.declared.answer.Answer.{Answer};
 ghost use Rattle.esp.specs.Sealing.{IsShortestPacket, FitsPacket};
 ghost use Rattle.esp.specs.Views.{Receiving};
 ghost use Rattle.esp.specs.Opening.{HandsUp, Run, Step};
-ghost use Rattle.esp.specs.Delivery.{Deliveries};
+ghost use Rattle.esp.specs.Delivery.{Deliveries, IsJudged, history};
 ghost use Rattle.esp.specs.Worked.{IsOpenable, IsWorked, repeated, repeated_sent, crossing, crossing_sent};
 
 use replay::Window;
@@ -28,6 +28,12 @@ pub fn calls_in_a_row_are_one_run<W: Window>()
         → Run W.may_want r bs xs s → Run W.may_want s cs ys t → Run W.may_want r (bs ++ cs) (xs ++ ys) t }
     ensures whole { (r s : Receiving) (bs : List (List ℕ)) (xs : List Answer)
         → IsSound r.window → Run W.may_want r bs xs s → Deliveries W.may_want r bs xs s }
+{}
+
+/// How a list of packets is judged is determined by the receiver and the packets: there is one list of numbers.
+pub fn judging_is_determined()
+    ensures { (r : Receiving) (bs : List (List ℕ)) (ns ms : List (Option ℕ))
+        → IsJudged (history r bs ns) → IsJudged (history r bs ms) → ns ≡ ms }
 {}
 
 /// The premise that no check value was forged is met: by a packet that comes twice, and with extended numbers by two packets

@@ -21,9 +21,13 @@ mod inbound;
 mod laws;
 mod outbound;
 mod packet;
+#[cfg(test)]
+mod tests;
 
 pub use answer::Answer;
 pub use fault::{EspFault, ListFault};
 pub use inbound::{Inbound, Opened};
-pub use laws::{calls_in_a_row_are_one_run, premise_is_met, sealed_packets_open};
+pub use laws::{
+    calls_in_a_row_are_one_run, judging_is_determined, premise_is_met, sealed_packets_open,
+};
 pub use outbound::Outbound;

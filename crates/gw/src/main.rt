@@ -1,0 +1,76 @@
+//! `gw`: the gateway's core on the command line. It works on files alone: no socket, no clock, no random source.
+//!
+//! `gw play FILE` plays a script. Its first line names its kind; each further line is a directive, and what came of it is
+//! printed. A script of kind `one` has the two ends of one ESP association (RFC 4303): its sender seals packets, its
+//! receiver opens them.
+//!
+//! ```text
+//! $ cat once.gw
+//! one
+//! sa 256 0b0b0b0b0b0b0b0b0b0b0b0b0b0b0b0b0b0b0b0b0b0b0b0b0b0b0b0b0b0b0b0b 2 no
+//! seal 4 c0ffee
+//! deliver 1
+//! deliver 1
+//! $ gw play once.gw
+//! sealed 1 number 1 length 32
+//! up number 1 next 4 c0ffee
+//! E16
+//! ```
+//!
+//! A refusal in a script is printed as its number and is no fault. The exit status is 0 where all was done, 1 where input
+//! was refused or output not written, and 2 where the command line's words are no command.
+#![tactic(auto)]
+
+mod command;
+mod input;
+mod output;
+mod play;
+mod script;
+mod status;
+mod stop;
+
+use command::{Command, CommandFault};
+use status::Status;
+use std::alloc::AllocError;
+use std::fs::File;
+use std::io;
+use std::process::ExitCode;
+use stop::Stop;
+
+/// The path at which the runtime's standard input is read, and no file opened: there may be no leave to open it.
+const STANDARD_INPUT: &str = "/dev/stdin";
+
+fn main(rt: HostRuntime) -> ExitCode {
+    ExitCode::from(run(&rt))
+}
+
+/// Does what the command line asks, and answers the exit status.
+fn run(rt: &HostRuntime) -> u8 {
+    let words = match command::words(rt) {
+        Ok(words) => words,
+        Err(fault) => return refuse_command(rt, fault),
+    };
+    match command::read(rt.alloc(), words.as_slice()) {
+        Ok(Command::Play { file }) => play_file(rt, file),
+        Err(fault) => refuse_command(rt, fault),
+    }
+}
+
+/// Nothing is printed of words that are no command.
+fn refuse_command(rt: &HostRuntime, fault: CommandFault) -> u8 {
+    match fault {
+        CommandFault::Words => Status::BadCommand.code(),
+        CommandFault::Memory => output::end(Err(Stop::Memory), &mut io::writer(rt)).code(),
+    }
+}
+
+fn play_file(rt: &HostRuntime, file: &str) -> u8 {
+    let mut writer = io::writer(rt);
+    if file == STANDARD_INPUT {
+        return play::play(rt.alloc(), &mut rt.reader(), &mut writer);
+    }
+    match File::open(rt, file) {
+        Ok(mut reader) => play::play(rt.alloc(), &mut reader, &mut writer),
+        Err(_) => output::end(Err(Stop::File), &mut writer).code(),
+    }
+}

@@ -1,0 +1,28 @@
+//! Why a line of a script stops the program.
+use crate::stop::Stop;
+use std::alloc::AllocError;
+
+/// Why a line is not played.
+#[derive(Clone, Copy, Debug, PartialEq, Eq)]
+pub enum LineFault {
+    /// It is no directive, or none that can be followed here.
+    Refused,
+    /// There was no memory for the program's own work.
+    Memory,
+}
+
+impl LineFault {
+    /// The fault of the line with this number, from 1.
+    pub fn at(self, number: usize) -> Stop {
+        match self {
+            LineFault::Refused => Stop::Line(number),
+            LineFault::Memory => Stop::Memory,
+        }
+    }
+}
+
+impl From<AllocError> for LineFault {
+    fn from(_: AllocError) -> LineFault {
+        LineFault::Memory
+    }
+}
