@@ -12,10 +12,10 @@ use Rattle.esp.specs.Delivery.{History, IsJudged, Unforged}
 abbrev pub worked : Bool → Association
 worked extended = record { spi = 256; key = replicate 32 11; extended = extended }
 
--- an IPv4 header of 20 octets, from 10.0.0.10 to 10.1.0.1
+-- an IPv4 header of 20 octets, from 10.0.0.1 to 10.1.0.1
 abbrev pub worked_payload : List ℕ
 worked_payload =
-    0x45 ∷ 0 ∷ 0 ∷ 0x14 ∷ 0 ∷ 0 ∷ 0 ∷ 0 ∷ 0x40 ∷ 1 ∷ 0 ∷ 0 ∷ 0x0a ∷ 0 ∷ 0 ∷ 0x0a ∷ 0x0a ∷ 1 ∷ 0 ∷ 1 ∷ []
+    0x45 ∷ 0 ∷ 0 ∷ 0x14 ∷ 0 ∷ 0 ∷ 0 ∷ 0 ∷ 0x40 ∷ 1 ∷ 0 ∷ 0 ∷ 0x0a ∷ 0 ∷ 0 ∷ 1 ∷ 0x0a ∷ 1 ∷ 0 ∷ 1 ∷ []
 
 -- the packet with number n that carries it
 abbrev pub worked_packet : Bool → ℕ → List ℕ

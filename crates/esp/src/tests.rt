@@ -1,6 +1,7 @@
 mod extended;
 mod faults;
 mod fixture;
+mod laws;
 mod lists;
 mod memory;
 mod opening;

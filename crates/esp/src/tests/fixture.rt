@@ -62,7 +62,7 @@ impl Receiver {
         packets: &[Vec<u8>],
         out: &mut Vec<Answer>,
     ) -> Result<(), ListFault> {
-        assert!(rt; packets.iter().all(|packet| is_ours(packet)));
+        assert!(rt; are_ours(packets));
         self.inbound.open_all(packets, out)
     }
 }
@@ -74,6 +74,13 @@ fn is_ours(packet: &[u8]) -> bool
     packet.len() < 4 || packet[..4] == [0, 0, 1, 0]
 }
 
+/// Whether each of the packets does.
+fn are_ours(packets: &[Vec<u8>]) -> bool
+    ensures { IsTrue result → All (λ p. 4 ≤ length p.items → take 4 p.items ≡ big_bytes 4 256) packets.now }
+{
+    packets.iter().all(|packet| is_ours(packet))
+}
+
 /// A packet of the SPI with this low half and these octets up to the next header. Its check value is right over them and
 /// the half of the number that is not sent.
 pub fn packet(
@@ -82,7 +89,7 @@ pub fn packet(
     contents: &[u8],
     unsent: &[u8],
 ) -> Result<Vec<u8>, AllocError> {
-    let mut packet = Vec::new(alloc);
+    let mut packet = Vec::with_capacity(alloc, contents.len() + 24)?;
     packet.extend_from_slice(&SPI.to_be_bytes())?;
     packet.extend_from_slice(&low.to_be_bytes())?;
     packet.extend_from_slice(contents)?;

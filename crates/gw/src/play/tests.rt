@@ -7,7 +7,10 @@ use super::play;
 use std::process::Abort;
 use std::test::Fail;
 
-/// How a script begins under a key of 32 octets 0b, without extended numbers and with them.
+/// A key of 32 octets 0b.
+const KEY: &str = "0b0b0b0b0b0b0b0b0b0b0b0b0b0b0b0b0b0b0b0b0b0b0b0b0b0b0b0b0b0b0b0b";
+
+/// How a script begins under that key, without extended numbers and with them.
 const PLAIN: &str =
     "one\nsa 256 0b0b0b0b0b0b0b0b0b0b0b0b0b0b0b0b0b0b0b0b0b0b0b0b0b0b0b0b0b0b0b0b 2 no\n";
 

@@ -1,5 +1,5 @@
 -- What was read so far was taken from the reader, and is no more than may be read.
-use Rattle.std.proofs.Common.{◌≤◌, ℕ, List, length}
+use Rattle.std.proofs.Common.{◌≤◌, length}
 use Rattle.std.specs.Io.KnownBytes.{Consumes}
 use Rattle.gw.proofs.input.read_whole.Given as goal
 

@@ -141,7 +141,7 @@ fn want_of_memory_is_named(rt: HostRuntime) {
     let mut room = [0; 256];
     let mut left = &mut room[..];
     let status = play(rt.alloc(), &mut &SCRIPT[..], &mut left);
-    let count = 256 - left.len();
+    let count = 256usize.saturating_sub(left.len());
     let printed = &room[..count];
     let is_whole = printed == PRINTED && status == 0;
     let is_stopped = match printed.strip_suffix(b"no memory\n") {
