@@ -1,3 +1,4 @@
+pub mod Digits
 pub mod Input
 pub mod Output
 pub mod Status

@@ -4,14 +4,25 @@ use clap::{Arg, ArgAction};
 use std::alloc::{AllocError, Global};
 use std::{env, io};
 
+#[cfg(test)]
+mod tests;
+
 /// What the program is asked to do.
 #[derive(Clone, Copy, Debug, PartialEq, Eq)]
-pub enum Command<'a> {
-    /// Play the script in this file.
-    Play {
-        /// The file's path.
-        file: &'a str,
-    },
+pub struct Command<'a> {
+    /// What is done with the file.
+    pub action: Action,
+    /// The file's path.
+    pub file: &'a str,
+}
+
+/// What is done with a file.
+#[derive(Clone, Copy, Debug, PartialEq, Eq)]
+pub enum Action {
+    /// `play`: it is played as a script.
+    Play,
+    /// `show`: it is shown as an IKE message.
+    Show,
 }
 
 /// Why the command line was not read.
@@ -52,21 +63,32 @@ pub fn words(rt: &HostRuntime) -> Result<Vec<String>, CommandFault> {
     Ok(env::args(rt)?.collect(rt.alloc())?)
 }
 
-/// The command that the words name, of which the first is the program's own name.
+/// The command that the words ask for. The first word is the program's own name.
 pub fn read<'a>(alloc: Global, words: &'a [String]) -> Result<Command<'a>, CommandFault> {
+    let gw = clap::Command::new(alloc, "gw")
+        .subcommand_required(true)
+        .subcommand(with_file(alloc, "play")?)?
+        .subcommand(with_file(alloc, "show")?)?;
+    let matches = gw.try_get_matches_from(words)?;
+    let (name, found) = matches.subcommand().ok_or(CommandFault::Words)?;
+    let file = found.get_str("file").ok_or(CommandFault::Words)?;
+    match name {
+        "play" => Ok(Command {
+            action: Action::Play,
+            file,
+        }),
+        "show" => Ok(Command {
+            action: Action::Show,
+            file,
+        }),
+        _ => Err(CommandFault::Words),
+    }
+}
+
+/// A command that takes one file.
+fn with_file<'a>(alloc: Global, name: &'a str) -> Result<clap::Command<'a>, AllocError> {
     let file = Arg::new(alloc, "file")
         .required(true)
         .action(ArgAction::Set);
-    let play = clap::Command::new(alloc, "play").arg(file)?;
-    let gw = clap::Command::new(alloc, "gw")
-        .subcommand_required(true)
-        .subcommand(play)?;
-    let matches = gw.try_get_matches_from(words)?;
-    match matches.subcommand() {
-        Some(("play", found)) => {
-            let file = found.get_str("file").ok_or(CommandFault::Words)?;
-            Ok(Command::Play { file })
-        }
-        _ => Err(CommandFault::Words),
-    }
+    clap::Command::new(alloc, name).arg(file)
 }

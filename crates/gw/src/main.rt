@@ -17,23 +17,28 @@
 //! E16
 //! ```
 //!
+//! `gw show FILE` prints an IKE message (RFC 7296 section 3) whose octets the file has as hexadecimal digits.
+//!
 //! A refusal in a script is printed as its number and is no fault. The exit status is 0 where all was done, 1 where input
 //! was refused or output not written, and 2 where the command line's words are no command.
 #![tactic(auto)]
 
 mod command;
+mod digits;
 mod input;
 mod output;
 mod play;
 mod script;
+mod show;
 mod status;
 mod stop;
 
-use command::{Command, CommandFault};
+use command::{Action, Command, CommandFault};
 use status::Status;
-use std::alloc::AllocError;
+use std::alloc::Global;
 use std::fs::File;
 use std::io;
+use std::io::{Read, Write};
 use std::process::ExitCode;
 use stop::Stop;
 
@@ -44,33 +49,41 @@ fn main(rt: HostRuntime) -> ExitCode {
     ExitCode::from(run(&rt))
 }
 
-/// Does what the command line asks, and answers the exit status.
+/// Does what the command line asks for, and answers the exit status.
 fn run(rt: &HostRuntime) -> u8 {
     let words = match command::words(rt) {
         Ok(words) => words,
-        Err(fault) => return refuse_command(rt, fault),
+        Err(fault) => return refuse(rt, fault),
     };
     match command::read(rt.alloc(), words.as_slice()) {
-        Ok(Command::Play { file }) => play_file(rt, file),
-        Err(fault) => refuse_command(rt, fault),
+        Ok(command) => follow(rt, command),
+        Err(fault) => refuse(rt, fault),
     }
 }
 
 /// Nothing is printed of words that are no command.
-fn refuse_command(rt: &HostRuntime, fault: CommandFault) -> u8 {
+fn refuse(rt: &HostRuntime, fault: CommandFault) -> u8 {
     match fault {
         CommandFault::Words => Status::BadCommand.code(),
         CommandFault::Memory => output::end(Err(Stop::Memory), &mut io::writer(rt)).code(),
     }
 }
 
-fn play_file(rt: &HostRuntime, file: &str) -> u8 {
+fn follow(rt: &HostRuntime, command: Command) -> u8 {
+    let Command { action, file } = command;
     let mut writer = io::writer(rt);
     if file == STANDARD_INPUT {
-        return play::play(rt.alloc(), &mut rt.reader(), &mut writer);
+        return act(rt.alloc(), action, &mut rt.reader(), &mut writer);
     }
     match File::open(rt, file) {
-        Ok(mut reader) => play::play(rt.alloc(), &mut reader, &mut writer),
+        Ok(mut reader) => act(rt.alloc(), action, &mut reader, &mut writer),
         Err(_) => output::end(Err(Stop::File), &mut writer).code(),
+    }
+}
+
+fn act<R: Read, W: Write>(alloc: Global, action: Action, reader: &mut R, writer: &mut W) -> u8 {
+    match action {
+        Action::Play => play::play(alloc, reader, writer),
+        Action::Show => show::show(alloc, reader, writer),
     }
 }

@@ -8,6 +8,23 @@ pub enum Stop {
     /// The file can't be read, or is too large.
     #[error("refused file")]
     File,
+    /// The file's text is not hexadecimal.
+    #[error("refused hex")]
+    Hex,
+    /// The octets are no message, with the refusal's number.
+    #[error("refused E{number}")]
+    Message {
+        /// The refusal's number.
+        number: u8,
+    },
+    /// A payload of the message is malformed, with the refusal's number.
+    #[error("refused E{number} at {offset}")]
+    Payload {
+        /// The refusal's number.
+        number: u8,
+        /// Where the payload begins, in octets from the message's first.
+        offset: usize,
+    },
     /// The script's line of this number, from 1, is no directive, or none that can be followed here.
     #[error("line {0} refused")]
     Line(usize),

@@ -23,25 +23,30 @@ impl One {
     }
 
     fn follow(&mut self, directive: Directive) -> Result<Report, LineFault> {
-        match (&mut self.ends, directive) {
-            (ends @ None, Directive::Agree(terms)) => {
-                *ends = Some(Ends::new(self.alloc, terms)?);
-                Ok(Report::Nothing)
-            }
-            (None, _) | (Some(_), Directive::Agree(_)) => Err(LineFault::Refused),
-            (Some(ends), Directive::Sender { last }) => ends.set_last(last),
-            (Some(ends), Directive::Seal { next, payload }) => ends.seal(next, &payload),
-            (Some(ends), Directive::Deliver { packet }) => ends.deliver(packet),
-            (
-                Some(ends),
-                Directive::Damage {
-                    packet,
-                    offset,
-                    change,
-                },
-            ) => ends.deliver_damaged(packet, offset, change),
-            (Some(ends), Directive::Print { packet }) => ends.print(packet),
+        let Some(ends) = &mut self.ends else {
+            return self.begin(directive);
+        };
+        match directive {
+            Directive::Agree(_) => Err(LineFault::Refused),
+            Directive::Sender { last } => ends.set_last(last),
+            Directive::Seal { next, payload } => ends.seal(next, &payload),
+            Directive::Deliver { packet } => ends.deliver(packet),
+            Directive::Damage {
+                packet,
+                offset,
+                change,
+            } => ends.deliver_damaged(packet, offset, change),
+            Directive::Print { packet } => ends.print(packet),
         }
+    }
+
+    /// Follows the first directive.
+    fn begin(&mut self, directive: Directive) -> Result<Report, LineFault> {
+        let Directive::Agree(terms) = directive else {
+            return Err(LineFault::Refused);
+        };
+        self.ends = Some(Ends::new(self.alloc, terms)?);
+        Ok(Report::Nothing)
     }
 }
 

@@ -4,7 +4,7 @@ use crate::script::words::Words;
 use std::alloc::Global;
 
 /// What one line asks for. Packets are named by their places among all that were sealed, from 1.
-#[derive(Debug, Drop, PartialEq, Eq)]
+#[derive(Debug, Drop)]
 pub enum Directive {
     /// `sa SPI KEY M yes|no`: the ends agree on these.
     Agree(Terms),
@@ -42,7 +42,7 @@ pub enum Directive {
 }
 
 /// What the two ends of an association agree on.
-#[derive(Clone, Copy, Debug, PartialEq, Eq)]
+#[derive(Clone, Copy, Debug)]
 pub struct Terms {
     /// The security parameters index, at least 256 (RFC 4303 section 2.1).
     pub spi: u32,

@@ -49,7 +49,7 @@ impl Ends {
         let mut packet = Vec::new(self.alloc);
         let number = match self.sender.seal(next, payload, &mut packet) {
             Ok(number) => number,
-            Err(fault) => return Ok(Report::Refused(fault.code())),
+            Err(fault) => return Ok(Report::Refused(fault)),
         };
         let length = packet.len();
         self.packets.push(packet).map_err(AllocError::from)?;
@@ -111,7 +111,7 @@ impl Ends {
                 next,
                 payload: packets[0][start..start + length].to_vec(self.alloc)?,
             }),
-            Answer::Refused(fault) => Ok(Report::Refused(fault.code())),
+            Answer::Refused(fault) => Ok(Report::Refused(fault)),
         }
     }
 }

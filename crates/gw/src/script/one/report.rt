@@ -1,8 +1,10 @@
 //! What a directive prints.
+use crate::digits::hex_text;
+use esp::EspFault;
 use std::alloc::{AllocError, Global};
 
 /// What a directive of a script of kind `one` prints.
-#[derive(Debug, Drop, PartialEq, Eq)]
+#[derive(Debug, Drop)]
 pub enum Report {
     /// No line.
     Nothing,
@@ -30,8 +32,8 @@ pub enum Report {
     Packet(Vec<u8>),
     /// No association has the packet's index.
     UnknownAssociation,
-    /// The end refused, with this number.
-    Refused(u8),
+    /// An end refused.
+    Refused(EspFault),
 }
 
 impl Report {
@@ -58,15 +60,10 @@ impl Report {
                 format!(in alloc; "packet {octets}\n")
             }
             Report::UnknownAssociation => String::from_str(alloc, "E28\n"),
-            Report::Refused(number) => format!(in alloc; "E{number}\n"),
+            Report::Refused(fault) => {
+                let number = fault.code();
+                format!(in alloc; "E{number}\n")
+            }
         }
     }
-}
-
-/// The octets in hexadecimal, `-` where there are none.
-fn hex_text(alloc: Global, octets: &[u8]) -> Result<String, AllocError> {
-    if octets.is_empty() {
-        return String::from_str(alloc, "-");
-    }
-    hex::encode(alloc, octets)
 }

@@ -1,0 +1,48 @@
+//! Words that are a command, and words that are none.
+use super::*;
+use std::test::Fail;
+
+/// Words that are no command, a line for each.
+const NONE: &str =
+    "\nhelp\n--help\n-h\n--version\nplay\nplay --help\nplay a b\nplay -x\nhelp play\ncheck\n--\n-- play a\nPlay a\nplay=a\nplays a\nfile a\nplay a show b";
+
+fn words_of(alloc: Global, line: &str) -> Result<Vec<String>, AllocError> {
+    let mut words = vec![in alloc; String::from_str(alloc, "gw")?]?;
+    for word in line.split_ascii_whitespace() {
+        words.push(String::from_str(alloc, word)?)?;
+    }
+    Ok(words)
+}
+
+#[test]
+fn commands(rt: HostRuntime) -> Result<(), Fail> {
+    let lines = [
+        ("play a", Action::Play, "a"),
+        ("show a/b", Action::Show, "a/b"),
+        ("play -- -x", Action::Play, "-x"),
+        ("show show", Action::Show, "show"),
+        ("play -", Action::Play, "-"),
+    ];
+    for (line, action, file) in lines {
+        let words = words_of(rt.alloc(), line)?;
+        assert_eq!(rt;
+            read(rt.alloc(), words.as_slice()),
+            Ok(Command { action, file }),
+            "{line:?}"
+        );
+    }
+    Ok(())
+}
+
+#[test]
+fn no_commands(rt: HostRuntime) -> Result<(), Fail> {
+    for line in NONE.lines() {
+        let words = words_of(rt.alloc(), line)?;
+        assert_eq!(rt;
+            read(rt.alloc(), words.as_slice()),
+            Err(CommandFault::Words),
+            "{line:?}"
+        );
+    }
+    Ok(())
+}

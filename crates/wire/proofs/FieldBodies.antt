@@ -1,0 +1,345 @@
+-- The insides of selectors, of the payloads of a few fields, of notifications and deletions.
+use Rattle.std.proofs.Common.{◌≡◌, ℕ, zero, suc, ◌+◌, ◌^◌, ◌≤◌, Bool, true, false, cond, eqb, leb, ltb, List, [], ◌∷◌, ◌++◌, length, Some, None, refl, sym, ap, subst, ◌∙◌, inl, inr, ◌⊎◌, arith}
+use Rattle.std.specs.Prelude.{◌&&◌, ◌||◌}
+use Rattle.std.proofs.lemmas.Bool.{eqb-true, ltb-false, le-ltb, leb-true, le-leb, ne_eqb}
+use Rattle.std.proofs.lemmas.List.{nil_from_length}
+use Rattle.byteorder.specs.Endian.{big_bytes}
+use Rattle.wire.specs.Parts.{IsOctet, AreOctets, IsPart}
+use Rattle.wire.specs.Selectors.{SpellsSelector, SpellsSelectors}
+use Rattle.wire.specs.Fields.{SpellsKe, SpellsTyped, SpellsNonce, SpellsNotify, SpellsDelete, SpellsSpi, HasSpiSize}
+use Rattle.wire.specs.Reading.{◌>>=◌, octets_at, octet_at, number_at, part_at, each_of, selector_at, selectors_of, data_of, ke_of, typed_of, nonce_of, notify_of, delete_of, is_sized}
+use Rattle.wire.specs.declared.selector.Selector.{Selector}
+use Rattle.wire.specs.declared.payload.Payload.{Payload}
+use Rattle.wire.specs.declared.payload.Payload.TheVariants.{Notify, Delete}
+use Rattle.wire.proofs.Options.{some_is, with_some, with_test, with_guard, pick, both_true}
+use Rattle.wire.proofs.Takes.{octets_front, octets_back, octets_takes, octets_again, octet_takes, octet_again, wide2, wide4, number_takes, number_again, part_takes, part_again}
+use Rattle.wire.proofs.Sequences.{TakesItem, ItemTakes, ItemAgain, each_takes, each_again, part_long}
+use Rattle.wire.proofs.Bodies.{same_numbers}
+
+-- ---- selectors
+
+abbrev ports_of : ℕ → ℕ → List ℕ → List ℕ
+ports_of start end rest = big_bytes 2 start ++ (big_bytes 2 end ++ rest)
+
+abbrev addresses_of : ℕ → ℕ → List ℕ → List ℕ
+addresses_of start end rest = big_bytes 4 start ++ (big_bytes 4 end ++ rest)
+
+pub selector_takes : ItemTakes selector_at SpellsSelector
+unfolding selector_at
+selector_takes xs x fits e =
+    with_some (part_at xs) _ x e (λ part e1 r1.
+    with_some (number_at 2 part.0.inside) _ x r1 (λ start_port e2 r2.
+    with_some (number_at 2 start_port.1) _ x r2 (λ end_port e3 r3.
+    with_some (number_at 4 end_port.1) _ x r3 (λ start_address e4 r4.
+    with_some (number_at 4 start_address.1) _ x r4 (λ end_address e5 r5.
+    let made : Selector = record { protocol = part.0.second; start_port = start_port.0; end_port = end_port.0; start_address = start_address.0; end_address = end_address.0 } in
+    with_test ((eqb part.0.first 7) && (eqb (length end_address.1) 0) && leb start_port.0 end_port.0 && leb start_address.0 end_address.0) (Some (made, part.1)) x r5 (λ good r6.
+    let g1 = both_true ((eqb part.0.first 7) && (eqb (length end_address.1) 0) && leb start_port.0 end_port.0) (leb start_address.0 end_address.0) good in
+    let g2 = both_true ((eqb part.0.first 7) && (eqb (length end_address.1) 0)) (leb start_port.0 end_port.0) g1.0 in
+    let g3 = both_true (eqb part.0.first 7) (eqb (length end_address.1) 0) g2.0 in
+    let t1 = part_takes xs part fits e1 in
+    let inside_fits : AreOctets part.0.inside = octets_back (part.0.first ∷ part.0.second ∷ big_bytes 2 (4 + length part.0.inside)) part.0.inside (subst AreOctets t1.part.spelled (octets_front t1.front part.1 (subst AreOctets t1.joined fits))) in
+    let t2 = number_takes 2 (2 ^ 16) wide2 part.0.inside start_port inside_fits e2 in
+    let fits2 : AreOctets start_port.1 = octets_back (big_bytes 2 start_port.0) start_port.1 (subst AreOctets t2.0 inside_fits) in
+    let t3 = number_takes 2 (2 ^ 16) wide2 start_port.1 end_port fits2 e3 in
+    let fits3 : AreOctets end_port.1 = octets_back (big_bytes 2 end_port.0) end_port.1 (subst AreOctets t3.0 fits2) in
+    let t4 = number_takes 4 (2 ^ 32) wide4 end_port.1 start_address fits3 e4 in
+    let fits4 : AreOctets start_address.1 = octets_back (big_bytes 4 start_address.0) start_address.1 (subst AreOctets t4.0 fits3) in
+    let t5 = number_takes 4 (2 ^ 32) wide4 start_address.1 end_address fits4 e5 in
+    let nothing : end_address.1 ≡ [] = nil_from_length end_address.1 (eqb-true _ _ g3.1) in
+    let inside : List ℕ = big_bytes 2 start_port.0 ++ big_bytes 2 end_port.0 ++ big_bytes 4 start_address.0 ++ big_bytes 4 end_address.0 in
+    let inside_is : part.0.inside ≡ inside =
+    t2.0 ∙ ap (λ (r : List ℕ). big_bytes 2 start_port.0 ++ r) (t3.0 ∙ ap (λ (r : List ℕ). big_bytes 2 end_port.0 ++ r) (t4.0 ∙ ap (λ (r : List ℕ). big_bytes 4 start_address.0 ++ r) (t5.0 ∙ ap (λ (r : List ℕ). big_bytes 4 end_address.0 ++ r) nothing))) in
+    let part_is : IsPart 7 part.0.second inside t1.front =
+    subst (λ (y : List ℕ). IsPart 7 part.0.second y t1.front) inside_is (subst (λ (m : ℕ). IsPart m part.0.second part.0.inside t1.front) (eqb-true _ _ g3.0) t1.part) in
+    subst (TakesItem SpellsSelector xs) (some_is (made, part.1) x r6) (record {
+      front = t1.front;
+      joined = t1.joined;
+      spelled = record { part = part_is; ports = leb-true _ _ g2.1; addresses = leb-true _ _ g1.1; port = t3.1; address = t5.1 };
+    })))))))
+
+pub selector_again : ItemAgain selector_at SpellsSelector
+unfolding selector_at
+selector_again a front rest s =
+    let inside : List ℕ = big_bytes 2 a.start_port ++ big_bytes 2 a.end_port ++ big_bytes 4 a.start_address ++ big_bytes 4 a.end_address in
+    let after3 : List ℕ = big_bytes 4 a.end_address ++ [] in
+    let after2 : List ℕ = big_bytes 4 a.start_address ++ after3 in
+    let after1 : List ℕ = big_bytes 2 a.end_port ++ after2 in (
+      ap (λ o. o >>= λ p. number_at 2 p.0.inside >>= λ u. number_at 2 u.1 >>= λ v. number_at 4 v.1 >>= λ w. number_at 4 w.1 >>= λ z. cond ((eqb p.0.first 7) && (eqb (length z.1) 0) && leb u.0 v.0 && leb w.0 z.0) (Some (record { protocol = p.0.second; start_port = u.0; end_port = v.0; start_address = w.0; end_address = z.0 }, p.1)) None) (part_again 7 a.protocol inside front rest s.part)
+          ∙ ap (λ o. o >>= λ u. number_at 2 u.1 >>= λ v. number_at 4 v.1 >>= λ w. number_at 4 w.1 >>= λ z. cond ((eqb (length z.1) 0) && leb u.0 v.0 && leb w.0 z.0) (Some (record { protocol = a.protocol; start_port = u.0; end_port = v.0; start_address = w.0; end_address = z.0 }, rest)) None) (number_again 2 (2 ^ 16) wide2 a.start_port after1 (omega (arith, s.ports, s.port)))
+          ∙ ap (λ o. o >>= λ v. number_at 4 v.1 >>= λ w. number_at 4 w.1 >>= λ z. cond ((eqb (length z.1) 0) && leb a.start_port v.0 && leb w.0 z.0) (Some (record { protocol = a.protocol; start_port = a.start_port; end_port = v.0; start_address = w.0; end_address = z.0 }, rest)) None) (number_again 2 (2 ^ 16) wide2 a.end_port after2 s.port)
+          ∙ ap (λ o. o >>= λ w. number_at 4 w.1 >>= λ z. cond ((eqb (length z.1) 0) && leb a.start_port a.end_port && leb w.0 z.0) (Some (record { protocol = a.protocol; start_port = a.start_port; end_port = a.end_port; start_address = w.0; end_address = z.0 }, rest)) None) (number_again 4 (2 ^ 32) wide4 a.start_address after3 (omega (arith, s.addresses, s.address)))
+          ∙ ap (λ o. o >>= λ z. cond ((eqb (length z.1) 0) && leb a.start_port a.end_port && leb a.start_address z.0) (Some (record { protocol = a.protocol; start_port = a.start_port; end_port = a.end_port; start_address = a.start_address; end_address = z.0 }, rest)) None) (number_again 4 (2 ^ 32) wide4 a.end_address [] s.address)
+          ∙ ap (λ b. cond (b && leb a.start_address a.end_address) (Some (a, rest)) None) (le-leb _ _ s.ports)
+          ∙ ap (λ b. cond b (Some (a, rest)) None) (le-leb _ _ s.addresses),
+      omega (arith, part_long 7 a.protocol inside front s.part),
+    )
+
+pub three_octets : (front : List ℕ) → length front ≡ 3 → (x : ℕ) × (y : ℕ) × (z : ℕ) × (front ≡ x ∷ y ∷ z ∷ [])
+three_octets [] e = absurd (omega arith)
+three_octets (x ∷ []) e = absurd (omega arith)
+three_octets (x ∷ y ∷ []) e = absurd (omega arith)
+three_octets (x ∷ y ∷ z ∷ []) e = (x, y, z, refl)
+three_octets (x ∷ y ∷ z ∷ w ∷ front) e = absurd (omega arith)
+
+two_octets : (front : List ℕ) → length front ≡ 2 → (x : ℕ) × (y : ℕ) × (front ≡ x ∷ y ∷ [])
+two_octets [] e = absurd (omega arith)
+two_octets (x ∷ []) e = absurd (omega arith)
+two_octets (x ∷ y ∷ []) e = (x, y, refl)
+two_octets (x ∷ y ∷ z ∷ front) e = absurd (omega arith)
+
+pub selectors_takes : (xs : List ℕ) (found : List Selector) → AreOctets xs → selectors_of xs ≡ Some found → SpellsSelectors IsOctet found xs
+unfolding selectors_of
+selectors_takes xs found fits e =
+    with_some (octet_at xs) _ found e (λ count e1 r1.
+    with_some (octets_at 3 count.1) _ found r1 (λ reserved e2 r2.
+    with_some (each_of selector_at (length reserved.1) reserved.1) _ found r2 (λ selectors e3 r3.
+    with_test ((eqb (length selectors) count.0) && leb 1 count.0 && leb count.0 16) (Some selectors) found r3 (λ good r4.
+    let g1 = both_true ((eqb (length selectors) count.0) && leb 1 count.0) (leb count.0 16) good in
+    let g2 = both_true (eqb (length selectors) count.0) (leb 1 count.0) g1.0 in
+    let count_is : length selectors ≡ count.0 = eqb-true _ _ g2.0 in
+    let t1 = octet_takes xs count e1 in
+    let fits1 : AreOctets count.1 = (subst AreOctets t1 fits).1 in
+    let t2 = octets_takes 3 count.1 reserved e2 in
+    let three = three_octets reserved.0 t2.1 in
+    let both2 : AreOctets (reserved.0 ++ reserved.1) = subst AreOctets t2.0 fits1 in
+    let named : AreOctets (three.0 ∷ three.1 ∷ three.2 ∷ []) = subst AreOctets three.3 (octets_front reserved.0 reserved.1 both2) in
+    let P : List Selector → Type 0 = λ ss. SpellsSelectors IsOctet ss xs in
+    subst P (some_is selectors found r4) (record {
+      reserved_1 = three.0;
+      reserved_2 = three.1;
+      reserved_3 = three.2;
+      free = (named.0, named.1.0, named.1.1.0);
+      selectors = reserved.1;
+      spelled = t1 ∙ ap (λ (r : List ℕ). count.0 ∷ r) (t2.0 ∙ ap (λ (r : List ℕ). r ++ reserved.1) three.3) ∙ ap (λ (n : ℕ). n ∷ three.0 ∷ three.1 ∷ three.2 ∷ reserved.1) (sym count_is);
+      some = rw count_is (leb-true _ _ g2.1);
+      few = rw count_is (leb-true _ _ g1.1);
+      each = each_takes selector_at SpellsSelector selector_takes (length reserved.1) reserved.1 selectors (octets_back reserved.0 reserved.1 both2) e3;
+    })))))
+
+pub selectors_again : (Free : ℕ → Type 0) (a : List Selector) (xs : List ℕ) → SpellsSelectors Free a xs → selectors_of xs ≡ Some a
+unfolding selectors_of
+selectors_again Free a xs s =
+    let n : ℕ = length a in
+    ap selectors_of s.spelled
+    ∙ ap (λ o. o >>= λ u. octets_at 3 u.1 >>= λ v. each_of selector_at (length v.1) v.1 >>= λ ss. cond ((eqb (length ss) u.0) && leb 1 u.0 && leb u.0 16) (Some ss) None) (octet_again n (s.reserved_1 ∷ s.reserved_2 ∷ s.reserved_3 ∷ s.selectors))
+    ∙ ap (λ o. o >>= λ v. each_of selector_at (length v.1) v.1 >>= λ ss. cond ((eqb (length ss) n) && leb 1 n && leb n 16) (Some ss) None) (octets_again (s.reserved_1 ∷ s.reserved_2 ∷ s.reserved_3 ∷ []) s.selectors 3 refl)
+    ∙ ap (λ o. o >>= λ ss. cond ((eqb (length ss) n) && leb 1 n && leb n 16) (Some ss) None) (each_again selector_at SpellsSelector selector_again a s.selectors (length s.selectors) (omega arith) s.each)
+    ∙ ap (λ b. cond (b && leb 1 n && leb n 16) (Some a) None) (same_numbers n n refl)
+    ∙ ap (λ b. cond (b && leb n 16) (Some a) None) (le-leb _ _ s.some)
+    ∙ ap (λ b. cond b (Some a) None) (le-leb _ _ s.few)
+
+-- ---- data of a few octets
+
+pub neither : (a b : Bool) → (a || b) ≡ false → (a ≡ false) × (b ≡ false)
+neither false b e = (refl, e)
+neither true b e = absurd cc
+
+pub not_empty : (n : ℕ) → eqb n 0 ≡ false → 1 ≤ n
+not_empty zero e = absurd cc
+not_empty (suc n) e = omega arith
+
+pub data_takes : (limit : ℕ) (xs found : List ℕ) → data_of limit xs ≡ Some found → (xs ≡ found) × (1 ≤ length found) × (length found ≤ limit)
+data_takes limit xs found e =
+    with_guard ((eqb (length xs) 0) || ltb limit (length xs)) (Some xs) found e (λ good r.
+    let g = neither (eqb (length xs) 0) (ltb limit (length xs)) good in
+    let is : xs ≡ found = some_is xs found r in
+    (is, rw (← is) (not_empty (length xs) g.0), rw (← is) (ltb-false _ _ g.1)))
+
+pub data_again : (limit : ℕ) (xs : List ℕ) → 1 ≤ length xs → length xs ≤ limit → data_of limit xs ≡ Some xs
+data_again limit xs some few =
+    let a : eqb (length xs) 0 ≡ false = ne_eqb _ _ (λ none. absurd (omega arith)) in
+    let b : ltb limit (length xs) ≡ false = le-ltb _ _ few in
+    rw (a, b) refl
+
+pub ke_takes : (xs : List ℕ) (x : ℕ × List ℕ) → AreOctets xs → ke_of xs ≡ Some x → SpellsKe IsOctet x.0 x.1 xs
+unfolding ke_of
+ke_takes xs x fits e =
+    with_some (number_at 2 xs) _ x e (λ group e1 r1.
+    with_some (octets_at 2 group.1) _ x r1 (λ reserved e2 r2.
+    with_some (data_of 1024 reserved.1) _ x r2 (λ octets e3 r3.
+    let t1 = number_takes 2 (2 ^ 16) wide2 xs group fits e1 in
+    let fits1 : AreOctets group.1 = octets_back (big_bytes 2 group.0) group.1 (subst AreOctets t1.0 fits) in
+    let t2 = octets_takes 2 group.1 reserved e2 in
+    let two = two_octets reserved.0 t2.1 in
+    let named : AreOctets (two.0 ∷ two.1 ∷ []) = subst AreOctets two.2 (octets_front reserved.0 reserved.1 (subst AreOctets t2.0 fits1)) in
+    let t3 = data_takes 1024 reserved.1 octets e3 in
+    let P : ℕ × List ℕ → Type 0 = λ p. SpellsKe IsOctet p.0 p.1 xs in
+    subst P (some_is (group.0, octets) x r3) (record {
+      reserved_1 = two.0;
+      reserved_2 = two.1;
+      free = (named.0, named.1.0);
+      spelled = t1.0 ∙ ap (λ (r : List ℕ). big_bytes 2 group.0 ++ r) (t2.0 ∙ ap (λ (r : List ℕ). r ++ reserved.1) two.2 ∙ ap (λ (r : List ℕ). two.0 ∷ two.1 ∷ r) t3.0);
+      group_fits = t1.1;
+      some = t3.1;
+      few = t3.2;
+    }))))
+
+pub ke_again : (Free : ℕ → Type 0) (group : ℕ) (octets xs : List ℕ) → SpellsKe Free group octets xs → ke_of xs ≡ Some (group, octets)
+unfolding ke_of
+ke_again Free group octets xs s =
+    ap ke_of s.spelled
+    ∙ ap (λ o. o >>= λ g. octets_at 2 g.1 >>= λ r. data_of 1024 r.1 >>= λ d. Some (g.0, d)) (number_again 2 (2 ^ 16) wide2 group (s.reserved_1 ∷ s.reserved_2 ∷ octets) s.group_fits)
+    ∙ ap (λ o. o >>= λ r. data_of 1024 r.1 >>= λ d. Some (group, d)) (octets_again (s.reserved_1 ∷ s.reserved_2 ∷ []) octets 2 refl)
+    ∙ ap (λ o. o >>= λ d. Some (group, d)) (data_again 1024 octets s.some s.few)
+
+pub typed_takes : (limit : ℕ) (xs : List ℕ) (x : ℕ × List ℕ) → AreOctets xs → typed_of limit xs ≡ Some x → SpellsTyped IsOctet limit x.0 x.1 xs
+unfolding typed_of
+typed_takes limit xs x fits e =
+    with_some (octet_at xs) _ x e (λ kind e1 r1.
+    with_some (octets_at 3 kind.1) _ x r1 (λ reserved e2 r2.
+    with_some (data_of limit reserved.1) _ x r2 (λ octets e3 r3.
+    let t1 = octet_takes xs kind e1 in
+    let fits1 : AreOctets kind.1 = (subst AreOctets t1 fits).1 in
+    let t2 = octets_takes 3 kind.1 reserved e2 in
+    let three = three_octets reserved.0 t2.1 in
+    let named : AreOctets (three.0 ∷ three.1 ∷ three.2 ∷ []) = subst AreOctets three.3 (octets_front reserved.0 reserved.1 (subst AreOctets t2.0 fits1)) in
+    let t3 = data_takes limit reserved.1 octets e3 in
+    let P : ℕ × List ℕ → Type 0 = λ p. SpellsTyped IsOctet limit p.0 p.1 xs in
+    subst P (some_is (kind.0, octets) x r3) (record {
+      reserved_1 = three.0;
+      reserved_2 = three.1;
+      reserved_3 = three.2;
+      free = (named.0, named.1.0, named.1.1.0);
+      spelled = t1 ∙ ap (λ (r : List ℕ). kind.0 ∷ r) (t2.0 ∙ ap (λ (r : List ℕ). r ++ reserved.1) three.3 ∙ ap (λ (r : List ℕ). three.0 ∷ three.1 ∷ three.2 ∷ r) t3.0);
+      some = t3.1;
+      few = t3.2;
+    }))))
+
+pub typed_again : (Free : ℕ → Type 0) (limit kind : ℕ) (octets xs : List ℕ) → SpellsTyped Free limit kind octets xs → typed_of limit xs ≡ Some (kind, octets)
+unfolding typed_of
+typed_again Free limit kind octets xs s =
+    ap (typed_of limit) s.spelled
+    ∙ ap (λ o. o >>= λ k. octets_at 3 k.1 >>= λ r. data_of limit r.1 >>= λ d. Some (k.0, d)) (octet_again kind (s.reserved_1 ∷ s.reserved_2 ∷ s.reserved_3 ∷ octets))
+    ∙ ap (λ o. o >>= λ r. data_of limit r.1 >>= λ d. Some (kind, d)) (octets_again (s.reserved_1 ∷ s.reserved_2 ∷ s.reserved_3 ∷ []) octets 3 refl)
+    ∙ ap (λ o. o >>= λ d. Some (kind, d)) (data_again limit octets s.some s.few)
+
+pub nonce_takes : (xs found : List ℕ) → nonce_of xs ≡ Some found → SpellsNonce found xs
+unfolding nonce_of
+nonce_takes xs found e =
+    with_test (leb 16 (length xs) && leb (length xs) 256) (Some xs) found e (λ good r.
+    let g = both_true (leb 16 (length xs)) (leb (length xs) 256) good in
+    let is : xs ≡ found = some_is xs found r in
+    record { spelled = is; some = rw (← is) (leb-true _ _ g.0); few = rw (← is) (leb-true _ _ g.1) })
+
+pub nonce_again : (octets xs : List ℕ) → SpellsNonce octets xs → nonce_of xs ≡ Some octets
+unfolding nonce_of
+nonce_again octets xs s =
+    let a : leb 16 (length octets) ≡ true = le-leb _ _ s.some in
+    let b : leb (length octets) 256 ≡ true = le-leb _ _ s.few in
+    ap nonce_of s.spelled ∙ rw (a, b) refl
+
+-- ---- notifications
+
+pub notify_takes : (xs : List ℕ) (p : Payload) → AreOctets xs → notify_of xs ≡ Some p → (protocol : ℕ) × (spi : List ℕ) × (kind : ℕ) × (octets : List ℕ) × (p ≡ Notify protocol spi kind octets) × SpellsNotify protocol spi kind octets xs
+unfolding notify_of
+notify_takes xs p fits e =
+    with_some (octet_at xs) _ p e (λ protocol e1 r1.
+    with_some (octet_at protocol.1) _ p r1 (λ size e2 r2.
+    with_some (number_at 2 size.1) _ p r2 (λ kind e3 r3.
+    with_some (octets_at size.0 kind.1) _ p r3 (λ spi e4 r4.
+    let t1 = octet_takes xs protocol e1 in
+    let t2 = octet_takes protocol.1 size e2 in
+    let both2 : AreOctets (size.0 ∷ size.1) = subst AreOctets t2 (subst AreOctets t1 fits).1 in
+    let t3 = number_takes 2 (2 ^ 16) wide2 size.1 kind both2.1 e3 in
+    let t4 = octets_takes size.0 kind.1 spi e4 in (
+      protocol.0,
+      spi.0,
+      kind.0,
+      spi.1,
+      sym (some_is (Notify protocol.0 spi.0 kind.0 spi.1) p r4),
+      record {
+        spelled =
+            t1 ∙ ap (λ (r : List ℕ). protocol.0 ∷ r) (t2 ∙ ap (λ (n : ℕ). n ∷ size.1) (sym t4.1) ∙ ap (λ (r : List ℕ). length spi.0 ∷ r) (t3.0 ∙ ap (λ (r : List ℕ). big_bytes 2 kind.0 ++ r) t4.0));
+        spi_fits = omega (arith, t4.1, both2.0);
+        kind_fits = t3.1;
+      },
+    )))))
+
+pub notify_again : (protocol : ℕ) (spi : List ℕ) (kind : ℕ) (octets xs : List ℕ) → SpellsNotify protocol spi kind octets xs → notify_of xs ≡ Some (Notify protocol spi kind octets)
+unfolding notify_of
+notify_again protocol spi kind octets xs s =
+    let m : ℕ = length spi in
+    ap notify_of s.spelled
+    ∙ ap (λ o. o >>= λ p. octet_at p.1 >>= λ z. number_at 2 z.1 >>= λ k. octets_at z.0 k.1 >>= λ i. Some (Notify p.0 i.0 k.0 i.1)) (octet_again protocol (m ∷ big_bytes 2 kind ++ (spi ++ octets)))
+    ∙ ap (λ o. o >>= λ z. number_at 2 z.1 >>= λ k. octets_at z.0 k.1 >>= λ i. Some (Notify protocol i.0 k.0 i.1)) (octet_again m (big_bytes 2 kind ++ (spi ++ octets)))
+    ∙ ap (λ o. o >>= λ k. octets_at m k.1 >>= λ i. Some (Notify protocol i.0 k.0 i.1)) (number_again 2 (2 ^ 16) wide2 kind (spi ++ octets) s.kind_fits)
+    ∙ ap (λ o. o >>= λ i. Some (Notify protocol i.0 kind i.1)) (octets_again spi octets m refl)
+
+-- ---- deletions
+
+spi_takes : ItemTakes (number_at 4) SpellsSpi
+spi_takes xs x fits e =
+    let t = number_takes 4 (2 ^ 32) wide4 xs x fits e in
+    record { front = big_bytes 4 x.0; joined = t.0; spelled = (refl, t.1) }
+
+spi_again : ItemAgain (number_at 4) SpellsSpi
+spi_again a front rest s =
+    (ap (λ (y : List ℕ). number_at 4 (y ++ rest)) s.0 ∙ number_again 4 (2 ^ 32) wide4 a rest s.1, omega (arith, ap length s.0))
+
+false_true : false ≡ true → ⊥
+false_true e = cc
+
+sized_takes : (protocol size : ℕ) (spis : List ℕ) (count : ℕ) → length spis ≡ count → is_sized protocol size count ≡ true → HasSpiSize protocol size spis
+sized_takes protocol size spis count counted e =
+    elim (pick (eqb protocol 1) _ _ _ e) [
+      | inl own ↦
+          let b = both_true (eqb size 0) (eqb count 0) own.1 in
+          inl (eqb-true _ _ own.0, eqb-true _ _ b.0, nil_from_length spis (counted ∙ eqb-true _ _ b.1))
+      | inr other ↦
+          elim (pick ((eqb protocol 2) || (eqb protocol 3)) _ _ _ other.1) [
+            | inl known ↦ inr (either protocol known.0, eqb-true _ _ known.1)
+            | inr nothing ↦ absurd (false_true nothing.1)
+          ]
+    ] where
+      either : (n : ℕ) → ((eqb n 2) || (eqb n 3)) ≡ true → (n ≡ 2) ⊎ (n ≡ 3)
+      either n h = elim (pick_or (eqb n 2) (eqb n 3) h) [ inl a ↦ inl (eqb-true _ _ a) | inr b ↦ inr (eqb-true _ _ b) ] where
+        pick_or : (a b : Bool) → (a || b) ≡ true → (a ≡ true) ⊎ (b ≡ true)
+        pick_or true b h = inl refl
+        pick_or false b h = inr h
+
+sized_again : (protocol size : ℕ) (spis : List ℕ) → HasSpiSize protocol size spis → is_sized protocol size (length spis) ≡ true
+sized_again protocol size spis (inl own) = rw (own.0, own.1, own.2) refl
+sized_again protocol size spis (inr (inl is, four)) = rw (is, four) refl
+sized_again protocol size spis (inr (inr is, four)) = rw (is, four) refl
+
+pub delete_takes : (xs : List ℕ) (p : Payload) → AreOctets xs → delete_of xs ≡ Some p → (protocol : ℕ) × (spis : List ℕ) × (p ≡ Delete protocol spis) × SpellsDelete protocol spis xs
+unfolding delete_of
+delete_takes xs p fits e =
+    with_some (octet_at xs) _ p e (λ protocol e1 r1.
+    with_some (octet_at protocol.1) _ p r1 (λ size e2 r2.
+    with_some (number_at 2 size.1) _ p r2 (λ count e3 r3.
+    with_some (each_of (number_at 4) (length count.1) count.1) _ p r3 (λ spis e4 r4.
+    with_test (is_sized protocol.0 size.0 count.0 && (eqb (length spis) count.0)) (Some (Delete protocol.0 spis)) p r4 (λ good r5.
+    let g = both_true (is_sized protocol.0 size.0 count.0) (eqb (length spis) count.0) good in
+    let count_is : length spis ≡ count.0 = eqb-true _ _ g.1 in
+    let t1 = octet_takes xs protocol e1 in
+    let t2 = octet_takes protocol.1 size e2 in
+    let both2 : AreOctets (size.0 ∷ size.1) = subst AreOctets t2 (subst AreOctets t1 fits).1 in
+    let t3 = number_takes 2 (2 ^ 16) wide2 size.1 count both2.1 e3 in
+    let fits3 : AreOctets count.1 = octets_back (big_bytes 2 count.0) count.1 (subst AreOctets t3.0 both2.1) in (
+      protocol.0,
+      spis,
+      sym (some_is (Delete protocol.0 spis) p r5),
+      record {
+        size = size.0;
+        list = count.1;
+        spelled =
+            t1 ∙ ap (λ (r : List ℕ). protocol.0 ∷ r) (t2 ∙ ap (λ (r : List ℕ). size.0 ∷ r) (t3.0 ∙ ap (λ (n : ℕ). big_bytes 2 n ++ count.1) (sym count_is)));
+        count = rw count_is t3.1;
+        sized = sized_takes protocol.0 size.0 spis count.0 count_is g.0;
+        each = each_takes (number_at 4) SpellsSpi spi_takes (length count.1) count.1 spis fits3 e4;
+      },
+    ))))))
+
+pub delete_again : (protocol : ℕ) (spis xs : List ℕ) → SpellsDelete protocol spis xs → delete_of xs ≡ Some (Delete protocol spis)
+unfolding delete_of
+delete_again protocol spis xs s =
+    let n : ℕ = length spis in
+    ap delete_of s.spelled
+    ∙ ap (λ o. o >>= λ p. octet_at p.1 >>= λ z. number_at 2 z.1 >>= λ c. each_of (number_at 4) (length c.1) c.1 >>= λ l. cond (is_sized p.0 z.0 c.0 && (eqb (length l) c.0)) (Some (Delete p.0 l)) None) (octet_again protocol (s.size ∷ big_bytes 2 n ++ s.list))
+    ∙ ap (λ o. o >>= λ z. number_at 2 z.1 >>= λ c. each_of (number_at 4) (length c.1) c.1 >>= λ l. cond (is_sized protocol z.0 c.0 && (eqb (length l) c.0)) (Some (Delete protocol l)) None) (octet_again s.size (big_bytes 2 n ++ s.list))
+    ∙ ap (λ o. o >>= λ c. each_of (number_at 4) (length c.1) c.1 >>= λ l. cond (is_sized protocol s.size c.0 && (eqb (length l) c.0)) (Some (Delete protocol l)) None) (number_again 2 (2 ^ 16) wide2 n s.list s.count)
+    ∙ ap (λ o. o >>= λ l. cond (is_sized protocol s.size n && (eqb (length l) n)) (Some (Delete protocol l)) None) (each_again (number_at 4) SpellsSpi spi_again spis s.list (length s.list) (omega arith) s.each)
+    ∙ ap (λ b. cond (b && eqb n n) (Some (Delete protocol spis)) None) (sized_again protocol s.size spis s.sized)
+    ∙ ap (λ b. cond b (Some (Delete protocol spis)) None) (same_numbers n n refl)

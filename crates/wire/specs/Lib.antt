@@ -1,0 +1,10 @@
+pub mod Fault
+pub mod Parts
+pub mod Proposals
+pub mod Selectors
+pub mod Fields
+pub mod Payloads
+pub mod Messages
+pub mod Refusals
+pub mod Reading
+pub mod Writing

@@ -1,0 +1,312 @@
+-- What the readers of the code give, step by step: private contracts cite it, and lemmas lead from it to the grammar.
+use Rattle.std.specs.Prelude.{◌≡◌, ℕ, zero, suc, ◌+◌, ◌-◌, ◌^◌, Bool, true, false, List, [], ◌∷◌, length, take, drop, Option, Some, None, Result, Ok, Err, nat_lt, nat_le, ◌==◌, ◌||◌, ◌&&◌, if◌then◌else◌, option_and_then, slice_index, ok_or, not, ◌≢◌, ◌/◌, ◌%◌}
+use Rattle.byteorder.specs.Endian.{big_number}
+use Rattle.wire.specs.declared.reader.Unread.{Unread}
+use Rattle.wire.specs.declared.reader.Unread.TheVariants.{Malformed, Memory}
+use Rattle.wire.specs.declared.payload.Payload.{Payload}
+use Rattle.wire.specs.declared.payload.Payload.TheVariants as payloads
+use Rattle.wire.specs.declared.proposal.Attribute.{Attribute}
+use Rattle.wire.specs.declared.proposal.Attribute.TheVariants.{Short, Long}
+use Rattle.wire.specs.declared.proposal.Transform.{Transform}
+use Rattle.wire.specs.declared.proposal.Proposal.{Proposal}
+use Rattle.wire.specs.declared.selector.Selector.{Selector}
+use Rattle.wire.specs.declared.payload.SkippedKind.TheVariants as skipped
+use Rattle.wire.specs.declared.form.Form.{Form}
+use Rattle.wire.specs.declared.form.Form.TheVariants as forms
+use Rattle.wire.specs.declared.fault.WireFault.{WireFault}
+use Rattle.wire.specs.declared.fault.WireFault.TheVariants as faults
+use Rattle.wire.specs.declared.message.Flags.{Flags}
+use Rattle.wire.specs.declared.message.Head.{Head}
+use Rattle.wire.specs.declared.message.Message.{Message}
+
+infixl 10 ◌>>=◌
+abbrev pub ◌>>=◌ : {A B : Type 0} → Option A → (A → Option B) → Option B
+o >>= f = option_and_then f o
+
+-- what a function returned, unless a growth was refused, is what reading gives
+abbrev pub Gives : {X Y : Type 0} → (X → Y) → Result X Unread → Option Y → Type 0
+Gives view (Ok x) read = read ≡ Some (view x)
+Gives view (Err Memory) read = Unit {0}
+Gives view (Err Malformed) read = read ≡ None
+
+-- the same of a reader, which has these octets left
+abbrev pub Reads : {X Y : Type 0} → (X → Y) → List ℕ → Result X Unread → Option (Y × List ℕ) → Type 0
+Reads view left (Ok x) read = read ≡ Some (view x, left)
+Reads view left (Err Memory) read = Unit {0}
+Reads view left (Err Malformed) read = read ≡ None
+
+abbrev pub octets_at : ℕ → List ℕ → Option (List ℕ × List ℕ)
+octets_at count xs = if nat_lt (length xs) count then None else Some (take count xs, drop count xs)
+
+abbrev pub octet_at : List ℕ → Option (ℕ × List ℕ)
+octet_at xs = octets_at 1 xs >>= λ x. Some (slice_index x.0 0, x.1)
+
+abbrev pub number_at : ℕ → List ℕ → Option (ℕ × List ℕ)
+number_at count xs = octets_at count xs >>= λ x. Some (big_number count x.0, x.1)
+
+-- a part: the first two octets of its header, and what is behind it
+pub record Piece : Type 0 where
+  pub first : ℕ
+  pub second : ℕ
+  pub inside : List ℕ
+
+abbrev pub piece_of : ℕ → ℕ → List ℕ → Piece
+piece_of first second inside = record { first = first; second = second; inside = inside }
+
+unfoldable pub part_at : List ℕ → Option (Piece × List ℕ)
+part_at xs = do
+  first ← octet_at xs
+  second ← octet_at first.1
+  size ← number_at 2 second.1
+  if nat_lt size.0 4 then None else (octets_at (size.0 - 4) size.1 >>= λ inside. Some (piece_of first.0 second.0 inside.0, inside.1))
+
+-- one item after the other, up to the end; in at most so many steps
+unfoldable pub each_of : {A : Type 0} → (List ℕ → Option (A × List ℕ)) → ℕ → List ℕ → Option (List A)
+each_of item zero xs = if length xs == 0 then Some [] else None
+each_of item (suc steps) xs = if length xs == 0 then Some [] else (item xs >>= λ a. each_of item steps a.1 >>= λ others. Some (a.0 ∷ others))
+
+-- whether another part follows one with this mark
+abbrev pub goes_on : ℕ → ℕ → Option Bool
+goes_on more mark = if mark == 0 then Some false else if mark == more then Some true else None
+
+-- parts up to the end, the last of which alone is marked so; in at most so many steps
+unfoldable pub marked_of : {A : Type 0} → ℕ → (List ℕ → Option A) → ℕ → Bool → List ℕ → Option (List A)
+marked_of more item steps false xs = if length xs == 0 then Some [] else None
+marked_of more item zero true xs = None
+marked_of more item (suc steps) true xs = do
+  part ← part_at xs
+  another ← goes_on more part.0.first
+  a ← item part.0.inside
+  others ← marked_of more item steps another part.1
+  Some (a ∷ others)
+
+unfoldable pub attribute_at : List ℕ → Option (Attribute × List ℕ)
+attribute_at xs = do
+  kind ← number_at 2 xs
+  value ← number_at 2 kind.1
+  if nat_le (2 ^ 15) kind.0 then Some (Short (kind.0 - 2 ^ 15) value.0, value.1) else (octets_at value.0 value.1 >>= λ octets. Some (Long kind.0 octets.0, octets.1))
+
+unfoldable pub transform_of : List ℕ → Option Transform
+transform_of xs = do
+  kind ← octet_at xs
+  reserved ← octet_at kind.1
+  id ← number_at 2 reserved.1
+  attributes ← each_of attribute_at (length id.1) id.1
+  Some (record { kind = kind.0; id = id.0; attributes = attributes })
+
+unfoldable pub proposal_of : List ℕ → Option Proposal
+proposal_of xs = do
+  number ← octet_at xs
+  protocol ← octet_at number.1
+  size ← octet_at protocol.1
+  count ← octet_at size.1
+  spi ← octets_at size.0 count.1
+  transforms ← marked_of 3 transform_of (length spi.1) true spi.1
+  if length transforms == count.0 then Some (record { number = number.0; protocol = protocol.0; spi = spi.0; transforms = transforms }) else None
+
+abbrev pub numbered_from : ℕ → List Proposal → Bool
+numbered_from n [] = true
+numbered_from n (p ∷ ps) = (p.number == n) && numbered_from (n + 1) ps
+
+unfoldable pub are_numbered : List Proposal → Bool
+are_numbered [] = false
+are_numbered (p ∷ []) = nat_le 1 p.number
+are_numbered (p ∷ q ∷ ps) = numbered_from 1 (p ∷ q ∷ ps)
+
+unfoldable pub proposals_of : List ℕ → Option (List Proposal)
+proposals_of xs = do
+  proposals ← marked_of 2 proposal_of (length xs) true xs
+  if are_numbered proposals then Some proposals else None
+
+unfoldable pub selector_at : List ℕ → Option (Selector × List ℕ)
+selector_at xs = do
+  part ← part_at xs
+  start_port ← number_at 2 part.0.inside
+  end_port ← number_at 2 start_port.1
+  start_address ← number_at 4 end_port.1
+  end_address ← number_at 4 start_address.1
+  if (part.0.first == 7) && (length end_address.1 == 0) && nat_le start_port.0 end_port.0 && nat_le start_address.0 end_address.0 then Some (record { protocol = part.0.second; start_port = start_port.0; end_port = end_port.0; start_address = start_address.0; end_address = end_address.0 }, part.1) else None
+
+unfoldable pub selectors_of : List ℕ → Option (List Selector)
+selectors_of xs = do
+  count ← octet_at xs
+  reserved ← octets_at 3 count.1
+  selectors ← each_of selector_at (length reserved.1) reserved.1
+  if (length selectors == count.0) && nat_le 1 count.0 && nat_le count.0 16 then Some selectors else None
+
+-- data from an octet to a limit
+abbrev pub data_of : ℕ → List ℕ → Option (List ℕ)
+data_of limit xs = if (length xs == 0) || nat_lt limit (length xs) then None else Some xs
+
+unfoldable pub ke_of : List ℕ → Option (ℕ × List ℕ)
+ke_of xs = do
+  group ← number_at 2 xs
+  reserved ← octets_at 2 group.1
+  octets ← data_of 1024 reserved.1
+  Some (group.0, octets)
+
+unfoldable pub typed_of : ℕ → List ℕ → Option (ℕ × List ℕ)
+typed_of limit xs = do
+  kind ← octet_at xs
+  reserved ← octets_at 3 kind.1
+  octets ← data_of limit reserved.1
+  Some (kind.0, octets)
+
+unfoldable pub nonce_of : List ℕ → Option (List ℕ)
+nonce_of xs = if nat_le 16 (length xs) && nat_le (length xs) 256 then Some xs else None
+
+pub record Notice : Type 0 where
+  pub protocol : ℕ
+  pub spi : List ℕ
+  pub kind : ℕ
+  pub octets : List ℕ
+
+unfoldable pub notify_of : List ℕ → Option Payload
+notify_of xs = do
+  protocol ← octet_at xs
+  size ← octet_at protocol.1
+  kind ← number_at 2 size.1
+  spi ← octets_at size.0 kind.1
+  Some (payloads.Notify protocol.0 spi.0 kind.0 spi.1)
+
+-- whether SPIs of this protocol have this size and can be so many
+abbrev pub is_sized : ℕ → ℕ → ℕ → Bool
+is_sized protocol size count = if protocol == 1 then (size == 0) && (count == 0) else if (protocol == 2) || (protocol == 3) then size == 4 else false
+
+unfoldable pub delete_of : List ℕ → Option Payload
+delete_of xs = do
+  protocol ← octet_at xs
+  size ← octet_at protocol.1
+  count ← number_at 2 size.1
+  spis ← each_of (number_at 4) (length count.1) count.1
+  if is_sized protocol.0 size.0 count.0 && (length spis == count.0) then Some (payloads.Delete protocol.0 spis) else None
+
+-- what is refused where octets have this fault unless they are read
+abbrev pub refusal_of : Unread → WireFault → WireFault
+refusal_of Malformed fault = fault
+refusal_of Memory fault = faults.Memory
+
+-- ---- payloads by their types
+
+abbrev pub form_of : ℕ → Form
+form_of kind =
+    if kind == 33 then forms.Sa else if kind == 34 then forms.Ke else if kind == 35 then forms.IdI else if kind == 36 then forms.IdR
+    else if kind == 37 then forms.Skipped skipped.Certificate else if kind == 38 then forms.Skipped skipped.CertificateRequest
+    else if kind == 39 then forms.Auth else if kind == 40 then forms.Nonce else if kind == 41 then forms.Notify else if kind == 42 then forms.Delete
+    else if kind == 43 then forms.Skipped skipped.VendorId else if kind == 44 then forms.TsI else if kind == 45 then forms.TsR
+    else if kind == 46 then forms.Sealed else if kind == 47 then forms.Skipped skipped.Configuration
+    else if kind == 48 then forms.Skipped skipped.Eap else forms.Unknown
+
+abbrev pub fault_of_form : Form → ℕ → WireFault
+fault_of_form forms.Sa offset = faults.BadProposal offset
+fault_of_form forms.Ke offset = faults.BadField offset
+fault_of_form forms.IdI offset = faults.BadField offset
+fault_of_form forms.IdR offset = faults.BadField offset
+fault_of_form forms.Auth offset = faults.BadField offset
+fault_of_form forms.Nonce offset = faults.BadNonce offset
+fault_of_form forms.Notify offset = faults.BadField offset
+fault_of_form forms.Delete offset = faults.BadField offset
+fault_of_form forms.TsI offset = faults.BadSelector offset
+fault_of_form forms.TsR offset = faults.BadSelector offset
+fault_of_form forms.Sealed offset = faults.BadChain offset
+fault_of_form (forms.Skipped kind) offset = faults.BadChain offset
+fault_of_form forms.Unknown offset = faults.BadChain offset
+
+-- the payload of this form and type whose header has this second octet; an encrypted one is not made here
+unfoldable pub body_of : Form → ℕ → ℕ → List ℕ → Option Payload
+body_of forms.Sa kind second xs = proposals_of xs >>= λ proposals. Some (payloads.Sa proposals)
+body_of forms.Ke kind second xs = ke_of xs >>= λ x. Some (payloads.Ke x.0 x.1)
+body_of forms.IdI kind second xs = typed_of 256 xs >>= λ x. Some (payloads.IdI x.0 x.1)
+body_of forms.IdR kind second xs = typed_of 256 xs >>= λ x. Some (payloads.IdR x.0 x.1)
+body_of forms.Auth kind second xs = typed_of 1024 xs >>= λ x. Some (payloads.Auth x.0 x.1)
+body_of forms.Nonce kind second xs = nonce_of xs >>= λ octets. Some (payloads.Nonce octets)
+body_of forms.Notify kind second xs = notify_of xs
+body_of forms.Delete kind second xs = delete_of xs
+body_of forms.TsI kind second xs = selectors_of xs >>= λ selectors. Some (payloads.TsI selectors)
+body_of forms.TsR kind second xs = selectors_of xs >>= λ selectors. Some (payloads.TsR selectors)
+body_of forms.Sealed kind second xs = None
+body_of (forms.Skipped skipped) kind second xs = Some (payloads.Skipped skipped xs)
+body_of forms.Unknown kind second xs = Some (payloads.Unknown kind (nat_le 128 second) xs)
+
+infixl 10 ◌>>>◌
+abbrev pub ◌>>>◌ : {A B : Type 0} → Result A WireFault → (A → Result B WireFault) → Result B WireFault
+(Ok x) >>> f = f x
+(Err e) >>> f = Err e
+
+-- what a function returned, unless a growth was refused, is what reading gives
+abbrev pub Answers : {X Y : Type 0} → (X → Y) → Result X WireFault → Result Y WireFault → Type 0
+Answers view (Ok x) read = read ≡ Ok (view x)
+Answers view (Err e) read = e ≢ faults.Memory → read ≡ Err e
+
+-- a payload, the type of the payload behind it, and the octets behind it
+pub record Linked : Type 0 where
+  pub payload : Payload
+  pub next : ℕ
+  pub left : List ℕ
+
+abbrev pub linked : Payload → ℕ → List ℕ → Linked
+linked payload next left = record { payload = payload; next = next; left = left }
+
+-- an encrypted payload has to be the last, where there may be one; nothing follows it
+abbrev pub sealed_of : Bool → ℕ → Piece → List ℕ → Result Linked WireFault
+sealed_of encrypted offset part left = if encrypted && (length left == 0) then Ok (linked (payloads.Sealed part.first part.inside) 0 left) else Err (faults.BadChain offset)
+
+abbrev pub open_of : Form → ℕ → ℕ → Piece → List ℕ → Result Linked WireFault
+open_of form kind offset part left = ok_or (body_of form kind part.second part.inside) (fault_of_form form offset) >>> λ payload. Ok (linked payload part.first left)
+
+abbrev pub inside_of : Bool → Form → ℕ → ℕ → Piece → List ℕ → Result Linked WireFault
+inside_of encrypted forms.Sealed kind offset part left = sealed_of encrypted offset part left
+inside_of encrypted forms.Sa kind offset part left = open_of forms.Sa kind offset part left
+inside_of encrypted forms.Ke kind offset part left = open_of forms.Ke kind offset part left
+inside_of encrypted forms.IdI kind offset part left = open_of forms.IdI kind offset part left
+inside_of encrypted forms.IdR kind offset part left = open_of forms.IdR kind offset part left
+inside_of encrypted forms.Auth kind offset part left = open_of forms.Auth kind offset part left
+inside_of encrypted forms.Nonce kind offset part left = open_of forms.Nonce kind offset part left
+inside_of encrypted forms.Notify kind offset part left = open_of forms.Notify kind offset part left
+inside_of encrypted forms.Delete kind offset part left = open_of forms.Delete kind offset part left
+inside_of encrypted forms.TsI kind offset part left = open_of forms.TsI kind offset part left
+inside_of encrypted forms.TsR kind offset part left = open_of forms.TsR kind offset part left
+inside_of encrypted (forms.Skipped skipped) kind offset part left = open_of (forms.Skipped skipped) kind offset part left
+inside_of encrypted forms.Unknown kind offset part left = open_of forms.Unknown kind offset part left
+
+-- the payload of this type that the octets begin with; end is the offset behind the last of them
+unfoldable pub payload_at : Bool → ℕ → ℕ → List ℕ → Result Linked WireFault
+payload_at encrypted end kind xs = ok_or (part_at xs) (faults.BadChain (end - length xs)) >>> λ part. inside_of encrypted (form_of kind) kind (end - length xs) part.0 part.1
+
+-- the chain of payloads that begins with this type, in at most so many steps
+unfoldable pub chain_at : Bool → ℕ → ℕ → ℕ → List ℕ → Result (List Payload) WireFault
+chain_at encrypted end steps zero xs = if length xs == 0 then Ok [] else Err (faults.BadChain (end - length xs))
+chain_at encrypted end zero (suc kind) xs = Err (faults.BadChain (end - length xs))
+chain_at encrypted end (suc steps) (suc kind) xs = payload_at encrypted end (suc kind) xs >>> λ p. chain_at encrypted end steps p.next p.left >>> λ ps. Ok (p.payload ∷ ps)
+
+-- ---- the header
+
+abbrev pub bit_of : ℕ → ℕ → Bool
+bit_of k octet = octet / 2 ^ k % 2 == 1
+
+abbrev pub flags_of : ℕ → Flags
+flags_of octet = record { initiator = bit_of 3 octet; version = bit_of 4 octet; response = bit_of 5 octet }
+
+unfoldable pub head_at : List ℕ → Option (Head × List ℕ)
+head_at xs = do
+  spi_i ← number_at 8 xs
+  spi_r ← number_at 8 spi_i.1
+  first ← octet_at spi_r.1
+  version ← octet_at first.1
+  exchange ← octet_at version.1
+  flags ← octet_at exchange.1
+  id ← number_at 4 flags.1
+  size ← number_at 4 id.1
+  Some (record { header = record { spi_i = spi_i.0; spi_r = spi_r.0; minor = version.0 % 16; exchange = exchange.0; flags = flags_of flags.0; id = id.0 }; major = version.0 / 16; first = first.0; length = size.0 }, size.1)
+
+unfoldable pub headed_of : List ℕ → Head → List ℕ → Result Message WireFault
+headed_of xs head left =
+    if not (head.length == length xs) then Err faults.BadLength
+    else if not (head.major == 2) then Err faults.BadVersion
+    else chain_at true (length xs) (length left) head.first left >>> λ ps. Ok (record { header = head.header; payloads = ps })
+
+unfoldable pub message_of : List ℕ → Result Message WireFault
+message_of xs =
+    if nat_lt (length xs) 28 then Err faults.Short
+    else if nat_lt 3000 (length xs) then Err faults.TooLong
+    else ok_or (head_at xs) faults.Short >>> λ head. headed_of xs head.0 head.1

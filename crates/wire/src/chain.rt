@@ -1,0 +1,109 @@
+//! Chains of payloads (RFC 7296 section 3.2).
+ghost use Rattle.std.specs.Prelude.{◌≡◌, ◌≢◌, List, IfOk, IfErr, false, length, Err};
+ghost use Rattle.wire.specs.Payloads.{SpellsChain};
+ghost use Rattle.wire.specs.Parts.{AreOctets};
+ghost use Rattle.wire.specs.Reading.{Answers, chain_at};
+ghost use Rattle.wire.specs.Writing.{Makes, first_type, link_onto, payloads_onto};
+ghost use Rattle.wire.specs.Refusals.{IsChainFault, IsUnlessMemory};
+ghost use Rattle.wire.specs.declared.payload.Payload.{Payload};
+ghost use Rattle.wire.specs.declared.fault.WireFault.{WireFault};
+
+use crate::fault::WireFault;
+use crate::items::Items;
+use crate::payload::{Payload, read_payload, write_payload};
+use crate::reader::Reader;
+use std::alloc::Global;
+
+/// The payloads that are left to read, of which the first has the type `first`. An encrypted one may end them where
+/// `encrypted` says so.
+pub(crate) fn read_chain(
+    alloc: Global,
+    first: u8,
+    encrypted: bool,
+    mut reader: Reader,
+) -> Result<Items<Payload>, WireFault>
+    ensures read { Answers (λ x. x) result (chain_at encrypted reader.entry.end (length reader.entry.rest.now) first reader.entry.rest.now) }
+    // Memory is taken for payloads alone.
+    ensures reached { result ≡ Err WireFault.Memory → first ≢ 0 }
+{
+    let mut payloads = Items::new(alloc);
+    let mut next = first;
+    while next != 0 {
+        let (payload, behind) = read_payload(alloc, next, encrypted, &mut reader)?;
+        payloads.push(payload)?;
+        next = behind;
+    }
+    if reader.is_empty() {
+        Ok(payloads)
+    } else {
+        Err(WireFault::BadChain {
+            offset: reader.offset(),
+        })
+    }
+}
+
+fn read_all(alloc: Global, first: u8, octets: &[u8]) -> Result<Vec<Payload>, WireFault>
+    ensures read { Answers (λ v. v.items) result (chain_at false (length octets.now) (length octets.now) first octets.now) }
+    ensures reached { result ≡ Err WireFault.Memory → first ≢ 0 }
+{
+    let payloads = read_chain(alloc, first, false, Reader::new(octets))?;
+    Ok(payloads.into_vec())
+}
+
+/// The payloads that the octets spell, all of them, of which the first has the type `first` (0 for none). There is no
+/// encrypted payload among them.
+///
+/// The first payload that the grammar does not allow decides: [`WireFault::BadChain`] to [`WireFault::BadField`] with
+/// its offset from the first octet. An encrypted payload is [`WireFault::BadChain`] at its offset.
+pub fn decode_chain(alloc: Global, first: u8, octets: &[u8]) -> Result<Vec<Payload>, WireFault>
+    // What is read is spelled by the octets.
+    ensures found { IfOk result (λ payloads. SpellsChain first payloads.items octets.now) }
+    // What they spell is read, and nothing else.
+    ensures only { (payloads : List Payload) → SpellsChain first payloads octets.now
+        → IfOk result (λ v. v.items ≡ payloads) × IfErr result (λ f. f ≡ WireFault.Memory) }
+    // What is refused is spelled by none, and the fault is that of the first payload that is not allowed.
+    ensures refused { IfErr result (λ f. f ≢ WireFault.Memory → IsChainFault false 0 first octets.now f) }
+    ensures first_fault { (f : WireFault) → IsChainFault false 0 first octets.now f
+        → IsUnlessMemory result (Err f) }
+    // Where no payload is named, no memory is taken.
+    ensures idle { first ≡ 0 → result ≢ Err WireFault.Memory }
+{
+    read_all(alloc, first, octets)
+}
+
+/// The type of an encrypted payload (section 3.14).
+const SEALED: u8 = 46;
+
+/// The type of the first payload, 0 for none.
+pub(crate) fn first_type(payloads: &[Payload]) -> u8
+    ensures { result ≡ first_type payloads.now }
+{
+    match payloads.first() {
+        Some(payload) => payload.number(),
+        None => 0,
+    }
+}
+
+/// Appends a payload in front of the others. An encrypted one has to be the last.
+fn write_link(payload: &Payload, others: &[Payload], out: &mut Vec<u8>) -> Result<(), WireFault>
+    ensures { Makes out.new.items result (link_onto payload.now others.now out.old.items) }
+{
+    let fault = payload.fault(out.len());
+    if payload.number() == SEALED && !others.is_empty() {
+        return Err(fault);
+    }
+    match write_payload(payload, first_type(others), out) {
+        Ok(()) => Ok(()),
+        Err(unwritten) => Err(unwritten.or(fault)),
+    }
+}
+
+/// Appends payloads behind the octets that are there.
+pub(crate) fn write_payloads(payloads: &[Payload], out: &mut Vec<u8>) -> Result<(), WireFault>
+    ensures { Makes out.new.items result (payloads_onto payloads.now out.old.items) }
+{
+    for (place, payload) in payloads.iter().enumerate() {
+        write_link(payload, &payloads[place + 1..], out)?;
+    }
+    Ok(())
+}

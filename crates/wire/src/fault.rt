@@ -1,0 +1,102 @@
+//! Why a message is not read or not written.
+ghost use Rattle.std.specs.Prelude.{◌≡◌};
+ghost use Rattle.wire.specs.Fault.{code_of, offset_of};
+
+use std::alloc::{AllocError, AllocFailed};
+use thiserror::Error;
+
+/// A refusal. An offset counts octets from the first of the message, or of the slice given to
+/// [`decode_chain`](crate::decode_chain), to the first octet of the payload that is at fault.
+#[derive(Clone, Copy, Debug, PartialEq, Eq, Error)]
+pub enum WireFault {
+    /// Fewer than 28 octets.
+    #[error("E1: fewer octets than a header has")]
+    Short,
+    /// The length field is not the datagram's length.
+    #[error("E2: the length field is not the length of the datagram")]
+    BadLength,
+    /// The major version is not 2; in encoding, the minor version is above 15.
+    #[error("E3: the version is not supported")]
+    BadVersion,
+    /// In decoding: a payload's header does not fit, its length is below 4 or past the end, the chain names a payload
+    /// where no octet is left, octets are left where it names none, or an encrypted payload is not the last (in
+    /// [`decode_chain`](crate::decode_chain): is there at all). In encoding: an encrypted payload is not the last, a
+    /// skipped, unknown or encrypted one is too long for its length field, or an unknown one has the type 0 or a type
+    /// with a form of its own.
+    #[error("E4 at {offset}: the chain of payloads is broken")]
+    BadChain { offset: usize },
+    /// The inside of a security association payload.
+    #[error("E5 at {offset}: a proposal is malformed")]
+    BadProposal { offset: usize },
+    /// The inside of a payload of traffic selectors.
+    #[error("E6 at {offset}: a traffic selector is malformed")]
+    BadSelector { offset: usize },
+    /// A nonce of fewer than 16 or more than 256 octets.
+    #[error("E7 at {offset}: the nonce has a wrong length")]
+    BadNonce { offset: usize },
+    /// The inside of a key exchange, identification, authentication, notification or deletion.
+    #[error("E8 at {offset}: a field is malformed")]
+    BadField { offset: usize },
+    /// More than 3000 octets.
+    #[error("E9: the message is too long")]
+    TooLong,
+    /// A growth was refused.
+    #[error("E10: no memory")]
+    Memory,
+}
+
+impl WireFault {
+    /// The number of the refusal, 1 to 10.
+    pub fn code(&self) -> u8
+        ensures { result ≡ code_of self.now }
+    {
+        match self {
+            WireFault::Short => 1,
+            WireFault::BadLength => 2,
+            WireFault::BadVersion => 3,
+            WireFault::BadChain { .. } => 4,
+            WireFault::BadProposal { .. } => 5,
+            WireFault::BadSelector { .. } => 6,
+            WireFault::BadNonce { .. } => 7,
+            WireFault::BadField { .. } => 8,
+            WireFault::TooLong => 9,
+            WireFault::Memory => 10,
+        }
+    }
+
+    /// The offset of the payload at fault, where the fault lies in one.
+    pub fn offset(&self) -> Option<usize>
+        ensures { result ≡ offset_of self.now }
+    {
+        match self {
+            WireFault::BadChain { offset }
+            | WireFault::BadProposal { offset }
+            | WireFault::BadSelector { offset }
+            | WireFault::BadNonce { offset }
+            | WireFault::BadField { offset } => Some(*offset),
+            _ => None,
+        }
+    }
+}
+
+impl From<AllocError> for WireFault {
+    ghost use Rattle.std.specs.Prelude.{◌≡◌};
+    ghost use Rattle.wire.specs.declared.fault.WireFault.TheVariants.{Memory};
+
+    ghost from_gives = { λ _ e. e ≡ Memory };
+
+    fn from(_refused: AllocError) -> WireFault {
+        WireFault::Memory
+    }
+}
+
+impl<T: Drop> From<AllocFailed<T>> for WireFault {
+    ghost use Rattle.std.specs.Prelude.{◌≡◌};
+    ghost use Rattle.wire.specs.declared.fault.WireFault.TheVariants.{Memory};
+
+    ghost from_gives = { λ _ e. e ≡ Memory };
+
+    fn from(_refused: AllocFailed<T>) -> WireFault {
+        WireFault::Memory
+    }
+}
