@@ -1,5 +1,5 @@
 -- From what the steps of opening find to what is said of the whole.
-use Rattle.std.proofs.Common.{◌≡◌, ℕ, zero, suc, ◌+◌, ◌-◌, ◌*◌, ◌/◌, ◌%◌, ◌^◌, ◌<◌, ◌≤◌, Bool, true, false, List, [], ◌∷◌, ◌++◌, length, take, drop, get_or, refl, sym, ap, ◌∙◌, subst, arith, inl, inr, Result, Ok, Err, length-append, length-drop}
+use Rattle.std.proofs.Common.{◌≡◌, ◌≢◌, ℕ, zero, suc, ◌+◌, ◌-◌, ◌*◌, ◌/◌, ◌%◌, ◌^◌, ◌<◌, ◌≤◌, Bool, true, false, List, [], ◌∷◌, ◌++◌, length, take, drop, get_or, refl, sym, ap, ◌∙◌, subst, arith, inl, inr, Result, Ok, Err, length-append, length-drop}
 use Rattle.std.specs.Prelude.{OnOk, OnErr, slice_index}
 use Rattle.std.specs.Result.{is_err}
 use Rattle.std.specs.Int.{w32, from_be_bytes, to_be_bytes}
@@ -14,7 +14,11 @@ use Rattle.esp.specs.Packet.{number_limit, head, check_value, PassesIntegrity, I
 use Rattle.esp.specs.Judging.{IsJudgedLength, low_half, IsNumber, Judges}
 use Rattle.esp.specs.Views.{Receiving}
 use Rattle.esp.proofs.ContentsLemmas.{payload_at}
-use Rattle.esp.specs.Opening.{IsFreshNumber, TakesNumber, HandsUp, WastesNumber}
+use Rattle.esp.specs.Opening.{IsFreshNumber, TakesNumber, HandsUp, WastesNumber, Refuses, Step}
+use Rattle.esp.specs.declared.answer.Answer.{Answer}
+use Rattle.esp.specs.declared.answer.Answer.TheVariants.{Up, Refused}
+use Rattle.esp.specs.declared.fault.EspFault.{EspFault}
+use Rattle.esp.specs.declared.fault.EspFault.TheVariants.{Memory}
 
 pub on_err : {T E : Type 0} (r : Result T E) (P : Type 0) → is_err r ≡ true → OnErr r P → P
 on_err (Ok x) P e h = absurd (cc)
@@ -129,3 +133,10 @@ pub up_answer : (old : Receiving) (b : List ℕ) (n next : ℕ) (payload : List 
 up_answer old b n next payload new h =
     let at = payload_at b next payload h.contents in
     (record { judged = h.judged; taken = h.taken; contents = subst (λ (xs : List ℕ). IsContents b next xs) at.1 h.contents }, refl, at.0)
+
+-- where no window wants memory, no packet is refused for it
+pub never_for_memory : (r s : Receiving) (b : List ℕ) (e : EspFault) → Refuses ⊥ r b e s → e ≢ Memory
+never_for_memory r s b e refused is = (subst (λ x. Refuses ⊥ r b x s) is refused).0
+
+pub never_answered_for_memory : (r s : Receiving) (b : List ℕ) (x : Answer) → Step ⊥ r b x s → x ≢ Refused Memory
+never_answered_for_memory r s b x step is = (subst (λ y. Step ⊥ r b y s) is step).0

@@ -1,16 +1,17 @@
 //! Facts about the definitions, each the contract of a function that does nothing: what a sealed packet is to its receiver,
 //! that calls in a row are one run, and that the premise of the theorem on deliveries can be met.
-ghost use Rattle.std.specs.Prelude.{◌≡◌, ℕ, List, ◌++◌, length, Option};
+ghost use Rattle.std.specs.Prelude.{◌≡◌, ◌≢◌, ℕ, List, ◌++◌, length, Option};
 ghost use Rattle.replay.specs.Window.{IsSound};
 ghost use Rattle.esp.specs.declared.association.Association.{Association};
 ghost use Rattle.esp.specs.declared.answer.Answer.{Answer};
 ghost use Rattle.esp.specs.Sealing.{IsShortestPacket, FitsPacket};
 ghost use Rattle.esp.specs.Views.{Receiving};
-ghost use Rattle.esp.specs.Opening.{HandsUp, Run, Step};
+ghost use Rattle.esp.specs.declared.fault.EspFault.{EspFault};
+ghost use Rattle.esp.specs.Opening.{HandsUp, Refuses, Run, Step};
 ghost use Rattle.esp.specs.Delivery.{Deliveries, IsJudged, history};
 ghost use Rattle.esp.specs.Worked.{IsOpenable, IsWorked, repeated, repeated_sent, crossing, crossing_sent};
 
-use replay::Window;
+use replay::{BlockWindow, Window};
 
 /// What [`Outbound::seal`](crate::Outbound::seal) appends has a length that is judged, passes the integrity check under its
 /// number, and carries its payload and no other.
@@ -41,4 +42,13 @@ pub fn judging_is_determined()
 pub fn premise_is_met()
     ensures repeated { IsWorked repeated repeated_sent }
     ensures crossing { IsWorked crossing crossing_sent }
+{}
+
+/// Over a [`BlockWindow`] a packet is never refused for memory, neither alone nor in a list: what
+/// [`Inbound::open`](crate::Inbound::open) answers is determined by the receiver and the packet.
+pub fn a_block_window_wants_no_memory()
+    ensures opened { (r s : Receiving) (b : List ℕ) (e : EspFault)
+        → Refuses ⟦<BlockWindow as Window>⟧.may_want r b e s → e ≢ EspFault.Memory }
+    ensures answered { (r s : Receiving) (b : List ℕ) (x : Answer)
+        → Step ⟦<BlockWindow as Window>⟧.may_want r b x s → x ≢ Answer.Refused EspFault.Memory }
 {}

@@ -2,11 +2,12 @@
 //! encryption (RFC 2410) and HMAC-SHA-256-128 (RFC 4868).
 //!
 //! An [`Outbound`] seals payloads into packets with rising numbers. An [`Inbound`] opens packets: each number is judged at
-//! most once, and a packet only if its check value is right. It is generic in the replay window.
+//! most once, and a packet only if its check value is right. It is generic in the replay window, and over a
+//! `BlockWindow` opening takes no memory.
 //!
 //! ```text
 //! let mut sender = Outbound::new(256, &key, false, 6);
-//! let mut receiver = Inbound::new(256, &key, false, PlainWindow::new(alloc, 2));
+//! let mut receiver = Inbound::new(256, &key, false, BlockWindow::new(alloc, 2)?);
 //! let mut packet = Vec::new(alloc);
 //! sender.seal(4, payload, &mut packet)?;      // 7
 //! let opened = receiver.open(&packet)?;       // number 7, next header 4, the payload as a slice of the packet
@@ -28,6 +29,7 @@ pub use answer::Answer;
 pub use fault::{EspFault, ListFault};
 pub use inbound::{Inbound, Opened};
 pub use laws::{
-    calls_in_a_row_are_one_run, judging_is_determined, premise_is_met, sealed_packets_open,
+    a_block_window_wants_no_memory, calls_in_a_row_are_one_run, judging_is_determined,
+    premise_is_met, sealed_packets_open,
 };
 pub use outbound::Outbound;

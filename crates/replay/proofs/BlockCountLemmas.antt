@@ -40,3 +40,6 @@ block_count m one =
 
 pub at_least_two : (m : ℕ) → IsBlockCount m → 2 ≤ m
 at_least_two m count = let one : IsOneOfSeven m = one_of_seven m count in grind arith
+
+pub at_most_128 : (m : ℕ) → IsBlockCount m → m ≤ 128
+at_most_128 m count = let one : IsOneOfSeven m = one_of_seven m count in grind arith

@@ -1,2 +1,4 @@
 pub mod BlockCountLemmas
+pub mod BlockLemmas
+pub mod JudgementLemmas
 pub mod PlainLemmas

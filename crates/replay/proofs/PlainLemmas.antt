@@ -9,9 +9,10 @@ use Rattle.std.proofs.lemmas.Bool.Decides.{nat_tests}
 use Rattle.std.proofs.lemmas.List.Folds.{list_any-append}
 use Rattle.std.proofs.lemmas.Map.Views.{any-filter_same}
 use Rattle.std.proofs.lemmas.Map.Keys.{IsDistinct-push, IsDistinct-head, IsDistinct-tail, IsDistinct-cons}
-use Rattle.replay.specs.declared.window.Judgement.TheVariants.{Zero, Old, Taken, Fresh}
+use Rattle.replay.specs.declared.window.Judgement.TheVariants.{Taken, Fresh}
 use Rattle.replay.specs.Window.{IsSound, listed, judgement, Takes}
 use Rattle.replay.specs.WindowFacts.{IsFresh}
+use Rattle.replay.proofs.JudgementLemmas.{judged_in_span}
 
 nothing_taken : {P : Type 0} (q : ℕ) → set.contains {R = nat_cmp} set.empty q ≡ true → P
 nothing_taken q is = let none = set.contains-empty nat_cmp q in cc
@@ -27,14 +28,9 @@ sound_start size spans =
       fits = omega arith;
     }
 
-judgement_cases : (zero old taken : Bool) → zero ≡ false → old ≡ false → (if zero then Zero else if old then Old else if taken then Taken else Fresh) ≡ (if taken then Taken else Fresh)
-judgement_cases zero old taken not_zero not_old = cc
-
 -- a number in the span or above it is judged by looking for it in the list
 pub judged_by_list : (top size n : ℕ) (numbers : List ℕ) (found : Bool) → 1 ≤ n → top < n + size → found ≡ list_any (λ y. nat_eq y n) numbers → judgement (listed top size numbers) n ≡ (if found then Taken else Fresh)
-judged_by_list top size n numbers found not_zero not_old is =
-    judgement_cases _ _ _ (grind (arith, nat_tests)) (grind (arith, nat_tests))
-    ∙ ap (λ b. if b then Taken else Fresh) (set.contains-from_list_nat numbers n ∙ sym is)
+judged_by_list top size n numbers found not_zero not_old is = judged_in_span (listed top size numbers) n found not_zero not_old (is ∙ sym (set.contains-from_list_nat numbers n))
 
 swapped : (found here there : Bool) → here ≡ there → (found || (here || false)) ≡ (there || found)
 swapped true true there same = cc

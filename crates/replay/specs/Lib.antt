@@ -1,4 +1,5 @@
 pub mod Recovery
 pub mod Window
 pub mod WindowFacts
+pub mod Blocks
 pub mod Faults

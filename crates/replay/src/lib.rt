@@ -6,7 +6,7 @@
 //! value was found right.
 //!
 //! ```text
-//! let mut window = PlainWindow::new(alloc, 2);    // spans 64 numbers
+//! let mut window = BlockWindow::new(alloc, 2)?;   // spans 64 numbers
 //! window.take(65)?;
 //! window.judge(2)     // Fresh
 //! window.judge(1)     // Old
@@ -15,11 +15,13 @@
 //! ```
 #![tactic(auto)]
 
+mod block;
 mod fault;
 mod plain;
 mod recovery;
 mod window;
 
+pub use block::BlockWindow;
 pub use fault::ReplayFault;
 pub use plain::PlainWindow;
 pub use recovery::{recover, recovers_one_number};

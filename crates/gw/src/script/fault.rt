@@ -1,5 +1,6 @@
 //! Why a line of a script stops the program.
 use crate::stop::Stop;
+use replay::ReplayFault;
 use std::alloc::AllocError;
 
 /// Why a line is not played.
@@ -24,5 +25,13 @@ impl LineFault {
 impl From<AllocError> for LineFault {
     fn from(_: AllocError) -> LineFault {
         LineFault::Memory
+    }
+}
+
+impl From<ReplayFault> for LineFault {
+    fn from(fault: ReplayFault) -> LineFault {
+        match fault {
+            ReplayFault::Memory => LineFault::Memory,
+        }
     }
 }

@@ -5,7 +5,7 @@ use super::directive::Terms;
 use super::report::Report;
 use crate::script::LineFault;
 use esp::{Answer, Inbound, Outbound};
-use replay::{PlainWindow, is_block_count};
+use replay::{BlockWindow, is_block_count};
 use std::alloc::{AllocError, Global};
 
 /// The two ends of one association, and the packets that its sender sealed.
@@ -14,7 +14,7 @@ pub struct Ends {
     alloc: Global,
     terms: Terms,
     sender: Outbound,
-    receiver: Inbound<PlainWindow>,
+    receiver: Inbound<BlockWindow>,
     packets: Vec<Vec<u8>>,
     ghost same_index: { receiver.association.spi ≡ terms.spi },
 }
@@ -25,7 +25,7 @@ impl Ends {
         if !is_block_count(terms.blocks) {
             return Err(LineFault::Refused);
         }
-        let window = PlainWindow::new(alloc, terms.blocks);
+        let window = BlockWindow::new(alloc, terms.blocks)?;
         Ok(Ends {
             alloc,
             terms,

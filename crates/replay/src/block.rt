@@ -1,0 +1,303 @@
+//! A window of blocks of bits (RFC 6479).
+ghost use Rattle.std.specs.Prelude.{◌≡◌, ℕ, ◌+◌, ◌*◌, ◌-◌, ◌/◌, ◌%◌, ◌<◌, ◌≤◌, ◌||◌, max, length, get_or, IfOk};
+ghost use Rattle.replay.specs.Window.{IsBlockCount, IsSound, Takes, judgement, unused};
+ghost use Rattle.replay.specs.Blocks.{IsRing, is_marked, is_twin, shown};
+
+use crate::{Judgement, ReplayFault, Window};
+use std::alloc::Global;
+
+/// The numbers of one block.
+const BLOCK: u64 = 64;
+
+/// A window that keeps a bit for each number, in a ring of blocks of 64 bits (RFC 6479). Moving up clears the blocks that
+/// are passed over and shifts nothing, so asking and taking cost the same whatever the window holds, and a jump costs
+/// at most as many writes as there are blocks. Memory is taken when it is made, and never again.
+#[derive(Drop)]
+pub struct BlockWindow {
+    top: u64,
+    blocks: Vec<u64>,
+    ghost ring: { IsRing top blocks.items },
+    ghost sound: { IsSound (shown top blocks.items) },
+}
+
+impl BlockWindow {
+    /// A window of `blocks` blocks of 64 numbers, a count that [`is_block_count`](crate::is_block_count) allows. It spans
+    /// 64 (blocks - 1) numbers. [`ReplayFault::Memory`] where there is no memory for the blocks, 8 octets each.
+    pub fn new(alloc: Global, blocks: u32) -> Result<BlockWindow, ReplayFault>
+        requires { IsBlockCount blocks }
+        ensures { IfOk result (λ window. ⟦<BlockWindow as Window>⟧.seen window ≡ unused blocks) }
+    {
+        let blocks = vec![in alloc; 0; blocks as usize].map_err(|_| ReplayFault::Memory)?;
+        Ok(BlockWindow { top: 0, blocks })
+    }
+}
+
+impl Window for BlockWindow {
+    ghost seen = { λ w. shown w.top w.blocks.items };
+
+    ghost may_want = { ⊥ };
+
+    fn top(&self) -> u64 {
+        self.top
+    }
+
+    fn size(&self) -> u64 {
+        BLOCK * (self.blocks.len() as u64 - 1)
+    }
+
+    fn judge(&self, n: u64) -> Judgement {
+        if n == 0 {
+            Judgement::Zero
+        } else if n > self.top {
+            Judgement::Fresh
+        } else if self.top - n >= self.size() {
+            Judgement::Old
+        } else if is_set(&self.blocks, n) {
+            Judgement::Taken
+        } else {
+            Judgement::Fresh
+        }
+    }
+
+    fn take(&mut self, n: u64) -> Result<(), ReplayFault> {
+        mark(&mut self.blocks, self.top, n);
+        self.top = self.top.max(n);
+        Ok(())
+    }
+
+    ghost sound = { λ w. w.sound };
+}
+
+/// The place in the ring of the block that counts as the `block`th from the start.
+fn place(blocks: &[u64], block: u64) -> usize
+    requires { 1 ≤ length blocks.now }
+    ensures { result ≡ block % length blocks.now }
+{
+    (block % blocks.len() as u64) as usize
+}
+
+/// Whether the bit of a number is set.
+fn is_set(blocks: &[u64], n: u64) -> bool
+    requires { 1 ≤ length blocks.now }
+    ensures { result ≡ is_marked blocks.now n }
+{
+    (blocks[place(blocks, n / BLOCK)] >> (n % BLOCK)) & 1 == 1
+}
+
+/// Marks a fresh number, in the ring whose greatest number is `top`; a greater one moves the span up.
+fn mark(blocks: &mut [u64], top: u64, n: u64)
+    requires ring { IsRing top blocks.old }
+    requires is_fresh { judgement (shown top blocks.old) n ≡ Judgement.Fresh }
+    ensures length { length blocks.new ≡ length blocks.old }
+    ensures ring { IsRing (max top n) blocks.new }
+    ensures taken { Takes (shown top blocks.old) n (shown (max top n) blocks.new) }
+{
+    if n > top {
+        clear_passed(blocks, top / BLOCK, n / BLOCK);
+    }
+    set_bit(blocks, n);
+}
+
+/// Sets the bit of a number.
+fn set_bit(blocks: &mut [u64], n: u64)
+    requires { 1 ≤ length blocks.old }
+    ensures length { length blocks.new ≡ length blocks.old }
+    ensures marked { (q : ℕ) → is_marked blocks.new q ≡ (is_twin (length blocks.old) n q || is_marked blocks.old q) }
+{
+    let place = place(blocks, n / BLOCK);
+    blocks[place] |= 1 << (n % BLOCK);
+}
+
+/// Clears the blocks behind `from`, up to `to`: all of the ring where they go round it.
+fn clear_passed(blocks: &mut [u64], from: u64, to: u64)
+    requires some_blocks { 1 ≤ length blocks.old }
+    requires upwards { from ≤ to }
+    ensures length { length blocks.new ≡ length blocks.old }
+    ensures cleared { (block : ℕ) → from < block → block ≤ to → get_or blocks.new (block % length blocks.old) 0 ≡ 0 }
+    ensures kept { (block : ℕ) → block ≤ from → to < block + length blocks.old → get_or blocks.new (block % length blocks.old) 0 ≡ get_or blocks.old (block % length blocks.old) 0 }
+{
+    if to - from >= blocks.len() as u64 {
+        blocks.fill(0);
+    } else {
+        for block in from..to {
+            let place = place(blocks, block + 1);
+            blocks[place] = 0;
+        }
+    }
+}
+
+#[cfg(test)]
+mod tests {
+    use super::*;
+    use crate::{PlainWindow, is_block_count};
+    use Judgement::{Fresh, Old, Taken, Zero};
+    use std::process::Abort;
+    use std::test::Fail;
+
+    /// Takes a number that is fresh, through the trait alone, and answers how it was judged.
+    fn accept<W: Window>(window: &mut W, n: u64) -> Result<Judgement, ReplayFault> {
+        let judgement = window.judge(n);
+        if let Fresh = judgement {
+            window.take(n)?;
+        }
+        Ok(judgement)
+    }
+
+    #[test]
+    fn judges_the_worked_numbers(rt: HostRuntime) -> Result<(), Fail> {
+        let near_the_end = u64::MAX - 8127;
+        let rows: [(u32, &[u64], &[(u64, Judgement)]); 8] = [
+            (2, &[64], &[(1, Fresh)]),
+            (
+                2,
+                &[64, 65],
+                &[(2, Fresh), (1, Old), (65, Taken), (0, Zero)],
+            ),
+            (
+                2,
+                &[3, 64, 131],
+                &[(131, Taken), (128, Fresh), (68, Fresh), (67, Old)],
+            ),
+            (4, &[1, 193], &[(2, Fresh), (1, Old)]),
+            (4, &[1, 193, 256], &[(193, Taken), (65, Fresh), (64, Old)]),
+            (
+                4,
+                &[1, 65, 129, 193, 500],
+                &[
+                    (321, Fresh),
+                    (385, Fresh),
+                    (449, Fresh),
+                    (309, Fresh),
+                    (308, Old),
+                ],
+            ),
+            (2, &[5, 64_005], &[(63_942, Fresh), (63_941, Old)]),
+            (
+                128,
+                &[near_the_end, u64::MAX],
+                &[
+                    (u64::MAX, Taken),
+                    (u64::MAX - 1, Fresh),
+                    (near_the_end, Taken),
+                    (near_the_end - 1, Old),
+                ],
+            ),
+        ];
+        for (blocks, taken, judged) in rows {
+            if !is_block_count(blocks) {
+                return Err(Fail::new("no count of blocks"));
+            }
+            let mut window = BlockWindow::new(rt.alloc(), blocks)?;
+            for n in taken {
+                assert_eq!(rt;
+                    accept(&mut window, *n)?,
+                    Fresh,
+                    "{blocks} blocks, taking {n}"
+                );
+            }
+            for (n, judgement) in judged {
+                assert_eq!(rt; window.judge(*n), *judgement, "{blocks} blocks, at {n}");
+            }
+        }
+        Ok(())
+    }
+
+    // To be run with its one allocation failing, too.
+    #[test]
+    fn is_made_whole_or_refused(rt: HostRuntime) {
+        match BlockWindow::new(rt.alloc(), 128) {
+            Ok(window) => {
+                assert_eq!(rt; window.size(), 8128);
+                assert_eq!(rt; window.top(), 0);
+                assert_eq!(rt; window.judge(1), Fresh);
+            }
+            Err(fault) => assert_eq!(rt; fault, ReplayFault::Memory),
+        }
+    }
+
+    /// Offers one number to both windows.
+    fn agree_at<A: Window, B: Window>(
+        rt: &impl Abort,
+        first: &mut A,
+        second: &mut B,
+        n: u64,
+    ) -> Result<(), ReplayFault> {
+        let judgement = accept(first, n)?;
+        assert_eq!(rt; accept(second, n)?, judgement, "at {n}");
+        assert_eq!(rt; first.top(), second.top(), "after {n}");
+        Ok(())
+    }
+
+    /// Goes up by these steps, round and round, and at each stop offers the numbers at both edges of the span.
+    fn agree_over(
+        rt: &impl Abort,
+        alloc: Global,
+        blocks: u32,
+        steps: &[u64],
+        rounds: u32,
+    ) -> Result<(), Fail> {
+        if !is_block_count(blocks) {
+            return Err(Fail::new("no count of blocks"));
+        }
+        let mut ring = BlockWindow::new(alloc, blocks)?;
+        let mut plain = PlainWindow::new(alloc, blocks);
+        assert_eq!(rt; ring.size(), plain.size());
+        let mut stop: u64 = 0;
+        for _ in 0..rounds {
+            for step in steps {
+                stop = stop.saturating_add(*step);
+                for n in around(stop, plain.size()) {
+                    agree_at(rt, &mut ring, &mut plain, n)?;
+                }
+            }
+        }
+        Ok(())
+    }
+
+    /// Numbers at both edges of the span that ends at `stop`, and again.
+    fn around(stop: u64, size: u64) -> [u64; 9] {
+        let edge = stop.saturating_sub(size);
+        [
+            stop,
+            stop,
+            edge,
+            edge.saturating_add(1),
+            edge.saturating_add(2),
+            stop.saturating_sub(1),
+            stop.saturating_sub(64),
+            stop.saturating_add(1),
+            edge.saturating_add(1),
+        ]
+    }
+
+    #[test]
+    fn answers_as_the_plain_window(rt: HostRuntime) -> Result<(), Fail> {
+        for blocks in [2, 4, 8] {
+            let round = 64 * u64::from(blocks);
+            agree_over(&rt, rt.alloc(), blocks, &[1], 600)?;
+            agree_over(&rt, rt.alloc(), blocks, &[3, 61, 2, 5], 60)?;
+            agree_over(
+                &rt,
+                rt.alloc(),
+                blocks,
+                &[64, round - 64, round, round + 64],
+                8,
+            )?;
+            agree_over(
+                &rt,
+                rt.alloc(),
+                blocks,
+                &[round - 1, 1, round + 1, 63, 65, 10 * round, 1],
+                8,
+            )?;
+            agree_over(
+                &rt,
+                rt.alloc(),
+                blocks,
+                &[u64::MAX - 3 * round, round, 7, round, 60, 61],
+                2,
+            )?;
+        }
+        Ok(())
+    }
+}
