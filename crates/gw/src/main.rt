@@ -24,23 +24,14 @@
 #![tactic(auto)]
 
 mod command;
-mod digits;
-mod input;
-mod output;
-mod play;
-mod script;
-mod show;
-mod status;
-mod stop;
 
 use command::{Action, Command, CommandFault};
-use status::Status;
+use engine::{Status, Stop, end, play, show};
 use std::alloc::Global;
 use std::fs::File;
 use std::io;
 use std::io::{Read, Write};
 use std::process::ExitCode;
-use stop::Stop;
 
 /// The path at which the runtime's standard input is read, and no file opened: there may be no leave to open it.
 const STANDARD_INPUT: &str = "/dev/stdin";
@@ -65,7 +56,7 @@ fn run(rt: &HostRuntime) -> u8 {
 fn refuse(rt: &HostRuntime, fault: CommandFault) -> u8 {
     match fault {
         CommandFault::Words => Status::BadCommand.code(),
-        CommandFault::Memory => output::end(Err(Stop::Memory), &mut io::writer(rt)).code(),
+        CommandFault::Memory => end(Err(Stop::Memory), &mut io::writer(rt)).code(),
     }
 }
 
@@ -77,13 +68,13 @@ fn follow(rt: &HostRuntime, command: Command) -> u8 {
     }
     match File::open(rt, file) {
         Ok(mut reader) => act(rt.alloc(), action, &mut reader, &mut writer),
-        Err(_) => output::end(Err(Stop::File), &mut writer).code(),
+        Err(_) => end(Err(Stop::File), &mut writer).code(),
     }
 }
 
 fn act<R: Read, W: Write>(alloc: Global, action: Action, reader: &mut R, writer: &mut W) -> u8 {
     match action {
-        Action::Play => play::play(alloc, reader, writer),
-        Action::Show => show::show(alloc, reader, writer),
+        Action::Play => play(alloc, reader, writer),
+        Action::Show => show(alloc, reader, writer),
     }
 }

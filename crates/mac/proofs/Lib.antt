@@ -1,2 +1,3 @@
 pub mod HmacLemmas
+pub mod KeyMaterialLemmas
 mod Rfc4231

@@ -1,1 +1,3 @@
 pub mod Hmac
+pub mod KeyMaterial
+pub mod Cookie

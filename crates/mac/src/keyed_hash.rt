@@ -1,5 +1,5 @@
 //! HMAC (RFC 2104) over SHA-256.
-ghost use Rattle.std.specs.Prelude.{◌≡◌, ◌≤◌, ⊤, ℕ, List, ◌++◌, length};
+ghost use Rattle.std.specs.Prelude.{◌≡◌, ◌≤◌, ⊤, ℕ, List, [], ◌∷◌, ◌++◌, length};
 ghost use Rattle.std.specs.List.{flat_map};
 ghost use Rattle.sha2.specs.Hashers.{Holds256};
 ghost use Rattle.sha2.specs.Sha256.{sha256};
@@ -63,6 +63,19 @@ impl HmacKey {
     {
         let inner = finish(copy_of(&self.inner), parts);
         finish(copy_of(&self.outer), &[inner.as_slice()])
+    }
+
+    // The tag of a message that begins with other octets than its parts, and ends with one more.
+    pub(crate) fn tag_between(&self, front: &[u8], parts: &[&[u8]], end: u8) -> [u8; 32]
+        ensures { result ≡ keyed_hash self.now (front.now ++ flat_map (λ part. part.now) parts.now ++ end ∷ []) }
+    {
+        let mut hasher = copy_of(&self.inner);
+        hasher.update(front);
+        for part in parts {
+            hasher.update(*part);
+        }
+        let digest = finish(hasher, &[&[end]]);
+        finish(copy_of(&self.outer), &[&digest])
     }
 }
 

@@ -1,3 +1,5 @@
+mod ike;
+
 use crate::{HmacKey, IcvKey, hmac, icv};
 use std::process::Abort;
 use std::test::Fail;

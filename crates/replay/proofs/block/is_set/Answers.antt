@@ -1,4 +1,4 @@
-use Rattle.std.proofs.Common.{rules, ◌≡◌, ℕ, ◌/◌, ◌%◌, length, get_or, nat_eq, ap, ◌∙◌}
+use Rattle.std.proofs.Common.{◌%◌, get_or, nat_eq, ap, ◌∙◌}
 use Rattle.std.proofs.lemmas.Nat.Bits.{shr_and_one}
 use Rattle.std.specs.Int.{bit_at}
 use Rattle.replay.specs.Blocks.{is_marked}

@@ -1,4 +1,4 @@
-use Rattle.std.proofs.Common.{rules, ◌≡◌, ◌/◌, ◌%◌, ◌<◌, length, arith}
+use Rattle.std.proofs.Common.{◌/◌, length}
 use Rattle.std.proofs.lemmas.Nat.{mod_below}
 use Rattle.replay.proofs.BlockLemmas.{set_marks}
 use Rattle.replay.proofs.block.set_bit.Goals as goal
