@@ -1,10 +1,10 @@
 -- The insides of selectors, of the payloads of a few fields, of notifications and deletions.
-use Rattle.std.proofs.Common.{◌≡◌, ℕ, zero, suc, ◌+◌, ◌^◌, ◌≤◌, Bool, true, false, cond, eqb, leb, ltb, List, [], ◌∷◌, ◌++◌, length, Some, None, refl, sym, ap, subst, ◌∙◌, inl, inr, ◌⊎◌, arith}
+use Rattle.std.proofs.Common.{◌≡◌, ℕ, zero, suc, ◌+◌, ◌*◌, ◌^◌, ◌≤◌, Bool, true, false, cond, eqb, leb, ltb, List, [], ◌∷◌, ◌++◌, length, Some, None, refl, sym, ap, subst, ◌∙◌, inl, inr, ◌⊎◌, arith}
 use Rattle.std.specs.Prelude.{◌&&◌, ◌||◌}
 use Rattle.std.proofs.lemmas.Bool.{eqb-true, ltb-false, le-ltb, leb-true, le-leb, ne_eqb}
-use Rattle.std.proofs.lemmas.List.{nil_from_length}
+use Rattle.std.proofs.lemmas.List.{length-append, nil_from_length}
 use Rattle.byteorder.specs.Endian.{big_bytes}
-use Rattle.wire.specs.Parts.{IsOctet, AreOctets, IsPart}
+use Rattle.wire.specs.Parts.{IsOctet, AreOctets, IsPart, SpellsEach}
 use Rattle.wire.specs.Selectors.{SpellsSelector, SpellsSelectors}
 use Rattle.wire.specs.Fields.{SpellsKe, SpellsTyped, SpellsNonce, SpellsNotify, SpellsDelete, SpellsSpi, HasSpiSize}
 use Rattle.wire.specs.Reading.{◌>>=◌, octets_at, octet_at, number_at, part_at, each_of, selector_at, selectors_of, data_of, ke_of, typed_of, nonce_of, notify_of, delete_of, is_sized}
@@ -88,46 +88,52 @@ two_octets (x ∷ []) e = absurd (omega arith)
 two_octets (x ∷ y ∷ []) e = (x, y, refl)
 two_octets (x ∷ y ∷ z ∷ front) e = absurd (omega arith)
 
+selector_length : (a : Selector) (x : List ℕ) → SpellsSelector a x → length x ≡ 16
+selector_length a x s = omega (arith, ap length s.part.spelled)
+
+selectors_length : (found : List Selector) (xs : List ℕ) → SpellsEach SpellsSelector found xs → length xs ≡ 16 * length found
+selectors_length [] xs s = omega (arith, ap length s)
+selectors_length (a ∷ found) xs s = omega (arith, selector_length a s.front s.first, selectors_length found s.rest s.others, length-append s.front s.rest, ap length s.joined)
+
 pub selectors_takes : (xs : List ℕ) (found : List Selector) → AreOctets xs → selectors_of xs ≡ Some found → SpellsSelectors IsOctet found xs
 unfolding selectors_of
 selectors_takes xs found fits e =
     with_some (octet_at xs) _ found e (λ count e1 r1.
     with_some (octets_at 3 count.1) _ found r1 (λ reserved e2 r2.
-    with_some (each_of selector_at (length reserved.1) reserved.1) _ found r2 (λ selectors e3 r3.
-    with_test ((eqb (length selectors) count.0) && leb 1 count.0 && leb count.0 16) (Some selectors) found r3 (λ good r4.
-    let g1 = both_true ((eqb (length selectors) count.0) && leb 1 count.0) (leb count.0 16) good in
-    let g2 = both_true (eqb (length selectors) count.0) (leb 1 count.0) g1.0 in
-    let count_is : length selectors ≡ count.0 = eqb-true _ _ g2.0 in
+    with_test (leb 1 count.0 && leb count.0 16 && (eqb (length reserved.1) (16 * count.0))) (each_of selector_at (length reserved.1) reserved.1) found r2 (λ good e3.
+    let g1 = both_true (leb 1 count.0 && leb count.0 16) (eqb (length reserved.1) (16 * count.0)) good in
+    let g2 = both_true (leb 1 count.0) (leb count.0 16) g1.0 in
     let t1 = octet_takes xs count e1 in
     let fits1 : AreOctets count.1 = (subst AreOctets t1 fits).1 in
     let t2 = octets_takes 3 count.1 reserved e2 in
     let three = three_octets reserved.0 t2.1 in
     let both2 : AreOctets (reserved.0 ++ reserved.1) = subst AreOctets t2.0 fits1 in
     let named : AreOctets (three.0 ∷ three.1 ∷ three.2 ∷ []) = subst AreOctets three.3 (octets_front reserved.0 reserved.1 both2) in
-    let P : List Selector → Type 0 = λ ss. SpellsSelectors IsOctet ss xs in
-    subst P (some_is selectors found r4) (record {
+    let each = each_takes selector_at SpellsSelector selector_takes (length reserved.1) reserved.1 found (octets_back reserved.0 reserved.1 both2) e3 in
+    let count_is : length found ≡ count.0 = omega (arith, selectors_length found reserved.1 each, eqb-true _ _ g1.1) in
+    record {
       reserved_1 = three.0;
       reserved_2 = three.1;
       reserved_3 = three.2;
       free = (named.0, named.1.0, named.1.1.0);
       selectors = reserved.1;
       spelled = t1 ∙ ap (λ (r : List ℕ). count.0 ∷ r) (t2.0 ∙ ap (λ (r : List ℕ). r ++ reserved.1) three.3) ∙ ap (λ (n : ℕ). n ∷ three.0 ∷ three.1 ∷ three.2 ∷ reserved.1) (sym count_is);
-      some = rw count_is (leb-true _ _ g2.1);
-      few = rw count_is (leb-true _ _ g1.1);
-      each = each_takes selector_at SpellsSelector selector_takes (length reserved.1) reserved.1 selectors (octets_back reserved.0 reserved.1 both2) e3;
-    })))))
+      some = rw count_is (leb-true _ _ g2.0);
+      few = rw count_is (leb-true _ _ g2.1);
+      each = each;
+    })))
 
 pub selectors_again : (Free : ℕ → Type 0) (a : List Selector) (xs : List ℕ) → SpellsSelectors Free a xs → selectors_of xs ≡ Some a
 unfolding selectors_of
 selectors_again Free a xs s =
     let n : ℕ = length a in
     ap selectors_of s.spelled
-    ∙ ap (λ o. o >>= λ u. octets_at 3 u.1 >>= λ v. each_of selector_at (length v.1) v.1 >>= λ ss. cond ((eqb (length ss) u.0) && leb 1 u.0 && leb u.0 16) (Some ss) None) (octet_again n (s.reserved_1 ∷ s.reserved_2 ∷ s.reserved_3 ∷ s.selectors))
-    ∙ ap (λ o. o >>= λ v. each_of selector_at (length v.1) v.1 >>= λ ss. cond ((eqb (length ss) n) && leb 1 n && leb n 16) (Some ss) None) (octets_again (s.reserved_1 ∷ s.reserved_2 ∷ s.reserved_3 ∷ []) s.selectors 3 refl)
-    ∙ ap (λ o. o >>= λ ss. cond ((eqb (length ss) n) && leb 1 n && leb n 16) (Some ss) None) (each_again selector_at SpellsSelector selector_again a s.selectors (length s.selectors) (omega arith) s.each)
-    ∙ ap (λ b. cond (b && leb 1 n && leb n 16) (Some a) None) (same_numbers n n refl)
-    ∙ ap (λ b. cond (b && leb n 16) (Some a) None) (le-leb _ _ s.some)
-    ∙ ap (λ b. cond b (Some a) None) (le-leb _ _ s.few)
+    ∙ ap (λ o. o >>= λ u. octets_at 3 u.1 >>= λ v. cond (leb 1 u.0 && leb u.0 16 && (eqb (length v.1) (16 * u.0))) (each_of selector_at (length v.1) v.1) None) (octet_again n (s.reserved_1 ∷ s.reserved_2 ∷ s.reserved_3 ∷ s.selectors))
+    ∙ ap (λ o. o >>= λ v. cond (leb 1 n && leb n 16 && (eqb (length v.1) (16 * n))) (each_of selector_at (length v.1) v.1) None) (octets_again (s.reserved_1 ∷ s.reserved_2 ∷ s.reserved_3 ∷ []) s.selectors 3 refl)
+    ∙ ap (λ b. cond (b && leb n 16 && (eqb (length s.selectors) (16 * n))) (each_of selector_at (length s.selectors) s.selectors) None) (le-leb _ _ s.some)
+    ∙ ap (λ b. cond (b && (eqb (length s.selectors) (16 * n))) (each_of selector_at (length s.selectors) s.selectors) None) (le-leb _ _ s.few)
+    ∙ ap (λ b. cond b (each_of selector_at (length s.selectors) s.selectors) None) (same_numbers (length s.selectors) (16 * n) (selectors_length a s.selectors s.each))
+    ∙ each_again selector_at SpellsSelector selector_again a s.selectors (length s.selectors) (omega arith) s.each
 
 -- ---- data of a few octets
 
@@ -277,6 +283,10 @@ spi_again : ItemAgain (number_at 4) SpellsSpi
 spi_again a front rest s =
     (ap (λ (y : List ℕ). number_at 4 (y ++ rest)) s.0 ∙ number_again 4 (2 ^ 32) wide4 a rest s.1, omega (arith, ap length s.0))
 
+spis_length : (spis xs : List ℕ) → SpellsEach SpellsSpi spis xs → length xs ≡ 4 * length spis
+spis_length [] xs s = omega (arith, ap length s)
+spis_length (spi ∷ spis) xs s = omega (arith, ap length s.first.0, spis_length spis s.rest s.others, length-append s.front s.rest, ap length s.joined)
+
 false_true : false ≡ true → ⊥
 false_true e = cc
 
@@ -309,15 +319,16 @@ delete_takes xs p fits e =
     with_some (octet_at xs) _ p e (λ protocol e1 r1.
     with_some (octet_at protocol.1) _ p r1 (λ size e2 r2.
     with_some (number_at 2 size.1) _ p r2 (λ count e3 r3.
-    with_some (each_of (number_at 4) (length count.1) count.1) _ p r3 (λ spis e4 r4.
-    with_test (is_sized protocol.0 size.0 count.0 && (eqb (length spis) count.0)) (Some (Delete protocol.0 spis)) p r4 (λ good r5.
-    let g = both_true (is_sized protocol.0 size.0 count.0) (eqb (length spis) count.0) good in
-    let count_is : length spis ≡ count.0 = eqb-true _ _ g.1 in
+    with_test (is_sized protocol.0 size.0 count.0 && (eqb (length count.1) (4 * count.0))) (each_of (number_at 4) (length count.1) count.1 >>= λ spis. Some (Delete protocol.0 spis)) p r3 (λ good r4.
+    with_some (each_of (number_at 4) (length count.1) count.1) _ p r4 (λ spis e4 r5.
+    let g = both_true (is_sized protocol.0 size.0 count.0) (eqb (length count.1) (4 * count.0)) good in
     let t1 = octet_takes xs protocol e1 in
     let t2 = octet_takes protocol.1 size e2 in
     let both2 : AreOctets (size.0 ∷ size.1) = subst AreOctets t2 (subst AreOctets t1 fits).1 in
     let t3 = number_takes 2 (2 ^ 16) wide2 size.1 count both2.1 e3 in
-    let fits3 : AreOctets count.1 = octets_back (big_bytes 2 count.0) count.1 (subst AreOctets t3.0 both2.1) in (
+    let fits3 : AreOctets count.1 = octets_back (big_bytes 2 count.0) count.1 (subst AreOctets t3.0 both2.1) in
+    let each = each_takes (number_at 4) SpellsSpi spi_takes (length count.1) count.1 spis fits3 e4 in
+    let count_is : length spis ≡ count.0 = omega (arith, spis_length spis count.1 each, eqb-true _ _ g.1) in (
       protocol.0,
       spis,
       sym (some_is (Delete protocol.0 spis) p r5),
@@ -328,7 +339,7 @@ delete_takes xs p fits e =
             t1 ∙ ap (λ (r : List ℕ). protocol.0 ∷ r) (t2 ∙ ap (λ (r : List ℕ). size.0 ∷ r) (t3.0 ∙ ap (λ (n : ℕ). big_bytes 2 n ++ count.1) (sym count_is)));
         count = rw count_is t3.1;
         sized = sized_takes protocol.0 size.0 spis count.0 count_is g.0;
-        each = each_takes (number_at 4) SpellsSpi spi_takes (length count.1) count.1 spis fits3 e4;
+        each = each;
       },
     ))))))
 
@@ -337,9 +348,9 @@ unfolding delete_of
 delete_again protocol spis xs s =
     let n : ℕ = length spis in
     ap delete_of s.spelled
-    ∙ ap (λ o. o >>= λ p. octet_at p.1 >>= λ z. number_at 2 z.1 >>= λ c. each_of (number_at 4) (length c.1) c.1 >>= λ l. cond (is_sized p.0 z.0 c.0 && (eqb (length l) c.0)) (Some (Delete p.0 l)) None) (octet_again protocol (s.size ∷ big_bytes 2 n ++ s.list))
-    ∙ ap (λ o. o >>= λ z. number_at 2 z.1 >>= λ c. each_of (number_at 4) (length c.1) c.1 >>= λ l. cond (is_sized protocol z.0 c.0 && (eqb (length l) c.0)) (Some (Delete protocol l)) None) (octet_again s.size (big_bytes 2 n ++ s.list))
-    ∙ ap (λ o. o >>= λ c. each_of (number_at 4) (length c.1) c.1 >>= λ l. cond (is_sized protocol s.size c.0 && (eqb (length l) c.0)) (Some (Delete protocol l)) None) (number_again 2 (2 ^ 16) wide2 n s.list s.count)
-    ∙ ap (λ o. o >>= λ l. cond (is_sized protocol s.size n && (eqb (length l) n)) (Some (Delete protocol l)) None) (each_again (number_at 4) SpellsSpi spi_again spis s.list (length s.list) (omega arith) s.each)
-    ∙ ap (λ b. cond (b && eqb n n) (Some (Delete protocol spis)) None) (sized_again protocol s.size spis s.sized)
-    ∙ ap (λ b. cond b (Some (Delete protocol spis)) None) (same_numbers n n refl)
+    ∙ ap (λ o. o >>= λ p. octet_at p.1 >>= λ z. number_at 2 z.1 >>= λ c. cond (is_sized p.0 z.0 c.0 && (eqb (length c.1) (4 * c.0))) (each_of (number_at 4) (length c.1) c.1 >>= λ l. Some (Delete p.0 l)) None) (octet_again protocol (s.size ∷ big_bytes 2 n ++ s.list))
+    ∙ ap (λ o. o >>= λ z. number_at 2 z.1 >>= λ c. cond (is_sized protocol z.0 c.0 && (eqb (length c.1) (4 * c.0))) (each_of (number_at 4) (length c.1) c.1 >>= λ l. Some (Delete protocol l)) None) (octet_again s.size (big_bytes 2 n ++ s.list))
+    ∙ ap (λ o. o >>= λ c. cond (is_sized protocol s.size c.0 && (eqb (length c.1) (4 * c.0))) (each_of (number_at 4) (length c.1) c.1 >>= λ l. Some (Delete protocol l)) None) (number_again 2 (2 ^ 16) wide2 n s.list s.count)
+    ∙ ap (λ b. cond (b && (eqb (length s.list) (4 * n))) (each_of (number_at 4) (length s.list) s.list >>= λ l. Some (Delete protocol l)) None) (sized_again protocol s.size spis s.sized)
+    ∙ ap (λ b. cond b (each_of (number_at 4) (length s.list) s.list >>= λ l. Some (Delete protocol l)) None) (same_numbers (length s.list) (4 * n) (spis_length spis s.list s.each))
+    ∙ ap (λ o. o >>= λ l. Some (Delete protocol l)) (each_again (number_at 4) SpellsSpi spi_again spis s.list (length s.list) (omega arith) s.each)

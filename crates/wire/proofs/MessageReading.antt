@@ -375,3 +375,6 @@ pub version_from : (b : List ℕ) (h : Head) (left : List ℕ) → 28 ≤ length
 version_from b h left long short read same two =
     let is : (head_in b, drop 28 b) ≡ (h, left) = some_is (head_in b, drop 28 b) (h, left) (sym (head_is b long) ∙ read) in
     ((long, short), ap (λ (x : Head × List ℕ). x.0.length) is ∙ same, ap (λ (x : Head × List ℕ). x.0.major) is ∙ two)
+
+pub first_from : (b : List ℕ) (h : Head) (left : List ℕ) → 28 ≤ length b → head_at b ≡ Some (h, left) → slice_index b 16 ≡ h.first
+first_from b h left long read = ap (λ (x : Head × List ℕ). x.0.first) (some_is (head_in b, drop 28 b) (h, left) (sym (head_is b long) ∙ read))

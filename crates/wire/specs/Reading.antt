@@ -1,5 +1,5 @@
 -- What the readers of the code give, step by step: private contracts cite it, and lemmas lead from it to the grammar.
-use Rattle.std.specs.Prelude.{◌≡◌, ℕ, zero, suc, ◌+◌, ◌-◌, ◌^◌, Bool, true, false, List, [], ◌∷◌, length, take, drop, Option, Some, None, Result, Ok, Err, nat_lt, nat_le, ◌==◌, ◌||◌, ◌&&◌, if◌then◌else◌, option_and_then, slice_index, ok_or, not, ◌≢◌, ◌/◌, ◌%◌}
+use Rattle.std.specs.Prelude.{◌≡◌, ℕ, zero, suc, ◌+◌, ◌-◌, ◌*◌, ◌^◌, Bool, true, false, List, [], ◌∷◌, length, take, drop, Option, Some, None, Result, Ok, Err, nat_lt, nat_le, ◌==◌, ◌||◌, ◌&&◌, if◌then◌else◌, option_and_then, slice_index, ok_or, not, ◌≢◌, ◌/◌, ◌%◌}
 use Rattle.byteorder.specs.Endian.{big_number}
 use Rattle.wire.specs.declared.reader.Unread.{Unread}
 use Rattle.wire.specs.declared.reader.Unread.TheVariants.{Malformed, Memory}
@@ -131,8 +131,7 @@ unfoldable pub selectors_of : List ℕ → Option (List Selector)
 selectors_of xs = do
   count ← octet_at xs
   reserved ← octets_at 3 count.1
-  selectors ← each_of selector_at (length reserved.1) reserved.1
-  if (length selectors == count.0) && nat_le 1 count.0 && nat_le count.0 16 then Some selectors else None
+  if nat_le 1 count.0 && nat_le count.0 16 && (length reserved.1 == 16 * count.0) then each_of selector_at (length reserved.1) reserved.1 else None
 
 -- data from an octet to a limit
 abbrev pub data_of : ℕ → List ℕ → Option (List ℕ)
@@ -178,8 +177,7 @@ delete_of xs = do
   protocol ← octet_at xs
   size ← octet_at protocol.1
   count ← number_at 2 size.1
-  spis ← each_of (number_at 4) (length count.1) count.1
-  if is_sized protocol.0 size.0 count.0 && (length spis == count.0) then Some (payloads.Delete protocol.0 spis) else None
+  if is_sized protocol.0 size.0 count.0 && (length count.1 == 4 * count.0) then (each_of (number_at 4) (length count.1) count.1 >>= λ spis. Some (payloads.Delete protocol.0 spis)) else None
 
 -- what is refused where octets have this fault unless they are read
 abbrev pub refusal_of : Unread → WireFault → WireFault

@@ -1,5 +1,5 @@
 //! Messages and their header (RFC 7296 section 3.1).
-ghost use Rattle.std.specs.Prelude.{◌≡◌, ◌≢◌, ◌++◌, ◌<◌, ◌≤◌, List, length, ℕ, IfOk, IfErr, OnOk, OnErr};
+ghost use Rattle.std.specs.Prelude.{◌≡◌, ◌≢◌, ◌++◌, ◌<◌, ◌≤◌, List, length, slice_index, ℕ, IfOk, IfErr, OnOk, OnErr};
 ghost use Rattle.wire.specs.Fault.{offset_of};
 ghost use Rattle.wire.specs.Messages.{Spells, SpellsPlainly};
 ghost use Rattle.wire.specs.Reading.{Answers, Reads, flags_of, head_at, message_of};
@@ -125,6 +125,7 @@ fn read_message(alloc: Global, octets: &[u8]) -> Result<Message, WireFault>
     ensures read { Answers (λ x. x) result (message_of octets.now) }
     // Memory is taken for payloads alone.
     ensures reached { result ≡ Err WireFault.Memory → HasVersion octets.now }
+    ensures idle { slice_index octets.now 16 ≡ 0 → result ≢ Err WireFault.Memory }
 {
     if octets.len() < HEADER_LENGTH {
         return Err(WireFault::Short);
@@ -166,6 +167,8 @@ pub fn decode_message(alloc: Global, octets: &[u8]) -> Result<Message, WireFault
     ensures first_fault { (f : WireFault) → IsFaultOf octets.now f → IsUnlessMemory result (Err f) }
     // What is wrong before the payloads is found without memory.
     ensures header_fault { (f : WireFault) → IsFaultOf octets.now f → offset_of f ≡ None → result ≡ Err f }
+    // Where the header names no payload, no memory is taken.
+    ensures idle { slice_index octets.now 16 ≡ 0 → result ≢ Err WireFault.Memory }
 {
     read_message(alloc, octets)
 }

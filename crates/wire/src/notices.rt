@@ -9,6 +9,9 @@ use crate::reader::{Reader, Unread};
 use crate::writer::{Unwritten, push_octets, push_u16, push_u32};
 use std::alloc::Global;
 
+/// The length of the SPI of an AH or ESP association, in octets.
+const SPI_LENGTH: usize = 4;
+
 #[tactic(auto, unfolding(crate::specs::Reading::notify_of))]
 pub(crate) fn read_notify(alloc: Global, mut body: Reader) -> Result<Payload, Unread>
     ensures { Gives (λ x. x) result (notify_of body.entry.rest.now) }
@@ -54,8 +57,9 @@ pub(crate) fn read_delete(alloc: Global, mut body: Reader) -> Result<Payload, Un
     let protocol = body.u8()?;
     let size = body.u8()?;
     let count = body.u16()?;
-    let spis = read_spis(alloc, body)?;
-    if is_sized(protocol, size, count) && spis.len() == usize::from(count) {
+    let length = usize::from(count) * SPI_LENGTH;
+    if is_sized(protocol, size, count) && body.rest.len() == length {
+        let spis = read_spis(alloc, body)?;
         Ok(Payload::Delete { protocol, spis })
     } else {
         Err(Unread::Malformed)

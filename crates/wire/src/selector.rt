@@ -74,9 +74,9 @@ pub(crate) fn read_selectors(alloc: Global, mut body: Reader) -> Result<Items<Se
 {
     let count = body.u8()?;
     body.octets(3)?;
-    let selectors = read_list(alloc, body)?;
-    if selectors.len() == usize::from(count) && count >= 1 && count <= SELECTOR_LIMIT {
-        Ok(selectors)
+    let length = usize::from(count) * usize::from(IPV4_LENGTH);
+    if count >= 1 && count <= SELECTOR_LIMIT && body.rest.len() == length {
+        read_list(alloc, body)
     } else {
         Err(Unread::Malformed)
     }

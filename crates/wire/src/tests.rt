@@ -3,6 +3,8 @@ use super::*;
 use std::alloc::Global;
 use std::test::Fail;
 
+mod encoding;
+
 const COOKIE_ANSWER: [u8; 38] = [
     0x01, 0x02, 0x03, 0x04, 0x05, 0x06, 0x07, 0x08, 0x00, 0x00, 0x00, 0x00, 0x00, 0x00, 0x00, 0x00,
     0x29, 0x20, 0x22, 0x20, 0x00, 0x00, 0x00, 0x00, 0x00, 0x00, 0x00, 0x26, 0x00, 0x00, 0x00, 0x0a,
@@ -82,10 +84,6 @@ fn set(octets: &mut [u8], place: usize, value: u8) {
     }
 }
 
-fn octets(alloc: Global, value: u8, count: usize) -> Result<Items<u8>, Fail> {
-    Ok(Items::from_vec(vec![in alloc; value; count]?))
-}
-
 fn header() -> Header {
     Header {
         spi_i: 0x0102030405060708,
@@ -98,29 +96,6 @@ fn header() -> Header {
             response: true,
         },
         id: 7,
-    }
-}
-
-fn message(alloc: Global, payload: Payload) -> Result<Message, Fail> {
-    let mut payloads = Items::new(alloc);
-    payloads.push(payload)?;
-    Ok(Message {
-        header: header(),
-        payloads,
-    })
-}
-
-/// What the payload alone is encoded as and read again, or why not.
-fn trip(alloc: Global, payload: Payload) -> Result<(u8, Option<usize>), Fail> {
-    let message = message(alloc, payload)?;
-    let mut out = Vec::new(alloc);
-    if let Err(fault) = encode_message(&message, &mut out) {
-        return Ok((fault.code(), fault.offset()));
-    }
-    match decode_message(alloc, &out) {
-        Ok(read) if read == message => Ok((0, None)),
-        Ok(_) => Err(Fail::from("another message is read")),
-        Err(fault) => Ok((fault.code(), fault.offset())),
     }
 }
 
@@ -254,6 +229,11 @@ fn proposals(rt: HostRuntime) -> Result<(), Fail> {
             "{value} at {place}"
         );
     }
+    // a lone proposal with the number 0 behind a vendor ID of no octets
+    let mut behind = [33, 0, 0, 4].to_vec(alloc)?;
+    behind.extend_from_slice(&ESP_PROPOSAL)?;
+    set(&mut behind, 12, 0);
+    assert_eq!(rt; refusal(decode_chain(alloc, 43, &behind)), (5, Some(4)));
     for place in [1, 5, 17, 21, 25, 29, 33, 37] {
         let mut octets = ESP_PROPOSAL;
         set(&mut octets, place, 0xff);
@@ -294,7 +274,7 @@ fn exact_pieces(rt: HostRuntime) -> Result<(), Fail> {
 #[test]
 fn offsets(rt: HostRuntime) {
     let alloc = rt.alloc();
-    // a length octet one too great, of the payload at each offset
+    // a length octet that is wrong, of the payload at each offset
     for (place, value, code, offset) in [
         (32, 3, 5, 28),
         (170, 3, 8, 163),
@@ -306,6 +286,9 @@ fn offsets(rt: HostRuntime) {
         (255, 8, 4, 252),
         (100, 3, 4, 97),
         (90, 8, 8, 87),
+        // the length of a long attribute: past its transform, and short of its end
+        (67, 4, 5, 28),
+        (67, 2, 5, 28),
     ] {
         let mut octets = EVERY_TYPE;
         set(&mut octets, place, value);
@@ -315,144 +298,4 @@ fn offsets(rt: HostRuntime) {
             "{value} at {place}"
         );
     }
-}
-
-#[test]
-fn limits(rt: HostRuntime) -> Result<(), Fail> {
-    let alloc = rt.alloc();
-    for (count, code) in [(0, 8), (1, 0), (1024, 0), (1025, 8)] {
-        let data = octets(alloc, 5, count)?;
-        assert_eq!(rt;
-            trip(alloc, Payload::Ke { group: 14, data })?.0,
-            code,
-            "{count}"
-        );
-        let data = octets(alloc, 5, count)?;
-        assert_eq!(rt;
-            trip(alloc, Payload::Auth { method: 2, data })?.0,
-            code,
-            "{count}"
-        );
-    }
-    for (count, code) in [(0, 8), (1, 0), (256, 0), (257, 8)] {
-        let data = octets(alloc, 5, count)?;
-        assert_eq!(rt;
-            trip(alloc, Payload::IdI { kind: 1, data })?.0,
-            code,
-            "{count}"
-        );
-        let data = octets(alloc, 5, count)?;
-        assert_eq!(rt;
-            trip(alloc, Payload::IdR { kind: 1, data })?.0,
-            code,
-            "{count}"
-        );
-    }
-    for (count, code) in [(15, 7), (16, 0), (256, 0), (257, 7)] {
-        assert_eq!(rt;
-            trip(alloc, Payload::Nonce(octets(alloc, 5, count)?))?.0,
-            code,
-            "{count}"
-        );
-    }
-    for (count, code) in [(0, 6), (1, 0), (16, 0), (17, 6)] {
-        let selector = Selector {
-            protocol: 0,
-            start_port: 0,
-            end_port: 65535,
-            start_address: 1,
-            end_address: 1,
-        };
-        let selectors = Items::from_vec(vec![in alloc; selector; count]?);
-        assert_eq!(rt; trip(alloc, Payload::TsR(selectors))?.0, code, "{count}");
-    }
-    // a header of 28 octets, one of the payload of 4, and the body
-    for (count, code) in [(2968, 0), (2969, 9)] {
-        let body = octets(alloc, 5, count)?;
-        assert_eq!(rt;
-            trip(alloc, Payload::Sealed { first: 35, body })?.0,
-            code,
-            "{count}"
-        );
-    }
-    Ok(())
-}
-
-#[test]
-fn unspelled(rt: HostRuntime) -> Result<(), Fail> {
-    let alloc = rt.alloc();
-    for (kind, code) in [
-        (0, 4),
-        (1, 0),
-        (32, 0),
-        (33, 4),
-        (46, 4),
-        (48, 4),
-        (49, 0),
-        (255, 0),
-    ] {
-        let data = octets(alloc, 5, 3)?;
-        let payload = Payload::Unknown {
-            kind,
-            critical: true,
-            data,
-        };
-        assert_eq!(rt; trip(alloc, payload)?.0, code, "type {kind}");
-    }
-    let payload = Payload::Skipped {
-        kind: SkippedKind::VendorId,
-        data: octets(alloc, 5, 65532)?,
-    };
-    assert_eq!(rt; trip(alloc, payload)?, (4, Some(28)));
-    let payload = Payload::Notify {
-        protocol: 0,
-        spi: octets(alloc, 5, 256)?,
-        kind: 1,
-        data: Items::new(alloc),
-    };
-    assert_eq!(rt; trip(alloc, payload)?, (8, Some(28)));
-    for (protocol, count, code) in [
-        (1, 0, 0),
-        (1, 1, 8),
-        (0, 0, 8),
-        (4, 1, 8),
-        (2, 1, 0),
-        (3, 0, 0),
-    ] {
-        let spis = Items::from_vec(vec![in alloc; 256u32; count]?);
-        assert_eq!(rt;
-            trip(alloc, Payload::Delete { protocol, spis })?.0,
-            code,
-            "{protocol}, {count}"
-        );
-    }
-    Ok(())
-}
-
-#[test]
-fn failed_encoding(rt: HostRuntime) -> Result<(), Fail> {
-    let alloc = rt.alloc();
-    let mut late = message(alloc, Payload::Nonce(octets(alloc, 5, 16)?))?;
-    let mut out = [1, 2].to_vec(alloc)?;
-    // an encrypted payload that is not the last, behind 20 octets
-    late.payloads.push(Payload::Sealed {
-        first: 0,
-        body: Items::new(alloc),
-    })?;
-    late.payloads.push(Payload::Nonce(octets(alloc, 5, 16)?))?;
-    assert_eq!(rt; refusal(encode_message(&late, &mut out)), (4, Some(48)));
-    // a payload without a spelling behind octet 3000
-    let mut far = message(
-        alloc,
-        Payload::Skipped {
-            kind: SkippedKind::Eap,
-            data: octets(alloc, 5, 4000)?,
-        },
-    )?;
-    far.payloads.push(Payload::Nonce(octets(alloc, 5, 15)?))?;
-    assert_eq!(rt; refusal(encode_message(&far, &mut out)), (7, Some(4032)));
-    far.header.minor = 16;
-    assert_eq!(rt; refusal(encode_message(&far, &mut out)), (3, None));
-    assert_eq!(rt; out.as_slice(), [1, 2].as_slice());
-    Ok(())
 }
