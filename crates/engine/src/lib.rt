@@ -13,23 +13,14 @@
 //! deliver 1                  E16
 //! ```
 //!
-//! [`show`] prints an IKE message (RFC 7296 section 3) whose octets the file has as hexadecimal digits ([`read_hex`]).
+//! [`show`] prints an IKE message (RFC 7296 section 3) whose octets the file has as hexadecimal digits.
 //!
-//! Each answers the exit status ([`Status`]), and prints why it stopped ([`Stop`]).
+//! Each answers the exit status, and prints why it stopped.
 #![tactic(auto)]
 
-mod digits;
-mod input;
-mod output;
 mod playing;
 mod script;
 mod showing;
-mod status;
-mod stop;
 
-pub use digits::{HexFault, read_hex};
-pub use output::end;
 pub use playing::play;
 pub use showing::show;
-pub use status::Status;
-pub use stop::Stop;

@@ -1,10 +1,8 @@
 //! Playing a script.
 ghost use Rattle.std.specs.Prelude.{◌≤◌};
 
-use crate::input::read_whole;
-use crate::output::{end, write_whole};
 use crate::script::{Kind, One, Player, first_line, is_directive, is_line_end};
-use crate::stop::Stop;
+use console::{Stop, end, read_whole, write_whole};
 use std::alloc::Global;
 use std::io::{Read, Write};
 

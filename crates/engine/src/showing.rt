@@ -6,10 +6,7 @@ mod places;
 #[cfg(test)]
 mod tests;
 
-use crate::digits::{HexFault, read_hex};
-use crate::input::read_whole;
-use crate::output::{end, write_whole};
-use crate::stop::Stop;
+use console::{Stop, end, read_hex, read_whole, write_whole};
 use std::alloc::Global;
 use std::io::{Read, Write};
 use wire::{WireFault, decode_message};
@@ -36,27 +33,17 @@ fn show_message<R: Read, W: Write>(
     let text = read_whole(alloc, reader)?;
     let mut octets = Vec::new(alloc);
     read_hex(&text, &mut octets)?;
-    let message = decode_message(alloc, &octets)?;
+    let message = decode_message(alloc, &octets).map_err(refused)?;
     let lines = lines::of_message(alloc, &message, &octets)?;
     write_whole(writer, lines.as_bytes())
 }
 
-impl From<HexFault> for Stop {
-    fn from(fault: HexFault) -> Stop {
-        match fault {
-            HexFault::NotHex => Stop::Hex,
-            HexFault::Memory => Stop::Memory,
-        }
-    }
-}
-
-impl From<WireFault> for Stop {
-    fn from(fault: WireFault) -> Stop {
-        let number = fault.code();
-        match (fault, fault.offset()) {
-            (WireFault::Memory, _) => Stop::Memory,
-            (_, None) => Stop::Message { number },
-            (_, Some(offset)) => Stop::Payload { number, offset },
-        }
+/// Why octets that are no message stop the program.
+fn refused(fault: WireFault) -> Stop {
+    let number = fault.code();
+    match (fault, fault.offset()) {
+        (WireFault::Memory, _) => Stop::Memory,
+        (_, None) => Stop::Message { number },
+        (_, Some(offset)) => Stop::Payload { number, offset },
     }
 }

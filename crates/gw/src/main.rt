@@ -26,7 +26,8 @@
 mod command;
 
 use command::{Action, Command, CommandFault};
-use engine::{Status, Stop, end, play, show};
+use console::{Status, Stop, end};
+use engine::{play, show};
 use std::alloc::Global;
 use std::fs::File;
 use std::io;

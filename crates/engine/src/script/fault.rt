@@ -1,5 +1,5 @@
 //! Why a line of a script stops the program.
-use crate::stop::Stop;
+use console::Stop;
 use replay::ReplayFault;
 use std::alloc::AllocError;
 

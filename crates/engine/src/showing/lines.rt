@@ -1,6 +1,6 @@
 //! The lines that a message is shown by.
 use super::places::Places;
-use crate::digits::hex_text;
+use console::hex_text;
 use std::alloc::{AllocError, Global};
 use std::net::Ipv4Addr;
 use wire::{Attribute, Flags, Header, Message, Payload, Proposal, Selector, Transform};

@@ -1,6 +1,6 @@
 //! Messages shown over readers and writers in memory. They and their lines were written by a Python program of its own.
 use super::show;
-use crate::input::MOST_OCTETS;
+use console::MOST_OCTETS;
 use std::process::Abort;
 use std::test::Fail;
 

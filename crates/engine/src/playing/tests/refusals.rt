@@ -1,7 +1,7 @@
 //! Lines that are refused.
 use super::{EXTENDED, KEY, PLAIN, expect};
-use crate::input::MOST_OCTETS;
 use crate::play;
+use console::MOST_OCTETS;
 use std::test::Fail;
 
 /// First lines that name no kind, parted by bars.

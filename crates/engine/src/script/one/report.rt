@@ -1,5 +1,5 @@
 //! What a directive prints.
-use crate::digits::hex_text;
+use console::hex_text;
 use esp::EspFault;
 use std::alloc::{AllocError, Global};
 

@@ -1,6 +1,6 @@
 //! The exit status.
 ghost use Rattle.std.specs.Prelude.{◌≡◌};
-ghost use Rattle.engine.specs.Status.{exit_code};
+ghost use Rattle.console.specs.Status.{exit_code};
 
 /// How the program ended.
 #[derive(Clone, Copy, Debug, PartialEq, Eq)]

@@ -1,8 +1,8 @@
 use Rattle.std.proofs.Common.{◌≡◌, ℕ, ◌-◌, List, ◌++◌, length, take, drop, sym, ap, ◌∙◌, append_assoc, take-append-drop}
 use Rattle.std.proofs.lemmas.List.{take_rest}
 use Rattle.std.proofs.KnownBytes.{Appends-trans, Appends-kept}
-use Rattle.engine.proofs.output.write_whole.Goals as goal
-use Rattle.engine.proofs.output.write_whole.Goals.{in-Ok, in-Err}
+use Rattle.console.proofs.output.write_whole.Goals as goal
+use Rattle.console.proofs.output.write_whole.Goals.{in-Ok, in-Err}
 
 moves_front : (all written left : List ℕ) (n : ℕ) → all ≡ written ++ left → all ≡ (written ++ take n left) ++ take (length left - n) (drop n left)
 moves_front all written left n e =

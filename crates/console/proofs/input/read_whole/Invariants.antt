@@ -1,7 +1,7 @@
 -- What was read so far was taken from the reader, and is no more than may be read.
 use Rattle.std.proofs.Common.{◌≤◌, length}
 use Rattle.std.specs.Io.KnownBytes.{Consumes}
-use Rattle.engine.proofs.input.read_whole.Given as goal
+use Rattle.console.proofs.input.read_whole.Given as goal
 
 abbrev pub invariant-loop : goal.invariant-loop
 invariant-loop g l =

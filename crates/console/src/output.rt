@@ -1,7 +1,7 @@
 //! What is printed.
 ghost use Rattle.std.specs.Prelude.{◌≡◌, OnOk, OnErr, IsOk, ◌↔◌};
 ghost use Rattle.std.specs.Io.KnownBytes.{Appends};
-ghost use Rattle.engine.specs.Output.{AppendsBeginning, status_of};
+ghost use Rattle.console.specs.Output.{AppendsBeginning, status_of};
 
 use crate::status::Status;
 use crate::stop::Stop;

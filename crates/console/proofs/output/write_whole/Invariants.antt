@@ -1,7 +1,7 @@
 -- What is gone from the text was appended.
 use Rattle.std.proofs.Common.{◌≡◌, ℕ, List, ◌++◌}
 use Rattle.std.specs.Io.KnownBytes.{Appends}
-use Rattle.engine.proofs.output.write_whole.Given as goal
+use Rattle.console.proofs.output.write_whole.Given as goal
 
 abbrev pub invariant-loop : goal.invariant-loop
 invariant-loop g l =

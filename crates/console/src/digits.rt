@@ -1,7 +1,7 @@
 //! Octets written as hexadecimal digits, with blanks and line ends among them.
 ghost use Rattle.std.specs.Prelude.{◌≡◌, List, ℕ, ◌++◌, Ok, IsErr, OnOk, OnErr, IfOk, string_bytes};
 ghost use Rattle.hex.specs.Hex.{decode_of};
-ghost use Rattle.engine.specs.Digits.{is_blank, digits_of, text_of};
+ghost use Rattle.console.specs.Digits.{is_blank, digits_of, text_of};
 
 use hex::FromHexError;
 use std::alloc::{AllocError, Global};
@@ -20,7 +20,7 @@ pub enum HexFault {
 
 impl From<AllocError> for HexFault {
     ghost use Rattle.std.specs.Prelude.{◌≡◌};
-    ghost use Rattle.engine.specs.declared.digits.HexFault.TheVariants.{Memory};
+    ghost use Rattle.console.specs.declared.digits.HexFault.TheVariants.{Memory};
 
     ghost from_gives = { λ _ e. e ≡ Memory };
 

@@ -1,9 +1,9 @@
 -- What is printed.
 use Rattle.std.specs.Prelude.{◌≡◌, ℕ, List, ◌++◌, Option, Result, Ok, Err}
 use Rattle.std.specs.Io.KnownBytes.{Appends}
-use Rattle.engine.specs.declared.status.Status.{Status}
-use Rattle.engine.specs.declared.status.Status.TheVariants.{Done, Refused}
-use Rattle.engine.specs.declared.stop.Stop.{Stop}
+use Rattle.console.specs.declared.status.Status.{Status}
+use Rattle.console.specs.declared.status.Status.TheVariants.{Done, Refused}
+use Rattle.console.specs.declared.stop.Stop.{Stop}
 
 -- what a writer holds, where it is known, grew by a beginning of the text
 pub record AppendsBeginning (old new : Option (List ℕ)) (text : List ℕ) : Type 0 where

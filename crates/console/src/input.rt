@@ -1,6 +1,6 @@
 //! The file that is read.
 ghost use Rattle.std.specs.Prelude.{IfOk};
-ghost use Rattle.engine.specs.Input.{IsWholeFile};
+ghost use Rattle.console.specs.Input.{IsWholeFile};
 
 use crate::stop::Stop;
 use std::alloc::Global;

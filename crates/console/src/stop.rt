@@ -1,4 +1,5 @@
 //! Why the program stops.
+use crate::digits::HexFault;
 use std::alloc::AllocError;
 use thiserror::Error;
 
@@ -39,5 +40,14 @@ pub enum Stop {
 impl From<AllocError> for Stop {
     fn from(_: AllocError) -> Stop {
         Stop::Memory
+    }
+}
+
+impl From<HexFault> for Stop {
+    fn from(fault: HexFault) -> Stop {
+        match fault {
+            HexFault::NotHex => Stop::Hex,
+            HexFault::Memory => Stop::Memory,
+        }
     }
 }

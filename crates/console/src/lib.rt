@@ -1,0 +1,25 @@
+//! What a program reads and prints, whole or not at all: files and hexadecimal digits in, text and an exit status out.
+//!
+//! [`read_whole`] reads all that a reader has, [`write_whole`] writes a text to its end or a beginning of it, [`read_hex`] and
+//! [`hex_text`] go between octets and their digits. A program that stops early says why ([`Stop`]) and ends with a
+//! [`Status`]: [`end`] does both.
+//!
+//! ```text
+//! let text = read_whole(alloc, reader)?;
+//! let mut octets = Vec::new(alloc);
+//! read_hex(&text, &mut octets)?;
+//! write_whole(writer, hex_text(alloc, &octets)?.as_bytes())?;
+//! ```
+#![tactic(auto)]
+
+mod digits;
+mod input;
+mod output;
+mod status;
+mod stop;
+
+pub use digits::{HexFault, hex_text, read_hex};
+pub use input::{MOST_OCTETS, read_whole};
+pub use output::{end, write_whole};
+pub use status::Status;
+pub use stop::Stop;
