@@ -1,4 +1,4 @@
--- prf+ over HMAC-SHA-256 (RFC 7296, section 2.13): as many octets as are asked for, from one key and one seed.
+-- prf+ over HMAC-SHA-256 (RFC 7296, section 2.13): as many octets as are asked for, up to 8160, from one key and one seed.
 use Rattle.std.specs.Prelude.{ℕ, zero, suc, List, [], ◌∷◌, ◌++◌, take}
 use Rattle.mac.specs.Hmac.{hmac_sha256}
 

@@ -1,0 +1,5 @@
+pub mod Scanning
+pub mod PointLemmas
+pub mod EntryLemmas
+pub mod NarrowLemmas
+pub mod LawLemmas

@@ -1,0 +1,6 @@
+use Rattle.policy.specs.Narrowing.{FitsFirst}
+use Rattle.policy.proofs.Scanning.{HoldsOfNoneBefore}
+use Rattle.policy.proofs.narrowing.first_that_fits_first.Given as goal
+
+abbrev pub invariant-loop-entry : goal.invariant-loop-entry
+invariant-loop-entry l = HoldsOfNoneBefore (FitsFirst l.offered_i l.offered_r) l.entries l.entry-index

@@ -1,0 +1,85 @@
+-- What a responder makes of the selectors that it is offered (RFC 7296 section 2.9): TSi are the initiator's, which is remote
+-- to it, TSr its own.
+use Rattle.std.specs.Prelude.{◌≡◌, ◌⊎◌, ◌↔◌, ℕ, List, [], ◌∷◌}
+use Rattle.wire.specs.declared.selector.Selector.{Selector}
+use Rattle.wire.specs.Parts.{IsZero}
+use Rattle.wire.specs.Selectors.{SpellsSelectors}
+use Rattle.policy.specs.declared.point.Point.{Point}
+use Rattle.policy.specs.declared.entry.Entry.{Entry}
+use Rattle.policy.specs.declared.entry.Action.TheVariants.{Protect}
+use Rattle.policy.specs.declared.fault.NarrowFault.{NarrowFault}
+use Rattle.policy.specs.declared.fault.NarrowFault.TheVariants.{Unacceptable, Memory}
+use Rattle.policy.specs.Points.{HoldsPoint, HoldsAny, IsNonempty, LiesIn, Meets, IsCommonPart}
+use Rattle.policy.specs.Decisions.{IsFirst, HoldsOfNone, local_side, remote_side}
+
+-- a side holds the whole of the first selector offered, which has a point
+abbrev pub HoldsFirst : Selector → List Selector → Type 0
+HoldsFirst side [] = ⊥
+HoldsFirst side (first ∷ others) = IsNonempty (HoldsPoint first) × LiesIn (HoldsPoint first) (HoldsPoint side)
+
+-- a side has points that are offered
+abbrev pub MeetsOffer : Selector → List Selector → Type 0
+MeetsOffer side offered = Meets (HoldsAny offered) (HoldsPoint side)
+
+-- an entry that protects what the first selectors of both lists ask for, which may be a packet's own addresses and ports
+pub record FitsFirst (initiator responder : List Selector) (e : Entry) : Type 0 where
+  pub protects : e.action ≡ Protect
+  pub remote : HoldsFirst (remote_side e) initiator
+  pub local : HoldsFirst (local_side e) responder
+
+-- an entry that protects something of what both lists offer
+pub record FitsSome (initiator responder : List Selector) (e : Entry) : Type 0 where
+  pub protects : e.action ≡ Protect
+  pub remote : MeetsOffer (remote_side e) initiator
+  pub local : MeetsOffer (local_side e) responder
+
+-- the entry that an offer is narrowed to: the first that fits both first selectors, else the first that fits something
+abbrev pub IsChosen : List Entry → List Selector → List Selector → ℕ → Entry → Type 0
+IsChosen entries initiator responder place e =
+    IsFirst (FitsFirst initiator responder) entries place e
+    ⊎ (HoldsOfNone (FitsFirst initiator responder) entries × IsFirst (FitsSome initiator responder) entries place e)
+
+-- of an offered selector, the part inside a side, which has points; others follow
+pub record IsKept (side offered : Selector) (Others : List Selector → Type 0) (answer : List Selector) : Type 0 where
+  pub part : Selector
+  pub others : List Selector
+  pub begins : answer ≡ part ∷ others
+  pub common : IsCommonPart (HoldsPoint offered) (HoldsPoint side) part
+  pub rest : Others others
+
+-- an offer narrowed to a side: in the offered order the part of each selector inside the side, those without points left out
+abbrev pub IsNarrowed : Selector → List Selector → List Selector → Type 0
+IsNarrowed side [] answer = answer ≡ []
+IsNarrowed side (offered ∷ others) answer =
+    IsKept side offered (IsNarrowed side others) answer
+    ⊎ ((¬ Meets (HoldsPoint offered) (HoldsPoint side)) × IsNarrowed side others answer)
+
+-- the answer has exactly the points that are offered and inside the side
+abbrev pub HasAllCommonPoints : Selector → List Selector → List Selector → Type 0
+HasAllCommonPoints side offered answer = (p : Point) → HoldsAny answer p ↔ (HoldsAny offered p × HoldsPoint side p)
+
+-- both lists narrowed to the entry that is chosen for them
+pub record IsNarrowing (entries : List Entry) (initiator responder answer_i answer_r : List Selector) : Type 0 where
+  pub place : ℕ
+  pub entry : Entry
+  pub chosen : IsChosen entries initiator responder place entry
+  pub narrowed_i : IsNarrowed (remote_side entry) initiator answer_i
+  pub narrowed_r : IsNarrowed (local_side entry) responder answer_r
+  pub points_i : HasAllCommonPoints (remote_side entry) initiator answer_i
+  pub points_r : HasAllCommonPoints (local_side entry) responder answer_r
+
+-- some entry is chosen
+pub record IsAcceptable (entries : List Entry) (initiator responder : List Selector) : Type 0 where
+  pub place : ℕ
+  pub entry : Entry
+  pub chosen : IsChosen entries initiator responder place entry
+
+-- the refusals of an offer: Unacceptable where no entry is chosen, want of memory only where one is
+abbrev pub IsRefusal : List Entry → List Selector → List Selector → NarrowFault → Type 0
+IsRefusal entries initiator responder Unacceptable = ¬ IsAcceptable entries initiator responder
+IsRefusal entries initiator responder Memory = IsAcceptable entries initiator responder
+
+-- a payload of traffic selectors can carry the list (RFC 7296 section 3.13)
+pub record IsSendable (ss : List Selector) : Type 0 where
+  pub body : List ℕ
+  pub spelled : SpellsSelectors IsZero ss body

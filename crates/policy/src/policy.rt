@@ -1,0 +1,94 @@
+//! A policy and its decisions.
+ghost use Rattle.std.specs.Prelude.{◌≡◌, IsTrue, ◌↔◌, IfOk, IfErr, List};
+ghost use Rattle.policy.specs.Decisions.{HoldsFlow, IsDecision};
+ghost use Rattle.policy.specs.Entries.{IsFirstFault, IsSound};
+ghost use Rattle.policy.specs.Faults.{place_of};
+
+use crate::entry::{Action, Entry};
+use crate::fault::PolicyFault;
+use crate::flow::Flow;
+use crate::selectors::holds;
+use std::marker::Model;
+use wire::Items;
+
+/// The most entries that a policy may have, a limit of this implementation.
+const ENTRY_LIMIT: usize = 256;
+
+/// Which way a flow goes.
+#[derive(Clone, Copy, Debug, PartialEq, Eq)]
+pub enum Direction {
+    /// From the local side to the remote one.
+    Outward,
+    /// From the remote side to the local one.
+    Inward,
+}
+
+/// What is done with a flow.
+pub type Decision = Action;
+
+/// Entries in their order, of which the first that fits counts. Contracts see the list of entries.
+#[derive(Debug, Drop)]
+pub struct Policy {
+    entries: Items<Entry>,
+}
+
+impl Model for Policy {
+    ghost use Rattle.std.specs.Prelude.{List};
+    ghost use Rattle.policy.specs.declared.entry.Entry.{Entry};
+    ghost use Rattle.policy.specs.Entries.{IsSound};
+
+    ghost Value = { List Entry };
+
+    ghost view = { λ p. p.entries };
+
+    ghost invariant = { λ p. IsSound p.entries };
+}
+
+impl Policy {
+    /// A policy of at most 256 entries, which takes no memory. [`PolicyFault::BadEntry`] tells the first entry that has a
+    /// range whose end is below its start, or that comes after 256 others.
+    pub fn new(entries: Items<Entry>) -> Result<Policy, PolicyFault>
+        ensures policy { IfOk result (λ policy. policy ≡ entries) }
+        ensures sound { IfOk result (λ policy. IsSound policy) }
+        ensures fault { IfErr result (λ fault. IsFirstFault entries (place_of fault)) }
+    {
+        for (index, entry) in entries.as_slice().iter().enumerate() {
+            if index >= ENTRY_LIMIT || !entry.is_ordered() {
+                return Err(PolicyFault::BadEntry { index });
+            }
+        }
+        Ok(Policy { entries })
+    }
+
+    /// The entries in their order, of which none is at fault.
+    pub fn entries(&self) -> &[Entry]
+        ensures entries { result.now ≡ self.now }
+        ensures sound { IsSound self.now }
+    {
+        self.entries.as_slice()
+    }
+
+    /// What is done with a flow: the action of the first entry that holds its source and its target, [`Action::Discard`]
+    /// where none does. Outward the source is on the local side of an entry, inward on the remote one.
+    pub fn decide(&self, flow: &Flow, direction: Direction) -> Decision
+        ensures { IsDecision self.now flow.now direction result }
+    {
+        for entry in self.entries() {
+            if holds_flow(entry, flow, direction) {
+                return entry.action;
+            }
+        }
+        Decision::Discard
+    }
+}
+
+/// Whether an entry holds both points of a flow.
+fn holds_flow(entry: &Entry, flow: &Flow, direction: Direction) -> bool
+    ensures { IsTrue result ↔ HoldsFlow direction flow.now entry.now }
+{
+    let (sources, targets) = match direction {
+        Direction::Outward => (entry.local_side(), entry.remote_side()),
+        Direction::Inward => (entry.remote_side(), entry.local_side()),
+    };
+    holds(&sources, flow.source_point()) && holds(&targets, flow.target_point())
+}

@@ -1,0 +1,9 @@
+mod faults;
+mod large;
+mod laws;
+mod memory;
+mod narrowing;
+mod packets;
+mod plain;
+mod policies;
+mod ranges;

@@ -1,0 +1,40 @@
+//! What a refused growth leaves: these pass at either answer.
+use super::policies::{HERE, PROTECT, THERE, policy};
+use crate::{NarrowFault, narrow};
+use std::test::Fail;
+use wire::Selector;
+
+#[test]
+fn want_of_memory_is_the_only_refusal_of_what_is_acceptable(rt: HostRuntime) -> Result<(), Fail> {
+    let policy = policy(rt.alloc(), &[PROTECT])?;
+    let every = Selector {
+        protocol: 0,
+        start_port: 0,
+        end_port: 65535,
+        start_address: 0,
+        end_address: 0xffff_ffff,
+    };
+    for _ in 0..4 {
+        match narrow(rt.alloc(), &[every, every], &[every], &policy) {
+            Ok(narrowed) => {
+                let there = Selector {
+                    start_address: THERE.0,
+                    end_address: THERE.1,
+                    ..every
+                };
+                let here = Selector {
+                    start_address: HERE.0,
+                    end_address: HERE.1,
+                    ..every
+                };
+                assert_eq!(rt; narrowed.initiator.as_slice(), [there, there].as_slice());
+                assert_eq!(rt; narrowed.responder.as_slice(), [here].as_slice());
+            }
+            Err(fault) => assert_eq!(rt; fault, NarrowFault::Memory),
+        }
+        // Where nothing is acceptable no memory is asked for.
+        let refused = narrow(rt.alloc(), &[every], &[], &policy);
+        assert_eq!(rt; refused.err(), Some(NarrowFault::Unacceptable));
+    }
+    Ok(())
+}

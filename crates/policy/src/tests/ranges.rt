@@ -1,0 +1,207 @@
+//! `covers` and `narrow` against a plain search over points.
+use super::plain::{PORTS, PROTOCOLS, SELECTORS, any_holds, holds, selector_of, some_point};
+use super::policies::policy;
+use crate::{Action, Entry, Flow, NarrowFault, Point, Ports, covers, narrow};
+use std::process::Abort;
+use std::test::Fail;
+use wire::Selector;
+
+/// All points.
+const ALL: Selector = Selector {
+    protocol: 0,
+    start_port: 0,
+    end_port: 65535,
+    start_address: 0,
+    end_address: 0xffff_ffff,
+};
+
+#[test]
+fn covers_what_the_points_say(rt: HostRuntime) {
+    for number in 0..SELECTORS {
+        for protocol in PROTOCOLS {
+            for address in 0..3 {
+                for port in PORTS {
+                    let point = Point {
+                        protocol,
+                        address,
+                        port,
+                    };
+                    covers_a_point(&rt, &selector_of(number), point);
+                }
+            }
+        }
+    }
+}
+
+/// Asks about a flow from the point, and about one to it, which may have ports that don't fit their protocol.
+fn covers_a_point(rt: &impl Abort, selector: &Selector, point: Point) {
+    let flow = Flow {
+        protocol: point.protocol,
+        source: point.address,
+        target: point.address,
+        ports: point.port.map(|port| Ports {
+            source: port,
+            target: port,
+        }),
+    };
+    let held = holds(selector, &point);
+    assert_eq!(rt;
+        covers(&[*selector], &[ALL], &flow),
+        held,
+        "{selector:?} {point:?}"
+    );
+    assert_eq!(rt;
+        covers(&[ALL], &[*selector], &flow),
+        held,
+        "{selector:?} {point:?}"
+    );
+}
+
+/// One side of an entry.
+fn side(entry: &Entry, addresses: (u32, u32), ports: (u16, u16)) -> Selector {
+    Selector {
+        protocol: entry.protocol,
+        start_port: ports.0,
+        end_port: ports.1,
+        start_address: addresses.0,
+        end_address: addresses.1,
+    }
+}
+
+/// An entry between two of the tiny selectors, with the first one's protocol and each range in order.
+fn entry_of(local: &Selector, remote: &Selector, action: Action) -> Entry {
+    Entry {
+        protocol: local.protocol,
+        local: in_order(local.start_address, local.end_address),
+        remote: in_order(remote.start_address, remote.end_address),
+        local_ports: in_order(local.start_port, local.end_port),
+        remote_ports: in_order(remote.start_port, remote.end_port),
+        action,
+    }
+}
+
+fn in_order<T: Ord + Copy>(one: T, other: T) -> (T, T) {
+    if one <= other {
+        (one, other)
+    } else {
+        (other, one)
+    }
+}
+
+fn local_of(entry: &Entry) -> Selector {
+    side(entry, entry.local, entry.local_ports)
+}
+
+fn remote_of(entry: &Entry) -> Selector {
+    side(entry, entry.remote, entry.remote_ports)
+}
+
+/// Whether the first of the selectors has a point and each of its points lies in the side.
+fn holds_first(side: &Selector, offered: &[Selector]) -> bool {
+    match offered.first() {
+        Some(first) => {
+            some_point(&|point: &Point| holds(first, point))
+                && !some_point(&|point: &Point| holds(first, point) && !holds(side, point))
+        }
+        None => false,
+    }
+}
+
+fn meets(side: &Selector, offered: &[Selector]) -> bool {
+    some_point(&|point: &Point| any_holds(offered, point) && holds(side, point))
+}
+
+/// The entry that is chosen.
+fn chosen<'a>(
+    entries: &'a [Entry],
+    initiator: &[Selector],
+    responder: &[Selector],
+) -> Option<&'a Entry> {
+    for entry in entries {
+        if entry.action == Action::Protect
+            && holds_first(&remote_of(entry), initiator)
+            && holds_first(&local_of(entry), responder)
+        {
+            return Some(entry);
+        }
+    }
+    for entry in entries {
+        if entry.action == Action::Protect
+            && meets(&remote_of(entry), initiator)
+            && meets(&local_of(entry), responder)
+        {
+            return Some(entry);
+        }
+    }
+    None
+}
+
+/// Each answered selector has exactly the common points of the offered one that it stands for.
+fn is_narrowed(rt: &impl Abort, side: &Selector, offered: &[Selector], answer: &[Selector]) {
+    let mut rest = answer;
+    for selector in offered {
+        if !some_point(&|point: &Point| holds(selector, point) && holds(side, point)) {
+            continue;
+        }
+        match rest {
+            [part, others @ ..] => {
+                let differs = some_point(&|point: &Point| {
+                    holds(part, point) != (holds(selector, point) && holds(side, point))
+                });
+                assert!(rt; !differs, "{selector:?} in {side:?} is {part:?}");
+                rest = others;
+            }
+            [] => assert!(rt; false, "{selector:?} in {side:?} is left out"),
+        }
+    }
+    assert!(rt; rest.is_empty());
+}
+
+/// The selectors of a case, mixed from its number.
+fn mixed(number: u32, salt: u32) -> Selector {
+    selector_of(
+        number
+            .wrapping_mul(2_654_435_761)
+            .wrapping_add(salt.wrapping_mul(40_503_047))
+            / 4096,
+    )
+}
+
+#[test]
+fn narrows_to_what_the_points_say(rt: HostRuntime) -> Result<(), Fail> {
+    let mut accepted = 0u32;
+    for number in 0..2000 {
+        let entries = [
+            entry_of(&mixed(number, 1), &mixed(number, 2), Action::Protect),
+            entry_of(&mixed(number, 3), &mixed(number, 4), Action::Bypass),
+            entry_of(&mixed(number, 5), &mixed(number, 6), Action::Protect),
+        ];
+        let initiator = [mixed(number, 7), mixed(number, 8)];
+        let responder = [mixed(number, 9), mixed(number, 10)];
+        let policy = policy(rt.alloc(), &entries)?;
+        match (
+            narrow(rt.alloc(), &initiator, &responder, &policy),
+            chosen(&entries, &initiator, &responder),
+        ) {
+            (Ok(narrowed), Some(entry)) => {
+                is_narrowed(
+                    &rt,
+                    &remote_of(entry),
+                    &initiator,
+                    narrowed.initiator.as_slice(),
+                );
+                is_narrowed(
+                    &rt,
+                    &local_of(entry),
+                    &responder,
+                    narrowed.responder.as_slice(),
+                );
+                accepted = accepted.saturating_add(1);
+            }
+            (Err(NarrowFault::Unacceptable), None) => {}
+            _ => assert!(rt; false, "at {number}"),
+        }
+    }
+    assert!(rt; accepted > 100, "{accepted} were accepted");
+    Ok(())
+}

@@ -1,0 +1,260 @@
+//! The choice of a proposal (RFC 7296, sections 2.7 and 3.3).
+ghost use Rattle.std.specs.Prelude.{◌≡◌, ℕ, IsTrue, ◌↔◌, All, Any, Contains, MatchOption};
+
+use byteorder::{BigEndian, ByteOrder};
+use wire::{Attribute, Proposal, Transform};
+
+// Types of transforms (section 3.3.2).
+const ENCR: u8 = 1;
+
+const PRF: u8 = 2;
+
+const INTEG: u8 = 3;
+
+const GROUP: u8 = 4;
+
+const ESN: u8 = 5;
+
+// IDs of transforms (section 3.3.2, RFC 4868 and RFC 2410).
+const ENCR_NULL: u16 = 11;
+
+const PRF_HMAC_SHA2_256: u16 = 5;
+
+const AUTH_HMAC_SHA2_256_128: u16 = 12;
+
+const NO_EXTENSION: u16 = 0;
+
+const EXTENSION: u16 = 1;
+
+// The attribute with a key's length in bits (section 3.3.5).
+const KEY_LENGTH: u16 = 14;
+
+// Protocols (section 3.3.1).
+const IKE: u8 = 1;
+
+const ESP: u8 = 3;
+
+// SPIs up to 255 are reserved (RFC 4303, section 2.1).
+const FIRST_SPI: u32 = 256;
+
+/// What a proposal is to be for.
+#[derive(Clone, Copy, Debug, PartialEq, Eq)]
+pub enum Wanted {
+    /// An IKE association with the caller's cipher, its key length in bits where there is to be one, and the caller's
+    /// group. The other transforms are PRF_HMAC_SHA2_256 and AUTH_HMAC_SHA2_256_128.
+    Ike {
+        encr: u16,
+        key_length: Option<u16>,
+        group: u16,
+    },
+    /// A child with ENCR_NULL and AUTH_HMAC_SHA2_256_128, with extended sequence numbers or without; with them only
+    /// where `extended` allows it.
+    Esp {
+        extended: bool,
+    },
+}
+
+/// A proposal that was chosen.
+#[derive(Clone, Copy, Debug, PartialEq, Eq)]
+pub struct Chosen {
+    /// Its place among the proposals, from 0.
+    pub place: usize,
+    /// Its own number, which the answer keeps (section 3.3.1).
+    pub number: u8,
+    /// Whether sequence numbers are extended; never for IKE.
+    pub extended: bool,
+}
+
+const IKE_KINDS: [u8; 4] = [ENCR, PRF, INTEG, GROUP];
+
+const ESP_KINDS: [u8; 3] = [ENCR, INTEG, ESN];
+
+ghost use Rattle.suite.specs.Choice.{acceptable_transforms, key_length_attribute, kinds, protocol_of, without_attributes, ChoosesNumbers, HasSpi, IsAcceptable, IsAcceptableTransform, IsChosen, IsFirstAcceptable};
+
+impl Wanted {
+    fn protocol(&self) -> u8
+        ensures { result ≡ protocol_of self.now }
+    {
+        match self {
+            Wanted::Ike { .. } => IKE,
+            Wanted::Esp { .. } => ESP,
+        }
+    }
+
+    // The types of transforms that a proposal has.
+    fn kinds(&self) -> &'static [u8]
+        ensures { result.now ≡ kinds self.now }
+    {
+        match self {
+            Wanted::Ike { .. } => &IKE_KINDS,
+            Wanted::Esp { .. } => &ESP_KINDS,
+        }
+    }
+
+    fn allows_spi(&self, spi: &[u8]) -> bool
+        ensures { IsTrue result ↔ HasSpi self.now spi.now }
+    {
+        match self {
+            Wanted::Ike { .. } => spi.is_empty(),
+            Wanted::Esp { .. } => spi.len() == 4 && BigEndian::read_u32(spi) >= FIRST_SPI,
+        }
+    }
+
+    // Whether a transform is acceptable, whichever type it has.
+    fn allows(&self, transform: &Transform) -> bool
+        ensures { IsTrue result ↔ Contains (acceptable_transforms self.now) transform.now }
+    {
+        match self {
+            Wanted::Ike {
+                encr,
+                key_length,
+                group,
+            } => match transform.kind {
+                ENCR => transform.id == *encr && has_key_length(transform, *key_length),
+                PRF => is_plain(transform, PRF_HMAC_SHA2_256),
+                INTEG => is_plain(transform, AUTH_HMAC_SHA2_256_128),
+                GROUP => is_plain(transform, *group),
+                _ => false,
+            },
+            Wanted::Esp { extended } => match transform.kind {
+                ENCR => is_plain(transform, ENCR_NULL),
+                INTEG => is_plain(transform, AUTH_HMAC_SHA2_256_128),
+                ESN => is_plain(transform, NO_EXTENSION)
+                    || (*extended && is_plain(transform, EXTENSION)),
+                _ => false,
+            },
+        }
+    }
+}
+
+/// The first acceptable proposal, `None` where there is none (RFC 7296, sections 2.7 and 3.3). Takes no memory.
+///
+/// A proposal is acceptable if it is for the wanted protocol, its SPI has the protocol's form (none for IKE; for ESP 4
+/// octets, from 256 on), and it has an acceptable transform of each type that the protocol wants and no transform of
+/// another type. A transform with another attribute than the wanted key length is not acceptable.
+pub fn choose(proposals: &[Proposal], wanted: &Wanted) -> Option<Chosen>
+    ensures { MatchOption result
+        (All (λ proposal. ¬ IsAcceptable wanted.now proposal) proposals.now)
+        (IsChosen wanted.now proposals.now) }
+{
+    for (place, proposal) in proposals.iter().enumerate() {
+        if is_acceptable(proposal, wanted) {
+            return Some(Chosen {
+                place,
+                number: proposal.number,
+                extended: takes_extension(proposal.transforms.as_slice(), wanted),
+            });
+        }
+    }
+    None
+}
+
+fn is_acceptable(proposal: &Proposal, wanted: &Wanted) -> bool
+    ensures { IsTrue result ↔ IsAcceptable wanted.now proposal.now }
+{
+    has_protocol(proposal, wanted) && has_transforms(proposal.transforms.as_slice(), wanted)
+}
+
+// Whether the proposal is for the wanted protocol, with an SPI of its form.
+fn has_protocol(proposal: &Proposal, wanted: &Wanted) -> bool
+    ensures { IsTrue result
+        ↔ ((proposal.now.protocol ≡ protocol_of wanted.now) × HasSpi wanted.now proposal.now.spi) }
+{
+    proposal.protocol == wanted.protocol() && wanted.allows_spi(proposal.spi.as_slice())
+}
+
+// Whether there is an acceptable transform of each wanted type, and none of another type.
+fn has_transforms(transforms: &[Transform], wanted: &Wanted) -> bool
+    ensures { IsTrue result
+        ↔ (All (λ transform. Contains (kinds wanted.now) transform.kind) transforms.now
+        × All (λ kind. Any (IsAcceptableTransform wanted.now kind) transforms.now) (kinds wanted.now)) }
+{
+    has_no_other(transforms, wanted.kinds()) && has_each(transforms, wanted)
+}
+
+// Whether each transform has one of these types.
+fn has_no_other(transforms: &[Transform], kinds: &[u8]) -> bool
+    ensures { IsTrue result ↔ All (λ transform. Contains kinds.now transform.kind) transforms.now }
+{
+    for transform in transforms {
+        if !is_among(kinds, transform.kind) {
+            return false;
+        }
+    }
+    true
+}
+
+fn is_among(kinds: &[u8], kind: u8) -> bool
+    ensures { IsTrue result ↔ Contains kinds.now kind }
+{
+    kinds.contains(&kind)
+}
+
+// Whether there is an acceptable transform of each wanted type.
+fn has_each(transforms: &[Transform], wanted: &Wanted) -> bool
+    ensures { IsTrue result
+        ↔ All (λ kind. Any (IsAcceptableTransform wanted.now kind) transforms.now) (kinds wanted.now) }
+{
+    for kind in wanted.kinds() {
+        if first_acceptable(transforms, wanted, *kind).is_none() {
+            return false;
+        }
+    }
+    true
+}
+
+// The first acceptable transform of a type.
+fn first_acceptable<'a>(
+    transforms: &'a [Transform],
+    wanted: &Wanted,
+    kind: u8,
+) -> Option<&'a Transform>
+    ensures { MatchOption result
+        (Any (IsAcceptableTransform wanted.now kind) transforms.now → ⊥)
+        (λ found. IsFirstAcceptable wanted.now kind transforms.now found.now) }
+{
+    for transform in transforms {
+        if transform.kind == kind && wanted.allows(transform) {
+            return Some(transform);
+        }
+    }
+    None
+}
+
+// Whether sequence numbers are extended: the first acceptable transform for them decides. IKE has none.
+fn takes_extension(transforms: &[Transform], wanted: &Wanted) -> bool
+    requires { All (λ kind. Any (IsAcceptableTransform wanted.now kind) transforms.now) (kinds wanted.now) }
+    ensures { ChoosesNumbers wanted.now transforms.now result }
+{
+    match first_acceptable(transforms, wanted, ESN) {
+        Some(transform) => transform.id == EXTENSION,
+        None => false,
+    }
+}
+
+// Whether the transform has this ID and no attribute.
+fn is_plain(transform: &Transform, id: u16) -> bool
+    ensures { IsTrue result ↔ (transform.now ≡ without_attributes transform.now.kind id) }
+{
+    transform.id == id && transform.attributes.is_empty()
+}
+
+// Whether the transform's one attribute is this key length, or, where there is to be none, it has no attribute.
+fn has_key_length(transform: &Transform, key_length: Option<u16>) -> bool
+    ensures { IsTrue result ↔ (transform.now.attributes ≡ key_length_attribute key_length) }
+{
+    match (key_length, transform.attributes.as_slice()) {
+        (None, []) => true,
+        (Some(bits), [attribute]) => is_key_length(attribute, bits),
+        _ => false,
+    }
+}
+
+fn is_key_length(attribute: &Attribute, bits: u16) -> bool
+    ensures { IsTrue result ↔ (attribute.now ≡ Attribute.Short KEY_LENGTH bits) }
+{
+    match attribute {
+        Attribute::Short { kind, value } => *kind == KEY_LENGTH && *value == bits,
+        Attribute::Long { .. } => false,
+    }
+}

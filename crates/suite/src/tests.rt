@@ -1,0 +1,4 @@
+mod caller;
+mod choice;
+mod keys;
+mod proved;
