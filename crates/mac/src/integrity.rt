@@ -62,6 +62,10 @@ impl Clone for IcvKey {
 
 // Shows no octet of the key.
 impl fmt::Debug for IcvKey {
+    ghost use Rattle.std.specs.Prelude.{Some, codes};
+
+    ghost debug_output = { λ _. Some (codes "IcvKey { .. }") };
+
     fn fmt<W: fmt::Write>(&self, f: &mut fmt::Formatter<W>) -> fmt::Result {
         f.write_str("IcvKey { .. }")
     }

@@ -215,6 +215,27 @@ mod tests {
         }
     }
 
+    #[test]
+    fn larger_windows_remember_their_whole_span(rt: HostRuntime) -> Result<(), Fail> {
+        for (blocks, size) in [(16, 960), (32, 1984), (64, 4032)] {
+            if !is_block_count(blocks) {
+                return Err(Fail::new("no count of blocks"));
+            }
+            let mut window = BlockWindow::new(rt.alloc(), blocks)?;
+            assert_eq!(rt; window.size(), size);
+            assert_eq!(rt; accept(&mut window, 1)?, Fresh);
+            assert_eq!(rt; accept(&mut window, size)?, Fresh);
+            assert_eq!(rt; window.judge(1), Taken, "{blocks} blocks");
+            assert_eq!(rt; accept(&mut window, size + 1)?, Fresh);
+            assert_eq!(rt; window.judge(1), Old, "{blocks} blocks");
+            assert_eq!(rt; accept(&mut window, 2)?, Fresh);
+            for n in [2, size, size + 1] {
+                assert_eq!(rt; window.judge(n), Taken, "{blocks} blocks, at {n}");
+            }
+        }
+        Ok(())
+    }
+
     /// Offers one number to both windows.
     fn agree_at<A: Window, B: Window>(
         rt: &impl Abort,

@@ -16,6 +16,10 @@ pub struct Fresh {
 
 // Shows no octet, since the secret is one.
 impl fmt::Debug for Fresh {
+    ghost use Rattle.std.specs.Prelude.{Some, codes};
+
+    ghost debug_output = { λ _. Some (codes "Fresh { .. }") };
+
     fn fmt<W: fmt::Write>(&self, f: &mut fmt::Formatter<W>) -> fmt::Result {
         f.write_str("Fresh { .. }")
     }

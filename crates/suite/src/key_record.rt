@@ -67,6 +67,10 @@ impl KeyRecord {
 
 // Shows no octet of a key.
 impl fmt::Debug for KeyRecord {
+    ghost use Rattle.std.specs.Prelude.{Some, codes};
+
+    ghost debug_output = { λ _. Some (codes "KeyRecord { .. }") };
+
     fn fmt<W: fmt::Write>(&self, f: &mut fmt::Formatter<W>) -> fmt::Result {
         f.write_str("KeyRecord { .. }")
     }

@@ -36,6 +36,10 @@ fn octets_of(key: &[u8; 32]) -> &[u8]
 
 // Shows no octet of a key.
 impl fmt::Debug for Keys {
+    ghost use Rattle.std.specs.Prelude.{Some, codes};
+
+    ghost debug_output = { λ _. Some (codes "Keys { .. }") };
+
     fn fmt<W: fmt::Write>(&self, f: &mut fmt::Formatter<W>) -> fmt::Result {
         f.write_str("Keys { .. }")
     }

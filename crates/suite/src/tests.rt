@@ -2,3 +2,12 @@ mod caller;
 mod choice;
 mod keys;
 mod proved;
+
+// The octets 0, 1, 2 and so on.
+fn counted<const N: usize>() -> [u8; N] {
+    let mut octets = [0; N];
+    for (place, octet) in octets.iter_mut().enumerate() {
+        *octet = (place % 256) as u8;
+    }
+    octets
+}

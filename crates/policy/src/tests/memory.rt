@@ -32,7 +32,7 @@ fn want_of_memory_is_the_only_refusal_of_what_is_acceptable(rt: HostRuntime) -> 
             }
             Err(fault) => assert_eq!(rt; fault, NarrowFault::Memory),
         }
-        // Where nothing is acceptable no memory is asked for.
+        // Where nothing is acceptable, want of memory is never the answer.
         let refused = narrow(rt.alloc(), &[every], &[], &policy);
         assert_eq!(rt; refused.err(), Some(NarrowFault::Unacceptable));
     }

@@ -1,18 +1,10 @@
 // Expected values are those of Python's modules `hmac` and `hashlib`.
+use super::counted;
 use crate::{KeyRecord, Keys, Nonce, child_keys, ike_keys};
 
 const SPI_I: u64 = 0x0102_0304_0506_0708;
 
 const SPI_R: u64 = 0xf1f2_f3f4_f5f6_f7f8;
-
-// The octets 0, 1, 2 and so on.
-fn counted<const N: usize>() -> [u8; N] {
-    let mut octets = [0; N];
-    for (place, octet) in octets.iter_mut().enumerate() {
-        *octet = (place % 256) as u8;
-    }
-    octets
-}
 
 // A secret of 32 octets from 1 on, the shortest nonce and the longest.
 fn record() -> KeyRecord {
