@@ -1,6 +1,7 @@
 //! The receiver's end of an association (RFC 4303 section 3.4).
 ghost use Rattle.std.specs.Prelude.{◌≡◌, ℕ, ◌-◌, ◌≤◌, length, take, drop};
 ghost use Rattle.std.specs.Prelude.{All, IsTrue, ◌↔◌, OnOk, IfOk, IfErr, IfSome, IfNone};
+ghost use Rattle.replay.specs.Window.{IsSound};
 ghost use Rattle.esp.specs.Judging.{IsNumber};
 ghost use Rattle.esp.specs.Packet.{check_value, IsOf};
 ghost use Rattle.esp.specs.Opening.{IsRefusal, IsFreshNumber, HandsUp, Refuses, Step};
@@ -55,6 +56,20 @@ impl<W: Window> Inbound<W> {
             association: Association { spi, key, extended },
             window,
         }
+    }
+
+    /// The security parameters index that its packets begin with.
+    pub fn spi(&self) -> u32
+        ensures { result ≡ self.now.association.spi }
+    {
+        self.association.spi
+    }
+
+    /// What holds of the replay window at all times. Does nothing.
+    pub fn window_is_sound(&self)
+        ensures { IsSound self.now.window }
+    {
+        let _ = &self.window;
     }
 
     /// Opens a packet: judges it, takes its number, and hands up its payload as a part of it (RFC 4303 section 3.4).

@@ -46,6 +46,13 @@ impl Outbound {
         }
     }
 
+    /// The security parameters index that its packets begin with.
+    pub fn spi(&self) -> u32
+        ensures { result ≡ self.now.association.spi }
+    {
+        self.association.spi
+    }
+
     /// Appends to `out` the packet that carries `payload` under the next header `next`, with the number after the last and
     /// the least padding, and answers its number (RFC 4303 section 3.3).
     ///
