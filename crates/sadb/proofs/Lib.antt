@@ -1,0 +1,6 @@
+pub mod NumberedLemmas
+pub mod PlacesLemmas
+pub mod IndexLemmas
+pub mod PairsLemmas
+pub mod TableLemmas
+pub mod FollowingLemmas

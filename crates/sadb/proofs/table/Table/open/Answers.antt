@@ -1,0 +1,10 @@
+use Rattle.sadb.proofs.TableLemmas.{opened_in, opened_unchanged}
+use Rattle.sadb.proofs.table.Table.open.Goals as goal
+
+pub invariant_of-self : goal.invariant_of-self
+invariant_of-self c =
+    opened_in c.self.inside.places c.self.inside.pairs c.open.new.self c.args.serial c.args.packet.now c.open.result c.self.invariant c.open.ensures.rest c.open.ensures.up c.open.ensures.refused
+
+pub returns-clause-unchanged : goal.returns-clause-unchanged
+returns-clause-unchanged c =
+    opened_unchanged c.args.self.now c.self.inside.places c.self.inside.pairs c.open.new.self c.args.serial c.args.packet.now c.open.result c.self.view_is c.open.ensures.rest c.open.ensures.refused

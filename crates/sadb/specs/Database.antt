@@ -1,0 +1,231 @@
+-- The security association database (RFC 4301 section 4.4.2), as a finite map from serials to pairs.
+use Rattle.std.specs.Prelude.{◌≡◌, ◌+◌, ◌^◌, ◌<◌, ◌≤◌, ℕ, List, true, Option, Some, None, IsSome, refl}
+use Rattle.std.specs.Ordering.{nat_cmp}
+use Rattle.std.specs.Coded.{Coded, code_by, coded×, coded_ℕ}
+use Rattle.std.specs.FinMap as map
+use Rattle.std.specs.FinSet as set
+use Rattle.esp.specs.Opening.{HandsUp, Refuses}
+use Rattle.esp.specs.Packet.{IsOf}
+use Rattle.esp.specs.Sealing.{SealRefusal, Seals}
+use Rattle.esp.specs.Views.{Receiving, Sending}
+use Rattle.esp.specs.declared.fault.EspFault.{EspFault}
+use Rattle.policy.specs.Decisions.{Covers}
+use Rattle.policy.specs.declared.flow.Flow.{Flow}
+use Rattle.replay.specs.Window as window
+use Rattle.sadb.specs.declared.fault.TableFault.{TableFault}
+use Rattle.sadb.specs.declared.fault.TableFault.TheVariants.{Full, Spent, Memory}
+use Rattle.sadb.specs.declared.pair.Pair.{Pair}
+use Rattle.sadb.specs.declared.pair.State.TheVariants.{Live, Deleting}
+use Rattle.sadb.specs.Views.{pair_code}
+
+pub record Database : Type 0 where
+  -- the first inbound SPI, and how many were given: the k-th one is start + k
+  pub start : ℕ
+  pub given : ℕ
+  -- the SPIs given whose pair is still to come
+  pub reserved : set.FinSet nat_cmp
+  -- the serial of the next pair
+  pub next : ℕ
+  -- the pairs by their serials
+  pub pairs : map.FinMap nat_cmp Pair
+  -- how many more SPIs can be reserved without memory, beside the content
+  pub room : ℕ
+
+abbrev pub database_code : Coded Database
+database_code =
+    code_by
+    (ℕ × (ℕ × (set.FinSet nat_cmp × (ℕ × (map.FinMap nat_cmp Pair × ℕ)))))
+    (coded× coded_ℕ (coded× coded_ℕ (coded× (set.code coded_ℕ) (coded× coded_ℕ (coded× (map.code coded_ℕ pair_code) coded_ℕ)))))
+    (λ d. (d.start, (d.given, (d.reserved, (d.next, (d.pairs, d.room))))))
+    (λ c. record { start = c.0; given = c.1.0; reserved = c.1.1.0; next = c.1.1.1.0; pairs = c.1.1.1.1.0; room = c.1.1.1.1.1 })
+    (λ _. refl)
+
+-- where SPIs may begin: 0 to 255 are reserved (RFC 4303 section 2.1), and 65,536 follow
+pub record IsStart (start : ℕ) : Type 0 where
+  pub least : 256 ≤ start
+  pub most : start + 65536 ≤ 2 ^ 32
+
+-- no pair, and no SPI given
+abbrev pub unused : ℕ → Database
+unused start = record { start = start; given = 0; reserved = set.empty; next = 1; pairs = map.empty; room = 0 }
+
+abbrev pub IsReserved : Database → ℕ → Type 0
+IsReserved d spi = set.contains d.reserved spi ≡ true
+
+-- pairs and reserved SPIs together are as many as may be held, a limit of this implementation
+abbrev pub IsFull : Database → Type 0
+IsFull d = 1024 ≤ map.len d.pairs + set.len d.reserved
+
+-- as many SPIs were given as ever are, a limit of this implementation
+abbrev pub IsSpent : Database → Type 0
+IsSpent d = 65536 ≤ d.given
+
+-- why no SPI is given, each where those before it don't apply
+abbrev pub IsRefusal : Database → TableFault → Type 0
+IsRefusal d Full = IsFull d
+IsRefusal d Spent = (¬ IsFull d) × IsSpent d
+IsRefusal d Memory = (¬ IsFull d) × (¬ IsSpent d) × (d.room ≡ 0)
+
+-- the content is as it was, and there is at least as much room
+pub record IsAsBefore (old new : Database) : Type 0 where
+  pub content : new ≡ record old { room = new.room }
+  pub room : old.room ≤ new.room
+
+-- the next SPI is given, and reserved until its pair comes; one place of those that were there is used
+pub record Reserves (old : Database) (spi : ℕ) (new : Database) : Type 0 where
+  pub in_order : spi ≡ old.start + old.given
+  pub content : new ≡ record old { given = old.given + 1; reserved = set.insert old.reserved spi; room = new.room }
+  pub room : old.room ≤ new.room + 1
+
+-- the SPI is reserved no more
+pub record Releases (old : Database) (spi : ℕ) (new : Database) : Type 0 where
+  pub content : new ≡ record old { reserved = set.remove old.reserved spi; room = new.room }
+  pub room : old.room ≤ new.room
+
+-- the pair stands where its SPI was reserved, under the next serial
+pub record Installs (old : Database) (spi : ℕ) (pair : Pair) (serial : ℕ) (new : Database) : Type 0 where
+  pub in_order : serial ≡ old.next
+  pub content : new ≡ record old {
+    reserved = set.remove old.reserved spi;
+    next = old.next + 1;
+    pairs = map.insert old.pairs serial (record pair { serial = serial });
+    room = new.room;
+  }
+  pub room : old.room ≤ new.room
+
+-- the pair is there no more
+pub record Removes (old : Database) (serial : ℕ) (new : Database) : Type 0 where
+  pub content : new ≡ record old { pairs = map.remove old.pairs serial; room = new.room }
+  pub room : old.room ≤ new.room
+
+-- What is said of the pairs alone.
+abbrev pub Pairs : Type 0
+Pairs = map.FinMap nat_cmp Pair
+
+-- the pair with this serial, if there is one
+abbrev pub pair_at : Pairs → ℕ → Option Pair
+pair_at pairs serial = map.get pairs serial
+
+abbrev pub IsThere : Pairs → ℕ → Type 0
+IsThere pairs serial = IsSome (pair_at pairs serial)
+
+-- a pair is Live, with this serial
+pub record IsLive (pairs : Pairs) (serial : ℕ) : Type 0 where
+  pub pair : Pair
+  pub there : pair_at pairs serial ≡ Some pair
+  pub live : pair.state ≡ Live
+
+-- the pair with this serial is Deleting from then on
+pub record Marks (old : Pairs) (serial : ℕ) (new : Pairs) : Type 0 where
+  pub pair : Pair
+  pub there : pair_at old serial ≡ Some pair
+  pub changed : new ≡ map.insert old serial (record pair { state = Deleting })
+
+-- the pair with this serial has this inbound SPI, Live or Deleting
+pub record HasInbound (pairs : Pairs) (spi serial : ℕ) : Type 0 where
+  pub pair : Pair
+  pub there : pair_at pairs serial ≡ Some pair
+  pub its_own : pair.inbound.association.spi ≡ spi
+
+-- the one pair with this inbound SPI
+pub record IsInbound (pairs : Pairs) (spi : ℕ) (pair : Pair) : Type 0 where
+  pub there : pair_at pairs pair.serial ≡ Some pair
+  pub its_own : pair.inbound.association.spi ≡ spi
+  pub only : (serial : ℕ) → HasInbound pairs spi serial → serial ≡ pair.serial
+
+-- the pair of the least serial above one
+pub record IsAfter (pairs : Pairs) (serial : ℕ) (pair : Pair) : Type 0 where
+  pub there : pair_at pairs pair.serial ≡ Some pair
+  pub above : serial < pair.serial
+  pub least : (other : ℕ) → serial < other → other < pair.serial → pair_at pairs other ≡ None
+
+-- the pair with this serial carries the flow outward: it is Live, its local selectors hold the source and its remote ones
+-- the target (RFC 4301 section 5.1)
+pub record Carries (pairs : Pairs) (flow : Flow) (serial : ℕ) : Type 0 where
+  pub pair : Pair
+  pub there : pair_at pairs serial ≡ Some pair
+  pub live : pair.state ≡ Live
+  pub covered : Covers pair.local pair.remote flow
+
+-- of the pairs that carry the flow, the one of the greatest serial, a choice of this implementation
+pub record IsOutbound (pairs : Pairs) (flow : Flow) (serial : ℕ) : Type 0 where
+  pub carries : Carries pairs flow serial
+  pub greatest : (other : ℕ) → serial < other → ¬ Carries pairs flow other
+
+-- the packet is addressed to the pair with this serial
+pub record IsFor (pairs : Pairs) (serial : ℕ) (packet : List ℕ) : Type 0 where
+  pub pair : Pair
+  pub there : pair_at pairs serial ≡ Some pair
+  pub addressed : IsOf pair.inbound.association packet
+
+-- the inbound association of the pair with this serial hands the packet up, and no other pair is changed
+pub record OpensAt (old : Pairs) (serial : ℕ) (packet : List ℕ) (number next : ℕ) (payload : List ℕ) (new : Pairs) : Type 0 where
+  pub pair : Pair
+  pub there : pair_at old serial ≡ Some pair
+  pub inbound : Receiving
+  pub opened : HandsUp pair.inbound packet number next payload inbound
+  pub changed : new ≡ map.insert old serial (record pair { inbound = inbound })
+
+-- it refuses the packet, never for want of memory, and no other pair is changed
+pub record RefusesAt (old : Pairs) (serial : ℕ) (packet : List ℕ) (fault : EspFault) (new : Pairs) : Type 0 where
+  pub pair : Pair
+  pub there : pair_at old serial ≡ Some pair
+  pub inbound : Receiving
+  pub refused : Refuses ⊥ pair.inbound packet fault inbound
+  pub changed : new ≡ map.insert old serial (record pair { inbound = inbound })
+
+-- the outbound association of the pair with this serial seals a packet, and no other pair is changed
+pub record SealsAt (old : Pairs) (serial next : ℕ) (payload before : List ℕ) (number : ℕ) (new : Pairs) (after : List ℕ) : Type 0 where
+  pub pair : Pair
+  pub there : pair_at old serial ≡ Some pair
+  pub outbound : Sending
+  pub sealed : Seals pair.outbound next payload before number outbound after
+  pub changed : new ≡ map.insert old serial (record pair { outbound = outbound })
+
+-- why it seals nothing
+pub record SealRefusalAt (pairs : Pairs) (serial : ℕ) (payload : List ℕ) (fault : EspFault) : Type 0 where
+  pub pair : Pair
+  pub there : pair_at pairs serial ≡ Some pair
+  pub refused : SealRefusal pair.outbound payload fault
+
+-- the SPI is one of those that were given
+pub record WasGiven (d : Database) (spi : ℕ) : Type 0 where
+  pub from_start : d.start ≤ spi
+  pub before_next : spi < d.start + d.given
+
+-- What holds of every table.
+pub record IsSound (d : Database) : Type 0 where
+  pub start : IsStart d.start
+  pub given : d.given ≤ 65536
+  pub first : 1 ≤ d.next
+  -- a serial is given for an SPI that was given
+  pub next : d.next + set.len d.reserved ≤ d.given + 1
+  pub few : map.len d.pairs + set.len d.reserved ≤ 1024
+  pub reserved_given : (spi : ℕ) → IsReserved d spi → WasGiven d spi
+  -- each pair stands under its own serial, which is one of those given
+  pub serial : (serial : ℕ) (pair : Pair) → pair_at d.pairs serial ≡ Some pair → pair.serial ≡ serial
+  pub serial_given : (serial : ℕ) (pair : Pair) → pair_at d.pairs serial ≡ Some pair → (1 ≤ serial) × (serial < d.next)
+  -- its window is sound
+  pub window : (serial : ℕ) (pair : Pair) → pair_at d.pairs serial ≡ Some pair → window.IsSound pair.inbound.window
+  -- its inbound SPI was given, is not reserved, and is no other pair's
+  pub spi_given : (serial spi : ℕ) → HasInbound d.pairs spi serial → WasGiven d spi
+  pub spi_taken : (serial spi : ℕ) → HasInbound d.pairs spi serial → ¬ IsReserved d spi
+  pub apart : (serial other spi : ℕ) → HasInbound d.pairs spi serial → HasInbound d.pairs spi other → serial ≡ other
+
+-- Two pairs mirror each other (RFC 4301 section 4.1): what one end sends by its pair the other receives by its own, under the
+-- same SPI and key, with numbers of one length in both directions, and what is local to one is remote to the other.
+pub record Mirrors (a b : Pair) : Type 0 where
+  pub inward : a.inbound.association ≡ b.outbound.association
+  pub outward : a.outbound.association ≡ b.inbound.association
+  pub extension : a.inbound.association.extended ≡ a.outbound.association.extended
+  pub local : a.local ≡ b.remote
+  pub remote : a.remote ≡ b.local
+
+-- the same pair as the other end would hold it, but for numbers, windows and serials of its own
+abbrev pub reflection : Pair → Pair
+reflection a = record a {
+  inbound = record { association = a.outbound.association; window = a.inbound.window };
+  outbound = record { association = a.inbound.association; last = a.outbound.last };
+  local = a.remote;
+  remote = a.local;
+}

@@ -1,0 +1,6 @@
+pub mod Views
+pub mod Faults
+pub mod Database
+pub mod Numbered
+pub mod Storage
+pub mod Following

@@ -1,0 +1,37 @@
+//! The security association database of a gateway (RFC 4301 section 4.4.2): pairs of associations, found by inbound SPI, by
+//! serial and by flow.
+//!
+//! A [`Table`] gives inbound SPIs, holds the [`Pair`]s that come for them, and opens and seals packets by a pair. It holds up to
+//! 1024 pairs and reserved SPIs together, and gives 65,536 SPIs in its life, none twice: limits of this implementation. Making
+//! room for a pair takes memory, and so may sealing; nothing else does.
+//!
+//! Contracts see a table as a finite map from serials to pairs, the set of reserved SPIs and how many were given
+//! (`specs/Database`); how it is kept (`specs/Storage`) is in no public clause.
+//!
+//! ```text
+//! let mut table = Table::new(alloc, 4096);
+//! let spi = table.reserve()?;                            // 4096
+//! let window = BlockWindow::new(alloc, 2)?;
+//! let inbound = Inbound::new(spi.number(), &key, true, window);
+//! let serial = table.install(spi, Pair::new(ike, inbound, outbound, local, remote));    // 1
+//! table.outbound(&flow)                                  // Some(1)
+//! table.seal(serial, 4, payload, &mut packet)?;
+//! table.open(serial, packet_that_came)?;
+//! ```
+#![tactic(auto)]
+
+mod fault;
+mod laws;
+mod pair;
+mod pairs;
+mod places;
+mod spi;
+mod table;
+
+pub use fault::TableFault;
+pub use laws::{
+    each_pair_has_a_mirror, mirroring_is_symmetric, no_spi_is_given_twice, tables_follow,
+};
+pub use pair::{Pair, State};
+pub use spi::Spi;
+pub use table::Table;

@@ -1,0 +1,213 @@
+//! The pairs of a table, by their serials.
+ghost use Rattle.std.specs.Prelude.{◌≡◌, ◌+◌, ◌<◌, ◌≤◌, ◌^◌, ℕ, List, Some, None, IsOk, OnOk, IfOk, IfErr, IfSome, IfNone, IsSome, IsTrue, ◌↔◌};
+ghost use Rattle.std.specs.Option.{option_copied};
+ghost use Rattle.std.specs.FinMap as map;
+ghost use Rattle.policy.specs.Decisions.{Covers};
+ghost use Rattle.replay.specs.Window.{IsSound};
+ghost use Rattle.sadb.specs.declared.pair.Pair as held;
+ghost use Rattle.sadb.specs.Database.{Marks, IsAfter, Carries, IsOutbound};
+ghost use Rattle.sadb.specs.Storage.{key_of};
+ghost use Rattle.sadb.specs.Database.{IsFor, OpensAt, RefusesAt, SealsAt, SealRefusalAt};
+
+use crate::pair::{Pair, State};
+use esp::{EspFault, Opened};
+use policy::{Flow, covers};
+use slab::Slab;
+use std::alloc::{AllocError, Global};
+use std::marker::Model;
+
+/// The pairs, in a slab, with the slab's key of each serial from 1 on.
+#[derive(Drop)]
+pub(crate) struct Pairs {
+    keys: Vec<Option<usize>>,
+    slab: Slab<Pair>,
+}
+
+impl Model for Pairs {
+    ghost use Rattle.std.specs.Prelude.{◌+◌, ◌-◌, length, min, vec_capacity};
+    ghost use Rattle.slab.specs.Slab.{slab_len};
+    ghost use Rattle.sadb.specs.Storage.{Shelf, shelf_code, IsShelf, shown_pairs};
+
+    ghost Value = { Shelf };
+
+    ghost coded = { shelf_code };
+
+    ghost view = { λ a. record {
+      next = length a.keys.items + 1;
+      pairs = shown_pairs a.keys.items a.slab;
+      room = min (vec_capacity a.keys - length a.keys.items) (a.slab.capacity - slab_len a.slab);
+    } };
+
+    ghost invariant = { λ a. IsShelf a.keys.items a.slab };
+}
+
+/// The slab's key of a serial.
+fn key(keys: &[Option<usize>], serial: u32) -> Option<usize>
+    ensures { result ≡ key_of keys.now serial }
+{
+    *keys.get((serial as usize).checked_sub(1)?)?
+}
+
+/// Whether a pair carries a flow outward.
+fn carries(pair: &Pair, flow: &Flow) -> bool
+    ensures { IsTrue result ↔ ((pair.now.state ≡ State.Live) × Covers pair.now.local pair.now.remote flow.now) }
+{
+    pair.state == State::Live && covers(pair.local.as_slice(), pair.remote.as_slice(), flow)
+}
+
+impl Pairs {
+    /// None yet. Takes no memory.
+    pub fn new(alloc: Global) -> Pairs
+        ensures { result ≡ record { next = 1; pairs = map.empty; room = 0 } }
+    {
+        Pairs {
+            keys: Vec::new(alloc),
+            slab: Slab::new(alloc),
+        }
+    }
+
+    /// What holds of all pairs. Does nothing.
+    pub fn invariants_hold(&self)
+        ensures first { 1 ≤ self.now.next }
+        ensures serial { (serial : ℕ) (pair : held.Pair) → map.get self.now.pairs serial ≡ Some pair → pair.serial ≡ serial }
+        ensures windows { (serial : ℕ) (pair : held.Pair) → map.get self.now.pairs serial ≡ Some pair
+            → IsSound pair.inbound.window }
+        ensures given { (serial : ℕ) → IsSome (map.get self.now.pairs serial) → (1 ≤ serial) × (serial < self.now.next) }
+    {
+        let _ = &self.keys;
+    }
+
+    /// How many there are.
+    pub fn len(&self) -> usize
+        ensures { result ≡ map.len self.now.pairs }
+    {
+        self.slab.len()
+    }
+
+    /// Makes room for so many more, where there isn't.
+    pub fn make_room(&mut self, more: usize) -> Result<(), AllocError>
+        ensures content { self.new ≡ record self.old { room = self.new.room } }
+        ensures room { self.old.room ≤ self.new.room }
+        ensures ok { OnOk result (more ≤ self.new.room) }
+        ensures succeeds { more ≤ self.old.room → IsOk result }
+    {
+        self.keys.reserve(more)?;
+        // So nothing is refused where the room was there, also for none.
+        prove!(self.slab.len() <= self.slab.capacity());
+        self.slab.reserve(more)
+    }
+
+    /// Adds a pair, for which there is room, and answers the serial that it has from now on.
+    pub fn add(&mut self, mut pair: Pair) -> u32
+        requires room { 1 ≤ self.old.room }
+        requires fits { self.old.next < 2 ^ 32 }
+        ensures next { result ≡ self.old.next }
+        ensures new_serial { map.get self.old.pairs result ≡ None }
+        ensures content { self.new ≡ record {
+          next = self.old.next + 1;
+          pairs = map.insert self.old.pairs result (record pair { serial = result });
+          room = self.new.room;
+        } }
+        ensures room { self.old.room ≤ self.new.room + 1 }
+    {
+        let serial = self.keys.len() as u32 + 1;
+        pair.serial = serial;
+        // What the invariant says of each pair.
+        pair.inbound.window_is_sound();
+        let key = self.slab.insert_reserved(pair);
+        self.keys.push_reserved(Some(key));
+        serial
+    }
+
+    /// Takes a pair out.
+    pub fn remove(&mut self, serial: u32) -> Pair
+        requires { IsSome (map.get self.old.pairs serial) }
+        ensures there { map.get self.old.pairs serial ≡ Some result }
+        ensures content { self.new ≡ record self.old { pairs = map.remove self.old.pairs serial; room = self.new.room } }
+        ensures room { self.old.room ≤ self.new.room }
+    {
+        let key = key(&self.keys, serial).unwrap();
+        self.keys[serial as usize - 1] = None;
+        self.slab.remove(key)
+    }
+
+    /// The pair with a serial.
+    pub fn get(&self, serial: u32) -> Option<&Pair>
+        ensures value { option_copied result ≡ map.get self.now.pairs serial }
+        ensures own_serial { IfSome result (λ p. p.now.serial ≡ serial) }
+    {
+        self.slab.get(key(&self.keys, serial)?)
+    }
+
+    /// Ends a pair's traffic outward.
+    pub fn mark(&mut self, serial: u32)
+        requires { IsSome (map.get self.old.pairs serial) }
+        ensures marked { Marks self.old.pairs serial self.new.pairs }
+        ensures rest { self.new ≡ record self.old { pairs = self.new.pairs } }
+    {
+        let key = key(&self.keys, serial).unwrap();
+        self.slab[key].state = State::Deleting;
+    }
+
+    /// Opens a packet by a pair's inbound association.
+    pub fn open<'a>(&mut self, serial: u32, packet: &'a [u8]) -> Result<Opened<'a>, EspFault>
+        requires { IsFor self.old.pairs serial packet.now }
+        ensures up { IfOk result (λ o. OpensAt self.old.pairs serial packet.now o.number o.next o.payload.now self.new.pairs) }
+        ensures refused { IfErr result (λ fault. RefusesAt self.old.pairs serial packet.now fault self.new.pairs) }
+        ensures rest { self.new ≡ record self.old { pairs = self.new.pairs } }
+    {
+        let key = key(&self.keys, serial).unwrap();
+        let inbound = &mut self.slab[key].inbound;
+        let opened = inbound.open(packet);
+        // What the invariant says of each pair.
+        inbound.window_is_sound();
+        opened
+    }
+
+    /// Seals a payload by a pair's outbound association.
+    pub fn seal(
+        &mut self,
+        serial: u32,
+        next: u8,
+        payload: &[u8],
+        out: &mut Vec<u8>,
+    ) -> Result<u64, EspFault>
+        requires { IsSome (map.get self.old.pairs serial) }
+        ensures sealed { IfOk result (λ number.
+            SealsAt self.old.pairs serial next payload.now out.old.items number self.new.pairs out.new.items) }
+        ensures refused { IfErr result (λ fault. SealRefusalAt self.old.pairs serial payload.now fault
+            × (self.new ≡ self.old) × (out.new.items ≡ out.old.items)) }
+        ensures rest { self.new ≡ record self.old { pairs = self.new.pairs } }
+    {
+        let key = key(&self.keys, serial).unwrap();
+        self.slab[key].outbound.seal(next, payload, out)
+    }
+
+    /// The pair of the least serial above one.
+    pub fn after(&self, serial: u32) -> Option<&Pair>
+        ensures some { IfSome result (λ pair. IsAfter self.now.pairs serial pair.now) }
+        ensures none { IfNone result ((other : ℕ) → serial < other → map.get self.now.pairs other ≡ None) }
+    {
+        let mut first: Option<u32> = None;
+        for (_, pair) in self.slab.iter() {
+            if serial < pair.serial {
+                first = Some(first.unwrap_or(pair.serial).min(pair.serial));
+            }
+        }
+        self.get(first?)
+    }
+
+    /// Of the pairs that carry a flow outward, the one of the greatest serial.
+    pub fn outbound(&self, flow: &Flow) -> Option<u32>
+        ensures some { IfSome result (IsOutbound self.now.pairs flow.now) }
+        ensures none { IfNone result ((serial : ℕ) → ¬ Carries self.now.pairs flow.now serial) }
+    {
+        let mut latest: Option<u32> = None;
+        for (_, pair) in self.slab.iter() {
+            if carries(pair, flow) {
+                latest = Some(latest.unwrap_or(pair.serial).max(pair.serial));
+            }
+        }
+        latest
+    }
+}

@@ -1,0 +1,213 @@
+//! The association table.
+ghost use Rattle.std.specs.Prelude.{◌≡◌, ◌≢◌, ◌+◌, ◌<◌, ◌≤◌, ℕ, List, Some, None, OnOk, IfOk, IfErr, IfSome, IfNone, IsOk};
+ghost use Rattle.sadb.specs.Database.{IsStart, unused, IsFull, IsSpent, IsRefusal, IsAsBefore, Reserves, IsReserved, Releases, Installs};
+ghost use Rattle.sadb.specs.Database.{pair_at, IsThere, Removes, IsLive, Marks, HasInbound, IsInbound, IsSound, IsAfter, Carries, IsOutbound};
+ghost use Rattle.sadb.specs.Database.{IsFor, OpensAt, RefusesAt, SealsAt, SealRefusalAt};
+
+use crate::pairs::Pairs;
+use crate::places::Places;
+use crate::{Pair, Spi, TableFault};
+use esp::{EspFault, Opened};
+use policy::Flow;
+use std::alloc::Global;
+use std::marker::Model;
+
+/// The most pairs and reserved SPIs together, a limit of this implementation.
+const MOST_HELD: usize = 1024;
+
+/// The most SPIs that are ever given, a limit of this implementation.
+const MOST_GIVEN: usize = 65_536;
+
+/// The security association database of one end (RFC 4301 section 4.4.2): pairs by their serials, and the inbound SPIs that
+/// were given for them. No SPI is given twice.
+///
+/// A pair comes in two steps, so that nothing is lost where memory runs out: [`reserve`](Table::reserve) gives an SPI and
+/// makes room for its pair, and [`install`](Table::install) uses that room. Where other memory has to be asked for between the
+/// two, or no SPI may be given in vain, [`prepare`](Table::prepare) makes room first, and tells the SPI.
+///
+/// Finding a pair by its inbound SPI, opening and sealing cost the same however many pairs there are.
+#[derive(Drop)]
+pub struct Table {
+    places: Places,
+    pairs: Pairs,
+}
+
+impl Model for Table {
+    ghost use Rattle.std.specs.Prelude.{◌-◌, min};
+    ghost use Rattle.std.specs.FinSet as set;
+    ghost use Rattle.sadb.specs.Database.{Database, database_code};
+    ghost use Rattle.sadb.specs.Storage.{IsTable};
+
+    ghost Value = { Database };
+
+    ghost coded = { database_code };
+
+    ghost view = { λ a. record {
+      start = a.places.start;
+      given = a.places.given;
+      reserved = a.places.reserved;
+      next = a.pairs.next;
+      pairs = a.pairs.pairs;
+      room = min a.places.room (a.pairs.room - set.len a.places.reserved);
+    } };
+
+    ghost invariant = { λ a. IsTable a.places a.pairs };
+}
+
+impl Table {
+    /// An empty table whose first inbound SPI is `start`, from 256 to 2^32 - 65,536. Takes no memory.
+    pub fn new(alloc: Global, start: u32) -> Table
+        requires { IsStart start }
+        ensures { result ≡ unused start }
+    {
+        Table {
+            places: Places::new(alloc, start),
+            pairs: Pairs::new(alloc),
+        }
+    }
+
+    /// What holds of every table. Does nothing.
+    pub fn invariants_hold(&self)
+        ensures { IsSound self.now }
+    {
+        self.places.invariants_hold();
+        self.pairs.invariants_hold();
+    }
+
+    /// Makes room for one more pair, and tells the SPI that the next [`reserve`](Table::reserve) gives. Nothing else is
+    /// changed. Where there is room already, as right after another `prepare`, it takes no memory.
+    ///
+    /// Refused, in this order: [`TableFault::Full`] where pairs and reserved SPIs together are 1024, [`TableFault::Spent`]
+    /// where 65,536 SPIs were given, [`TableFault::Memory`].
+    pub fn prepare(&mut self) -> Result<u32, TableFault>
+        ensures content { IsAsBefore self.old self.new }
+        ensures ok { IfOk result (λ spi. (spi ≡ self.old.start + self.old.given) × (1 ≤ self.new.room)
+            × (¬ IsFull self.old) × (¬ IsSpent self.old)) }
+        ensures refused { IfErr result (IsRefusal self.old) }
+        ensures succeeds { 1 ≤ self.old.room → ¬ IsFull self.old → ¬ IsSpent self.old → IsOk result }
+    {
+        if self.pairs.len() + self.places.reserved() >= MOST_HELD {
+            return Err(TableFault::Full);
+        }
+        if self.places.given() >= MOST_GIVEN {
+            return Err(TableFault::Spent);
+        }
+        if self.places.make_room().is_err() {
+            return Err(TableFault::Memory);
+        }
+        if self.pairs.make_room(self.places.reserved() + 1).is_err() {
+            return Err(TableFault::Memory);
+        }
+        Ok(self.places.next())
+    }
+
+    /// Gives the next inbound SPI and makes room for its pair. Right after [`prepare`](Table::prepare) it takes no memory and
+    /// is not refused.
+    ///
+    /// Refused as [`prepare`](Table::prepare) is, with nothing changed.
+    pub fn reserve(&mut self) -> Result<Spi, TableFault>
+        ensures ok { IfOk result (λ spi. Reserves self.old spi self.new × (¬ IsFull self.old) × (¬ IsSpent self.old)) }
+        ensures refused { IfErr result (λ fault. IsRefusal self.old fault × IsAsBefore self.old self.new) }
+        ensures succeeds { 1 ≤ self.old.room → ¬ IsFull self.old → ¬ IsSpent self.old → IsOk result }
+    {
+        self.prepare()?;
+        Ok(Spi::new(self.places.reserve()))
+    }
+
+    /// Gives a reserved SPI up; it is not given again. The caller asks only for an SPI that is reserved. Takes no memory.
+    pub fn release(&mut self, spi: Spi)
+        requires { IsReserved self.old spi }
+        ensures { Releases self.old spi self.new }
+    {
+        self.places.release(spi.number());
+    }
+
+    /// Adds the pair for which an SPI was reserved, and answers the serial that it has from now on. The caller asks only for an
+    /// SPI that is reserved, with a pair of that inbound SPI. Takes no memory: room was made with the SPI.
+    pub fn install(&mut self, spi: Spi, pair: Pair) -> u32
+        requires reserved { IsReserved self.old spi }
+        requires its_own { pair.inbound.association.spi ≡ spi }
+        ensures { Installs self.old spi pair result self.new }
+    {
+        let serial = self.pairs.add(pair);
+        self.places.hold(spi.number(), serial);
+        serial
+    }
+
+    /// Takes a pair out for good. The caller asks only for one that is there. Takes no memory.
+    pub fn remove(&mut self, serial: u32)
+        requires { IsThere self.old.pairs serial }
+        ensures { Removes self.old serial self.new }
+    {
+        let pair = self.pairs.remove(serial);
+        self.places.free(pair.inbound.spi());
+    }
+
+    /// The pair with an inbound SPI, Live or Deleting. Takes no memory, and costs the same however many pairs there are.
+    pub fn inbound(&self, spi: u32) -> Option<&Pair>
+        ensures some { IfSome result (λ pair. IsInbound self.now.pairs spi pair.now) }
+        ensures none { IfNone result ((serial : ℕ) → ¬ HasInbound self.now.pairs spi serial) }
+    {
+        self.pairs.get(self.places.serial(spi)?)
+    }
+
+    /// Ends a Live pair's traffic outward: it is Deleting from now on. The caller asks only for one that is Live. Takes no
+    /// memory.
+    pub fn mark(&mut self, serial: u32)
+        requires { IsLive self.old.pairs serial }
+        ensures marked { Marks self.old.pairs serial self.new.pairs }
+        ensures rest { self.new ≡ record self.old { pairs = self.new.pairs } }
+    {
+        self.pairs.mark(serial);
+    }
+
+    /// The serial of the pair that carries a flow outward: of the Live pairs whose local selectors hold its source and whose
+    /// remote ones hold its target, the one that was made last. Takes no memory.
+    pub fn outbound(&self, flow: &Flow) -> Option<u32>
+        ensures some { IfSome result (IsOutbound self.now.pairs flow.now) }
+        ensures none { IfNone result ((serial : ℕ) → ¬ Carries self.now.pairs flow.now serial) }
+    {
+        self.pairs.outbound(flow)
+    }
+
+    /// The pair of the least serial above one, so that all are found from 0 on. Takes no memory.
+    pub fn after(&self, serial: u32) -> Option<&Pair>
+        ensures some { IfSome result (λ pair. IsAfter self.now.pairs serial pair.now) }
+        ensures none { IfNone result ((other : ℕ) → serial < other → pair_at self.now.pairs other ≡ None) }
+    {
+        self.pairs.after(serial)
+    }
+
+    /// Opens a packet by the inbound association of a pair, as [`esp::Inbound::open`] does, with its refusals but for want of
+    /// memory, which never comes. The caller asks only for a pair that is there, with packets whose first four octets, where
+    /// there are four, are its inbound SPI. Takes no memory.
+    pub fn open<'a>(&mut self, serial: u32, packet: &'a [u8]) -> Result<Opened<'a>, EspFault>
+        requires { IsFor self.old.pairs serial packet.now }
+        ensures up { IfOk result (λ o. OpensAt self.old.pairs serial packet.now o.number o.next o.payload.now self.new.pairs) }
+        ensures refused { IfErr result (λ fault. RefusesAt self.old.pairs serial packet.now fault self.new.pairs) }
+        ensures unchanged { IfErr result (λ fault. fault ≢ EspFault.BadPadding → self.new ≡ self.old) }
+        ensures rest { self.new ≡ record self.old { pairs = self.new.pairs } }
+    {
+        self.pairs.open(serial, packet)
+    }
+
+    /// Seals a payload by the outbound association of a pair, as [`esp::Outbound::seal`] does: the packet is appended to `out`,
+    /// which may take memory. Refused, with nothing changed, in this order: [`EspFault::Exhausted`],
+    /// [`EspFault::PayloadSize`], [`EspFault::Memory`]. The caller asks only for a pair that is there, Live or Deleting.
+    pub fn seal(
+        &mut self,
+        serial: u32,
+        next: u8,
+        payload: &[u8],
+        out: &mut Vec<u8>,
+    ) -> Result<u64, EspFault>
+        requires { IsThere self.old.pairs serial }
+        ensures sealed { IfOk result (λ number.
+            SealsAt self.old.pairs serial next payload.now out.old.items number self.new.pairs out.new.items) }
+        ensures refused { IfErr result (λ fault. SealRefusalAt self.old.pairs serial payload.now fault
+            × (self.new ≡ self.old) × (out.new.items ≡ out.old.items)) }
+        ensures rest { self.new ≡ record self.old { pairs = self.new.pairs } }
+    {
+        self.pairs.seal(serial, next, payload, out)
+    }
+}
