@@ -2,13 +2,14 @@
 use Rattle.std.proofs.Common.{◌+◌, ◌≡◌, inl, inr, ℕ, zero, suc, ◌≤◌, List, [], ◌∷◌, ◌++◌, length, lit<, Option, Some, None, refl, sym, ◌∙◌, ap, subst, arith}
 use Rattle.std.specs.List.{slice_get}
 use Rattle.std.proofs.lemmas.Bool.Decides.{leb_tells}
-use Rattle.std.proofs.lemmas.Option.{slice_get_within}
+use Rattle.std.proofs.lemmas.Option.{none-some, slice_get_within}
 use Rattle.wire.specs.declared.selector.Selector.{Selector}
 use Rattle.policy.specs.declared.point.Point.{Point}
 use Rattle.policy.specs.declared.flow.Flow.{Flow}
 use Rattle.policy.specs.declared.flow.Ports.{Ports}
 use Rattle.policy.specs.declared.entry.Entry.{Entry}
 use Rattle.policy.specs.declared.entry.Action.{Action}
+use Rattle.policy.specs.declared.entry.Action.TheVariants.{Protect}
 use Rattle.policy.specs.declared.policy.Direction.{Direction}
 use Rattle.policy.specs.Points.{FitsFields, HasPorts, HoldsPoint, IsNonempty, Meets, IsCommonPart}
 use Rattle.policy.specs.Decisions.{HoldsFlow, IsFirst, IsDecision, local_side, remote_side}
@@ -20,7 +21,7 @@ use Rattle.policy.specs.declared.fault.NarrowFault.TheVariants.{Unacceptable}
 use Rattle.byteorder.specs.Endian.{big_bytes}
 use Rattle.wire.specs.Parts.{SpellsEach}
 use Rattle.wire.specs.Selectors.{SpellsSelector}
-use Rattle.policy.specs.Narrowing.{HoldsFirst, MeetsOffer, FitsFirst, FitsSome, IsChosen, IsNarrowed, IsNarrowing, HasAllCommonPoints, IsRefusal, IsSendable}
+use Rattle.policy.specs.Narrowing.{HoldsFirst, MeetsOffer, FitsFirst, FitsSome, IsChosen, IsNarrowed, IsNarrowing, HasAllCommonPoints, IsPartOfOffer, IsRefusal, IsSendable, LieInside}
 use Rattle.policy.proofs.Scanning.{same_item}
 use Rattle.policy.proofs.PointLemmas.{same_selector, ends_of_point, ordered_ports}
 
@@ -236,3 +237,41 @@ pub first_choices : (entries : List Entry) (place : ℕ) (e : Entry) (first_i fi
 first_choices entries place e first_i first_r i r answer_i answer_r there fits fields_i fields_r n =
     let chosen = chosen_first entries (first_i ∷ i) (first_r ∷ r) n.place place n.entry e there fits n.chosen in
     (first_kept (remote_side n.entry) first_i i answer_i fields_i chosen.remote n.narrowed_i, first_kept (local_side n.entry) first_r r answer_r fields_r chosen.local n.narrowed_r)
+
+-- each answered selector lies in an offered one
+
+later_part : (side s : Selector) (ss : List Selector) (part : Selector) → IsPartOfOffer side ss part → IsPartOfOffer side (s ∷ ss) part
+later_part side s ss part is = record { place = suc is.place; selector = is.selector; there = is.there; some = is.some; in_offer = is.in_offer; in_side = is.in_side }
+
+part_of_offer : (side : Selector) (offered answer : List Selector) → IsNarrowed side offered answer → (k : ℕ) (part : Selector) → slice_get answer k ≡ Some part → IsPartOfOffer side offered part
+part_of_offer side [] answer is k part there = absurd (none-some part (sym (ap (λ (xs : List Selector). slice_get xs k) is) ∙ there))
+part_of_offer side (s ∷ ss) answer (inr (_, rest)) k part there = later_part side s ss part (part_of_offer side ss answer rest k part there)
+part_of_offer side (s ∷ ss) answer (inl kept) zero part there =
+    let same : kept.part ≡ part = same_item kept.part part (sym (ap (λ (xs : List Selector). slice_get xs 0) kept.begins) ∙ there) in
+    subst (IsPartOfOffer side (s ∷ ss)) same
+    (record {
+      place = 0;
+      selector = s;
+      there = refl;
+      some = kept.common.some;
+      in_offer = λ p held. ((kept.common.points p).0 held).0;
+      in_side = λ p held. ((kept.common.points p).0 held).1;
+    })
+part_of_offer side (s ∷ ss) answer (inl kept) (suc k) part there =
+    later_part side s ss part (part_of_offer side ss kept.others kept.rest k part (sym (ap (λ (xs : List Selector). slice_get xs (suc k)) kept.begins) ∙ there))
+
+protects_chosen : (entries : List Entry) (i r : List Selector) (k : ℕ) (e : Entry) → IsChosen entries i r k e → (slice_get entries k ≡ Some e) × (e.action ≡ Protect)
+protects_chosen entries i r k e (inl one) = (one.there, one.holds.protects)
+protects_chosen entries i r k e (inr (_, one)) = (one.there, one.holds.protects)
+
+pub lie_inside : (entries : List Entry) (i r answer_i answer_r : List Selector) → IsNarrowing entries i r answer_i answer_r → LieInside entries i r answer_i answer_r
+lie_inside entries i r answer_i answer_r is =
+    let chosen = protects_chosen entries i r is.place is.entry is.chosen in
+    record {
+      place = is.place;
+      entry = is.entry;
+      there = chosen.0;
+      protects = chosen.1;
+      each_i = part_of_offer (remote_side is.entry) i answer_i is.narrowed_i;
+      each_r = part_of_offer (local_side is.entry) r answer_r is.narrowed_r;
+    }

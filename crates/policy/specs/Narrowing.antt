@@ -1,6 +1,6 @@
 -- What a responder makes of the selectors that it is offered (RFC 7296 section 2.9): TSi are the initiator's, which is remote
 -- to it, TSr its own.
-use Rattle.std.specs.Prelude.{◌≡◌, ◌⊎◌, ◌↔◌, ℕ, List, [], ◌∷◌}
+use Rattle.std.specs.Prelude.{◌≡◌, ◌⊎◌, ◌↔◌, ℕ, List, [], ◌∷◌, Some, slice_get}
 use Rattle.wire.specs.declared.selector.Selector.{Selector}
 use Rattle.wire.specs.Parts.{IsZero}
 use Rattle.wire.specs.Selectors.{SpellsSelectors}
@@ -67,6 +67,24 @@ pub record IsNarrowing (entries : List Entry) (initiator responder answer_i answ
   pub narrowed_r : IsNarrowed (local_side entry) responder answer_r
   pub points_i : HasAllCommonPoints (remote_side entry) initiator answer_i
   pub points_r : HasAllCommonPoints (local_side entry) responder answer_r
+
+-- a selector has points, all of them inside one offered selector and inside a side
+pub record IsPartOfOffer (side : Selector) (offered : List Selector) (part : Selector) : Type 0 where
+  pub place : ℕ
+  pub selector : Selector
+  pub there : slice_get offered place ≡ Some selector
+  pub some : IsNonempty (HoldsPoint part)
+  pub in_offer : LiesIn (HoldsPoint part) (HoldsPoint selector)
+  pub in_side : LiesIn (HoldsPoint part) (HoldsPoint side)
+
+-- each member of both lists is such a part, with the sides of one entry that protects
+pub record LieInside (entries : List Entry) (initiator responder answer_i answer_r : List Selector) : Type 0 where
+  pub place : ℕ
+  pub entry : Entry
+  pub there : slice_get entries place ≡ Some entry
+  pub protects : entry.action ≡ Protect
+  pub each_i : (k : ℕ) (part : Selector) → slice_get answer_i k ≡ Some part → IsPartOfOffer (remote_side entry) initiator part
+  pub each_r : (k : ℕ) (part : Selector) → slice_get answer_r k ≡ Some part → IsPartOfOffer (local_side entry) responder part
 
 -- some entry is chosen
 pub record IsAcceptable (entries : List Entry) (initiator responder : List Selector) : Type 0 where

@@ -10,7 +10,7 @@ ghost use Rattle.policy.specs.declared.flow.Flow.{Flow};
 ghost use Rattle.policy.specs.declared.policy.Direction.{Direction};
 ghost use Rattle.policy.specs.Decisions.{IsDecision};
 ghost use Rattle.policy.specs.Entries.{IsFirstFault, IsSound};
-ghost use Rattle.policy.specs.Narrowing.{FitsFirst, IsNarrowing, IsRefusal, IsSendable};
+ghost use Rattle.policy.specs.Narrowing.{FitsFirst, IsNarrowing, IsRefusal, IsSendable, LieInside};
 ghost use Rattle.policy.specs.Points.{FitsFields};
 ghost use Rattle.policy.specs.Packets.{IsFlowOf, IsInnerRefusal};
 
@@ -45,6 +45,13 @@ pub fn narrowing_is_determined()
 pub fn answers_can_be_sent()
     ensures { (entries : List Entry) (i r answer_i answer_r : List Selector) → length i ≤ 16 → length r ≤ 16
         → IsNarrowing entries i r answer_i answer_r → IsSendable answer_i × IsSendable answer_r }
+{}
+
+/// What [`narrow`](crate::narrow) answers lies inside what was offered and inside the policy: each answered selector has points,
+/// all of them in one offered selector and on its side of one entry that protects, the same for both lists.
+pub fn answers_lie_inside()
+    ensures { (entries : List Entry) (i r answer_i answer_r : List Selector)
+        → IsNarrowing entries i r answer_i answer_r → LieInside entries i r answer_i answer_r }
 {}
 
 /// Where an entry protects the whole of the first selector of each list, both come first in the answer, unchanged (RFC 7296

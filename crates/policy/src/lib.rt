@@ -37,8 +37,8 @@ pub use entry::{Action, Entry};
 pub use fault::{InnerFault, NarrowFault, PolicyFault};
 pub use flow::{Flow, Ports};
 pub use laws::{
-    answers_can_be_sent, first_choices_are_kept, flows_are_determined, narrowing_is_determined,
-    policies_are_determined,
+    answers_can_be_sent, answers_lie_inside, first_choices_are_kept, flows_are_determined,
+    narrowing_is_determined, policies_are_determined,
 };
 pub use narrowing::{Narrowed, narrow};
 pub use packet::inner;

@@ -4,3 +4,4 @@ pub mod IndexLemmas
 pub mod PairsLemmas
 pub mod TableLemmas
 pub mod FollowingLemmas
+pub mod LookupLemmas

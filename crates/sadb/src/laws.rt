@@ -4,6 +4,8 @@ ghost use Rattle.std.specs.Prelude.{◌≡◌, ◌≢◌, ℕ, List};
 ghost use Rattle.esp.specs.declared.fault.EspFault.{EspFault};
 ghost use Rattle.sadb.specs.declared.pair.Pair.{Pair};
 ghost use Rattle.sadb.specs.Database.{Database, IsAsBefore, IsReserved, IsSound, Installs, Marks, Mirrors, OpensAt, RefusesAt};
+ghost use Rattle.policy.specs.declared.flow.Flow.{Flow};
+ghost use Rattle.sadb.specs.Database.{IsAfter, IsInbound, IsOutbound, Pairs};
 ghost use Rattle.sadb.specs.Database.{Releases, Removes, Reserves, SealsAt, reflection};
 ghost use Rattle.sadb.specs.Following.{Follows};
 
@@ -35,6 +37,14 @@ pub fn tables_follow()
 pub fn no_spi_is_given_twice()
     ensures { (a b c d : Database) (first second : ℕ)
         → Reserves a first b → Follows b c → Reserves c second d → first ≢ second }
+{}
+
+/// What [`Table::inbound`](crate::Table::inbound), [`outbound`](crate::Table::outbound) and [`after`](crate::Table::after) answer
+/// is determined.
+pub fn lookups_are_determined()
+    ensures inbound { (pairs : Pairs) (spi : ℕ) (a b : Pair) → IsInbound pairs spi a → IsInbound pairs spi b → a ≡ b }
+    ensures outbound { (pairs : Pairs) (flow : Flow) (a b : ℕ) → IsOutbound pairs flow a → IsOutbound pairs flow b → a ≡ b }
+    ensures after { (pairs : Pairs) (serial : ℕ) (a b : Pair) → IsAfter pairs serial a → IsAfter pairs serial b → a ≡ b }
 {}
 
 /// A pair that mirrors another is mirrored by it.

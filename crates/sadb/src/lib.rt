@@ -30,7 +30,8 @@ mod table;
 
 pub use fault::TableFault;
 pub use laws::{
-    each_pair_has_a_mirror, mirroring_is_symmetric, no_spi_is_given_twice, tables_follow,
+    each_pair_has_a_mirror, lookups_are_determined, mirroring_is_symmetric, no_spi_is_given_twice,
+    tables_follow,
 };
 pub use pair::{Pair, State};
 pub use spi::Spi;

@@ -1,0 +1,39 @@
+-- What is looked up in a table is determined.
+use Rattle.std.proofs.Common.{◌≡◌, ◌<◌, ℕ, Some, arith, sym, ap, ◌∙◌, inl, inr}
+use Rattle.std.proofs.lemmas.Bool.Decides.{leb_tells}
+use Rattle.std.proofs.lemmas.Option.{none-some}
+use Rattle.std.specs.Option.{unwrap_or}
+use Rattle.std.specs.FinMap as map
+use Rattle.policy.specs.declared.flow.Flow.{Flow}
+use Rattle.sadb.specs.declared.pair.Pair.{Pair}
+use Rattle.sadb.specs.Database.{Pairs, IsInbound, IsOutbound, IsAfter}
+
+-- two numbers of which neither is below the other
+one_of_them : (a b : ℕ) → ¬ (a < b) → ¬ (b < a) → a ≡ b
+one_of_them a b one two =
+    elim (leb_tells a b) [
+      | inl (_, upward) ↦ elim (leb_tells b a) [
+        | inl (_, downward) ↦ omega arith
+        | inr (_, below) ↦ absurd (one (omega arith))
+      ]
+      | inr (_, above) ↦ absurd (two (omega arith))
+    ]
+
+-- two pairs that stand under their own serials, which are one
+one_pair : (pairs : Pairs) (a b : Pair) → map.get pairs a.serial ≡ Some a → map.get pairs b.serial ≡ Some b → a.serial ≡ b.serial → a ≡ b
+one_pair pairs a b first second same = ap (λ o. unwrap_or o a) (sym first ∙ ap (map.get pairs) same ∙ second)
+
+pub one_inbound : (pairs : Pairs) (spi : ℕ) (a b : Pair) → IsInbound pairs spi a → IsInbound pairs spi b → a ≡ b
+one_inbound pairs spi a b first second =
+    one_pair pairs a b first.there second.there (second.only a.serial (record { pair = a; there = first.there; its_own = first.its_own }))
+
+pub one_outbound : (pairs : Pairs) (flow : Flow) (a b : ℕ) → IsOutbound pairs flow a → IsOutbound pairs flow b → a ≡ b
+one_outbound pairs flow a b first second =
+    one_of_them a b (λ below. first.greatest b below second.carries) (λ below. second.greatest a below first.carries)
+
+pub one_after : (pairs : Pairs) (serial : ℕ) (a b : Pair) → IsAfter pairs serial a → IsAfter pairs serial b → a ≡ b
+one_after pairs serial a b first second =
+    one_pair pairs a b first.there second.there
+    (one_of_them a.serial b.serial
+    (λ below. none-some a (sym (second.least a.serial first.above below) ∙ first.there))
+    (λ below. none-some b (sym (first.least b.serial second.above below) ∙ second.there)))
