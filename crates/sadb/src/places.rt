@@ -116,7 +116,7 @@ impl Places {
         ensures room { self.old.room ≤ self.new.room + 1 }
     {
         let spi = self.next();
-        self.places.push(Place::Reserved).unwrap();
+        self.places.push_reserved(Place::Reserved);
         self.reserved += 1;
         spi
     }
