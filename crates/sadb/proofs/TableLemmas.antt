@@ -14,7 +14,7 @@ use Rattle.esp.specs.declared.fault.EspFault.{EspFault}
 use Rattle.esp.specs.declared.fault.EspFault.TheVariants.{Exhausted, PayloadSize, BadLength, Old, Replayed, BadNumber, BadIcv, BadPadding, Memory}
 use Rattle.replay.specs.Window as window
 use Rattle.sadb.specs.declared.pair.Pair.{Pair}
-use Rattle.sadb.specs.Database.{Database, IsFull, IsSpent, IsAsBefore, IsReserved, Reserves, Releases, Installs, Removes, HasInbound, IsInbound, IsSound, IsStart, Pairs, OpensAt, RefusesAt, SealsAt, SealRefusalAt}
+use Rattle.sadb.specs.Database.{Database, IsFull, IsSpent, IsAsBefore, IsReserved, Reserves, Releases, Installs, Removes, HasInbound, IsInbound, IsSound, IsStart, PairMap, OpensAt, RefusesAt, SealsAt, SealRefusalAt}
 use Rattle.sadb.specs.Storage.{Index, Shelf, IsTable, spi_of}
 use Rattle.sadb.proofs.NumberedLemmas.{inserted_here, inserted_apart, inserted_same, removed_here, removed_apart}
 use Rattle.sadb.proofs.IndexLemmas.{some_member, removed_len, inserted_len}
@@ -142,6 +142,7 @@ released_in now x new s spi shown sound is_reserved new_is =
         back = λ serial q held. ap (λ m. map.get m q) new_serials ∙ sound.back serial q held;
       };
       releases = record {
+        reserved = is_reserved;
         content = λ i. record {
           start = (ap (λ y. y.start) new_is ∙ ap (λ d. d.start) shown) i;
           given = (new_given ∙ ap (λ d. d.given) shown) i;
@@ -155,21 +156,21 @@ released_in now x new s spi shown sound is_reserved new_is =
     }
 
 -- at one serial a map of pairs is what was put there, elsewhere it is as it was
-spi_here : (pairs : Pairs) (serial n : ℕ) (pair : Pair) → n ≡ serial → spi_of (map.get (map.insert pairs serial pair) n) ≡ Some pair.inbound.association.spi
+spi_here : (pairs : PairMap) (serial n : ℕ) (pair : Pair) → n ≡ serial → spi_of (map.get (map.insert pairs serial pair) n) ≡ Some pair.inbound.association.spi
 spi_here pairs serial n pair same = ap spi_of (inserted_here pairs serial n pair same)
 
-spi_apart : (pairs : Pairs) (serial n : ℕ) (pair : Pair) → n ≢ serial → spi_of (map.get (map.insert pairs serial pair) n) ≡ spi_of (map.get pairs n)
+spi_apart : (pairs : PairMap) (serial n : ℕ) (pair : Pair) → n ≢ serial → spi_of (map.get (map.insert pairs serial pair) n) ≡ spi_of (map.get pairs n)
 spi_apart pairs serial n pair apart = ap spi_of (inserted_apart pairs serial n pair apart)
 
-inserted_pairs : (pairs : Pairs) (serial : ℕ) (pair : Pair) → map.get pairs serial ≡ None → map.len (map.insert pairs serial pair) ≡ map.len pairs + 1
+inserted_pairs : (pairs : PairMap) (serial : ℕ) (pair : Pair) → map.get pairs serial ≡ None → map.len (map.insert pairs serial pair) ≡ map.len pairs + 1
 inserted_pairs pairs serial pair none =
     map.len-insert nat_cmp_total pairs serial pair ∙ ap (λ o. cond (is_some o) (map.len pairs) (map.len pairs + 1)) none
 
-changed_pairs : (pairs : Pairs) (serial : ℕ) (old pair : Pair) → map.get pairs serial ≡ Some old → map.len (map.insert pairs serial pair) ≡ map.len pairs
+changed_pairs : (pairs : PairMap) (serial : ℕ) (old pair : Pair) → map.get pairs serial ≡ Some old → map.len (map.insert pairs serial pair) ≡ map.len pairs
 changed_pairs pairs serial old pair there =
     map.len-insert nat_cmp_total pairs serial pair ∙ ap (λ o. cond (is_some o) (map.len pairs) (map.len pairs + 1)) there
 
-removed_pairs : (pairs : Pairs) (serial : ℕ) (old : Pair) → map.get pairs serial ≡ Some old → map.len (map.remove pairs serial) ≡ map.len pairs - 1
+removed_pairs : (pairs : PairMap) (serial : ℕ) (old : Pair) → map.get pairs serial ≡ Some old → map.len (map.remove pairs serial) ≡ map.len pairs - 1
 removed_pairs pairs serial old there =
     map.len-remove nat_cmp_total pairs serial ∙ ap (λ o. cond (is_some o) (map.len pairs - 1) (map.len pairs)) there
 
@@ -251,6 +252,8 @@ installed_in now x new s more spi pair serial shown sound is_reserved its_own ne
             ∙ installed_back x s sound spi serial (numbered_as serial pair) its_own no_pair no_serial n q (ap (λ m. spi_of (map.get m n)) (sym new_pairs) ∙ held);
       };
       installs = record {
+        reserved = is_reserved;
+        its_own = its_own;
         in_order = next ∙ ap (λ d. d.next) shown;
         content = λ i. record {
           start = (ap (λ y. y.start) new_is ∙ ap (λ d. d.start) shown) i;
@@ -325,6 +328,8 @@ removed_in now x new s less serial pair shown sound there less_is less_room new_
             ap (λ m. map.get m q) new_serials ∙ removed_back x s sound serial pair there n q (ap (λ m. spi_of (map.get m n)) (sym new_pairs) ∙ held);
       };
       removes = record {
+        pair = pair;
+        there = ap (λ d. map.get d.pairs serial) (sym shown) ∙ there;
         content = λ i. record {
           start = (ap (λ y. y.start) new_is ∙ ap (λ d. d.start) shown) i;
           given = (new_given ∙ ap (λ d. d.given) shown) i;
@@ -401,7 +406,7 @@ refused_unchanged old new packet BadIcv not is = is.1
 refused_unchanged old new packet BadPadding not is = absurd (not refl)
 refused_unchanged old new packet Memory not is = absurd is.0
 
-pub pairs_unchanged : (old new : Pairs) (serial : ℕ) (packet : List ℕ) (fault : EspFault) → fault ≢ BadPadding → RefusesAt old serial packet fault new → new ≡ old
+pub pairs_unchanged : (old new : PairMap) (serial : ℕ) (packet : List ℕ) (fault : EspFault) → fault ≢ BadPadding → RefusesAt old serial packet fault new → new ≡ old
 pairs_unchanged old new serial packet fault not is =
     let same : is.inbound ≡ is.pair.inbound = refused_unchanged is.pair.inbound is.inbound packet fault not is.refused in
     is.changed ∙ ap (λ inbound. map.insert old serial (record is.pair { inbound = inbound })) same ∙ inserted_same old serial is.pair is.there

@@ -28,7 +28,7 @@ pub record Database : Type 0 where
   pub next : ℕ
   -- the pairs by their serials
   pub pairs : map.FinMap nat_cmp Pair
-  -- how many more SPIs can be reserved without memory, beside the content
+  -- for how many more SPIs, with their pairs, there is room, so that reserving them takes no memory; no part of the content
   pub room : ℕ
 
 abbrev pub database_code : Coded Database
@@ -40,7 +40,7 @@ database_code =
     (λ c. record { start = c.0; given = c.1.0; reserved = c.1.1.0; next = c.1.1.1.0; pairs = c.1.1.1.1.0; room = c.1.1.1.1.1 })
     (λ _. refl)
 
--- where SPIs may begin: 0 to 255 are reserved (RFC 4303 section 2.1), and 65,536 follow
+-- where SPIs may begin: 0 to 255 are reserved (RFC 4303 section 2.1), and 65,536 of them from the start on fit 32 bits
 pub record IsStart (start : ℕ) : Type 0 where
   pub least : 256 ≤ start
   pub most : start + 65536 ≤ 2 ^ 32
@@ -71,7 +71,7 @@ pub record IsAsBefore (old new : Database) : Type 0 where
   pub content : new ≡ record old { room = new.room }
   pub room : old.room ≤ new.room
 
--- the next SPI is given, and reserved until its pair comes; one place of those that were there is used
+-- the next SPI is given, and reserved until its pair comes; room falls by one at most
 pub record Reserves (old : Database) (spi : ℕ) (new : Database) : Type 0 where
   pub in_order : spi ≡ old.start + old.given
   pub content : new ≡ record old { given = old.given + 1; reserved = set.insert old.reserved spi; room = new.room }
@@ -79,11 +79,14 @@ pub record Reserves (old : Database) (spi : ℕ) (new : Database) : Type 0 where
 
 -- the SPI is reserved no more
 pub record Releases (old : Database) (spi : ℕ) (new : Database) : Type 0 where
+  pub reserved : IsReserved old spi
   pub content : new ≡ record old { reserved = set.remove old.reserved spi; room = new.room }
   pub room : old.room ≤ new.room
 
--- the pair stands where its SPI was reserved, under the next serial
+-- the pair comes for which the SPI was reserved, under the next serial
 pub record Installs (old : Database) (spi : ℕ) (pair : Pair) (serial : ℕ) (new : Database) : Type 0 where
+  pub reserved : IsReserved old spi
+  pub its_own : pair.inbound.association.spi ≡ spi
   pub in_order : serial ≡ old.next
   pub content : new ≡ record old {
     reserved = set.remove old.reserved spi;
@@ -95,71 +98,73 @@ pub record Installs (old : Database) (spi : ℕ) (pair : Pair) (serial : ℕ) (n
 
 -- the pair is there no more
 pub record Removes (old : Database) (serial : ℕ) (new : Database) : Type 0 where
+  pub pair : Pair
+  pub there : map.get old.pairs serial ≡ Some pair
   pub content : new ≡ record old { pairs = map.remove old.pairs serial; room = new.room }
   pub room : old.room ≤ new.room
 
 -- What is said of the pairs alone.
-abbrev pub Pairs : Type 0
-Pairs = map.FinMap nat_cmp Pair
+abbrev pub PairMap : Type 0
+PairMap = map.FinMap nat_cmp Pair
 
 -- the pair with this serial, if there is one
-abbrev pub pair_at : Pairs → ℕ → Option Pair
+abbrev pub pair_at : PairMap → ℕ → Option Pair
 pair_at pairs serial = map.get pairs serial
 
-abbrev pub IsThere : Pairs → ℕ → Type 0
+abbrev pub IsThere : PairMap → ℕ → Type 0
 IsThere pairs serial = IsSome (pair_at pairs serial)
 
 -- a pair is Live, with this serial
-pub record IsLive (pairs : Pairs) (serial : ℕ) : Type 0 where
+pub record IsLive (pairs : PairMap) (serial : ℕ) : Type 0 where
   pub pair : Pair
   pub there : pair_at pairs serial ≡ Some pair
   pub live : pair.state ≡ Live
 
 -- the pair with this serial is Deleting from then on
-pub record Marks (old : Pairs) (serial : ℕ) (new : Pairs) : Type 0 where
+pub record Marks (old : PairMap) (serial : ℕ) (new : PairMap) : Type 0 where
   pub pair : Pair
   pub there : pair_at old serial ≡ Some pair
   pub changed : new ≡ map.insert old serial (record pair { state = Deleting })
 
 -- the pair with this serial has this inbound SPI, Live or Deleting
-pub record HasInbound (pairs : Pairs) (spi serial : ℕ) : Type 0 where
+pub record HasInbound (pairs : PairMap) (spi serial : ℕ) : Type 0 where
   pub pair : Pair
   pub there : pair_at pairs serial ≡ Some pair
   pub its_own : pair.inbound.association.spi ≡ spi
 
 -- the one pair with this inbound SPI
-pub record IsInbound (pairs : Pairs) (spi : ℕ) (pair : Pair) : Type 0 where
+pub record IsInbound (pairs : PairMap) (spi : ℕ) (pair : Pair) : Type 0 where
   pub there : pair_at pairs pair.serial ≡ Some pair
   pub its_own : pair.inbound.association.spi ≡ spi
   pub only : (serial : ℕ) → HasInbound pairs spi serial → serial ≡ pair.serial
 
--- the pair of the least serial above one
-pub record IsAfter (pairs : Pairs) (serial : ℕ) (pair : Pair) : Type 0 where
+-- the pair of the least serial above the given one
+pub record IsAfter (pairs : PairMap) (serial : ℕ) (pair : Pair) : Type 0 where
   pub there : pair_at pairs pair.serial ≡ Some pair
   pub above : serial < pair.serial
   pub least : (other : ℕ) → serial < other → other < pair.serial → pair_at pairs other ≡ None
 
 -- the pair with this serial carries the flow outward: it is Live, its local selectors hold the source and its remote ones
 -- the target (RFC 4301 section 5.1)
-pub record Carries (pairs : Pairs) (flow : Flow) (serial : ℕ) : Type 0 where
+pub record Carries (pairs : PairMap) (flow : Flow) (serial : ℕ) : Type 0 where
   pub pair : Pair
   pub there : pair_at pairs serial ≡ Some pair
   pub live : pair.state ≡ Live
   pub covered : Covers pair.local pair.remote flow
 
 -- of the pairs that carry the flow, the one of the greatest serial, a choice of this implementation
-pub record IsOutbound (pairs : Pairs) (flow : Flow) (serial : ℕ) : Type 0 where
+pub record IsOutbound (pairs : PairMap) (flow : Flow) (serial : ℕ) : Type 0 where
   pub carries : Carries pairs flow serial
   pub greatest : (other : ℕ) → serial < other → ¬ Carries pairs flow other
 
 -- the packet is addressed to the pair with this serial
-pub record IsFor (pairs : Pairs) (serial : ℕ) (packet : List ℕ) : Type 0 where
+pub record IsFor (pairs : PairMap) (serial : ℕ) (packet : List ℕ) : Type 0 where
   pub pair : Pair
   pub there : pair_at pairs serial ≡ Some pair
   pub addressed : IsOf pair.inbound.association packet
 
 -- the inbound association of the pair with this serial hands the packet up, and no other pair is changed
-pub record OpensAt (old : Pairs) (serial : ℕ) (packet : List ℕ) (number next : ℕ) (payload : List ℕ) (new : Pairs) : Type 0 where
+pub record OpensAt (old : PairMap) (serial : ℕ) (packet : List ℕ) (number next : ℕ) (payload : List ℕ) (new : PairMap) : Type 0 where
   pub pair : Pair
   pub there : pair_at old serial ≡ Some pair
   pub inbound : Receiving
@@ -167,7 +172,7 @@ pub record OpensAt (old : Pairs) (serial : ℕ) (packet : List ℕ) (number next
   pub changed : new ≡ map.insert old serial (record pair { inbound = inbound })
 
 -- it refuses the packet, never for want of memory, and no other pair is changed
-pub record RefusesAt (old : Pairs) (serial : ℕ) (packet : List ℕ) (fault : EspFault) (new : Pairs) : Type 0 where
+pub record RefusesAt (old : PairMap) (serial : ℕ) (packet : List ℕ) (fault : EspFault) (new : PairMap) : Type 0 where
   pub pair : Pair
   pub there : pair_at old serial ≡ Some pair
   pub inbound : Receiving
@@ -175,7 +180,7 @@ pub record RefusesAt (old : Pairs) (serial : ℕ) (packet : List ℕ) (fault : E
   pub changed : new ≡ map.insert old serial (record pair { inbound = inbound })
 
 -- the outbound association of the pair with this serial seals a packet, and no other pair is changed
-pub record SealsAt (old : Pairs) (serial next : ℕ) (payload before : List ℕ) (number : ℕ) (new : Pairs) (after : List ℕ) : Type 0 where
+pub record SealsAt (old : PairMap) (serial next : ℕ) (payload before : List ℕ) (number : ℕ) (new : PairMap) (after : List ℕ) : Type 0 where
   pub pair : Pair
   pub there : pair_at old serial ≡ Some pair
   pub outbound : Sending
@@ -183,7 +188,7 @@ pub record SealsAt (old : Pairs) (serial next : ℕ) (payload before : List ℕ)
   pub changed : new ≡ map.insert old serial (record pair { outbound = outbound })
 
 -- why it seals nothing
-pub record SealRefusalAt (pairs : Pairs) (serial : ℕ) (payload : List ℕ) (fault : EspFault) : Type 0 where
+pub record SealRefusalAt (pairs : PairMap) (serial : ℕ) (payload : List ℕ) (fault : EspFault) : Type 0 where
   pub pair : Pair
   pub there : pair_at pairs serial ≡ Some pair
   pub refused : SealRefusal pair.outbound payload fault
@@ -198,7 +203,7 @@ pub record IsSound (d : Database) : Type 0 where
   pub start : IsStart d.start
   pub given : d.given ≤ 65536
   pub first : 1 ≤ d.next
-  -- a serial is given for an SPI that was given
+  -- each serial used up an SPI that was given, and those reserved are not used yet; so serials fit 32 bits
   pub next : d.next + set.len d.reserved ≤ d.given + 1
   pub few : map.len d.pairs + set.len d.reserved ≤ 1024
   pub reserved_given : (spi : ℕ) → IsReserved d spi → WasGiven d spi
@@ -211,21 +216,3 @@ pub record IsSound (d : Database) : Type 0 where
   pub spi_given : (serial spi : ℕ) → HasInbound d.pairs spi serial → WasGiven d spi
   pub spi_taken : (serial spi : ℕ) → HasInbound d.pairs spi serial → ¬ IsReserved d spi
   pub apart : (serial other spi : ℕ) → HasInbound d.pairs spi serial → HasInbound d.pairs spi other → serial ≡ other
-
--- Two pairs mirror each other (RFC 4301 section 4.1): what one end sends by its pair the other receives by its own, under the
--- same SPI and key, with numbers of one length in both directions, and what is local to one is remote to the other.
-pub record Mirrors (a b : Pair) : Type 0 where
-  pub inward : a.inbound.association ≡ b.outbound.association
-  pub outward : a.outbound.association ≡ b.inbound.association
-  pub extension : a.inbound.association.extended ≡ a.outbound.association.extended
-  pub local : a.local ≡ b.remote
-  pub remote : a.remote ≡ b.local
-
--- the same pair as the other end would hold it, but for numbers, windows and serials of its own
-abbrev pub reflection : Pair → Pair
-reflection a = record a {
-  inbound = record { association = a.outbound.association; window = a.inbound.window };
-  outbound = record { association = a.inbound.association; last = a.outbound.last };
-  local = a.remote;
-  remote = a.local;
-}

@@ -4,3 +4,4 @@ pub mod Database
 pub mod Numbered
 pub mod Storage
 pub mod Following
+pub mod Mirrors

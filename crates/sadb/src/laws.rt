@@ -1,24 +1,25 @@
-//! Facts about the definitions, each the contract of a function that does nothing: what becomes of a table over many calls, and
-//! mirrored pairs.
+//! Facts about the definitions, each the contract of a function that does nothing: what becomes of a table over many calls, that
+//! answers are determined, and mirrored pairs.
 ghost use Rattle.std.specs.Prelude.{◌≡◌, ◌≢◌, ℕ, List};
 ghost use Rattle.esp.specs.declared.fault.EspFault.{EspFault};
-ghost use Rattle.sadb.specs.declared.pair.Pair.{Pair};
-ghost use Rattle.sadb.specs.Database.{Database, IsAsBefore, IsReserved, IsSound, Installs, Marks, Mirrors, OpensAt, RefusesAt};
 ghost use Rattle.policy.specs.declared.flow.Flow.{Flow};
-ghost use Rattle.sadb.specs.Database.{IsAfter, IsInbound, IsOutbound, Pairs};
-ghost use Rattle.sadb.specs.Database.{Releases, Removes, Reserves, SealsAt, reflection};
+ghost use Rattle.sadb.specs.Database.{Database, HasInbound, Installs, IsAfter, IsAsBefore, IsInbound, IsOutbound, IsRefusal, IsSound};
+ghost use Rattle.sadb.specs.Database.{Marks, OpensAt, PairMap, RefusesAt, Releases, Removes, Reserves, SealsAt};
 ghost use Rattle.sadb.specs.Following.{Follows};
+ghost use Rattle.sadb.specs.Mirrors.{Mirrors, reflection};
+ghost use Rattle.sadb.specs.declared.fault.TableFault.{TableFault};
+ghost use Rattle.sadb.specs.declared.pair.Pair.{Pair};
 
-/// What every call makes of a table follows it: a pair stays under its serial, with its SPIs, keys and selectors, as long as it is
-/// there; no SPI that was given up, or that a pair had, comes again. What follows what follows a table follows it too, so this
-/// holds of calls in any number.
-pub fn tables_follow()
-    ensures again { (a b c : Database) → Follows a b → Follows b c → Follows a c }
+/// Each call leads from a table to one that follows it: a pair keeps its serial, SPIs, keys and selectors as long as it is there,
+/// never comes back to life, and no number of its comes back; and no SPI that was given up, or that a pair had, is reserved again
+/// or becomes another pair's. Following is transitive, so this holds of any number of calls.
+pub fn later_tables_follow()
+    ensures transitive { (a b c : Database) → Follows a b → Follows b c → Follows a c }
     ensures preparing { (old new : Database) → IsSound old → IsAsBefore old new → Follows old new }
     ensures reserving { (old new : Database) (spi : ℕ) → IsSound old → Reserves old spi new → Follows old new }
     ensures releasing { (old new : Database) (spi : ℕ) → IsSound old → Releases old spi new → Follows old new }
-    ensures installing { (old new : Database) (spi : ℕ) (pair : Pair) (serial : ℕ) → IsSound old → IsReserved old spi
-        → pair.inbound.association.spi ≡ spi → Installs old spi pair serial new → Follows old new }
+    ensures installing { (old new : Database) (spi : ℕ) (pair : Pair) (serial : ℕ)
+        → IsSound old → Installs old spi pair serial new → Follows old new }
     ensures removing { (old new : Database) (serial : ℕ) → IsSound old → Removes old serial new → Follows old new }
     ensures marking { (old new : Database) (serial : ℕ) → IsSound old → Marks old.pairs serial new.pairs
         → new ≡ record old { pairs = new.pairs } → Follows old new }
@@ -39,12 +40,19 @@ pub fn no_spi_is_given_twice()
         → Reserves a first b → Follows b c → Reserves c second d → first ≢ second }
 {}
 
+/// An inbound SPI names one pair for ever: what has it later is the pair that had it, under the same serial.
+pub fn an_spi_names_one_pair()
+    ensures { (a c : Database) (spi serial later : ℕ) → IsSound a → Follows a c
+        → HasInbound a.pairs spi serial → HasInbound c.pairs spi later → later ≡ serial }
+{}
+
 /// What [`Table::inbound`](crate::Table::inbound), [`outbound`](crate::Table::outbound) and [`after`](crate::Table::after) answer
-/// is determined.
-pub fn lookups_are_determined()
-    ensures inbound { (pairs : Pairs) (spi : ℕ) (a b : Pair) → IsInbound pairs spi a → IsInbound pairs spi b → a ≡ b }
-    ensures outbound { (pairs : Pairs) (flow : Flow) (a b : ℕ) → IsOutbound pairs flow a → IsOutbound pairs flow b → a ≡ b }
-    ensures after { (pairs : Pairs) (serial : ℕ) (a b : Pair) → IsAfter pairs serial a → IsAfter pairs serial b → a ≡ b }
+/// is determined, and of the refusals of an SPI one applies at most.
+pub fn answers_are_determined()
+    ensures inbound { (pairs : PairMap) (spi : ℕ) (a b : Pair) → IsInbound pairs spi a → IsInbound pairs spi b → a ≡ b }
+    ensures outbound { (pairs : PairMap) (flow : Flow) (a b : ℕ) → IsOutbound pairs flow a → IsOutbound pairs flow b → a ≡ b }
+    ensures after { (pairs : PairMap) (serial : ℕ) (a b : Pair) → IsAfter pairs serial a → IsAfter pairs serial b → a ≡ b }
+    ensures refusal { (d : Database) (a b : TableFault) → IsRefusal d a → IsRefusal d b → a ≡ b }
 {}
 
 /// A pair that mirrors another is mirrored by it.
@@ -52,7 +60,7 @@ pub fn mirroring_is_symmetric()
     ensures { (a b : Pair) → Mirrors a b → Mirrors b a }
 {}
 
-/// Each pair has a mirror: what the other end would hold.
-pub fn each_pair_has_a_mirror()
+/// A pair whose two associations have numbers of one length has a mirror: what the other end would hold.
+pub fn mirrors_exist()
     ensures { (a : Pair) → a.inbound.association.extended ≡ a.outbound.association.extended → Mirrors a (reflection a) }
 {}

@@ -2,8 +2,8 @@
 //! serial and by flow.
 //!
 //! A [`Table`] gives inbound SPIs, holds the [`Pair`]s that come for them, and opens and seals packets by a pair. It holds up to
-//! 1024 pairs and reserved SPIs together, and gives 65,536 SPIs in its life, none twice: limits of this implementation. Making
-//! room for a pair takes memory, and so may sealing; nothing else does.
+//! 1024 pairs and reserved SPIs together, and gives up to 65,536 SPIs in its life, limits of this implementation; none is given
+//! twice. Making room for a pair may take memory, and so may sealing; nothing else does.
 //!
 //! Contracts see a table as a finite map from serials to pairs, the set of reserved SPIs and how many were given
 //! (`specs/Database`); how it is kept (`specs/Storage`) is in no public clause.
@@ -13,6 +13,7 @@
 //! let spi = table.reserve()?;                            // 4096
 //! let window = BlockWindow::new(alloc, 2)?;
 //! let inbound = Inbound::new(spi.number(), &key, true, window);
+//! let outbound = Outbound::new(peer_spi, &peer_key, true, 0);
 //! let serial = table.install(spi, Pair::new(ike, inbound, outbound, local, remote));    // 1
 //! table.outbound(&flow)                                  // Some(1)
 //! table.seal(serial, 4, payload, &mut packet)?;
@@ -30,8 +31,8 @@ mod table;
 
 pub use fault::TableFault;
 pub use laws::{
-    each_pair_has_a_mirror, lookups_are_determined, mirroring_is_symmetric, no_spi_is_given_twice,
-    tables_follow,
+    an_spi_names_one_pair, answers_are_determined, later_tables_follow, mirroring_is_symmetric,
+    mirrors_exist, no_spi_is_given_twice,
 };
 pub use pair::{Pair, State};
 pub use spi::Spi;

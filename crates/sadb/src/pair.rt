@@ -10,7 +10,8 @@ use wire::{Items, Selector};
 pub enum State {
     /// It carries packets both ways.
     Live,
-    /// Its end was announced: packets that come are still opened, none is sent any more (RFC 7296 section 1.4.1).
+    /// Its end was announced (RFC 7296 section 1.4.1): packets that come are still opened, and no flow is given to it any more
+    /// ([`Table::outbound`](crate::Table::outbound) passes it over).
     Deleting,
 }
 
@@ -26,9 +27,9 @@ pub struct Pair {
     pub inbound: Inbound<BlockWindow>,
     /// Seals what is sent to the peer.
     pub outbound: Outbound,
-    /// The points of this end's side.
+    /// The selectors of this end's side.
     pub local: Items<Selector>,
-    /// The points of the peer's side.
+    /// The selectors of the peer's side.
     pub remote: Items<Selector>,
     /// Whether it carries packets outward.
     pub state: State,

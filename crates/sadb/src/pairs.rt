@@ -74,6 +74,7 @@ impl Pairs {
             → IsSound pair.inbound.window }
         ensures given { (serial : ℕ) → IsSome (map.get self.now.pairs serial) → (1 ≤ serial) × (serial < self.now.next) }
     {
+        // Opens the model, so that its invariant is known here.
         let _ = &self.keys;
     }
 
@@ -92,7 +93,7 @@ impl Pairs {
         ensures succeeds { more ≤ self.old.room → IsOk result }
     {
         self.keys.reserve(more)?;
-        // So nothing is refused where the room was there, also for none.
+        // With `more` = 0 too the slab's `reserve` is not refused: what it holds fits its capacity.
         prove!(self.slab.len() <= self.slab.capacity());
         self.slab.reserve(more)
     }
@@ -112,7 +113,7 @@ impl Pairs {
     {
         let serial = self.keys.len() as u32 + 1;
         pair.serial = serial;
-        // What the invariant says of each pair.
+        // The invariant wants each pair's window sound.
         pair.inbound.window_is_sound();
         let key = self.slab.insert_reserved(pair);
         self.keys.push_reserved(Some(key));
@@ -159,7 +160,7 @@ impl Pairs {
         let key = key(&self.keys, serial).unwrap();
         let inbound = &mut self.slab[key].inbound;
         let opened = inbound.open(packet);
-        // What the invariant says of each pair.
+        // The invariant wants each pair's window sound.
         inbound.window_is_sound();
         opened
     }
@@ -183,7 +184,7 @@ impl Pairs {
         self.slab[key].outbound.seal(next, payload, out)
     }
 
-    /// The pair of the least serial above one.
+    /// The pair of the least serial above the given one.
     pub fn after(&self, serial: u32) -> Option<&Pair>
         ensures some { IfSome result (λ pair. IsAfter self.now.pairs serial pair.now) }
         ensures none { IfNone result ((other : ℕ) → serial < other → map.get self.now.pairs other ≡ None) }

@@ -67,6 +67,7 @@ impl Places {
         ensures held { (spi : ℕ) → IsSome (map.get self.now.serials spi)
             → (self.now.start ≤ spi) × (spi < self.now.start + self.now.given) }
     {
+        // Opens the model, so that its invariant is known here.
         let _ = &self.start;
     }
 
@@ -145,8 +146,8 @@ impl Places {
         self.reserved -= 1;
     }
 
-    /// Gives up the SPI of a pair.
-    pub fn free(&mut self, spi: u32)
+    /// Gives up the SPI of a pair; none comes with it again.
+    pub fn retire(&mut self, spi: u32)
         requires { IsSome (map.get self.old.serials spi) }
         ensures { self.new ≡ record self.old { serials = map.remove self.old.serials spi } }
     {

@@ -78,7 +78,7 @@ impl Table {
     /// changed. Where there is room already, as right after another `prepare`, it takes no memory.
     ///
     /// Refused, in this order: [`TableFault::Full`] where pairs and reserved SPIs together are 1024, [`TableFault::Spent`]
-    /// where 65,536 SPIs were given, [`TableFault::Memory`].
+    /// where 65,536 SPIs were given, [`TableFault::Memory`] where there was no memory for the room.
     pub fn prepare(&mut self) -> Result<u32, TableFault>
         ensures content { IsAsBefore self.old self.new }
         ensures ok { IfOk result (λ spi. (spi ≡ self.old.start + self.old.given) × (1 ≤ self.new.room)
@@ -101,8 +101,8 @@ impl Table {
         Ok(self.places.next())
     }
 
-    /// Gives the next inbound SPI and makes room for its pair. Right after [`prepare`](Table::prepare) it takes no memory and
-    /// is not refused.
+    /// Gives the next inbound SPI and makes room for its pair. Right after a [`prepare`](Table::prepare) that
+    /// answered Ok it takes no memory and is not refused.
     ///
     /// Refused as [`prepare`](Table::prepare) is, with nothing changed.
     pub fn reserve(&mut self) -> Result<Spi, TableFault>
@@ -134,13 +134,14 @@ impl Table {
         serial
     }
 
-    /// Takes a pair out for good. The caller asks only for one that is there. Takes no memory.
+    /// Takes a pair out for good; its inbound SPI is not given again. The caller asks only for one that is there. Takes no
+    /// memory.
     pub fn remove(&mut self, serial: u32)
         requires { IsThere self.old.pairs serial }
         ensures { Removes self.old serial self.new }
     {
         let pair = self.pairs.remove(serial);
-        self.places.free(pair.inbound.spi());
+        self.places.retire(pair.inbound.spi());
     }
 
     /// The pair with an inbound SPI, Live or Deleting. Takes no memory, and costs the same however many pairs there are.
@@ -151,8 +152,8 @@ impl Table {
         self.pairs.get(self.places.serial(spi)?)
     }
 
-    /// Ends a Live pair's traffic outward: it is Deleting from now on. The caller asks only for one that is Live. Takes no
-    /// memory.
+    /// Ends a Live pair's traffic outward: it is Deleting from now on, so [`outbound`](Table::outbound) passes it over. The caller
+    /// asks only for one that is Live. Takes no memory.
     pub fn mark(&mut self, serial: u32)
         requires { IsLive self.old.pairs serial }
         ensures marked { Marks self.old.pairs serial self.new.pairs }
@@ -170,7 +171,7 @@ impl Table {
         self.pairs.outbound(flow)
     }
 
-    /// The pair of the least serial above one, so that all are found from 0 on. Takes no memory.
+    /// The pair of the least serial above the given one; from 0 on, one after the other, all are found. Takes no memory.
     pub fn after(&self, serial: u32) -> Option<&Pair>
         ensures some { IfSome result (λ pair. IsAfter self.now.pairs serial pair.now) }
         ensures none { IfNone result ((other : ℕ) → serial < other → pair_at self.now.pairs other ≡ None) }
@@ -179,7 +180,7 @@ impl Table {
     }
 
     /// Opens a packet by the inbound association of a pair, as [`esp::Inbound::open`] does, with its refusals but for want of
-    /// memory, which never comes. The caller asks only for a pair that is there, with packets whose first four octets, where
+    /// memory, which never comes. The caller asks only for a pair that is there, with a packet whose first four octets, where
     /// there are four, are its inbound SPI. Takes no memory.
     pub fn open<'a>(&mut self, serial: u32, packet: &'a [u8]) -> Result<Opened<'a>, EspFault>
         requires { IsFor self.old.pairs serial packet.now }

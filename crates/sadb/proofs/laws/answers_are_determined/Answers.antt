@@ -1,5 +1,5 @@
-use Rattle.sadb.proofs.LookupLemmas.{one_inbound, one_outbound, one_after}
-use Rattle.sadb.proofs.laws.lookups_are_determined.Goals as goal
+use Rattle.sadb.proofs.LookupLemmas.{one_inbound, one_outbound, one_after, one_refusal}
+use Rattle.sadb.proofs.laws.answers_are_determined.Goals as goal
 
 pub returns-clause-inbound : goal.returns-clause-inbound
 returns-clause-inbound c = one_inbound
@@ -9,3 +9,6 @@ returns-clause-outbound c = one_outbound
 
 pub returns-clause-after : goal.returns-clause-after
 returns-clause-after c = one_after
+
+pub returns-clause-refusal : goal.returns-clause-refusal
+returns-clause-refusal c = one_refusal

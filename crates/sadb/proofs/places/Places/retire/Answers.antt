@@ -1,7 +1,7 @@
 use Rattle.std.proofs.Common.{arith}
 use Rattle.std.specs.Vec.{vec_capacity}
 use Rattle.sadb.proofs.IndexLemmas.{freed}
-use Rattle.sadb.proofs.places.Places.free.Goals as goal
+use Rattle.sadb.proofs.places.Places.retire.Goals as goal
 
 pub overflow_sub-place : goal.overflow_sub-place
 overflow_sub-place c = (freed c.args.self.now c.self.inside.start c.self.inside.places.items (vec_capacity c.self.inside.places) c.self.inside.reserved c.args.spi c.self.view_is c.self.invariant c.requires).place.from_start

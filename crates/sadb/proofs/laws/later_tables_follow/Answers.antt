@@ -1,8 +1,8 @@
 use Rattle.sadb.proofs.FollowingLemmas.{follows_again, as_before, after_reserving, after_releasing, after_installing, after_removing, after_marking, after_opening, after_refusing, after_sealing}
-use Rattle.sadb.proofs.laws.tables_follow.Goals as goal
+use Rattle.sadb.proofs.laws.later_tables_follow.Goals as goal
 
-pub returns-clause-again : goal.returns-clause-again
-returns-clause-again c = follows_again
+pub returns-clause-transitive : goal.returns-clause-transitive
+returns-clause-transitive c = follows_again
 
 pub returns-clause-preparing : goal.returns-clause-preparing
 returns-clause-preparing c = as_before
