@@ -16,7 +16,7 @@ use Rattle.replay.specs.Window as window
 use Rattle.sadb.specs.declared.pair.Pair.{Pair}
 use Rattle.sadb.specs.Database.{Database, IsFull, IsSpent, IsAsBefore, IsReserved, Reserves, Releases, Installs, Removes, HasInbound, IsInbound, IsSound, IsStart, PairMap, OpensAt, RefusesAt, SealsAt, SealRefusalAt}
 use Rattle.sadb.specs.Storage.{Index, Shelf, IsTable, spi_of}
-use Rattle.sadb.proofs.NumberedLemmas.{inserted_here, inserted_apart, inserted_same, removed_here, removed_apart}
+use Rattle.sadb.proofs.NumberedLemmas.{member_here, inserted_here, inserted_apart, inserted_same, removed_here, removed_apart}
 use Rattle.sadb.proofs.IndexLemmas.{some_member, removed_len, inserted_len}
 
 abbrev pub table_of : Index → Shelf → Database
@@ -110,6 +110,9 @@ reserved_in now ready x new s spi shown before not_full not_spent some sound spi
         room = omega arith;
       };
     }
+
+pub is_reserved : (old new : Database) (spi : ℕ) → Reserves old spi new → IsReserved new spi
+is_reserved old new spi is = ap (λ d. set.contains d.reserved spi) is.content ∙ member_here old.reserved spi spi refl
 
 -- a reserved SPI is given up
 pub record ReleasedIn (now : Database) (x : Index) (s : Shelf) (spi : ℕ) : Type 0 where

@@ -107,6 +107,7 @@ impl Table {
     /// Refused as [`prepare`](Table::prepare) is, with nothing changed.
     pub fn reserve(&mut self) -> Result<Spi, TableFault>
         ensures ok { IfOk result (λ spi. Reserves self.old spi self.new × (¬ IsFull self.old) × (¬ IsSpent self.old)) }
+        ensures reserved { IfOk result (IsReserved self.new) }
         ensures refused { IfErr result (λ fault. IsRefusal self.old fault × IsAsBefore self.old self.new) }
         ensures succeeds { 1 ≤ self.old.room → ¬ IsFull self.old → ¬ IsSpent self.old → IsOk result }
     {
