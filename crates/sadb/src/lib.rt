@@ -37,3 +37,6 @@ pub use laws::{
 pub use pair::{Pair, State};
 pub use spi::Spi;
 pub use table::Table;
+
+#[cfg(test)]
+mod tests;
