@@ -1,6 +1,6 @@
 pub mod NumberedLemmas
 pub mod PlacesLemmas
-pub mod IndexLemmas
+pub mod GivenLemmas
 pub mod PairsLemmas
 pub mod TableLemmas
 pub mod FollowingLemmas

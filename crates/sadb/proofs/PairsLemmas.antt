@@ -1,4 +1,4 @@
--- What a shelf of pairs shows, and how it changes.
+-- What a by_serial of pairs shows, and how it changes.
 use Rattle.std.proofs.Common.{◌≡◌, ◌≢◌, ◌+◌, ◌-◌, ◌<◌, ◌≤◌, ◌⊎◌, ◌++◌, ◌∷◌, [], ℕ, zero, suc, List, length, set, get_or, true, cond, Option, Some, None, is_some, IsSome, IfSome, IfNone, IsSomeAnd, Contains, Bor, min, max, count_by, arith, sym, ap, ◌∙◌, refl, inl, inr, subst, rules}
 use Rattle.std.proofs.lemmas.Bool.{cases_eq, cases_lt}
 use Rattle.std.proofs.lemmas.List.{get_or-set_same, get_or-set_other, get_or_past, get_or_append_left, length_push}
@@ -17,7 +17,7 @@ use Rattle.policy.specs.Decisions.{Covers}
 use Rattle.sadb.specs.declared.pair.State.TheVariants.{Live}
 use Rattle.sadb.specs.Database.{IsAfter, Carries, IsOutbound}
 use Rattle.sadb.specs.Numbered.{numbered}
-use Rattle.sadb.specs.Storage.{Shelf, key_at, key_of, at_key, serial_of, shown_pairs, IsShelf}
+use Rattle.sadb.specs.Storage.{PairsBySerial, key_at, key_of, at_key, serial_of, shown_pairs, IsIndexed}
 use Rattle.sadb.proofs.NumberedLemmas.{numbered_at, numbered_below, numbered_inserts, numbered_removes, inserted_same, EndsAt}
 
 -- an option with its value, if it has one
@@ -77,27 +77,27 @@ shown_found keys slab serial index key pair f =
     let same : serial ≡ suc index = omega (arith, f.next) in
     ap (map.get (shown_pairs keys slab)) same ∙ shown_at keys slab (suc index) ∙ ap (at_key slab) f.at ∙ f.there
 
-pub own_serial : (keys : List (Option ℕ)) (slab : Slab Pair) (serial index key : ℕ) (pair : Pair) → IsShelf keys slab → Found keys slab serial index key pair → pair.serial ≡ serial
-own_serial keys slab serial index key pair shelf f =
-    let both : Some pair.serial ≡ Some (index + 1) = sym (ap serial_of f.there) ∙ shelf.there index key f.at in
+pub own_serial : (keys : List (Option ℕ)) (slab : Slab Pair) (serial index key : ℕ) (pair : Pair) → IsIndexed keys slab → Found keys slab serial index key pair → pair.serial ≡ serial
+own_serial keys slab serial index key pair by_serial f =
+    let both : Some pair.serial ≡ Some (index + 1) = sym (ap serial_of f.there) ∙ by_serial.there index key f.at in
     let same : pair.serial ≡ index + 1 = cc in
     same ∙ sym f.next
 
 -- two places with one key are one index
-one_index : (keys : List (Option ℕ)) (slab : Slab Pair) (index other key : ℕ) → IsShelf keys slab → key_at keys index ≡ Some key → key_at keys other ≡ Some key → index ≡ other
-one_index keys slab index other key shelf at at_other =
-    let both : Some (index + 1) ≡ Some (other + 1) = sym (shelf.there index key at) ∙ shelf.there other key at_other in
+one_index : (keys : List (Option ℕ)) (slab : Slab Pair) (index other key : ℕ) → IsIndexed keys slab → key_at keys index ≡ Some key → key_at keys other ≡ Some key → index ≡ other
+one_index keys slab index other key by_serial at at_other =
+    let both : Some (index + 1) ≡ Some (other + 1) = sym (by_serial.there index key at) ∙ by_serial.there other key at_other in
     let same : index + 1 ≡ other + 1 = cc in
     omega arith
 
 -- what stands at the key of another index is as it was
-others_kept : (keys : List (Option ℕ)) (old new : Slab Pair) (index key : ℕ) (slot : Option Pair) → IsShelf keys old → key_at keys index ≡ Some key → Updates old new key slot → (other : ℕ) → other ≢ index → pair_at keys new other ≡ pair_at keys old other
-others_kept keys old new index key slot shelf at updates other apart =
+others_kept : (keys : List (Option ℕ)) (old new : Slab Pair) (index key : ℕ) (slot : Option Pair) → IsIndexed keys old → key_at keys index ≡ Some key → Updates old new key slot → (other : ℕ) → other ≢ index → pair_at keys new other ≡ pair_at keys old other
+others_kept keys old new index key slot by_serial at updates other apart =
     elim (cases_option (key_at keys other)) [
       | inl none ↦ ap (at_key new) none ∙ sym (ap (at_key old) none)
       | inr some ↦
           ap (at_key new) some.1
-          ∙ updates.others some.0 (λ same. apart (one_index keys old other index key shelf (some.1 ∙ ap (λ (k : ℕ). Some k) same) at))
+          ∙ updates.others some.0 (λ same. apart (one_index keys old other index key by_serial (some.1 ∙ ap (λ (k : ℕ). Some k) same) at))
           ∙ sym (ap (at_key old) some.1)
     ]
 
@@ -117,20 +117,20 @@ windows_after old new key slot sound updates here k p is =
       | inr apart ↦ sound k p (sym (updates.others k apart) ∙ is)
     ]
 
--- a shelf with another capacity
-pub shelf_grown : (keys keys' : List (Option ℕ)) (old new : Slab Pair) → keys' ≡ keys → new ≡ record old { capacity = new.capacity } → IsShelf keys old → IsShelf keys' new
-shelf_grown keys keys' old new same_keys grown shelf =
-    let roomy : IsShelf keys (record old { capacity = new.capacity }) = record { there = shelf.there; back = shelf.back; counted = shelf.counted; windows = shelf.windows } in
-    subst (λ (ks : List (Option ℕ)). IsShelf ks new) (sym same_keys) (subst (λ (slab : Slab Pair). IsShelf keys slab) (sym grown) roomy)
+-- a by_serial with another capacity
+pub by_serial_grown : (keys keys' : List (Option ℕ)) (old new : Slab Pair) → keys' ≡ keys → new ≡ record old { capacity = new.capacity } → IsIndexed keys old → IsIndexed keys' new
+by_serial_grown keys keys' old new same_keys grown by_serial =
+    let roomy : IsIndexed keys (record old { capacity = new.capacity }) = record { there = by_serial.there; back = by_serial.back; counted = by_serial.counted; windows = by_serial.windows } in
+    subst (λ (ks : List (Option ℕ)). IsIndexed ks new) (sym same_keys) (subst (λ (slab : Slab Pair). IsIndexed keys slab) (sym grown) roomy)
 
 -- A pair is changed.
-module _ (keys : List (Option ℕ)) (old new : Slab Pair) (serial index key : ℕ) (pair changed : Pair) (shelf : IsShelf keys old) (f : Found keys old serial index key pair) (updates : Updates old new key (Some changed)) where
+module _ (keys : List (Option ℕ)) (old new : Slab Pair) (serial index key : ℕ) (pair changed : Pair) (by_serial : IsIndexed keys old) (f : Found keys old serial index key pair) (updates : Updates old new key (Some changed)) where
   pub shown_changed : shown_pairs keys new ≡ map.insert (shown_pairs keys old) serial changed
   shown_changed =
       let same : 1 + index ≡ serial = omega (arith, f.next) in
       numbered_inserts 1 (pair_at keys old) (pair_at keys new) (length keys) (length keys) (ends keys old) (ends keys new) index changed
       (ap (at_key new) f.at ∙ updates.changed)
-      (others_kept keys old new index key (Some changed) shelf f.at updates)
+      (others_kept keys old new index key (Some changed) by_serial f.at updates)
       ∙ ap (λ k. map.insert (shown_pairs keys old) k changed) same
 
   len_changed : map.len (shown_pairs keys new) ≡ map.len (shown_pairs keys old)
@@ -146,13 +146,13 @@ module _ (keys : List (Option ℕ)) (old new : Slab Pair) (serial index key : �
         | inr apart ↦ ap serial_of (updates.others k apart)
       ]
 
-  pub shelf_changed : changed.serial ≡ pair.serial → IsSound changed.inbound.window → slab_len new ≡ slab_len old → IsShelf keys new
-  shelf_changed same sound counted =
+  pub by_serial_changed : changed.serial ≡ pair.serial → IsSound changed.inbound.window → slab_len new ≡ slab_len old → IsIndexed keys new
+  by_serial_changed same sound counted =
       record {
-        there = λ i k at. serials_kept same k ∙ shelf.there i k at;
-        back = λ k s at. shelf.back k s (sym (serials_kept same k) ∙ at);
-        counted = counted ∙ shelf.counted ∙ sym len_changed;
-        windows = windows_after old new key (Some changed) shelf.windows updates (sound_some changed sound);
+        there = λ i k at. serials_kept same k ∙ by_serial.there i k at;
+        back = λ k s at. by_serial.back k s (sym (serials_kept same k) ∙ at);
+        counted = counted ∙ by_serial.counted ∙ sym len_changed;
+        windows = windows_after old new key (Some changed) by_serial.windows updates (sound_some changed sound);
       }
 
 len_with_value : (slab : Slab Pair) (key : ℕ) (pair changed : Pair) → get slab key ≡ Some pair → slab_len (with_value slab key changed) ≡ slab_len slab
@@ -163,7 +163,7 @@ len_with_value slab key pair changed there =
     omega (arith, sum_by-set weigh slab.slots key (Some changed) None within)
 
 -- A pair is added at the end.
-module _ (keys : List (Option ℕ)) (old new : Slab Pair) (key : ℕ) (pair : Pair) (shelf : IsShelf keys old) (vacant : get old key ≡ None) (updates : Updates old new key (Some pair)) where
+module _ (keys : List (Option ℕ)) (old new : Slab Pair) (key : ℕ) (pair : Pair) (by_serial : IsIndexed keys old) (vacant : get old key ≡ None) (updates : Updates old new key (Some pair)) where
   abbrev longer : List (Option ℕ)
   longer = keys ++ Some key ∷ []
 
@@ -179,7 +179,7 @@ module _ (keys : List (Option ℕ)) (old new : Slab Pair) (key : ℕ) (pair : Pa
   -- no index had this key
   fresh : (i k : ℕ) → key_at keys i ≡ Some k → k ≢ key
   fresh i k at same =
-      let nothing : None ≡ Some (i + 1) = sym (ap (λ x. serial_of (get old x)) same ∙ ap serial_of vacant) ∙ shelf.there i k at in
+      let nothing : None ≡ Some (i + 1) = sym (ap (λ x. serial_of (get old x)) same ∙ ap serial_of vacant) ∙ by_serial.there i k at in
       absurd (cc)
 
   pair_before : (i : ℕ) → i ≢ length keys → pair_at longer new i ≡ pair_at keys old i
@@ -220,7 +220,7 @@ module _ (keys : List (Option ℕ)) (old new : Slab Pair) (key : ℕ) (pair : Pa
             ap (λ x. serial_of (get new x)) same ∙ ap serial_of updates.changed ∙ ap (λ (x : ℕ). Some x) (numbered ∙ sym (ap (λ (x : ℕ). x + 1) here)))
         | inr apart ↦
             elim (cases_lt i (length keys)) [
-              | inl before ↦ (let was = sym (key_before i before) ∙ at in ap serial_of (updates.others k (fresh i k was)) ∙ shelf.there i k was)
+              | inl before ↦ (let was = sym (key_before i before) ∙ at in ap serial_of (updates.others k (fresh i k was)) ∙ by_serial.there i k was)
               | inr past ↦ (let nothing : None ≡ Some k = sym (key_past i (omega arith)) ∙ at in absurd (cc))
             ]
       ]
@@ -233,24 +233,24 @@ module _ (keys : List (Option ℕ)) (old new : Slab Pair) (key : ℕ) (pair : Pa
             let same : serial ≡ pair.serial = cc in
             let index : serial ≡ suc (length keys) = omega arith in
             ap (key_of longer) index ∙ key_here ∙ ap (λ (x : ℕ). Some x) (sym here))
-        | inr apart ↦ kept serial (shelf.back k serial (sym (ap serial_of (updates.others k apart)) ∙ at))
+        | inr apart ↦ kept serial (by_serial.back k serial (sym (ap serial_of (updates.others k apart)) ∙ at))
       ]
     where
       kept : (s : ℕ) → key_of keys s ≡ Some k → key_of longer s ≡ Some k
       kept zero was = was
       kept (suc i) was = key_before i (in_range keys i k was) ∙ was
 
-  pub shelf_added : pair.serial ≡ length keys + 1 → IsSound pair.inbound.window → slab_len new ≡ slab_len old + 1 → IsShelf longer new
-  shelf_added numbered sound counted =
+  pub by_serial_added : pair.serial ≡ length keys + 1 → IsSound pair.inbound.window → slab_len new ≡ slab_len old + 1 → IsIndexed longer new
+  by_serial_added numbered sound counted =
       record {
         there = there_added numbered;
         back = back_added numbered;
-        counted = counted ∙ ap (λ (n : ℕ). n + 1) shelf.counted ∙ sym len_added;
-        windows = windows_after old new key (Some pair) shelf.windows updates (sound_some pair sound);
+        counted = counted ∙ ap (λ (n : ℕ). n + 1) by_serial.counted ∙ sym len_added;
+        windows = windows_after old new key (Some pair) by_serial.windows updates (sound_some pair sound);
       }
 
 -- A pair is taken out.
-module _ (keys : List (Option ℕ)) (old new : Slab Pair) (serial index key : ℕ) (pair : Pair) (shelf : IsShelf keys old) (f : Found keys old serial index key pair) (updates : Updates old new key None) where
+module _ (keys : List (Option ℕ)) (old new : Slab Pair) (serial index key : ℕ) (pair : Pair) (by_serial : IsIndexed keys old) (f : Found keys old serial index key pair) (updates : Updates old new key None) where
   abbrev cleared : List (Option ℕ)
   cleared = set keys index None
 
@@ -261,7 +261,7 @@ module _ (keys : List (Option ℕ)) (old new : Slab Pair) (serial index key : �
   key_kept i apart = get_or-set_other keys index i None None apart
 
   pair_kept : (i : ℕ) → i ≢ index → pair_at cleared new i ≡ pair_at keys old i
-  pair_kept i apart = ap (at_key new) (key_kept i apart) ∙ others_kept keys old new index key None shelf f.at updates i apart
+  pair_kept i apart = ap (at_key new) (key_kept i apart) ∙ others_kept keys old new index key None by_serial f.at updates i apart
 
   pub shown_removed : shown_pairs cleared new ≡ map.remove (shown_pairs keys old) serial
   shown_removed =
@@ -283,15 +283,15 @@ module _ (keys : List (Option ℕ)) (old new : Slab Pair) (serial index key : �
         | inl here ↦ (let nothing : None ≡ Some k = sym key_gone ∙ sym (ap (key_at cleared) here) ∙ at in absurd (cc))
         | inr apart ↦
             (let was = sym (key_kept i apart) ∙ at in
-            ap serial_of (updates.others k (λ same. apart (one_index keys old i index key shelf (was ∙ ap (λ (x : ℕ). Some x) same) f.at)))
-            ∙ shelf.there i k was)
+            ap serial_of (updates.others k (λ same. apart (one_index keys old i index key by_serial (was ∙ ap (λ (x : ℕ). Some x) same) f.at)))
+            ∙ by_serial.there i k was)
       ]
 
   back_removed : (k s : ℕ) → serial_of (get new k) ≡ Some s → key_of cleared s ≡ Some k
   back_removed k s at =
       elim (cases_eq k key) [
         | inl here ↦ (let nothing : None ≡ Some s = sym (ap (λ x. serial_of (get new x)) here ∙ ap serial_of updates.changed) ∙ at in absurd (cc))
-        | inr apart ↦ kept apart s (shelf.back k s (sym (ap serial_of (updates.others k apart)) ∙ at))
+        | inr apart ↦ kept apart s (by_serial.back k s (sym (ap serial_of (updates.others k apart)) ∙ at))
       ]
     where
       kept : k ≢ key → (n : ℕ) → key_of keys n ≡ Some k → key_of cleared n ≡ Some k
@@ -299,13 +299,13 @@ module _ (keys : List (Option ℕ)) (old new : Slab Pair) (serial index key : �
       kept apart (suc i) was =
           key_kept i (λ here. (let both : Some k ≡ Some key = sym was ∙ ap (key_at keys) here ∙ f.at in apart (cc))) ∙ was
 
-  pub shelf_removed : slab_len new + 1 ≡ slab_len old → IsShelf cleared new
-  shelf_removed counted =
+  pub by_serial_removed : slab_len new + 1 ≡ slab_len old → IsIndexed cleared new
+  by_serial_removed counted =
       record {
         there = there_removed;
         back = back_removed;
-        counted = omega (arith, len_removed, shelf.counted);
-        windows = windows_after old new key None shelf.windows updates (λ p is. (let nothing : None ≡ Some p = is in absurd (cc)));
+        counted = omega (arith, len_removed, by_serial.counted);
+        windows = windows_after old new key None by_serial.windows updates (λ p is. (let nothing : None ≡ Some p = is in absurd (cc)));
       }
 
 -- what holds of the map of a view
@@ -316,15 +316,15 @@ module _ (keys : List (Option ℕ)) (slab : Slab Pair) (pairs : map.FinMap nat_c
   pub stands_in_view : (serial : ℕ) (pair : Pair) → map.get pairs serial ≡ Some pair → Stands keys slab serial pair
   stands_in_view serial pair there = found_at_key keys slab serial pair (sym (get_shown serial) ∙ there)
 
-  pub sound_serial : IsShelf keys slab → (serial : ℕ) (pair : Pair) → map.get pairs serial ≡ Some pair → pair.serial ≡ serial
-  sound_serial shelf serial pair there =
+  pub sound_serial : IsIndexed keys slab → (serial : ℕ) (pair : Pair) → map.get pairs serial ≡ Some pair → pair.serial ≡ serial
+  sound_serial by_serial serial pair there =
       let s = stands_in_view serial pair there in
-      own_serial keys slab serial s.index s.key pair shelf s.found
+      own_serial keys slab serial s.index s.key pair by_serial s.found
 
-  pub sound_window : IsShelf keys slab → (serial : ℕ) (pair : Pair) → map.get pairs serial ≡ Some pair → IsSound pair.inbound.window
-  sound_window shelf serial pair there =
+  pub sound_window : IsIndexed keys slab → (serial : ℕ) (pair : Pair) → map.get pairs serial ≡ Some pair → IsSound pair.inbound.window
+  sound_window by_serial serial pair there =
       let s = stands_in_view serial pair there in
-      shelf.windows s.key pair s.found.there
+      by_serial.windows s.key pair s.found.there
 
   pub sound_given : (next : ℕ) → length keys + 1 ≡ next → (serial : ℕ) → IsSome (map.get pairs serial) → (1 ≤ serial) × (serial < next)
   sound_given next last serial some =
@@ -332,8 +332,8 @@ module _ (keys : List (Option ℕ)) (slab : Slab Pair) (pairs : map.FinMap nat_c
       let s = stands_in_view serial value.0 value.1 in
       (omega (arith, s.found.next), omega (arith, s.found.next, s.found.within))
 
-pub shelf_empty : (keys : List (Option ℕ)) (slab : Slab Pair) → keys ≡ [] → slab.slots ≡ [] → IsShelf keys slab
-shelf_empty keys slab no_keys no_slots =
+pub by_serial_empty : (keys : List (Option ℕ)) (slab : Slab Pair) → keys ≡ [] → slab.slots ≡ [] → IsIndexed keys slab
+by_serial_empty keys slab no_keys no_slots =
     let no_key : (i : ℕ) → key_at keys i ≡ None = λ i. ap (λ (ks : List (Option ℕ)). key_at ks i) no_keys in
     let no_pair : (k : ℕ) → get slab k ≡ None = λ k. ap (λ (slots : List (Option Pair)). get_or slots k None) no_slots in
     record {
@@ -372,20 +372,20 @@ module _ (keys : List (Option ℕ)) (slab : Slab Pair) (pairs : map.FinMap nat_c
   pair_given key at some = subst (λ (o : Option Pair). IsSome o) (get_at_key key at) some
 
   -- a pair that is changed where it stands
-  module _ (key : ℕ) (pair changed : Pair) (shelf : IsShelf keys slab) (at : key_of keys serial ≡ Some key) (there : get slab key ≡ Some pair) where
+  module _ (key : ℕ) (pair changed : Pair) (by_serial : IsIndexed keys slab) (at : key_of keys serial ≡ Some key) (there : get slab key ≡ Some pair) where
     abbrev where_it_stands : Located keys slab serial key pair
     where_it_stands = located keys slab serial key pair at there
 
     updated : Updates slab (with_value slab key changed) key (Some changed)
     updated = Updates-with_value slab key changed (ap is_some there)
 
-    pub written_shelf : changed.serial ≡ pair.serial → IsSound changed.inbound.window → IsShelf keys (with_value slab key changed)
-    written_shelf same sound =
-        shelf_changed keys slab (with_value slab key changed) serial where_it_stands.index key pair changed shelf where_it_stands.found updated same sound (len_with_value slab key pair changed there)
+    pub written_by_serial : changed.serial ≡ pair.serial → IsSound changed.inbound.window → IsIndexed keys (with_value slab key changed)
+    written_by_serial same sound =
+        by_serial_changed keys slab (with_value slab key changed) serial where_it_stands.index key pair changed by_serial where_it_stands.found updated same sound (len_with_value slab key pair changed there)
 
     pub written_shown : shown_pairs keys (with_value slab key changed) ≡ map.insert pairs serial changed
     written_shown =
-        shown_changed keys slab (with_value slab key changed) serial where_it_stands.index key pair changed shelf where_it_stands.found updated
+        shown_changed keys slab (with_value slab key changed) serial where_it_stands.index key pair changed by_serial where_it_stands.found updated
         ∙ ap (λ (m : map.FinMap nat_cmp Pair). map.insert m serial changed) shown
 
     pub written_len : slab_len (with_value slab key changed) ≡ slab_len slab
@@ -396,45 +396,45 @@ module _ (keys : List (Option ℕ)) (slab : Slab Pair) (pairs : map.FinMap nat_c
     written_same same = written_shown ∙ inserted_same pairs serial changed (get_at_key key at ∙ there ∙ ap (λ (p : Pair). Some p) (sym same))
 
   -- a pair that is taken out
-  module _ (new : Slab Pair) (key : ℕ) (pair : Pair) (shelf : IsShelf keys slab) (at : key_of keys serial ≡ Some key) (there : get slab key ≡ Some pair) (updates : Updates slab new key None) where
+  module _ (new : Slab Pair) (key : ℕ) (pair : Pair) (by_serial : IsIndexed keys slab) (at : key_of keys serial ≡ Some key) (there : get slab key ≡ Some pair) (updates : Updates slab new key None) where
     abbrev where_it_stood : Located keys slab serial key pair
     where_it_stood = located keys slab serial key pair at there
 
     index_is : where_it_stood.index ≡ serial - 1
     index_is = omega (arith, where_it_stood.found.next)
 
-    pub taken_shelf : slab_len new + 1 ≡ slab_len slab → IsShelf (set keys (serial - 1) None) new
-    taken_shelf counted =
-        subst (λ (index : ℕ). IsShelf (set keys index None) new) index_is (shelf_removed keys slab new serial where_it_stood.index key pair shelf where_it_stood.found updates counted)
+    pub taken_by_serial : slab_len new + 1 ≡ slab_len slab → IsIndexed (set keys (serial - 1) None) new
+    taken_by_serial counted =
+        subst (λ (index : ℕ). IsIndexed (set keys index None) new) index_is (by_serial_removed keys slab new serial where_it_stood.index key pair by_serial where_it_stood.found updates counted)
 
     pub taken_shown : shown_pairs (set keys (serial - 1) None) new ≡ map.remove pairs serial
     taken_shown =
         sym (ap (λ (index : ℕ). shown_pairs (set keys index None) new) index_is)
-        ∙ shown_removed keys slab new serial where_it_stood.index key pair shelf where_it_stood.found updates
+        ∙ shown_removed keys slab new serial where_it_stood.index key pair by_serial where_it_stood.found updates
         ∙ ap (λ (m : map.FinMap nat_cmp Pair). map.remove m serial) shown
 
 -- a pair that is added, in the view
-module _ (keys keys' : List (Option ℕ)) (old new : Slab Pair) (pairs : map.FinMap nat_cmp Pair) (serial key : ℕ) (pair : Pair) (shelf : IsShelf keys old) (shown : shown_pairs keys old ≡ pairs) (vacant : get old key ≡ None) (updates : Updates old new key (Some pair)) (longer : keys' ≡ keys ++ Some key ∷ []) (serial_is : serial ≡ length keys + 1) where
+module _ (keys keys' : List (Option ℕ)) (old new : Slab Pair) (pairs : map.FinMap nat_cmp Pair) (serial key : ℕ) (pair : Pair) (by_serial : IsIndexed keys old) (shown : shown_pairs keys old ≡ pairs) (vacant : get old key ≡ None) (updates : Updates old new key (Some pair)) (longer : keys' ≡ keys ++ Some key ∷ []) (serial_is : serial ≡ length keys + 1) where
   pub added_fresh : map.get pairs serial ≡ None
   added_fresh =
       ap (map.get pairs) serial_is ∙ ap (λ (m : map.FinMap nat_cmp Pair). map.get m (length keys + 1)) (sym shown)
-      ∙ new_serial keys old new key pair shelf vacant updates
+      ∙ new_serial keys old new key pair by_serial vacant updates
 
-  pub added_shelf : pair.serial ≡ serial → IsSound pair.inbound.window → slab_len new ≡ slab_len old + 1 → IsShelf keys' new
-  added_shelf numbered sound counted =
-      subst (λ (ks : List (Option ℕ)). IsShelf ks new) (sym longer)
-      (shelf_added keys old new key pair shelf vacant updates (numbered ∙ serial_is) sound counted)
+  pub added_by_serial : pair.serial ≡ serial → IsSound pair.inbound.window → slab_len new ≡ slab_len old + 1 → IsIndexed keys' new
+  added_by_serial numbered sound counted =
+      subst (λ (ks : List (Option ℕ)). IsIndexed ks new) (sym longer)
+      (by_serial_added keys old new key pair by_serial vacant updates (numbered ∙ serial_is) sound counted)
 
   pub added_shown : shown_pairs keys' new ≡ map.insert pairs serial pair
   added_shown =
       ap (λ (ks : List (Option ℕ)). shown_pairs ks new) longer
-      ∙ shown_added keys old new key pair shelf vacant updates
+      ∙ shown_added keys old new key pair by_serial vacant updates
       ∙ ap (λ (k : ℕ). map.insert (shown_pairs keys old) k pair) (sym serial_is)
       ∙ ap (λ (m : map.FinMap nat_cmp Pair). map.insert m serial pair) shown
 
 -- two shelves with the same parts are the same
-pub same_shelf : (s t : Shelf) → s.next ≡ t.next → s.pairs ≡ t.pairs → s.room ≡ t.room → s ≡ t
-same_shelf s t next pairs room = λ i. record { next = next i; pairs = pairs i; room = room i }
+pub same_by_serial : (s t : PairsBySerial) → s.next ≡ t.next → s.pairs ≡ t.pairs → s.room ≡ t.room → s ≡ t
+same_by_serial s t next pairs room = λ i. record { next = next i; pairs = pairs i; room = room i }
 
 -- what holds of each pair that a call may answer
 pub each_copied : (P : Pair → Type 0) (o : Option (Bor Pair)) → ((pair : Pair) → option_copied o ≡ Some pair → P pair) → IfSome o (λ p. P p.now)
@@ -442,9 +442,9 @@ each_copied P None each = tt
 each_copied P (Some p) each = each p.now refl
 
 -- what stands in the slab stands in the view under its serial
-pub view_of_slab : (keys : List (Option ℕ)) (slab : Slab Pair) (pairs : map.FinMap nat_cmp Pair) (shelf : IsShelf keys slab) (shown : shown_pairs keys slab ≡ pairs) (key : ℕ) (pair : Pair) → get slab key ≡ Some pair → map.get pairs pair.serial ≡ Some pair
-view_of_slab keys slab pairs shelf shown key pair there =
-    get_at_key keys slab pairs pair.serial shown key (shelf.back key pair.serial (ap serial_of there)) ∙ there
+pub view_of_slab : (keys : List (Option ℕ)) (slab : Slab Pair) (pairs : map.FinMap nat_cmp Pair) (by_serial : IsIndexed keys slab) (shown : shown_pairs keys slab ≡ pairs) (key : ℕ) (pair : Pair) → get slab key ≡ Some pair → map.get pairs pair.serial ≡ Some pair
+view_of_slab keys slab pairs by_serial shown key pair there =
+    get_at_key keys slab pairs pair.serial shown key (by_serial.back key pair.serial (ap serial_of there)) ∙ there
 
 -- some entry has this pair
 pub record Waits (left : List (ℕ × Pair)) (pair : Pair) : Type 0 where
@@ -457,11 +457,11 @@ pub record Walk (pairs : map.FinMap nat_cmp Pair) (left : List (ℕ × Pair)) (W
   pub there : (key : ℕ) (pair : Pair) → Contains left (key, pair) → map.get pairs pair.serial ≡ Some pair
   pub met : (serial : ℕ) (pair : Pair) → map.get pairs serial ≡ Some pair → Wanted pair → Waits left pair ⊎ Counted serial
 
-pub walk_begins : (keys : List (Option ℕ)) (slab : Slab Pair) (pairs : map.FinMap nat_cmp Pair) (shelf : IsShelf keys slab) (shown : shown_pairs keys slab ≡ pairs) (left : List (ℕ × Pair)) (Wanted : Pair → Type 0) (Counted : ℕ → Type 0) → left ≡ entries slab → Walk pairs left Wanted Counted
-walk_begins keys slab pairs shelf shown left Wanted Counted whole =
+pub walk_begins : (keys : List (Option ℕ)) (slab : Slab Pair) (pairs : map.FinMap nat_cmp Pair) (by_serial : IsIndexed keys slab) (shown : shown_pairs keys slab ≡ pairs) (left : List (ℕ × Pair)) (Wanted : Pair → Type 0) (Counted : ℕ → Type 0) → left ≡ entries slab → Walk pairs left Wanted Counted
+walk_begins keys slab pairs by_serial shown left Wanted Counted whole =
     record {
       there = λ key pair here.
-          view_of_slab keys slab pairs shelf shown key pair ((Contains-entries slab key pair).0 (subst (λ (es : List (ℕ × Pair)). Contains es (key, pair)) whole here));
+          view_of_slab keys slab pairs by_serial shown key pair ((Contains-entries slab key pair).0 (subst (λ (es : List (ℕ × Pair)). Contains es (key, pair)) whole here));
       met = λ serial pair there wanted.
           (let s = stands_in_view keys slab pairs shown serial pair there in
           inl (record { key = s.key; there = subst (λ (es : List (ℕ × Pair)). Contains es (s.key, pair)) (sym whole) ((Contains-entries slab s.key pair).1 s.found.there) }));

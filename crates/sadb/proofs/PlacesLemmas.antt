@@ -1,4 +1,4 @@
--- What an index of SPIs shows, and how it changes.
+-- What a list of places shows of the SPIs given, and how that changes.
 use Rattle.std.proofs.Common.{◌≡◌, ◌≢◌, ◌+◌, ◌-◌, ◌<◌, ◌≤◌, ◌++◌, ◌∷◌, [], ℕ, List, length, Bool, true, false, Option, Some, None, arith, sym, ap, ◌∙◌, refl, inl, inr, slice_set, IsSome}
 use Rattle.std.proofs.lemmas.Bool.{true≢false}
 use Rattle.std.proofs.lemmas.Bool.Decides.{eqb_tells, leb_tells}
@@ -22,7 +22,7 @@ reserved_stops places j outside = ap is_reserved (get_or_past places j Gone outs
 pub serials_end : (places : List Place) → EndsAt (serial_in places) (length places)
 serials_end places j outside = ap serial_at (get_or_past places j Gone outside)
 
--- what stands at a place is what the index shows of its SPI
+-- what stands at a place is what is shown of its SPI
 pub reserved_shown : (start : ℕ) (places : List Place) (i : ℕ) → set.contains (shown_reserved start places) (start + i) ≡ reserved_in places i
 reserved_shown start places i = passing_at start (reserved_in places) (length places) (reserved_stops places) i
 

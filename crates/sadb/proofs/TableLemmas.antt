@@ -15,11 +15,11 @@ use Rattle.esp.specs.declared.fault.EspFault.TheVariants.{Exhausted, PayloadSize
 use Rattle.replay.specs.Window as window
 use Rattle.sadb.specs.declared.pair.Pair.{Pair}
 use Rattle.sadb.specs.Database.{Database, IsFull, IsSpent, IsAsBefore, IsReserved, Reserves, Releases, Installs, Removes, HasInbound, IsInbound, IsSound, IsStart, PairMap, OpensAt, RefusesAt, SealsAt, SealRefusalAt}
-use Rattle.sadb.specs.Storage.{Index, Shelf, IsTable, spi_of}
+use Rattle.sadb.specs.Storage.{GivenSpis, PairsBySerial, IsTable, spi_of}
 use Rattle.sadb.proofs.NumberedLemmas.{member_here, inserted_here, inserted_apart, inserted_same, removed_here, removed_apart}
-use Rattle.sadb.proofs.IndexLemmas.{some_member, removed_len, inserted_len}
+use Rattle.sadb.proofs.GivenLemmas.{some_member, removed_len, inserted_len}
 
-abbrev pub table_of : Index → Shelf → Database
+abbrev pub table_of : GivenSpis → PairsBySerial → Database
 table_of x s = record {
   start = x.start;
   given = x.given;
@@ -40,7 +40,7 @@ same_some : (a b : ℕ) → Some a ≡ Some b → a ≡ b
 same_some a b is = ap (λ o. unwrap_or o a) is
 
 -- an empty table
-pub new_table : (x : Index) (s : Shelf) (start : ℕ)
+pub new_table : (x : GivenSpis) (s : PairsBySerial) (start : ℕ)
     → x ≡ record { start = start; given = 0; reserved = set.empty; serials = map.empty; room = 0 }
     → s ≡ record { next = 1; pairs = map.empty; room = 0 } → IsTable x s
 new_table x s start x_is s_is =
@@ -58,11 +58,11 @@ new_table x s start x_is s_is =
     }
 
 -- one more SPI is reserved, in a table that was made ready for it
-pub record ReservedIn (now : Database) (x : Index) (s : Shelf) (spi : ℕ) : Type 0 where
+pub record ReservedIn (now : Database) (x : GivenSpis) (s : PairsBySerial) (spi : ℕ) : Type 0 where
   pub sound : IsTable x s
   pub reserves : Reserves now spi (table_of x s)
 
-pub reserved_in : (now ready : Database) (x new : Index) (s : Shelf) (spi : ℕ)
+pub reserved_in : (now ready : Database) (x new : GivenSpis) (s : PairsBySerial) (spi : ℕ)
     → table_of x s ≡ ready → IsAsBefore now ready → ¬ IsFull now → ¬ IsSpent now → 1 ≤ ready.room → IsTable x s
     → spi ≡ x.start + x.given → set.contains x.reserved spi ≡ false
     → new ≡ record x { given = x.given + 1; reserved = set.insert x.reserved spi; room = new.room } → x.room ≤ new.room + 1
@@ -115,11 +115,11 @@ pub is_reserved : (old new : Database) (spi : ℕ) → Reserves old spi new → 
 is_reserved old new spi is = ap (λ d. set.contains d.reserved spi) is.content ∙ member_here old.reserved spi spi refl
 
 -- a reserved SPI is given up
-pub record ReleasedIn (now : Database) (x : Index) (s : Shelf) (spi : ℕ) : Type 0 where
+pub record ReleasedIn (now : Database) (x : GivenSpis) (s : PairsBySerial) (spi : ℕ) : Type 0 where
   pub sound : IsTable x s
   pub releases : Releases now spi (table_of x s)
 
-pub released_in : (now : Database) (x new : Index) (s : Shelf) (spi : ℕ)
+pub released_in : (now : Database) (x new : GivenSpis) (s : PairsBySerial) (spi : ℕ)
     → table_of x s ≡ now → IsTable x s → IsReserved now spi → new ≡ record x { reserved = set.remove x.reserved spi }
     → ReleasedIn now new s spi
 released_in now x new s spi shown sound is_reserved new_is =
@@ -178,7 +178,7 @@ removed_pairs pairs serial old there =
     map.len-remove nat_cmp_total pairs serial ∙ ap (λ o. cond (is_some o) (map.len pairs - 1) (map.len pairs)) there
 
 -- a pair comes to the SPI that was reserved for it
-pub record InstalledIn (now : Database) (x : Index) (s : Shelf) (spi : ℕ) (pair : Pair) (serial : ℕ) : Type 0 where
+pub record InstalledIn (now : Database) (x : GivenSpis) (s : PairsBySerial) (spi : ℕ) (pair : Pair) (serial : ℕ) : Type 0 where
   pub sound : IsTable x s
   pub installs : Installs now spi pair serial (table_of x s)
 
@@ -186,14 +186,14 @@ abbrev numbered_as : ℕ → Pair → Pair
 numbered_as serial pair = record pair { serial = serial }
 
 -- there is room for the pair of a reserved SPI
-pub has_room : (now : Database) (x : Index) (s : Shelf) (spi : ℕ) → table_of x s ≡ now → IsTable x s → IsReserved now spi → 1 ≤ s.room
+pub has_room : (now : Database) (x : GivenSpis) (s : PairsBySerial) (spi : ℕ) → table_of x s ≡ now → IsTable x s → IsReserved now spi → 1 ≤ s.room
 has_room now x s spi shown sound is_reserved =
     let is : set.contains x.reserved spi ≡ true = ap (λ d. set.contains d.reserved spi) shown ∙ is_reserved in
     let some : 1 ≤ set.len x.reserved = some_member x.reserved spi is in
     let room = sound.room in
     omega arith
 
-module _ (x : Index) (s : Shelf) (sound : IsTable x s) (spi serial : ℕ) (pair : Pair) (its_own : pair.inbound.association.spi ≡ spi) (no_pair : map.get s.pairs serial ≡ None) (no_serial : map.get x.serials spi ≡ None) where
+module _ (x : GivenSpis) (s : PairsBySerial) (sound : IsTable x s) (spi serial : ℕ) (pair : Pair) (its_own : pair.inbound.association.spi ≡ spi) (no_pair : map.get s.pairs serial ≡ None) (no_serial : map.get x.serials spi ≡ None) where
   installed_there : (q n : ℕ) → map.get (map.insert x.serials spi serial) q ≡ Some n → spi_of (map.get (map.insert s.pairs serial pair) n) ≡ Some q
   installed_there q n is =
       elim (eqb_tells q spi) [
@@ -219,7 +219,7 @@ module _ (x : Index) (s : Shelf) (sound : IsTable x s) (spi serial : ℕ) (pair 
             inserted_apart x.serials spi q serial not_new ∙ held)
       ]
 
-pub installed_in : (now : Database) (x new : Index) (s more : Shelf) (spi : ℕ) (pair : Pair) (serial : ℕ)
+pub installed_in : (now : Database) (x new : GivenSpis) (s more : PairsBySerial) (spi : ℕ) (pair : Pair) (serial : ℕ)
     → table_of x s ≡ now → IsTable x s → IsReserved now spi → pair.inbound.association.spi ≡ spi
     → serial ≡ s.next → map.get s.pairs serial ≡ None
     → more ≡ record { next = s.next + 1; pairs = map.insert s.pairs serial (numbered_as serial pair); room = more.room } → s.room ≤ more.room + 1
@@ -271,15 +271,15 @@ installed_in now x new s more spi pair serial shown sound is_reserved its_own ne
     }
 
 -- a pair is taken out
-pub record RemovedIn (now : Database) (x : Index) (s : Shelf) (serial : ℕ) : Type 0 where
+pub record RemovedIn (now : Database) (x : GivenSpis) (s : PairsBySerial) (serial : ℕ) : Type 0 where
   pub sound : IsTable x s
   pub removes : Removes now serial (table_of x s)
 
 -- the SPI of a pair that is there
-pub spi_held : (x : Index) (s : Shelf) (serial : ℕ) (pair : Pair) → IsTable x s → map.get s.pairs serial ≡ Some pair → map.get x.serials pair.inbound.association.spi ≡ Some serial
+pub spi_held : (x : GivenSpis) (s : PairsBySerial) (serial : ℕ) (pair : Pair) → IsTable x s → map.get s.pairs serial ≡ Some pair → map.get x.serials pair.inbound.association.spi ≡ Some serial
 spi_held x s serial pair sound there = sound.back serial pair.inbound.association.spi (ap spi_of there)
 
-module _ (x : Index) (s : Shelf) (sound : IsTable x s) (serial : ℕ) (pair : Pair) (there : map.get s.pairs serial ≡ Some pair) where
+module _ (x : GivenSpis) (s : PairsBySerial) (sound : IsTable x s) (serial : ℕ) (pair : Pair) (there : map.get s.pairs serial ≡ Some pair) where
   removed_there : (q n : ℕ) → map.get (map.remove x.serials pair.inbound.association.spi) q ≡ Some n → spi_of (map.get (map.remove s.pairs serial) n) ≡ Some q
   removed_there q n is =
       elim (eqb_tells q pair.inbound.association.spi) [
@@ -300,7 +300,7 @@ module _ (x : Index) (s : Shelf) (sound : IsTable x s) (serial : ℕ) (pair : Pa
             removed_apart x.serials pair.inbound.association.spi q other ∙ old)
       ]
 
-pub removed_in : (now : Database) (x new : Index) (s less : Shelf) (serial : ℕ) (pair : Pair)
+pub removed_in : (now : Database) (x new : GivenSpis) (s less : PairsBySerial) (serial : ℕ) (pair : Pair)
     → table_of x s ≡ now → IsTable x s → map.get s.pairs serial ≡ Some pair
     → less ≡ record s { pairs = map.remove s.pairs serial; room = less.room } → s.room ≤ less.room
     → new ≡ record x { serials = map.remove x.serials pair.inbound.association.spi }
@@ -346,7 +346,7 @@ removed_in now x new s less serial pair shown sound there less_is less_room new_
     }
 
 -- a pair that changed and kept its inbound SPI
-pub changed_in : (x : Index) (s new : Shelf) (serial : ℕ) (old pair : Pair)
+pub changed_in : (x : GivenSpis) (s new : PairsBySerial) (serial : ℕ) (old pair : Pair)
     → IsTable x s → map.get s.pairs serial ≡ Some old → pair.inbound.association.spi ≡ old.inbound.association.spi
     → new ≡ record s { pairs = new.pairs } → new.pairs ≡ map.insert s.pairs serial pair
     → IsTable x new
@@ -374,10 +374,10 @@ changed_in x s new serial old pair sound there same_spi new_is new_pairs =
     }
 
 -- the SPI of a pair leads to its serial
-pub held_by : (x : Index) (s : Shelf) (spi serial : ℕ) → IsTable x s → HasInbound s.pairs spi serial → map.get x.serials spi ≡ Some serial
+pub held_by : (x : GivenSpis) (s : PairsBySerial) (spi serial : ℕ) → IsTable x s → HasInbound s.pairs spi serial → map.get x.serials spi ≡ Some serial
 held_by x s spi serial sound held = sound.back serial spi (ap spi_of held.there ∙ ap Some held.its_own)
 
-pub none_inbound : (now : Database) (x : Index) (s : Shelf) (spi : ℕ) → table_of x s ≡ now → IsTable x s → map.get x.serials spi ≡ None → (serial : ℕ) → ¬ HasInbound now.pairs spi serial
+pub none_inbound : (now : Database) (x : GivenSpis) (s : PairsBySerial) (spi : ℕ) → table_of x s ≡ now → IsTable x s → map.get x.serials spi ≡ None → (serial : ℕ) → ¬ HasInbound now.pairs spi serial
 none_inbound now x s spi shown sound none serial =
     subst (λ d. ¬ HasInbound d.pairs spi serial) shown (λ held. none-some serial (sym none ∙ held_by x s spi serial sound held))
 
@@ -385,10 +385,10 @@ some_spi : (o : Option Pair) (spi : ℕ) → spi_of o ≡ Some spi → o ≡ Non
 some_spi None spi is none = none-some spi is
 some_spi (Some pair) spi is none = cc
 
-pub some_inbound : (x : Index) (s : Shelf) (spi serial : ℕ) → IsTable x s → map.get x.serials spi ≡ Some serial → map.get s.pairs serial ≡ None → ⊥
+pub some_inbound : (x : GivenSpis) (s : PairsBySerial) (spi serial : ℕ) → IsTable x s → map.get x.serials spi ≡ Some serial → map.get s.pairs serial ≡ None → ⊥
 some_inbound x s spi serial sound held none = some_spi (map.get s.pairs serial) spi (sound.there spi serial held) none
 
-pub is_inbound : (now : Database) (x : Index) (s : Shelf) (spi serial : ℕ) (pair : Pair) → table_of x s ≡ now → IsTable x s → map.get x.serials spi ≡ Some serial → map.get s.pairs serial ≡ Some pair → pair.serial ≡ serial → IsInbound now.pairs spi pair
+pub is_inbound : (now : Database) (x : GivenSpis) (s : PairsBySerial) (spi serial : ℕ) (pair : Pair) → table_of x s ≡ now → IsTable x s → map.get x.serials spi ≡ Some serial → map.get s.pairs serial ≡ Some pair → pair.serial ≡ serial → IsInbound now.pairs spi pair
 is_inbound now x s spi serial pair shown sound held there own =
     subst (λ d. IsInbound d.pairs spi pair) shown
     (record {
@@ -426,14 +426,14 @@ same_association old new packet BadPadding is = is.1.taken.association
 same_association old new packet Memory is = absurd is.0
 
 -- what is found at the serial that an SPI leads to
-pub found_inbound : (now : Database) (x : Index) (s : Shelf) (spi serial : ℕ) (found : Option (Bor Pair)) → table_of x s ≡ now → IsTable x s → map.get x.serials spi ≡ Some serial
+pub found_inbound : (now : Database) (x : GivenSpis) (s : PairsBySerial) (spi serial : ℕ) (found : Option (Bor Pair)) → table_of x s ≡ now → IsTable x s → map.get x.serials spi ≡ Some serial
     → option_copied found ≡ map.get s.pairs serial → IfSome found (λ p. p.now.serial ≡ serial)
     → IfSome found (λ p. IsInbound now.pairs spi p.now) × IfNone found ((n : ℕ) → ¬ HasInbound now.pairs spi n)
 found_inbound now x s spi serial None shown sound held value own = (tt, λ _. absurd (some_inbound x s spi serial sound held (sym value)))
 found_inbound now x s spi serial (Some p) shown sound held value own = (is_inbound now x s spi serial p.now shown sound held (sym value) own, tt)
 
 -- after an opening, whatever came of it
-pub opened_in : (x : Index) (s new : Shelf) (serial : ℕ) (packet : List ℕ) → (result : Result Opened EspFault)
+pub opened_in : (x : GivenSpis) (s new : PairsBySerial) (serial : ℕ) (packet : List ℕ) → (result : Result Opened EspFault)
     → IsTable x s → new ≡ record s { pairs = new.pairs }
     → IfOk result (λ o. OpensAt s.pairs serial packet o.number o.next o.payload.now new.pairs) → IfErr result (λ fault. RefusesAt s.pairs serial packet fault new.pairs)
     → IsTable x new
@@ -443,7 +443,7 @@ opened_in x s new serial packet (Err fault) sound rest up refused =
     changed_in x s new serial refused.pair (record refused.pair { inbound = refused.inbound }) sound refused.there (ap (λ a. a.spi) (same_association refused.pair.inbound refused.inbound packet fault refused.refused)) rest refused.changed
 
 -- a refused packet leaves the whole table as it was, but for bad padding
-pub opened_unchanged : (now : Database) (x : Index) (s new : Shelf) (serial : ℕ) (packet : List ℕ) → (result : Result Opened EspFault)
+pub opened_unchanged : (now : Database) (x : GivenSpis) (s new : PairsBySerial) (serial : ℕ) (packet : List ℕ) → (result : Result Opened EspFault)
     → table_of x s ≡ now → new ≡ record s { pairs = new.pairs } → IfErr result (λ fault. RefusesAt s.pairs serial packet fault new.pairs)
     → IfErr result (λ fault. fault ≢ BadPadding → table_of x new ≡ now)
 opened_unchanged now x s new serial packet (Ok o) shown rest refused = tt
@@ -452,7 +452,7 @@ opened_unchanged now x s new serial packet (Err fault) shown rest refused =
     ap (table_of x) (rest ∙ (λ i. record s { pairs = same i })) ∙ shown)
 
 -- after sealing, whatever came of it
-pub sealed_in : (x : Index) (s new : Shelf) (serial next : ℕ) (payload before after : List ℕ) → (result : Result ℕ EspFault)
+pub sealed_in : (x : GivenSpis) (s new : PairsBySerial) (serial next : ℕ) (payload before after : List ℕ) → (result : Result ℕ EspFault)
     → IsTable x s → new ≡ record s { pairs = new.pairs }
     → IfOk result (λ number. SealsAt s.pairs serial next payload before number new.pairs after) → IfErr result (λ fault. SealRefusalAt s.pairs serial payload fault × (new ≡ s) × (after ≡ before))
     → IsTable x new
@@ -461,7 +461,7 @@ sealed_in x s new serial next payload before after (Ok number) sound rest sealed
 sealed_in x s new serial next payload before after (Err fault) sound rest sealed refused = subst (IsTable x) (sym refused.1) sound
 
 -- what a table owes to its callers, from what its parts owe it
-pub all_sound : (now : Database) (x : Index) (s : Shelf) → table_of x s ≡ now → IsTable x s → 1 ≤ s.next
+pub all_sound : (now : Database) (x : GivenSpis) (s : PairsBySerial) → table_of x s ≡ now → IsTable x s → 1 ≤ s.next
     → IsStart x.start
     → ((spi : ℕ) → set.contains x.reserved spi ≡ true → (x.start ≤ spi) × (spi < x.start + x.given) × (map.get x.serials spi ≡ None))
     → ((spi : ℕ) → IsSome (map.get x.serials spi) → (x.start ≤ spi) × (spi < x.start + x.given))

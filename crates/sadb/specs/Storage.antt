@@ -1,4 +1,4 @@
--- How a table keeps its content: an index from SPIs to serials, and the pairs in a slab with an index from serials to keys. No
+-- How a table keeps its content: what came of each SPI given, and the pairs in a slab with an index from serials to keys. No
 -- public clause speaks of these.
 use Rattle.std.specs.Prelude.{◌≡◌, ◌+◌, ◌≤◌, ℕ, zero, suc, Bool, true, false, List, Option, Some, None, length, slice_index_or, refl}
 use Rattle.std.specs.Ordering.{nat_cmp}
@@ -15,13 +15,13 @@ use Rattle.sadb.specs.Numbered.{numbered, passing}
 use Rattle.sadb.specs.Views.{pair_code}
 
 -- The pairs: the serial of the next one, each under its serial, and for how many more there is room without memory.
-pub record Shelf : Type 0 where
+pub record PairsBySerial : Type 0 where
   pub next : ℕ
   pub pairs : map.FinMap nat_cmp Pair
   pub room : ℕ
 
-abbrev pub shelf_code : Coded Shelf
-shelf_code =
+abbrev pub by_serial_code : Coded PairsBySerial
+by_serial_code =
     code_by (ℕ × (map.FinMap nat_cmp Pair × ℕ)) (coded× coded_ℕ (coded× (map.code coded_ℕ pair_code) coded_ℕ)) (λ s. (s.next, (s.pairs, s.room))) (λ c. record { next = c.0; pairs = c.1.0; room = c.1.1 }) (λ _. refl)
 
 -- the slab's key of the pair of the serial i + 1
@@ -49,7 +49,7 @@ abbrev pub shown_pairs : List (Option ℕ) → Slab Pair → map.FinMap nat_cmp 
 shown_pairs keys slab = numbered 1 (λ i. at_key slab (key_at keys i)) (length keys)
 
 -- what holds of the slab and the index by serial: each leads to the other
-pub record IsShelf (keys : List (Option ℕ)) (slab : Slab Pair) : Type 0 where
+pub record IsIndexed (keys : List (Option ℕ)) (slab : Slab Pair) : Type 0 where
   pub there : (i key : ℕ) → key_at keys i ≡ Some key → serial_of (get slab key) ≡ Some (i + 1)
   pub back : (key serial : ℕ) → serial_of (get slab key) ≡ Some serial → key_of keys serial ≡ Some key
   pub counted : slab_len slab ≡ map.len (shown_pairs keys slab)
@@ -57,15 +57,15 @@ pub record IsShelf (keys : List (Option ℕ)) (slab : Slab Pair) : Type 0 where
 
 -- The SPIs given: the first one, how many there are, those reserved, the serials of the pairs of others, and how many more fit
 -- without memory.
-pub record Index : Type 0 where
+pub record GivenSpis : Type 0 where
   pub start : ℕ
   pub given : ℕ
   pub reserved : set.FinSet nat_cmp
   pub serials : map.FinMap nat_cmp ℕ
   pub room : ℕ
 
-abbrev pub index_code : Coded Index
-index_code =
+abbrev pub given_spis_code : Coded GivenSpis
+given_spis_code =
     code_by
     (ℕ × (ℕ × (set.FinSet nat_cmp × (map.FinMap nat_cmp ℕ × ℕ))))
     (coded× coded_ℕ (coded× coded_ℕ (coded× (set.code coded_ℕ) (coded× (map.code coded_ℕ coded_ℕ) coded_ℕ))))
@@ -92,14 +92,14 @@ shown_reserved start places = passing start (λ i. is_reserved (place_at places 
 abbrev pub shown_serials : ℕ → List Place → map.FinMap nat_cmp ℕ
 shown_serials start places = numbered start (λ i. serial_at (place_at places i)) (length places)
 
-pub record IsIndex (start : ℕ) (places : List Place) (reserved : ℕ) : Type 0 where
+pub record AreGiven (start : ℕ) (places : List Place) (reserved : ℕ) : Type 0 where
   pub begins : IsStart start
   pub few : length places ≤ 65536
   pub within : reserved ≤ length places
   pub counted : reserved ≡ set.len (shown_reserved start places)
 
--- what holds of an index and a shelf that belong together
-pub record IsTable (x : Index) (s : Shelf) : Type 0 where
+-- what holds of the SPIs given and the pairs by serial that belong together
+pub record IsTable (x : GivenSpis) (s : PairsBySerial) : Type 0 where
   pub given : x.given ≤ 65536
   -- there is room for the pair of each reserved SPI
   pub room : set.len x.reserved ≤ s.room

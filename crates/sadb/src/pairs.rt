@@ -26,11 +26,11 @@ pub(crate) struct Pairs {
 impl Model for Pairs {
     ghost use Rattle.std.specs.Prelude.{◌+◌, ◌-◌, length, min, vec_capacity};
     ghost use Rattle.slab.specs.Slab.{slab_len};
-    ghost use Rattle.sadb.specs.Storage.{Shelf, shelf_code, IsShelf, shown_pairs};
+    ghost use Rattle.sadb.specs.Storage.{PairsBySerial, by_serial_code, IsIndexed, shown_pairs};
 
-    ghost Value = { Shelf };
+    ghost Value = { PairsBySerial };
 
-    ghost coded = { shelf_code };
+    ghost coded = { by_serial_code };
 
     ghost view = { λ a. record {
       next = length a.keys.items + 1;
@@ -38,7 +38,7 @@ impl Model for Pairs {
       room = min (vec_capacity a.keys - length a.keys.items) (a.slab.capacity - slab_len a.slab);
     } };
 
-    ghost invariant = { λ a. IsShelf a.keys.items a.slab };
+    ghost invariant = { λ a. IsIndexed a.keys.items a.slab };
 }
 
 /// The slab's key of a serial.

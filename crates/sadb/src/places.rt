@@ -29,11 +29,11 @@ pub(crate) struct Places {
 
 impl Model for Places {
     ghost use Rattle.std.specs.Prelude.{◌-◌, length, vec_capacity};
-    ghost use Rattle.sadb.specs.Storage.{Index, index_code, IsIndex, shown_reserved, shown_serials};
+    ghost use Rattle.sadb.specs.Storage.{GivenSpis, given_spis_code, AreGiven, shown_reserved, shown_serials};
 
-    ghost Value = { Index };
+    ghost Value = { GivenSpis };
 
-    ghost coded = { index_code };
+    ghost coded = { given_spis_code };
 
     ghost view = { λ a. record {
       start = a.start;
@@ -43,7 +43,7 @@ impl Model for Places {
       room = vec_capacity a.places - length a.places.items;
     } };
 
-    ghost invariant = { λ a. IsIndex a.start a.places.items a.reserved };
+    ghost invariant = { λ a. AreGiven a.start a.places.items a.reserved };
 }
 
 impl Places {
@@ -59,7 +59,7 @@ impl Places {
         }
     }
 
-    /// What holds of every index. Does nothing.
+    /// What holds of the SPIs given, always. Does nothing.
     pub fn invariants_hold(&self)
         ensures start { IsStart self.now.start }
         ensures reserved { (spi : ℕ) → set.contains self.now.reserved spi ≡ true

@@ -1,29 +1,29 @@
 use Rattle.std.proofs.Common.{◌≡◌, ℕ, Some, IsSome, sym, ap, ◌∙◌, refl, subst, Option}
 use Rattle.std.specs.FinMap as map
 use Rattle.slab.specs.Slab.{get}
-use Rattle.sadb.specs.Storage.{key_of, Shelf}
-use Rattle.sadb.proofs.PairsLemmas.{key_given, pair_given, get_at_key, written_shelf, written_shown}
+use Rattle.sadb.specs.Storage.{key_of, PairsBySerial}
+use Rattle.sadb.proofs.PairsLemmas.{key_given, pair_given, get_at_key, written_by_serial, written_shown}
 use Rattle.sadb.proofs.pairs.Pairs.mark.Goals as goal
 
 pub unwrap-key-requires : goal.unwrap-key-requires
 unwrap-key-requires c =
     let at : key_of c.self.inside.keys.items c.args.serial ≡ c.key.result = ap (λ ks. key_of ks c.args.serial) (sym c.deref.ensures.value) ∙ sym c.key.ensures in
-    subst (λ (o : Option ℕ). IsSome o) at (key_given c.self.inside.keys.items c.self.inside.slab c.args.self.now.pairs c.args.serial (ap (λ (s : Shelf). s.pairs) c.self.view_is) c.requires)
+    subst (λ (o : Option ℕ). IsSome o) at (key_given c.self.inside.keys.items c.self.inside.slab c.args.self.now.pairs c.args.serial (ap (λ (s : PairsBySerial). s.pairs) c.self.view_is) c.requires)
 
 pub index_mut-requires : goal.index_mut-requires
 index_mut-requires c =
     let at : key_of c.self.inside.keys.items c.args.serial ≡ Some c.unwrap-key.result = ap (λ ks. key_of ks c.args.serial) (sym c.deref.ensures.value) ∙ sym c.key.ensures ∙ c.unwrap-key.ensures in
-    pair_given c.self.inside.keys.items c.self.inside.slab c.args.self.now.pairs c.args.serial (ap (λ (s : Shelf). s.pairs) c.self.view_is) c.unwrap-key.result at c.requires
+    pair_given c.self.inside.keys.items c.self.inside.slab c.args.self.now.pairs c.args.serial (ap (λ (s : PairsBySerial). s.pairs) c.self.view_is) c.unwrap-key.result at c.requires
 
 pub invariant_of-self : goal.invariant_of-self
 invariant_of-self c =
     let at : key_of c.self.inside.keys.items c.args.serial ≡ Some c.unwrap-key.result = ap (λ ks. key_of ks c.args.serial) (sym c.deref.ensures.value) ∙ sym c.key.ensures ∙ c.unwrap-key.ensures in
-    written_shelf c.self.inside.keys.items c.self.inside.slab c.args.self.now.pairs c.args.serial (ap (λ (s : Shelf). s.pairs) c.self.view_is)
+    written_by_serial c.self.inside.keys.items c.self.inside.slab c.args.self.now.pairs c.args.serial (ap (λ (s : PairsBySerial). s.pairs) c.self.view_is)
     c.unwrap-key.result c.index_mut.result.now _ c.self.invariant at c.index_mut.ensures.value refl (c.self.invariant.windows c.unwrap-key.result c.index_mut.result.now c.index_mut.ensures.value)
 
 pub returns-clause-marked : goal.returns-clause-marked
 returns-clause-marked c =
     let at : key_of c.self.inside.keys.items c.args.serial ≡ Some c.unwrap-key.result = ap (λ ks. key_of ks c.args.serial) (sym c.deref.ensures.value) ∙ sym c.key.ensures ∙ c.unwrap-key.ensures in
     let here : get c.self.inside.slab c.unwrap-key.result ≡ Some c.index_mut.result.now = c.index_mut.ensures.value in
-    let there : map.get c.args.self.now.pairs c.args.serial ≡ Some c.index_mut.result.now = get_at_key c.self.inside.keys.items c.self.inside.slab c.args.self.now.pairs c.args.serial (ap (λ (s : Shelf). s.pairs) c.self.view_is) c.unwrap-key.result at ∙ here in
-    record { pair = c.index_mut.result.now; there = there; changed = written_shown c.self.inside.keys.items c.self.inside.slab c.args.self.now.pairs c.args.serial (ap (λ (s : Shelf). s.pairs) c.self.view_is) c.unwrap-key.result c.index_mut.result.now _ c.self.invariant at here }
+    let there : map.get c.args.self.now.pairs c.args.serial ≡ Some c.index_mut.result.now = get_at_key c.self.inside.keys.items c.self.inside.slab c.args.self.now.pairs c.args.serial (ap (λ (s : PairsBySerial). s.pairs) c.self.view_is) c.unwrap-key.result at ∙ here in
+    record { pair = c.index_mut.result.now; there = there; changed = written_shown c.self.inside.keys.items c.self.inside.slab c.args.self.now.pairs c.args.serial (ap (λ (s : PairsBySerial). s.pairs) c.self.view_is) c.unwrap-key.result c.index_mut.result.now _ c.self.invariant at here }

@@ -1,7 +1,7 @@
 use Rattle.std.proofs.Common.{◌≡◌, ℕ, true, false, [], sym, ap, ◌∙◌, arith, subst, max}
 use Rattle.std.specs.Option.{unwrap_or}
 use Rattle.sadb.specs.Database.{Carries}
-use Rattle.sadb.specs.Storage.{Shelf}
+use Rattle.sadb.specs.Storage.{PairsBySerial}
 use Rattle.sadb.proofs.PairsLemmas.{sound_serial, Walk, NotAbove, CarriesIt, walk_begins, walk_finds, walk_goes_on, raise_keeps, raise_is_one, outbound_some, outbound_none}
 use Rattle.sadb.proofs.pairs.Pairs.outbound.Goals as goal
 
@@ -9,7 +9,7 @@ pub loop-pair-init : goal.loop-pair-init
 loop-pair-init c = record {
   can_next = tt;
   is_finite = tt;
-  walk = walk_begins c.self.inside.keys.items c.self.inside.slab c.args.self.now.pairs c.self.invariant (ap (λ (s : Shelf). s.pairs) c.self.view_is) c.into_iter-pair-iterator.result _ _ (c.into_iter-pair-iterator.ensures.into_iter_gives ∙ c.iter-pair-items.ensures.rest);
+  walk = walk_begins c.self.inside.keys.items c.self.inside.slab c.args.self.now.pairs c.self.invariant (ap (λ (s : PairsBySerial). s.pairs) c.self.view_is) c.into_iter-pair-iterator.result _ _ (c.into_iter-pair-iterator.ensures.into_iter_gives ∙ c.iter-pair-items.ensures.rest);
   latest = λ latest is. absurd (cc);
 }
 
@@ -19,7 +19,7 @@ loop-pair-preserved-then-carries c =
     record {
       can_next = tt;
       is_finite = tt;
-      walk = walk_goes_on c.args.self.now.pairs _ c.loop-pair.pair-iterator c.next.new.self c.in-Some.field-0-0 c.in-Some.pair.now _ _ (λ serial there. (sound_serial c.self.inside.keys.items c.self.inside.slab c.args.self.now.pairs (ap (λ (s : Shelf). s.pairs) c.self.view_is) c.self.invariant) serial c.in-Some.pair.now there) c.in-Some.ensures.steps (λ n counted. omega (arith, raise_keeps c.loop-pair.latest c.in-Some.pair.now.serial n counted, max_is)) (λ carries. omega arith) c.loop-pair.invariant.walk;
+      walk = walk_goes_on c.args.self.now.pairs _ c.loop-pair.pair-iterator c.next.new.self c.in-Some.field-0-0 c.in-Some.pair.now _ _ (λ serial there. (sound_serial c.self.inside.keys.items c.self.inside.slab c.args.self.now.pairs (ap (λ (s : PairsBySerial). s.pairs) c.self.view_is) c.self.invariant) serial c.in-Some.pair.now there) c.in-Some.ensures.steps (λ n counted. omega (arith, raise_keeps c.loop-pair.latest c.in-Some.pair.now.serial n counted, max_is)) (λ carries. omega arith) c.loop-pair.invariant.walk;
       latest = λ latest is.
           (let same : c.max.result ≡ latest = cc in
           let there = walk_finds c.args.self.now.pairs _ c.loop-pair.pair-iterator c.next.new.self c.in-Some.field-0-0 c.in-Some.pair.now _ c.in-Some.ensures.steps c.loop-pair.invariant.walk in
@@ -32,7 +32,7 @@ pub loop-pair-preserved : goal.loop-pair-preserved
 loop-pair-preserved c = record {
   can_next = tt;
   is_finite = tt;
-  walk = walk_goes_on c.args.self.now.pairs _ c.loop-pair.pair-iterator c.next.new.self c.in-Some.field-0-0 c.in-Some.pair.now _ _ (λ serial there. (sound_serial c.self.inside.keys.items c.self.inside.slab c.args.self.now.pairs (ap (λ (s : Shelf). s.pairs) c.self.view_is) c.self.invariant) serial c.in-Some.pair.now there) c.in-Some.ensures.steps (λ n counted. counted) (λ carries. (let both : true ≡ false = sym (c.carries.ensures.1 carries) ∙ c.if-carries.false in absurd (cc))) c.loop-pair.invariant.walk;
+  walk = walk_goes_on c.args.self.now.pairs _ c.loop-pair.pair-iterator c.next.new.self c.in-Some.field-0-0 c.in-Some.pair.now _ _ (λ serial there. (sound_serial c.self.inside.keys.items c.self.inside.slab c.args.self.now.pairs (ap (λ (s : PairsBySerial). s.pairs) c.self.view_is) c.self.invariant) serial c.in-Some.pair.now there) c.in-Some.ensures.steps (λ n counted. counted) (λ carries. (let both : true ≡ false = sym (c.carries.ensures.1 carries) ∙ c.if-carries.false in absurd (cc))) c.loop-pair.invariant.walk;
   latest = c.loop-pair.invariant.latest;
 }
 

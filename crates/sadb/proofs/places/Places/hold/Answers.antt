@@ -1,6 +1,6 @@
 use Rattle.std.proofs.Common.{arith}
 use Rattle.std.specs.Vec.{vec_capacity}
-use Rattle.sadb.proofs.IndexLemmas.{taken}
+use Rattle.sadb.proofs.GivenLemmas.{taken}
 use Rattle.sadb.proofs.places.Places.hold.Goals as goal
 
 pub overflow_sub-place : goal.overflow_sub-place

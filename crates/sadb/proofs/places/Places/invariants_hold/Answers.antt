@@ -1,5 +1,5 @@
 use Rattle.std.specs.Vec.{vec_capacity}
-use Rattle.sadb.proofs.IndexLemmas.{holds}
+use Rattle.sadb.proofs.GivenLemmas.{holds}
 use Rattle.sadb.proofs.places.Places.invariants_hold.Goals as goal
 
 pub returns-clause-start : goal.returns-clause-start

@@ -1,6 +1,6 @@
 use Rattle.std.proofs.Common.{arith}
 use Rattle.std.specs.Vec.{vec_capacity}
-use Rattle.sadb.proofs.IndexLemmas.{released}
+use Rattle.sadb.proofs.GivenLemmas.{released}
 use Rattle.sadb.proofs.places.Places.release.Goals as goal
 
 pub overflow_sub-place : goal.overflow_sub-place

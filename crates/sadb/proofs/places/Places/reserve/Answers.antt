@@ -1,8 +1,8 @@
 use Rattle.std.proofs.Common.{◌≤◌, ◌+◌, ◌-◌, ◌∙◌, arith, rules, sym, ap, subst, length}
 use Rattle.std.specs.FinSet as set
 use Rattle.std.specs.Vec.{vec_capacity}
-use Rattle.sadb.specs.Storage.{IsIndex}
-use Rattle.sadb.proofs.IndexLemmas.{given, index_of}
+use Rattle.sadb.specs.Storage.{AreGiven}
+use Rattle.sadb.proofs.GivenLemmas.{given, given_of}
 use Rattle.sadb.proofs.places.Places.reserve.Goals as goal
 
 pub overflow_add-self : goal.overflow_add-self
@@ -13,7 +13,7 @@ overflow_add-self c =
 pub invariant_of-self : goal.invariant_of-self
 invariant_of-self c =
     let pushed = c.push_reserved.ensures.items in
-    subst (λ places. IsIndex c.self.inside.start places (c.self.inside.reserved + 1)) (sym pushed)
+    subst (λ places. AreGiven c.self.inside.start places (c.self.inside.reserved + 1)) (sym pushed)
     (given c.args.self.now c.self.inside.start c.self.inside.places.items (vec_capacity c.self.inside.places) (vec_capacity c.push_reserved.new.self) c.self.inside.reserved (let same = c.push_reserved.ensures.capacity in omega arith) c.self.view_is c.self.invariant c.requires.unspent).sound
 
 pub returns-clause-new_spi : goal.returns-clause-new_spi
@@ -26,7 +26,7 @@ returns-clause-content c =
     let pushed = c.push_reserved.ensures.items in
     let spi = c.next-spi.ensures in
     let is = (given c.args.self.now c.self.inside.start c.self.inside.places.items (vec_capacity c.self.inside.places) (vec_capacity c.push_reserved.new.self) c.self.inside.reserved (let same = c.push_reserved.ensures.capacity in omega arith) c.self.view_is c.self.invariant c.requires.unspent).shown in
-    ap (λ places. index_of c.self.inside.start places (vec_capacity c.push_reserved.new.self)) pushed ∙ is ∙ (λ i. record { start = c.args.self.now.start; given = c.args.self.now.given + 1; reserved = set.insert c.args.self.now.reserved (sym spi i); serials = c.args.self.now.serials; room = vec_capacity c.push_reserved.new.self - length (sym pushed i) })
+    ap (λ places. given_of c.self.inside.start places (vec_capacity c.push_reserved.new.self)) pushed ∙ is ∙ (λ i. record { start = c.args.self.now.start; given = c.args.self.now.given + 1; reserved = set.insert c.args.self.now.reserved (sym spi i); serials = c.args.self.now.serials; room = vec_capacity c.push_reserved.new.self - length (sym pushed i) })
 
 pub returns-clause-room : goal.returns-clause-room
 returns-clause-room c =

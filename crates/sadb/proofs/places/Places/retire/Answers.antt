@@ -1,6 +1,6 @@
 use Rattle.std.proofs.Common.{arith}
 use Rattle.std.specs.Vec.{vec_capacity}
-use Rattle.sadb.proofs.IndexLemmas.{freed}
+use Rattle.sadb.proofs.GivenLemmas.{freed}
 use Rattle.sadb.proofs.places.Places.retire.Goals as goal
 
 pub overflow_sub-place : goal.overflow_sub-place

@@ -2,7 +2,7 @@ use Rattle.std.proofs.Common.{◌≤◌, ◌<◌, ◌∙◌, ◌-◌, arith, sym
 use Rattle.std.proofs.lemmas.Bool.Decides.{nat_tests}
 use Rattle.std.specs.Vec.{vec_capacity}
 use Rattle.sadb.specs.Storage.{serial_at, place_at}
-use Rattle.sadb.proofs.IndexLemmas.{shown_at, shown_below}
+use Rattle.sadb.proofs.GivenLemmas.{shown_at, shown_below}
 use Rattle.sadb.proofs.places.Places.serial.Goals as goal
 
 pub returns-then-spi-self : goal.returns-then-spi-self

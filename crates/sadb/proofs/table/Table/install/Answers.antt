@@ -1,7 +1,7 @@
 use Rattle.std.proofs.Common.{◌∙◌, ap, sym}
 use Rattle.std.specs.FinMap as map
 use Rattle.std.specs.FinSet as set
-use Rattle.sadb.specs.Storage.{Index}
+use Rattle.sadb.specs.Storage.{GivenSpis}
 use Rattle.sadb.proofs.TableLemmas.{installed_in, has_room}
 use Rattle.sadb.proofs.table.Table.install.Goals as goal
 
@@ -11,7 +11,7 @@ add-serial-requires-clause-room c = has_room c.args.self.now c.self.inside.place
 pub invariant_of-self : goal.invariant_of-self
 invariant_of-self c =
     let spi = c.number.ensures in
-    let held : Index = c.self.inside.places in
+    let held : GivenSpis = c.self.inside.places in
     (installed_in c.args.self.now c.self.inside.places c.hold.new.self c.self.inside.pairs c.add-serial.new.self c.args.spi c.args.pair c.add-serial.result
     c.self.view_is c.self.invariant c.requires.reserved c.requires.its_own c.add-serial.ensures.next c.add-serial.ensures.new_serial c.add-serial.ensures.content c.add-serial.ensures.room
     (c.hold.ensures.content ∙ ap (λ q. record held { reserved = set.remove held.reserved q; serials = map.insert held.serials q c.add-serial.result }) spi)
@@ -20,7 +20,7 @@ invariant_of-self c =
 pub returns : goal.returns
 returns c =
     let spi = c.number.ensures in
-    let held : Index = c.self.inside.places in
+    let held : GivenSpis = c.self.inside.places in
     (installed_in c.args.self.now c.self.inside.places c.hold.new.self c.self.inside.pairs c.add-serial.new.self c.args.spi c.args.pair c.add-serial.result
     c.self.view_is c.self.invariant c.requires.reserved c.requires.its_own c.add-serial.ensures.next c.add-serial.ensures.new_serial c.add-serial.ensures.content c.add-serial.ensures.room
     (c.hold.ensures.content ∙ ap (λ q. record held { reserved = set.remove held.reserved q; serials = map.insert held.serials q c.add-serial.result }) spi)

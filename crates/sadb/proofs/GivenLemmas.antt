@@ -1,4 +1,4 @@
--- Each change of an index: what holds of it still, and what it shows then.
+-- Each change of the SPIs given: what holds of them still, and what they show then.
 use Rattle.std.proofs.Common.{◌≡◌, ◌+◌, ◌-◌, ◌<◌, ◌≤◌, ◌++◌, ◌∷◌, [], ℕ, List, length, true, false, cond, None, arith, sym, ap, ◌∙◌, refl, inl, inr, subst, slice_set, IsSome}
 use Rattle.std.proofs.lemmas.Bool.{true≢false}
 use Rattle.std.proofs.lemmas.Bool.Decides.{leb_tells}
@@ -10,12 +10,12 @@ use Rattle.std.specs.FinSet as set
 use Rattle.sadb.specs.declared.places.Place.{Place}
 use Rattle.sadb.specs.declared.places.Place.TheVariants.{Reserved, Held, Gone}
 use Rattle.sadb.specs.Database.{IsStart}
-use Rattle.sadb.specs.Storage.{Index, IsIndex, is_reserved, serial_at, place_at, shown_reserved, shown_serials}
+use Rattle.sadb.specs.Storage.{GivenSpis, AreGiven, is_reserved, serial_at, place_at, shown_reserved, shown_serials}
 use Rattle.sadb.proofs.PlacesLemmas.{HasPlace, serial_in, reserved_at_place, serial_at_place, reserved_is_free, serial_shown, back_and_forth, pushed_reserved, pushed_new, pushed_serials, set_reserved, kept_reserved, set_serial, cleared_serial, kept_serials}
 use Rattle.sadb.proofs.NumberedLemmas.{numbered_below}
 
-abbrev pub index_of : ℕ → List Place → ℕ → Index
-index_of start places capacity = record {
+abbrev pub given_of : ℕ → List Place → ℕ → GivenSpis
+given_of start places capacity = record {
   start = start;
   given = length places;
   reserved = shown_reserved start places;
@@ -44,12 +44,12 @@ held_is_not_reserved (Held other) is = refl
 held_is_not_reserved Gone is = refl
 
 -- an SPI that a pair has, given up
-pub record Freed (now : Index) (start : ℕ) (places : List Place) (capacity reserved spi : ℕ) : Type 0 where
+pub record Freed (now : GivenSpis) (start : ℕ) (places : List Place) (capacity reserved spi : ℕ) : Type 0 where
   pub place : HasPlace start places spi
-  pub sound : IsIndex start (slice_set places (spi - start) Gone) reserved
-  pub shown : index_of start (slice_set places (spi - start) Gone) capacity ≡ record now { serials = map.remove now.serials spi }
+  pub sound : AreGiven start (slice_set places (spi - start) Gone) reserved
+  pub shown : given_of start (slice_set places (spi - start) Gone) capacity ≡ record now { serials = map.remove now.serials spi }
 
-freed_shown : (start : ℕ) (places : List Place) (capacity reserved spi : ℕ) → IsIndex start places reserved → IsSome (map.get (shown_serials start places) spi) → Freed (index_of start places capacity) start places capacity reserved spi
+freed_shown : (start : ℕ) (places : List Place) (capacity reserved spi : ℕ) → AreGiven start places reserved → IsSome (map.get (shown_serials start places) spi) → Freed (given_of start places capacity) start places capacity reserved spi
 freed_shown start places capacity reserved spi sound there =
     let place = serial_at_place start places spi there in
     let same_spi : start + (spi - start) ≡ spi = back_and_forth start spi place.from_start in
@@ -70,18 +70,18 @@ freed_shown start places capacity reserved spi sound there =
       shown = λ i. record { start = start; given = same_len i; reserved = same_reserved i; serials = gone i; room = capacity - same_len i };
     }
 
-pub freed : (now : Index) (start : ℕ) (places : List Place) (capacity reserved spi : ℕ) → index_of start places capacity ≡ now → IsIndex start places reserved → IsSome (map.get now.serials spi) → Freed now start places capacity reserved spi
+pub freed : (now : GivenSpis) (start : ℕ) (places : List Place) (capacity reserved spi : ℕ) → given_of start places capacity ≡ now → AreGiven start places reserved → IsSome (map.get now.serials spi) → Freed now start places capacity reserved spi
 freed now start places capacity reserved spi is sound =
     subst (λ x. IsSome (map.get x.serials spi) → Freed x start places capacity reserved spi) is (freed_shown start places capacity reserved spi sound)
 
 -- a reserved SPI, given up
-pub record Released (now : Index) (start : ℕ) (places : List Place) (capacity reserved spi : ℕ) : Type 0 where
+pub record Released (now : GivenSpis) (start : ℕ) (places : List Place) (capacity reserved spi : ℕ) : Type 0 where
   pub place : HasPlace start places spi
   pub some : 1 ≤ reserved
-  pub sound : IsIndex start (slice_set places (spi - start) Gone) (reserved - 1)
-  pub shown : index_of start (slice_set places (spi - start) Gone) capacity ≡ record now { reserved = set.remove now.reserved spi }
+  pub sound : AreGiven start (slice_set places (spi - start) Gone) (reserved - 1)
+  pub shown : given_of start (slice_set places (spi - start) Gone) capacity ≡ record now { reserved = set.remove now.reserved spi }
 
-released_shown : (start : ℕ) (places : List Place) (capacity reserved spi : ℕ) → IsIndex start places reserved → set.contains (shown_reserved start places) spi ≡ true → Released (index_of start places capacity) start places capacity reserved spi
+released_shown : (start : ℕ) (places : List Place) (capacity reserved spi : ℕ) → AreGiven start places reserved → set.contains (shown_reserved start places) spi ≡ true → Released (given_of start places capacity) start places capacity reserved spi
 released_shown start places capacity reserved spi sound there =
     let both = reserved_at_place start places spi there in
     let place : HasPlace start places spi = both.1 in
@@ -107,19 +107,19 @@ released_shown start places capacity reserved spi sound there =
       shown = λ i. record { start = start; given = same_len i; reserved = gone i; serials = same_serials i; room = capacity - same_len i };
     }
 
-pub released : (now : Index) (start : ℕ) (places : List Place) (capacity reserved spi : ℕ) → index_of start places capacity ≡ now → IsIndex start places reserved → set.contains now.reserved spi ≡ true → Released now start places capacity reserved spi
+pub released : (now : GivenSpis) (start : ℕ) (places : List Place) (capacity reserved spi : ℕ) → given_of start places capacity ≡ now → AreGiven start places reserved → set.contains now.reserved spi ≡ true → Released now start places capacity reserved spi
 released now start places capacity reserved spi is sound =
     subst (λ x. set.contains x.reserved spi ≡ true → Released x start places capacity reserved spi) is (released_shown start places capacity reserved spi sound)
 
 -- a reserved SPI, which a pair has from then on
-pub record Taken (now : Index) (start : ℕ) (places : List Place) (capacity reserved spi serial : ℕ) : Type 0 where
+pub record Taken (now : GivenSpis) (start : ℕ) (places : List Place) (capacity reserved spi serial : ℕ) : Type 0 where
   pub place : HasPlace start places spi
   pub some : 1 ≤ reserved
-  pub sound : IsIndex start (slice_set places (spi - start) (Held serial)) (reserved - 1)
-  pub shown : index_of start (slice_set places (spi - start) (Held serial)) capacity ≡ record now { reserved = set.remove now.reserved spi; serials = map.insert now.serials spi serial }
+  pub sound : AreGiven start (slice_set places (spi - start) (Held serial)) (reserved - 1)
+  pub shown : given_of start (slice_set places (spi - start) (Held serial)) capacity ≡ record now { reserved = set.remove now.reserved spi; serials = map.insert now.serials spi serial }
   pub new_serial : map.get now.serials spi ≡ None
 
-taken_shown : (start : ℕ) (places : List Place) (capacity reserved spi serial : ℕ) → IsIndex start places reserved → set.contains (shown_reserved start places) spi ≡ true → Taken (index_of start places capacity) start places capacity reserved spi serial
+taken_shown : (start : ℕ) (places : List Place) (capacity reserved spi serial : ℕ) → AreGiven start places reserved → set.contains (shown_reserved start places) spi ≡ true → Taken (given_of start places capacity) start places capacity reserved spi serial
 taken_shown start places capacity reserved spi serial sound there =
     let both = reserved_at_place start places spi there in
     let place : HasPlace start places spi = both.1 in
@@ -144,19 +144,19 @@ taken_shown start places capacity reserved spi serial sound there =
       new_serial = reserved_is_free start places spi there;
     }
 
-pub taken : (now : Index) (start : ℕ) (places : List Place) (capacity reserved spi serial : ℕ) → index_of start places capacity ≡ now → IsIndex start places reserved → set.contains now.reserved spi ≡ true → Taken now start places capacity reserved spi serial
+pub taken : (now : GivenSpis) (start : ℕ) (places : List Place) (capacity reserved spi serial : ℕ) → given_of start places capacity ≡ now → AreGiven start places reserved → set.contains now.reserved spi ≡ true → Taken now start places capacity reserved spi serial
 taken now start places capacity reserved spi serial is sound =
     subst (λ x. set.contains x.reserved spi ≡ true → Taken x start places capacity reserved spi serial) is (taken_shown start places capacity reserved spi serial sound)
 
 -- one more SPI, reserved, in places of this new capacity
-pub record Given (now : Index) (start : ℕ) (places : List Place) (capacity reserved : ℕ) : Type 0 where
+pub record Given (now : GivenSpis) (start : ℕ) (places : List Place) (capacity reserved : ℕ) : Type 0 where
   pub few : reserved ≤ 65536
-  pub sound : IsIndex start (places ++ Reserved ∷ []) (reserved + 1)
+  pub sound : AreGiven start (places ++ Reserved ∷ []) (reserved + 1)
   pub new_spi : set.contains now.reserved (now.start + now.given) ≡ false
-  pub shown : index_of start (places ++ Reserved ∷ []) capacity ≡ record now { given = now.given + 1; reserved = set.insert now.reserved (now.start + now.given); room = capacity - length (places ++ Reserved ∷ []) }
+  pub shown : given_of start (places ++ Reserved ∷ []) capacity ≡ record now { given = now.given + 1; reserved = set.insert now.reserved (now.start + now.given); room = capacity - length (places ++ Reserved ∷ []) }
   pub room : now.room ≤ (capacity - length (places ++ Reserved ∷ [])) + 1
 
-given_shown : (start : ℕ) (places : List Place) (before capacity reserved : ℕ) → before ≤ capacity → IsIndex start places reserved → length places < 65536 → Given (index_of start places before) start places capacity reserved
+given_shown : (start : ℕ) (places : List Place) (before capacity reserved : ℕ) → before ≤ capacity → AreGiven start places reserved → length places < 65536 → Given (given_of start places before) start places capacity reserved
 given_shown start places before capacity reserved grown sound unspent =
     let longer : length (places ++ Reserved ∷ []) ≡ length places + 1 = length_push places Reserved in
     let within = sound.within in
@@ -173,12 +173,12 @@ given_shown start places before capacity reserved grown sound unspent =
       room = omega arith;
     }
 
-pub given : (now : Index) (start : ℕ) (places : List Place) (before capacity reserved : ℕ) → before ≤ capacity → index_of start places before ≡ now → IsIndex start places reserved → now.given < 65536 → Given now start places capacity reserved
+pub given : (now : GivenSpis) (start : ℕ) (places : List Place) (before capacity reserved : ℕ) → before ≤ capacity → given_of start places before ≡ now → AreGiven start places reserved → now.given < 65536 → Given now start places capacity reserved
 given now start places before capacity reserved grown is sound =
     subst (λ x. x.given < 65536 → Given x start places capacity reserved) is (given_shown start places before capacity reserved grown sound)
 
--- what holds of every index
-pub record Sound (now : Index) : Type 0 where
+-- what holds of the SPIs given
+pub record Sound (now : GivenSpis) : Type 0 where
   pub start : IsStart now.start
   pub reserved : (spi : ℕ) → set.contains now.reserved spi ≡ true → (now.start ≤ spi) × (spi < now.start + now.given) × (map.get now.serials spi ≡ None)
   pub held : (spi : ℕ) → IsSome (map.get now.serials spi) → (now.start ≤ spi) × (spi < now.start + now.given)
@@ -186,7 +186,7 @@ pub record Sound (now : Index) : Type 0 where
 upward : (start : ℕ) (places : List Place) (spi : ℕ) → HasPlace start places spi → spi < start + length places
 upward start places spi place = let from = place.from_start in let inside = place.inside in omega arith
 
-sound_shown : (start : ℕ) (places : List Place) (capacity reserved : ℕ) → IsIndex start places reserved → Sound (index_of start places capacity)
+sound_shown : (start : ℕ) (places : List Place) (capacity reserved : ℕ) → AreGiven start places reserved → Sound (given_of start places capacity)
 sound_shown start places capacity reserved sound =
     record {
       start = sound.begins;
@@ -194,18 +194,18 @@ sound_shown start places capacity reserved sound =
       held = λ spi is. (let place : HasPlace start places spi = serial_at_place start places spi is in (place.from_start, upward start places spi place));
     }
 
-pub holds : (now : Index) (start : ℕ) (places : List Place) (capacity reserved : ℕ) → index_of start places capacity ≡ now → IsIndex start places reserved → Sound now
+pub holds : (now : GivenSpis) (start : ℕ) (places : List Place) (capacity reserved : ℕ) → given_of start places capacity ≡ now → AreGiven start places reserved → Sound now
 holds now start places capacity reserved is sound = subst Sound is (sound_shown start places capacity reserved sound)
 
--- what an index shows of an SPI, by where it lies
-pub shown_at : (now : Index) (start : ℕ) (places : List Place) (capacity spi : ℕ) → index_of start places capacity ≡ now → start ≤ spi → map.get now.serials spi ≡ serial_at (place_at places (spi - start))
+-- what the SPIs given show of one, by where it lies
+pub shown_at : (now : GivenSpis) (start : ℕ) (places : List Place) (capacity spi : ℕ) → given_of start places capacity ≡ now → start ≤ spi → map.get now.serials spi ≡ serial_at (place_at places (spi - start))
 shown_at now start places capacity spi is upward =
     subst (λ x. map.get x.serials spi ≡ serial_at (place_at places (spi - start))) is
     (ap (map.get (shown_serials start places)) (sym (back_and_forth start spi upward)) ∙ serial_shown start places (spi - start))
 
-pub shown_below : (now : Index) (start : ℕ) (places : List Place) (capacity spi : ℕ) → index_of start places capacity ≡ now → spi < start → map.get now.serials spi ≡ None
+pub shown_below : (now : GivenSpis) (start : ℕ) (places : List Place) (capacity spi : ℕ) → given_of start places capacity ≡ now → spi < start → map.get now.serials spi ≡ None
 shown_below now start places capacity spi is below =
     subst (λ x. map.get x.serials spi ≡ None) is (numbered_below start (serial_in places) (length places) spi below)
 
-pub no_index : (start : ℕ) → IsStart start → IsIndex start [] 0
-no_index start begins = record { begins = begins; few = omega arith; within = omega arith; counted = sym (set.len-empty nat_cmp) }
+pub none_given : (start : ℕ) → IsStart start → AreGiven start [] 0
+none_given start begins = record { begins = begins; few = omega arith; within = omega arith; counted = sym (set.len-empty nat_cmp) }
