@@ -73,7 +73,7 @@ impl<W: Window> Inbound<W> {
     }
 
     /// Opens a packet: judges it, takes its number, and hands up its payload as a part of it (RFC 4303 section 3.4).
-    /// The caller asks only with packets whose first four octets, where there are four, are the SPI.
+    /// The caller asks only with packets that begin with the SPI, or are shorter than one.
     ///
     /// Refused, in this order, with nothing changed:
     /// - [`EspFault::BadLength`] unless the length is a multiple of 4 from 28 to 16,664 octets;

@@ -138,7 +138,7 @@ pub record IsInbound (pairs : PairMap) (spi : ℕ) (pair : Pair) : Type 0 where
   pub its_own : pair.inbound.association.spi ≡ spi
   pub only : (serial : ℕ) → HasInbound pairs spi serial → serial ≡ pair.serial
 
--- the pair of the least serial above the given one
+-- the next pair by serial
 pub record IsAfter (pairs : PairMap) (serial : ℕ) (pair : Pair) : Type 0 where
   pub there : pair_at pairs pair.serial ≡ Some pair
   pub above : serial < pair.serial

@@ -1,4 +1,4 @@
--- Pairs of associations as contracts see them (RFC 4301 section 4.4.2): plain data.
+-- The codes of what contracts see of pairs of associations (RFC 4301 section 4.4.2), which are plain data.
 use Rattle.std.specs.Prelude.{◌≡◌, ℕ, List, Bool, true, false, refl}
 use Rattle.std.specs.Coded.{Coded, code_by, coded×, coded_ℕ, coded_bool, coded_list}
 use Rattle.wire.specs.declared.selector.Selector.{Selector}

@@ -184,7 +184,7 @@ impl Pairs {
         self.slab[key].outbound.seal(next, payload, out)
     }
 
-    /// The pair of the least serial above the given one.
+    /// The next pair by serial.
     pub fn after(&self, serial: u32) -> Option<&Pair>
         ensures some { IfSome result (λ pair. IsAfter self.now.pairs serial pair.now) }
         ensures none { IfNone result ((other : ℕ) → serial < other → map.get self.now.pairs other ≡ None) }

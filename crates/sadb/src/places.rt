@@ -151,8 +151,8 @@ impl Places {
         requires { IsSome (map.get self.old.serials spi) }
         ensures { self.new ≡ record self.old { serials = map.remove self.old.serials spi } }
     {
-        let place = (spi - self.start) as usize;
-        self.places[place] = Place::Gone;
+        let held = (spi - self.start) as usize;
+        self.places[held] = Place::Gone;
     }
 
     /// The serial of the pair that has an SPI.

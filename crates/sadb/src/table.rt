@@ -172,7 +172,7 @@ impl Table {
         self.pairs.outbound(flow)
     }
 
-    /// The pair of the least serial above the given one; from 0 on, one after the other, all are found. Takes no memory.
+    /// The next pair by serial; from 0 on, one after the other, all are found. Takes no memory.
     pub fn after(&self, serial: u32) -> Option<&Pair>
         ensures some { IfSome result (λ pair. IsAfter self.now.pairs serial pair.now) }
         ensures none { IfNone result ((other : ℕ) → serial < other → pair_at self.now.pairs other ≡ None) }
@@ -181,8 +181,8 @@ impl Table {
     }
 
     /// Opens a packet by the inbound association of a pair, as [`esp::Inbound::open`] does, with its refusals but for want of
-    /// memory, which never comes. The caller asks only for a pair that is there, with a packet whose first four octets, where
-    /// there are four, are its inbound SPI. Takes no memory.
+    /// memory, which never comes. The caller asks only for a pair that is there, with a packet that begins with its inbound SPI
+    /// or is shorter than one. Takes no memory.
     pub fn open<'a>(&mut self, serial: u32, packet: &'a [u8]) -> Result<Opened<'a>, EspFault>
         requires { IsFor self.old.pairs serial packet.now }
         ensures up { IfOk result (λ o. OpensAt self.old.pairs serial packet.now o.number o.next o.payload.now self.new.pairs) }

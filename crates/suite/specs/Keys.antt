@@ -1,5 +1,6 @@
 -- The keys of an IKE association and of its children (RFC 7296, sections 2.14 and 2.17), with HMAC-SHA-256 as the
--- pseudorandom function. Every key has 32 octets, that of the cipher too, which is an own rule.
+-- pseudorandom function. Every key has 32 octets, that of the cipher too, which is a rule of
+-- this implementation.
 use Rattle.std.specs.Prelude.{ℕ, ◌*◌, List, [], ◌∷◌, ◌++◌, take, drop}
 use Rattle.byteorder.specs.Endian.{big_bytes}
 use Rattle.mac.specs.Hmac.{hmac_sha256}

@@ -18,20 +18,20 @@ pub trait Agreement {
     /// The public value of a secret.
     ghost public_value: { List ℕ → List ℕ };
 
-    /// The secret shared by who has this secret and who has that public value; none where the agreement
-    /// refuses the public value.
+    /// The secret shared by the owner of this secret and the owner of that public value; none where the agreement refuses
+    /// the public value.
     ghost shared_secret: { List ℕ → List ℕ → Option (List ℕ) };
 
     /// The number by which peers name this group.
     fn group(&self) -> u16
         ensures { result ≡ group_number };
 
-    /// The public value of a secret, which a KE payload carries.
+    /// The public value of a secret, which a KE payload carries. An error is for want of memory alone.
     fn public(&self, alloc: Global, secret: &[u8; 32]) -> Result<Items<u8>, AllocError>
         ensures { IfOk result (λ value. value ≡ public_value secret.now) };
 
     /// The secret that is shared with the owner of a public value, `None` where the agreement refuses
-    /// that value.
+    /// that value. An error is for want of memory alone.
     fn shared(
         &self,
         alloc: Global,
@@ -40,7 +40,7 @@ pub trait Agreement {
     ) -> Result<Option<Items<u8>>, AllocError>
         ensures { IfOk result (λ shared. shared ≡ shared_secret secret.now other.now) };
 
-    /// Both ends come to the same.
+    /// Both ends come to the same secret, or both to none.
     ghost symmetric: { (a b : List ℕ) → IsSecret a → IsSecret b
         → shared_secret a (public_value b) ≡ shared_secret b (public_value a) };
 

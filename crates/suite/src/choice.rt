@@ -1,41 +1,12 @@
 //! The choice of a proposal (RFC 7296, sections 2.7 and 3.3).
 ghost use Rattle.std.specs.Prelude.{◌≡◌, ℕ, IsTrue, ◌↔◌, All, Any, Contains, MatchOption};
 
+use crate::transforms::{
+    AUTH_HMAC_SHA2_256_128, ENCR, ENCR_NULL, ESN, ESP, EXTENSION, FIRST_SPI, GROUP, IKE, INTEG,
+    KEY_LENGTH, NO_EXTENSION, PRF, PRF_HMAC_SHA2_256,
+};
 use byteorder::{BigEndian, ByteOrder};
 use wire::{Attribute, Proposal, Transform};
-
-// Types of transforms (section 3.3.2).
-const ENCR: u8 = 1;
-
-const PRF: u8 = 2;
-
-const INTEG: u8 = 3;
-
-const GROUP: u8 = 4;
-
-const ESN: u8 = 5;
-
-// IDs of transforms (section 3.3.2, RFC 4868 and RFC 2410).
-const ENCR_NULL: u16 = 11;
-
-const PRF_HMAC_SHA2_256: u16 = 5;
-
-const AUTH_HMAC_SHA2_256_128: u16 = 12;
-
-const NO_EXTENSION: u16 = 0;
-
-const EXTENSION: u16 = 1;
-
-// The attribute with a key's length in bits (section 3.3.5).
-const KEY_LENGTH: u16 = 14;
-
-// Protocols (section 3.3.1).
-const IKE: u8 = 1;
-
-const ESP: u8 = 3;
-
-// SPIs up to 255 are reserved (RFC 4303, section 2.1).
-const FIRST_SPI: u32 = 256;
 
 /// What a proposal is to be for.
 #[derive(Clone, Copy, Debug, PartialEq, Eq)]
@@ -72,7 +43,8 @@ const ESP_KINDS: [u8; 3] = [ENCR, INTEG, ESN];
 ghost use Rattle.suite.specs.Choice.{acceptable_transforms, key_length_attribute, kinds, protocol_of, without_attributes, ChoosesNumbers, HasSpi, IsAcceptable, IsAcceptableTransform, IsChosen, IsFirstAcceptable};
 
 impl Wanted {
-    fn protocol(&self) -> u8
+    /// The protocol that a proposal is for (RFC 7296, section 3.3.1).
+    pub fn protocol(&self) -> u8
         ensures { result ≡ protocol_of self.now }
     {
         match self {
@@ -81,8 +53,8 @@ impl Wanted {
         }
     }
 
-    // The types of transforms that a proposal has.
-    fn kinds(&self) -> &'static [u8]
+    /// The types of transforms that a proposal has, one or more of each and no other (RFC 7296, section 3.3.3).
+    pub fn kinds(&self) -> &'static [u8]
         ensures { result.now ≡ kinds self.now }
     {
         match self {

@@ -1,7 +1,7 @@
 //! Octets that the caller makes anew for a step.
 use std::fmt;
 
-/// Random numbers of the caller for one step. No other step is to have them, which nothing here sees to.
+/// Random numbers of the caller for one step. No other step is to have them; nothing here checks it.
 #[derive(Clone, Copy)]
 pub struct Fresh {
     /// The SPI of an IKE association that the step may make; 0 names none (RFC 7296, section 3.1).

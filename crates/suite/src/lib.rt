@@ -2,7 +2,7 @@
 //! proves, and the traits that a caller gives.
 //!
 //! [`ike_keys`] derives the seven keys of an association, [`child_keys`] those of a child; [`choose`] takes the first
-//! acceptable proposal; [`proof_octets`] appends what an end proves of itself. Only the last takes memory.
+//! acceptable proposal; [`proof_octets`] appends what an end proves of itself. Of these four only [`proof_octets`] takes memory. The numbers of transforms stand in [`transforms`].
 //!
 //! Ciphers, key agreement and signatures are the caller's: a [`Sealer`], an [`Agreement`] and a [`Proof`]. What they mean
 //! stands in ghost members of the traits, so that what opens as what is a fact about octets, and their laws are laws of
@@ -29,6 +29,7 @@ mod proved;
 mod sealer;
 #[cfg(test)]
 mod tests;
+pub mod transforms;
 
 pub use agreement::Agreement;
 pub use choice::{Chosen, Wanted, choose};

@@ -117,7 +117,7 @@ impl Mixed {
 fn a_thousand_changes(rt: HostRuntime) -> Result<(), Fail> {
     let mut both = Both::new(rt.alloc())?;
     let mut mixed = Mixed { state: 1 };
-    for step in 0..1000 {
+    for step in 0..1100 {
         let place = mixed.below(both.plain.entries().len());
         match mixed.below(20) {
             0..=5 => both.install(&rt, mixed.network())?,

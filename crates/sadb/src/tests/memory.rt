@@ -1,5 +1,5 @@
 //! Runs that pass whether an allocation fails or not: what was refused for want of memory left everything as it was. Each is
-//! to be run with every allocation failing in turn, alone and with all after it.
+//! to be run with every allocation failing in turn.
 use super::fixture::{Network, START, is_live, is_there, pair, reserve};
 use super::plain::Plain;
 use crate::{Table, TableFault};

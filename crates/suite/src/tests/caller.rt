@@ -238,6 +238,24 @@ fn proved<P: Proof>(caller: &P, alloc: Global, octets: &[u8]) -> Result<Items<u8
     caller.prove(alloc, octets)
 }
 
+// What peers name a caller's parts by, told through the bounds.
+fn names<C: Sealer + Agreement + Proof>(caller: &C) -> (Cipher, u16, u8)
+    ensures { (result.0 ≡ C.cipher) × (result.1 ≡ C.group_number) × (result.2 ≡ C.own_method caller.now) }
+{
+    (caller.transform(), caller.group(), caller.method())
+}
+
+fn checks<P: Proof>(
+    caller: &P,
+    alloc: Global,
+    octets: &[u8],
+    proof: &[u8],
+) -> Result<bool, AllocError>
+    ensures { IfOk result (λ accepted. accepted ≡ P.accepts caller.now 2 [] (P.own_method caller.now) octets.now proof.now) }
+{
+    caller.check(alloc, 2, &[], caller.method(), octets, proof)
+}
+
 const KEYS: Keys = Keys {
     encryption: [1; 32],
     integrity: [2; 32],
@@ -325,6 +343,7 @@ fn proves_and_checks(rt: HostRuntime) -> Result<(), Fail> {
         0x60, 0x58,
     ];
     assert_eq!(rt; proof.as_slice(), wanted.as_slice());
+    assert!(rt; checks(&TestCaller, alloc, b"octets", proof.as_slice())?);
     let rows: [(u8, &[u8], bool); 3] = [
         (2, b"octets", true),
         (1, b"octets", false),
@@ -341,8 +360,13 @@ fn proves_and_checks(rt: HostRuntime) -> Result<(), Fail> {
 
 #[test]
 fn names_its_parts(rt: HostRuntime) {
-    assert_eq!(rt; TestCaller.transform().id, 65001);
-    assert_eq!(rt; TestCaller.transform().key_length, None);
-    assert_eq!(rt; TestCaller.group(), 65002);
-    assert_eq!(rt; TestCaller.method(), 2);
+    let (cipher, group, method) = names(&TestCaller);
+    assert_eq!(rt;
+        cipher,
+        Cipher {
+            id: 65001,
+            key_length: None
+        }
+    );
+    assert_eq!(rt; (group, method), (65002, 2));
 }

@@ -1,0 +1,5 @@
+pub mod SealedLemmas
+pub mod CountingLemmas
+pub mod OfferLemmas
+pub mod LawLemmas
+pub mod SizeLemmas

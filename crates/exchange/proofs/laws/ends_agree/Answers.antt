@@ -1,0 +1,11 @@
+use Rattle.exchange.proofs.LawLemmas.{answer_agreed, answer_taken, numbers_agreed}
+use Rattle.exchange.proofs.laws.ends_agree.Goals as goal
+
+pub returns-clause-answers : goal.returns-clause-answers
+returns-clause-answers c = λ ours theirs spi answer chosen form found. answer_agreed ours theirs spi answer chosen form found
+
+pub returns-clause-numbers : goal.returns-clause-numbers
+returns-clause-numbers c = λ ours theirs spi answer chosen found. numbers_agreed ours theirs spi answer chosen found
+
+pub returns-clause-taken : goal.returns-clause-taken
+returns-clause-taken c = λ wanted proposals chosen spi found. (found.proposal, found.here, found.number, found.acceptable.protocol, answer_taken wanted proposals chosen spi found)

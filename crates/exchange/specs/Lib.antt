@@ -1,0 +1,8 @@
+pub mod Sealed
+pub mod Counting
+pub mod Notices
+pub mod Deletions
+pub mod Offers
+pub mod Sizes
+pub mod TestCipher
+pub mod TestCipherLaws

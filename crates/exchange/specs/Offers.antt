@@ -1,0 +1,42 @@
+-- What is offered, answered and accepted (RFC 7296 sections 2.7 and 3.3).
+use Rattle.std.specs.Prelude.{◌≡◌, ◌==◌, ℕ, Bool, true, false, List, [], ◌∷◌, ◌++◌, All}
+use Rattle.std.specs.List.{count_by}
+use Rattle.wire.specs.declared.proposal.Proposal.{Proposal}
+use Rattle.wire.specs.declared.proposal.Transform.{Transform}
+use Rattle.suite.specs.declared.choice.Chosen.{Chosen}
+use Rattle.suite.specs.declared.choice.Wanted.{Wanted}
+use Rattle.suite.specs.declared.choice.Wanted.TheVariants.{Ike, Esp}
+use Rattle.suite.specs.Choice.{acceptable_transforms, kinds, protocol_of, sequence_numbers, without_attributes, IsAcceptable}
+
+-- What stands of each type of transform but sequence numbers, of which one transform alone is acceptable.
+abbrev pub fixed_transforms : Wanted → List Transform
+fixed_transforms (Ike encr key_length group) = acceptable_transforms (Ike encr key_length group)
+fixed_transforms (Esp extended) = without_attributes 1 11 ∷ without_attributes 3 12 ∷ []
+
+-- extended sequence numbers are offered first, where they are allowed
+abbrev pub offered_transforms : Wanted → List Transform
+offered_transforms (Ike encr key_length group) = fixed_transforms (Ike encr key_length group)
+offered_transforms (Esp true) = fixed_transforms (Esp true) ++ sequence_numbers true ∷ sequence_numbers false ∷ []
+offered_transforms (Esp false) = fixed_transforms (Esp false) ++ sequence_numbers false ∷ []
+
+-- one transform of each type
+abbrev pub answered_transforms : Wanted → Bool → List Transform
+answered_transforms (Ike encr key_length group) extended = fixed_transforms (Ike encr key_length group)
+answered_transforms (Esp allowed) extended = fixed_transforms (Esp allowed) ++ sequence_numbers extended ∷ []
+
+-- an end offers one proposal, of number 1
+abbrev pub offered : Wanted → List ℕ → Proposal
+offered wanted spi = record { number = 1; protocol = protocol_of wanted; spi = spi; transforms = offered_transforms wanted }
+
+-- the answer keeps the number of the proposal that was chosen (section 3.3.1)
+abbrev pub answered : Wanted → Chosen → List ℕ → Proposal
+answered wanted chosen spi = record { number = chosen.number; protocol = protocol_of wanted; spi = spi; transforms = answered_transforms wanted chosen.extended }
+
+abbrev pub count_of_kind : List Transform → ℕ → ℕ
+count_of_kind transforms kind = count_by (λ t. t.kind == kind) transforms
+
+-- The answer to what this end offered: of its number, with one acceptable transform of each type and nothing else.
+pub record IsAnswer (wanted : Wanted) (proposal : Proposal) : Type 0 where
+  pub acceptable : IsAcceptable wanted proposal
+  pub number : proposal.number ≡ 1
+  pub one_each : All (λ kind. count_of_kind proposal.transforms kind ≡ 1) (kinds wanted)

@@ -1,0 +1,38 @@
+//! What the messages of IKE's exchanges say (RFC 7296, sections 1 to 3): how payloads are sealed and opened, which of them count, and
+//! what is offered, answered and accepted. No association and no policy is known here.
+//!
+//! [`seal_message`] makes a message of one encrypted payload from a message in clear, by the caller's
+//! [`Sealer`](suite::Sealer), and [`open_message`] takes it apart again. Of the payloads inside, [`unknown_critical`] finds what
+//! refuses a request, [`only_sa`] and its like those that count, a [`Notice`] is sent and [`leading_cookie`] and its like are read, and
+//! [`esp_spis`] tells what is to be deleted. [`offer`], [`answer`] and [`accept`] go with [`choose`](suite::choose).
+//!
+//! ```text
+//! seal_message(&sealer, &record.initiator_keys(), &message, &fresh.seal, &mut datagram)?;
+//!
+//! let message = decode_message(alloc, &datagram)?;
+//! if let Some(plain) = open_message(alloc, &sealer, &keys, &datagram, &message)? {
+//!     let payloads = decode_chain(alloc, plain.first, plain.octets.as_slice())?;
+//!     let nonce = only_nonce(&payloads);
+//! }
+//! ```
+#![tactic(auto)]
+
+mod deletions;
+mod laws;
+mod notices;
+mod offers;
+mod payloads;
+mod sealed;
+
+pub use deletions::{deletes_association, esp_spis, names_more_than};
+pub use laws::{ends_agree, offers_are_answered, short_messages_can_be_sent};
+pub use notices::{Notice, asked_cookie, has_invalid_syntax, leading_cookie, returned_cookie};
+pub use offers::{accept, answer, offer};
+pub use payloads::{
+    has_ke, offers_ike, only, only_auth, only_id_i, only_id_r, only_ke, only_nonce, only_sa,
+    only_ts_i, only_ts_r, unknown_critical,
+};
+pub use sealed::{Plain, open_message, seal_message, sealed_messages_open};
+
+#[cfg(test)]
+mod tests;

@@ -1,0 +1,138 @@
+//! Messages whose payloads are encrypted (RFC 7296, section 3.14).
+ghost use Rattle.std.specs.Prelude.{◌≡◌, ◌≢◌, ◌<◌, ◌≤◌, ◌+◌, ◌-◌, ◌++◌, ◌∷◌, [], List, ℕ, Ok, None, Some, length, OnOk, OnErr, IfErr, IfOk, IsOk};
+ghost use Rattle.wire.specs.Parts.{AreOctets};
+ghost use Rattle.wire.specs.Messages.{Spells};
+ghost use Rattle.wire.specs.Payloads.{SpellsChain, IsClear};
+ghost use Rattle.std.specs.List.{AllByRecursion};
+ghost use Rattle.wire.specs.declared.message.Message.{Message};
+ghost use Rattle.wire.specs.declared.payload.Payload.{Payload};
+ghost use Rattle.suite.specs.declared.keys.Keys.{Keys};
+ghost use Rattle.suite.specs.Sealing.{AreKeys};
+ghost use Rattle.exchange.specs.Sealed.{opened, sealed_alone, sealed_head, wrapped, IsSealed, IsSealingFaultOf, CanBeSealed, OpensAgain};
+
+use std::alloc::{AllocError, Global};
+use suite::{Keys, Sealer};
+use wire::{Items, Message, Payload, WireFault, encode_message};
+
+// The octets of a header (section 3.1).
+const HEADER_LENGTH: usize = 28;
+
+// The octets before a body: the header, and that of the encrypted payload (section 3.2).
+const HEAD_LENGTH: usize = 32;
+
+// The most that a message has, a limit of this implementation.
+const LIMIT: usize = 3000;
+
+// The type of an encrypted payload (section 3.2).
+const SEALED: u8 = 46;
+
+/// What an encrypted payload holds: payloads in octets, and the type of the first of them, 0 for none.
+#[derive(Clone, Debug, PartialEq, Eq, Drop)]
+pub struct Plain {
+    pub first: u8,
+    pub octets: Items<u8>,
+}
+
+/// Appends a message with its payloads encrypted under the sender's keys: its header, and one payload, whose body the
+/// cipher makes of them with 16 fresh octets (RFC 7296, section 3.14).
+///
+/// Refused as [`encode_message`] refuses the message in clear, with offsets as there; and [`WireFault::TooLong`] where it has
+/// more than 3000 octets once it is sealed. A message that has at most 2868 octets in clear is refused for memory alone. After
+/// a refusal `out` is as it was. A payload that is encrypted itself is sealed as it stands, but no end reads it there.
+pub fn seal_message<S: Sealer>(
+    sealer: &S,
+    keys: &Keys,
+    message: &Message,
+    fresh: &[u8; 16],
+    out: &mut Vec<u8>,
+) -> Result<(), WireFault>
+    ensures sealed { OnOk result ((b : List ℕ) × IsSealed S.body_of keys.now fresh.now message.now b
+        × (out.new.items ≡ out.old.items ++ b)) }
+    ensures fault { IfErr result (λ f. f ≢ WireFault.Memory → IsSealingFaultOf S.sealed_size message.now f) }
+    ensures memory { CanBeSealed message.now → IfErr result (λ f. f ≡ WireFault.Memory) }
+    ensures refused { OnErr result (out.new.items ≡ out.old.items) }
+{
+    // Brings that both keys have 32 octets, which the laws of a sealer ask for.
+    let _ = keys.as_slices();
+    let alloc = *out.allocator();
+    let mut clear = Vec::new(alloc);
+    encode_message(message, &mut clear)?;
+    let whole = wrapped(alloc, sealer, keys, &clear, fresh)?;
+    out.extend_from_slice(&whole)?;
+    Ok(())
+}
+
+// A message in clear, with its payloads as the body of an encrypted one.
+fn wrapped<S: Sealer>(
+    alloc: Global,
+    sealer: &S,
+    keys: &Keys,
+    clear: &[u8],
+    fresh: &[u8; 16],
+) -> Result<Vec<u8>, WireFault>
+    requires { 28 ≤ length clear.now }
+    ensures made { IfOk result (λ whole. whole.items ≡ wrapped S.body_of S.sealed_size keys.now fresh.now clear.now) }
+    ensures short { IsOk result → 32 + S.sealed_size (length clear.now - 28) ≤ 3000 }
+    ensures refused { IfErr result (λ f. f ≢ WireFault.Memory
+        → (f ≡ WireFault.TooLong) × (3000 < 32 + S.sealed_size (length clear.now - 28))) }
+{
+    let length = sealer.sealed_len(clear.len() - HEADER_LENGTH);
+    if length > LIMIT - HEAD_LENGTH {
+        return Err(WireFault::TooLong);
+    }
+    let mut whole = sealed_head(alloc, clear, length)?;
+    let mut body = Vec::new(alloc);
+    sealer.seal(keys, &whole, &clear[HEADER_LENGTH..], fresh, &mut body)?;
+    whole.extend_from_slice(&body)?;
+    Ok(whole)
+}
+
+// What stands before a body of so many octets: the header of the message in clear, with another type of the first payload and
+// another length, and the header of the encrypted payload.
+fn sealed_head(alloc: Global, clear: &[u8], body: usize) -> Result<Vec<u8>, AllocError>
+    requires header { 28 ≤ length clear.now }
+    requires short { 32 + body ≤ 3000 }
+    ensures { IfOk result (λ head. head.items ≡ sealed_head clear.now body) }
+{
+    let mut head = Vec::with_capacity(alloc, HEAD_LENGTH)?;
+    head.extend_from_slice(&clear[..16])?;
+    head.push(SEALED)?;
+    head.extend_from_slice(&clear[17..24])?;
+    head.extend_from_slice(&((HEAD_LENGTH + body) as u32).to_be_bytes())?;
+    head.push(clear[16])?;
+    head.push(0)?;
+    head.extend_from_slice(&((4 + body) as u16).to_be_bytes())?;
+    Ok(head)
+}
+
+/// What a datagram's encrypted payload opens to under the sender's keys, where it is the message's only payload and its body
+/// opens (RFC 7296, section 3.14); `None` otherwise. An error is for want of memory alone. `message` is what the datagram
+/// spells.
+pub fn open_message<S: Sealer>(
+    alloc: Global,
+    sealer: &S,
+    keys: &Keys,
+    octets: &[u8],
+    message: &Message,
+) -> Result<Option<Plain>, AllocError>
+    requires { Spells message.now octets.now }
+    ensures opened { IfOk result (λ plain. plain ≡ opened S.plain_of keys.now octets.now message.now.payloads) }
+    // Where nothing can be opened, no memory is taken.
+    ensures idle { sealed_alone message.now.payloads ≡ None → result ≡ Ok None }
+{
+    let [Payload::Sealed { first, body }] = message.payloads.as_slice() else {
+        return Ok(None);
+    };
+    let mut plain = Vec::new(alloc);
+    let opens = sealer.open(keys, &octets[..HEAD_LENGTH], body.as_slice(), &mut plain)?;
+    Ok(opens.then_some(Plain {
+        first: *first,
+        octets: Items::from_vec(plain),
+    }))
+}
+
+/// What was sealed opens again, to the payloads that were sealed. Does nothing.
+pub fn sealed_messages_open<S: Sealer>(sealer: &S)
+    ensures { (keys : Keys) (fresh : List ℕ) (m : Message) (b : List ℕ) → AreKeys keys → AreOctets fresh → length fresh ≡ 16
+        → AllByRecursion IsClear m.payloads → IsSealed S.body_of keys fresh m b → OpensAgain S.plain_of keys m b }
+{}

@@ -1,0 +1,5 @@
+mod cipher;
+mod counting;
+mod notices;
+mod offers;
+mod sealing;
