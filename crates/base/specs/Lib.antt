@@ -1,0 +1,3 @@
+pub mod Octets
+pub mod Lists
+pub mod Addresses
