@@ -7,7 +7,7 @@ use Rattle.std.proofs.lemmas.List.{take-append-drop, drop-drop, take-take, drop-
 use Rattle.std.proofs.lemmas.Nat.{be_bytes_4}
 use Rattle.std.proofs.lemmas.Bool.{cases_Bool, cases_lt}
 use Rattle.byteorder.specs.Endian.{big_bytes, big_number}
-use Rattle.replay.specs.Window.{Seen, IsSound, Takes, judgement}
+use Rattle.replay.specs.Window.{Seen, IsSoundWindow, Takes, judgement}
 use Rattle.replay.specs.WindowFacts.{IsFresh, fresh}
 use Rattle.esp.specs.declared.association.Association.{Association}
 use Rattle.esp.specs.Packet.{number_limit, head, check_value, PassesIntegrity, IsContents}

@@ -1,18 +1,22 @@
 -- One delivery after another, as the window sees them, and what that is in words that know no window.
-use Rattle.std.proofs.Common.{◌≡◌, ℕ, zero, suc, ◌+◌, ◌<◌, ◌≤◌, Bool, true, false, List, [], ◌∷◌, ◌++◌, length, map, get_or, take, refl, sym, ap, ◌∙◌, subst, arith, inl, inr, Some, None, Option, Result, Ok}
+use Rattle.std.proofs.Common.{◌≡◌, ℕ, zero, suc, ◌+◌, ◌<◌, ◌≤◌, Bool, true, false, List, [], ◌∷◌, ◌++◌, length, map, get_or, take, drop, refl, sym, ap, ◌∙◌, subst, arith, inl, inr, Some, None, Option, Result, Ok}
 use Rattle.std.specs.Prelude.{◌||◌, ◌&&◌, nat_eq, nat_lt, slice_get, max}
 use Rattle.std.specs.Ordering.{nat_cmp}
 use Rattle.std.specs.FinSet as set
 use Rattle.std.specs.Prelude.{if◌then◌else◌, is_ok}
 use Rattle.std.proofs.lemmas.List.{append_assoc, take-map, map_more}
+use Rattle.std.proofs.Math.Seq.{drop-append_seam}
 use Rattle.std.proofs.lemmas.Bool.{and_left, and_cases, and_parts, and_from, ltb-true, lt-ltb, cases_Bool, false≢true, both_ways}
-use Rattle.replay.specs.Window.{Seen, IsSound, Takes}
+use Rattle.replay.specs.Window.{Seen, IsSoundWindow, Takes}
 use Rattle.esp.specs.declared.association.Association.{Association}
 use Rattle.esp.specs.Packet.{PassesIntegrity}
 use Rattle.esp.specs.Judging.{low_half, IsNumber, Judges}
 use Rattle.esp.specs.Views.{Receiving}
-use Rattle.esp.specs.Opening.{IsRefusal, Step, Run, TakesNumber}
-use Rattle.esp.specs.Delivery.{greatest, all_taken, taken_after, History, taken_at, IsJudged, IsAnswer, AreAnswers, delivered, answered, WantsWhereJudged, Shows, history, Deliveries, AnswersFirst}
+use Rattle.esp.specs.Opening.{IsOpeningRefusal, Step, Run, TakesNumber}
+use Rattle.esp.specs.Delivery.{greatest, all_taken, taken_after, History, taken_at, IsJudged, IsAnswerDue, AreAnswers, delivered_packets, delivered_answers, WantsWhereJudged, Shows, history, Deliveries, AnswersFirst, answers_since, JudgesAtMostOnce, JudgesExactlyAtFirst, AtMostOnce, ExactlyAtFirst, Unforged, IsStop}
+use Rattle.std.specs.Prelude.{OnOk, IfErr, Err}
+use Rattle.esp.specs.declared.fault.ListFault.{ListFault}
+use Rattle.esp.specs.declared.fault.ListFault.TheVariants.{NoRoom}
 use Rattle.esp.specs.declared.answer.Answer.{Answer}
 use Rattle.esp.specs.declared.answer.Answer.TheVariants.{Up, Refused}
 use Rattle.esp.specs.declared.fault.EspFault.{EspFault}
@@ -70,7 +74,7 @@ module _ (w : Seen) (size : ℕ) (taken : set.FinSet nat_cmp) (shows : Shows w s
     intact = j.intact;
   }
 
-  refuses_all : (a : Association) (b : List ℕ) (e : EspFault) → IsRefusal a w b e → IsRefusal a (all_taken size taken) b e
+  refuses_all : (a : Association) (b : List ℕ) (e : EspFault) → IsOpeningRefusal a w b e → IsOpeningRefusal a (all_taken size taken) b e
   refuses_all a b BadLength h = h
   refuses_all a b BadNumber h = (h.0, λ n is. h.1 n (number_shown a.extended (low_half b) n is))
   refuses_all a b Old h = (h.0, (h.1.0, number_all a.extended (low_half b) h.1.0 h.1.1, (let below = h.1.2 in let top = shows.top in let kept = shows.size_kept in omega arith)))
@@ -82,7 +86,7 @@ module _ (w : Seen) (size : ℕ) (taken : set.FinSet nat_cmp) (shows : Shows w s
   refuses_all a b Memory h = h
 
 -- what is refused is judged as no number
-refused_unjudged : (a : Association) (w : Seen) (b : List ℕ) (e : EspFault) → IsRefusal a w b e → (n : ℕ) → ¬ Judges a w b n
+refused_unjudged : (a : Association) (w : Seen) (b : List ℕ) (e : EspFault) → IsOpeningRefusal a w b e → (n : ℕ) → ¬ Judges a w b n
 refused_unjudged a w b BadLength h n j = h j.whole
 refused_unjudged a w b BadNumber h n j = h.1 n j.number
 refused_unjudged a w b Old h n j =
@@ -124,7 +128,7 @@ takes_shown old new n size taken positive shows takes = record {
 }
 
 -- a sound window shows the numbers that are in it
-pub sound_shown : (w : Seen) → IsSound w → Shows w w.size w.taken
+pub sound_shown : (w : Seen) → IsSoundWindow w → Shows w w.size w.taken
 sound_shown w sound = record {
   top = greatest-is w.taken w.top sound.up_to_top sound.top_taken;
   size_kept = refl;
@@ -145,7 +149,7 @@ AreJudged a size taken (b ∷ bs) [] = ⊥
 -- packet by packet, the answers
 abbrev AreDue : Association → ℕ → set.FinSet nat_cmp → List (List ℕ) → List (Option ℕ) → List Answer → Type 0
 AreDue a size taken [] [] [] = Unit {0}
-AreDue a size taken (b ∷ bs) (n ∷ ns) (r ∷ rs) = IsAnswer a (all_taken size taken) b n r × AreDue a size (taken_after taken (n ∷ [])) bs ns rs
+AreDue a size taken (b ∷ bs) (n ∷ ns) (r ∷ rs) = IsAnswerDue a (all_taken size taken) b n r × AreDue a size (taken_after taken (n ∷ [])) bs ns rs
 AreDue a size taken bs ns rs = ⊥
 
 abbrev past : Association → ℕ → set.FinSet nat_cmp → List (List ℕ) → List (Option ℕ) → History
@@ -206,7 +210,7 @@ taken_one_more taken None ns = refl
 taken_one_more taken (Some n) ns = refl
 
 due_there : (a : Association) (size : ℕ) (taken : set.FinSet nat_cmp) (bs : List (List ℕ)) (ns : List (Option ℕ)) (rs : List Answer) (i : ℕ) (b : List ℕ) (n : Option ℕ) (r : Answer)
-    → AreDue a size taken bs ns rs → slice_get bs i ≡ Some b → slice_get ns i ≡ Some n → slice_get rs i ≡ Some r → IsAnswer a (taken_at (past a size taken bs ns) i) b n r
+    → AreDue a size taken bs ns rs → slice_get bs i ≡ Some b → slice_get ns i ≡ Some n → slice_get rs i ≡ Some r → IsAnswerDue a (taken_at (past a size taken bs ns) i) b n r
 due_there a size taken [] ns rs i b n r h e at is = absurd (cc)
 due_there a size taken (x ∷ bs) [] rs i b n r h e at is = absurd (cc)
 due_there a size taken (x ∷ bs) (m ∷ ns) [] i b n r h e at is = absurd (cc)
@@ -214,11 +218,11 @@ due_there a size taken (x ∷ bs) (m ∷ ns) (s ∷ rs) zero b n r h e at is =
     let same_packet : x ≡ b = cc in
     let same_number : m ≡ n = cc in
     let same_answer : s ≡ r = cc in
-    let one : IsAnswer a (all_taken size taken) b m s = subst (λ (p : List ℕ). IsAnswer a (all_taken size taken) p m s) same_packet h.0 in
-    let two : IsAnswer a (all_taken size taken) b n s = subst (λ (k : Option ℕ). IsAnswer a (all_taken size taken) b k s) same_number one in
-    subst (λ (q : Answer). IsAnswer a (all_taken size taken) b n q) same_answer two
+    let one : IsAnswerDue a (all_taken size taken) b m s = subst (λ (p : List ℕ). IsAnswerDue a (all_taken size taken) p m s) same_packet h.0 in
+    let two : IsAnswerDue a (all_taken size taken) b n s = subst (λ (k : Option ℕ). IsAnswerDue a (all_taken size taken) b k s) same_number one in
+    subst (λ (q : Answer). IsAnswerDue a (all_taken size taken) b n q) same_answer two
 due_there a size taken (x ∷ bs) (m ∷ ns) (s ∷ rs) (suc i) b n r h e at is =
-    subst (λ (t : set.FinSet nat_cmp). IsAnswer a (all_taken size t) b n r) (taken_one_more taken m (take i ns))
+    subst (λ (t : set.FinSet nat_cmp). IsAnswerDue a (all_taken size t) b n r) (taken_one_more taken m (take i ns))
     (due_there a size (taken_after taken (m ∷ [])) bs ns rs i b n r h.1 e at is)
 
 are_answers : (a : Association) (size : ℕ) (taken : set.FinSet nat_cmp) (bs : List (List ℕ)) (ns : List (Option ℕ)) (rs : List Answer) → AreDue a size taken bs ns rs → AreAnswers (past a size taken bs ns) rs
@@ -230,8 +234,8 @@ are_answers a size taken bs ns rs h = record {
 -- What a run is, at a receiver whose window shows these numbers.
 record Outcome (want : Type 0) (a : Association) (size : ℕ) (taken : set.FinSet nat_cmp) (bs : List (List ℕ)) (rs : List Answer) (new : Receiving) : Type 0 where
   numbers : List (Option ℕ)
-  judged : AreJudged a size taken (delivered bs rs) numbers
-  due : AreDue a size taken (delivered bs rs) numbers (answered rs)
+  judged : AreJudged a size taken (delivered_packets bs rs) numbers
+  due : AreDue a size taken (delivered_packets bs rs) numbers (delivered_answers rs)
   memory : WantsWhereJudged want a size taken bs rs numbers
   association : new.association ≡ a
   window : Shows new.window size (taken_after taken numbers)
@@ -245,8 +249,8 @@ module _ (a : Association) (size : ℕ) (taken : set.FinSet nat_cmp) (r : Receiv
   judges_stands : (b : List ℕ) (n : ℕ) → Judges r.association r.window b n → Judges a (all_taken size taken) b n
   judges_stands b n j = subst (λ (x : Association). Judges x (all_taken size taken) b n) stands.association (judges_all r.window size taken stands.window r.association b n j)
 
-  refusal_stands : (b : List ℕ) (e : EspFault) → IsRefusal r.association r.window b e → IsRefusal a (all_taken size taken) b e
-  refusal_stands b e h = subst (λ (x : Association). IsRefusal x (all_taken size taken) b e) stands.association (refuses_all r.window size taken stands.window r.association b e h)
+  refusal_stands : (b : List ℕ) (e : EspFault) → IsOpeningRefusal r.association r.window b e → IsOpeningRefusal a (all_taken size taken) b e
+  refusal_stands b e h = subst (λ (x : Association). IsOpeningRefusal x (all_taken size taken) b e) stands.association (refuses_all r.window size taken stands.window r.association b e h)
 
   takes_stands : (n : ℕ) (new : Receiving) → 1 ≤ n → TakesNumber r n new → Stands new a size (set.insert taken n)
   takes_stands n new positive t = record {
@@ -259,19 +263,19 @@ module _ (a : Association) (size : ℕ) (taken : set.FinSet nat_cmp) (r : Receiv
 
 module _ (want : Type 0) (a : Association) (size : ℕ) where
   -- a packet in front that was refused, and is judged as no number
-  without_number : (taken : set.FinSet nat_cmp) (b : List ℕ) (e : EspFault) (bs : List (List ℕ)) (rs : List Answer) (new : Receiving) → IsRefusal a (all_taken size taken) b e
-      → delivered (b ∷ bs) (Refused e ∷ rs) ≡ b ∷ delivered bs rs → answered (Refused e ∷ rs) ≡ Refused e ∷ answered rs
+  without_number : (taken : set.FinSet nat_cmp) (b : List ℕ) (e : EspFault) (bs : List (List ℕ)) (rs : List Answer) (new : Receiving) → IsOpeningRefusal a (all_taken size taken) b e
+      → delivered_packets (b ∷ bs) (Refused e ∷ rs) ≡ b ∷ delivered_packets bs rs → delivered_answers (Refused e ∷ rs) ≡ Refused e ∷ delivered_answers rs
       → ((ns : List (Option ℕ)) → WantsWhereJudged want a size taken bs rs ns → WantsWhereJudged want a size taken (b ∷ bs) (Refused e ∷ rs) (None ∷ ns))
       → Outcome want a size taken bs rs new → Outcome want a size taken (b ∷ bs) (Refused e ∷ rs) new
   without_number taken b e bs rs new h packets answers wants o =
-      let judged : AreJudged a size taken (b ∷ delivered bs rs) (None ∷ o.numbers) = (refused_unjudged a (all_taken size taken) b e h, o.judged) in
-      let due : AreDue a size taken (b ∷ delivered bs rs) (None ∷ o.numbers) (Refused e ∷ answered rs) = (h, o.due) in
-      let due' : AreDue a size taken (b ∷ delivered bs rs) (None ∷ o.numbers) (answered (Refused e ∷ rs)) =
-      subst (λ (qs : List Answer). AreDue a size taken (b ∷ delivered bs rs) (None ∷ o.numbers) qs) (sym answers) due in
+      let judged : AreJudged a size taken (b ∷ delivered_packets bs rs) (None ∷ o.numbers) = (refused_unjudged a (all_taken size taken) b e h, o.judged) in
+      let due : AreDue a size taken (b ∷ delivered_packets bs rs) (None ∷ o.numbers) (Refused e ∷ delivered_answers rs) = (h, o.due) in
+      let due' : AreDue a size taken (b ∷ delivered_packets bs rs) (None ∷ o.numbers) (delivered_answers (Refused e ∷ rs)) =
+      subst (λ (qs : List Answer). AreDue a size taken (b ∷ delivered_packets bs rs) (None ∷ o.numbers) qs) (sym answers) due in
       record {
         numbers = None ∷ o.numbers;
         judged = subst (λ (ps : List (List ℕ)). AreJudged a size taken ps (None ∷ o.numbers)) (sym packets) judged;
-        due = subst (λ (ps : List (List ℕ)). AreDue a size taken ps (None ∷ o.numbers) (answered (Refused e ∷ rs))) (sym packets) due';
+        due = subst (λ (ps : List (List ℕ)). AreDue a size taken ps (None ∷ o.numbers) (delivered_answers (Refused e ∷ rs))) (sym packets) due';
         memory = wants o.numbers o.memory;
         association = o.association;
         window = o.window;
@@ -356,22 +360,22 @@ run_each want old (b ∷ bs) [] new run = absurd run
 
 -- the theorem on a list of deliveries
 pub deliveries : (want : Type 0) (old : Receiving) (packets : List (List ℕ)) (answers : List Answer) (new : Receiving)
-    → IsSound old.window → Run want old packets answers new → Deliveries want old packets answers new
+    → IsSoundWindow old.window → Run want old packets answers new → Deliveries want old packets answers new
 deliveries want old packets answers new sound run =
     let a = old.association in
     let size = old.window.size in
     let taken = old.window.taken in
     let stands : Stands old a size taken = record { association = refl; window = sound_shown old.window sound } in
     let o = outcome want a size taken old packets answers new stands run in
-    let judged = is_judged a size taken (delivered packets answers) o.numbers o.judged in
+    let judged = is_judged a size taken (delivered_packets packets answers) o.numbers o.judged in
     record {
       each_answered = run_each want old packets answers new run;
       numbers = o.numbers;
       judged = judged;
-      answers_due = are_answers a size taken (delivered packets answers) o.numbers (answered answers) o.due;
+      answers_due = are_answers a size taken (delivered_packets packets answers) o.numbers (delivered_answers answers) o.due;
       memory = o.memory;
-      at_most_once = at_most_once (history old (delivered packets answers) o.numbers) judged;
-      exactly_at_first = λ sent unforged. exactly_at_first (history old (delivered packets answers) o.numbers) judged sent unforged;
+      at_most_once = at_most_once (history old (delivered_packets packets answers) o.numbers) judged;
+      exactly_at_first = λ sent unforged. exactly_at_first (history old (delivered_packets packets answers) o.numbers) judged sent unforged;
       association = o.association;
       window = o.window;
     }
@@ -396,7 +400,7 @@ take-map_more f xs i x h is =
 
 -- the answers to the first packets, once they are delivered
 pub answers_first : (want : Type 0) (k : ℕ) (old : Receiving) (packets : List (List ℕ)) (before : List Answer) (new : Receiving) (after answers : List Answer)
-    → IsSound old.window → after ≡ before ++ answers → length answers ≡ k → Run want old (take k packets) answers new → AnswersFirst want k old packets before new after
+    → IsSoundWindow old.window → after ≡ before ++ answers → length answers ≡ k → Run want old (take k packets) answers new → AnswersFirst want k old packets before new after
 answers_first want k old packets before new after answers sound appended count run = record {
   answers = answers;
   appended = appended;
@@ -413,3 +417,57 @@ pushed r v start front mid after x went is before =
     ∙ ap (λ (q : Result _ _). if is_ok q then mid ++ x ∷ [] else mid) went
     ∙ ap (λ (xs : List _). xs ++ x ∷ []) before
     ∙ append_assoc start front (x ∷ [])
+
+-- packets behind those that have an answer don't count
+counted_front : (packets : List (List ℕ)) (answers : List Answer) → delivered_packets (take (length answers) packets) answers ≡ delivered_packets packets answers
+counted_front [] [] = refl
+counted_front [] (r ∷ rs) = refl
+counted_front (b ∷ bs) [] = refl
+counted_front (b ∷ bs) (Refused Memory ∷ rs) = counted_front bs rs
+counted_front (b ∷ bs) (r ∷ rs) = ap (λ (xs : List (List ℕ)). b ∷ xs) (counted_front bs rs)
+
+-- the packets that count are those of the first k, of which each has an answer
+counted : (k : ℕ) (packets : List (List ℕ)) (before after answers : List Answer) → after ≡ before ++ answers → length answers ≡ k
+    → delivered_packets (take k packets) answers ≡ delivered_packets packets (answers_since before after)
+counted k packets before after answers appended count =
+    let since : answers_since before after ≡ answers = ap (λ (xs : List Answer). drop (length before) xs) appended ∙ drop-append_seam before answers in
+    ap (λ (n : ℕ). delivered_packets (take n packets) answers) (sym count)
+    ∙ counted_front packets answers
+    ∙ ap (λ (xs : List Answer). delivered_packets packets xs) (sym since)
+
+pub once : {want : Type 0} {k : ℕ} {old : Receiving} {packets : List (List ℕ)} {before : List Answer} {new : Receiving} {after : List Answer}
+    → AnswersFirst want k old packets before new after → JudgesAtMostOnce old packets (answers_since before after)
+once {want} {k} {old} {packets} {before} {new} {after} a =
+    let same = counted k packets before after a.answers a.appended a.count in
+    record {
+      numbers = a.deliveries.numbers;
+      judged = subst (λ (ps : List (List ℕ)). IsJudged (history old ps a.deliveries.numbers)) same a.deliveries.judged;
+      at_most_once = subst (λ (ps : List (List ℕ)). AtMostOnce (history old ps a.deliveries.numbers)) same a.deliveries.at_most_once;
+    }
+
+pub at_first : {want : Type 0} {k : ℕ} {old : Receiving} {packets : List (List ℕ)} {before : List Answer} {new : Receiving} {after : List Answer}
+    → AnswersFirst want k old packets before new after → JudgesExactlyAtFirst old packets (answers_since before after)
+at_first {want} {k} {old} {packets} {before} {new} {after} a =
+    let same = counted k packets before after a.answers a.appended a.count in
+    record {
+      numbers = a.deliveries.numbers;
+      judged = subst (λ (ps : List (List ℕ)). IsJudged (history old ps a.deliveries.numbers)) same a.deliveries.judged;
+      exactly_at_first = λ sent. subst (λ (ps : List (List ℕ)). Unforged (history old ps a.deliveries.numbers) sent → ExactlyAtFirst (history old ps a.deliveries.numbers) sent) same (a.deliveries.exactly_at_first sent);
+    }
+
+-- whether all packets have an answer or only the first ones
+pub once_by : (want : Type 0) (old : Receiving) (packets : List (List ℕ)) (before : List Answer) (new : Receiving) (after : List Answer) (k : ℕ)
+    (r : Result (Unit {0}) ListFault) → OnOk r (AnswersFirst want k old packets before new after) → IfErr r (λ fault. IsStop want old packets before fault new after)
+    → JudgesAtMostOnce old packets (answers_since before after)
+once_by want old packets before new after k (Ok u) all stopped = once all
+once_by want old packets before new after k (Err (NoRoom j)) all stopped = once stopped.1
+
+pub at_first_by : (want : Type 0) (old : Receiving) (packets : List (List ℕ)) (before : List Answer) (new : Receiving) (after : List Answer) (k : ℕ)
+    (r : Result (Unit {0}) ListFault) → OnOk r (AnswersFirst want k old packets before new after) → IfErr r (λ fault. IsStop want old packets before fault new after)
+    → JudgesExactlyAtFirst old packets (answers_since before after)
+at_first_by want old packets before new after k (Ok u) all stopped = at_first all
+at_first_by want old packets before new after k (Err (NoRoom j)) all stopped = at_first stopped.1
+
+-- the length, where the push went well
+pub length_pushed : {T E : Type 0} (r : Result T E) (v : T) (before after : ℕ) → r ≡ Ok v → after ≡ (if is_ok r then before + 1 else before) → after ≡ before + 1
+length_pushed r v before after went is = is ∙ ap (λ (q : Result _ _). if is_ok q then before + 1 else before) went

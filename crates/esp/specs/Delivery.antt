@@ -9,7 +9,7 @@ use Rattle.replay.specs.Window.{Seen}
 use Rattle.esp.specs.declared.association.Association.{Association}
 use Rattle.esp.specs.Packet.{PassesIntegrity, IsContents}
 use Rattle.esp.specs.Judging.{IsJudgedLength, low_half, IsNumber, Judges}
-use Rattle.esp.specs.Opening.{IsRefusal, Run}
+use Rattle.esp.specs.Opening.{IsOpeningRefusal, Run}
 use Rattle.esp.specs.Views.{Receiving}
 use Rattle.esp.specs.declared.answer.Answer.{Answer}
 use Rattle.esp.specs.declared.answer.Answer.TheVariants.{Up, Refused}
@@ -57,19 +57,19 @@ pub record IsJudged (h : History) : Type 0 where
       → (slice_get h.numbers i ≡ Some (Some n)) ↔ Judges h.association (taken_at h i) b n
 
 -- The answer to a packet that was judged as a number: its payload, or bad padding. To another: why it was refused.
-abbrev pub IsAnswer : Association → Seen → List ℕ → Option ℕ → Answer → Type 0
-IsAnswer a w b (Some n) (Up number next start len) =
+abbrev pub IsAnswerDue : Association → Seen → List ℕ → Option ℕ → Answer → Type 0
+IsAnswerDue a w b (Some n) (Up number next start len) =
     (number ≡ n) × (start ≡ 8) × (start + len ≤ length b) × IsContents b next (take len (drop start b))
-IsAnswer a w b (Some n) (Refused BadPadding) = (next : ℕ) (payload : List ℕ) → ¬ IsContents b next payload
-IsAnswer a w b (Some n) (Refused e) = ⊥
-IsAnswer a w b None (Up number next start len) = ⊥
-IsAnswer a w b None (Refused e) = IsRefusal a w b e
+IsAnswerDue a w b (Some n) (Refused BadPadding) = (next : ℕ) (payload : List ℕ) → ¬ IsContents b next payload
+IsAnswerDue a w b (Some n) (Refused e) = ⊥
+IsAnswerDue a w b None (Up number next start len) = ⊥
+IsAnswerDue a w b None (Refused e) = IsOpeningRefusal a w b e
 
 -- each packet has the answer that is due at the numbers taken before it
 pub record AreAnswers (h : History) (answers : List Answer) : Type 0 where
   pub each : length answers ≡ length h.packets
   pub due : (i : ℕ) (b : List ℕ) (n : Option ℕ) (r : Answer) → slice_get h.packets i ≡ Some b
-      → slice_get h.numbers i ≡ Some n → slice_get answers i ≡ Some r → IsAnswer h.association (taken_at h i) b n r
+      → slice_get h.numbers i ≡ Some n → slice_get answers i ≡ Some r → IsAnswerDue h.association (taken_at h i) b n r
 
 -- no number is judged twice, nor one that was taken before the list
 pub record AtMostOnce (h : History) : Type 0 where
@@ -106,15 +106,15 @@ abbrev pub ExactlyAtFirst : History → finite_map.FinMap nat_cmp (List ℕ) →
 ExactlyAtFirst h sent = (i n : ℕ) → (slice_get h.numbers i ≡ Some (Some n)) ↔ IsFirstArrival h sent n i
 
 -- A packet that was refused for memory counts as not delivered. The packets that count, and their answers:
-abbrev pub delivered : List (List ℕ) → List Answer → List (List ℕ)
-delivered (b ∷ bs) (Refused Memory ∷ rs) = delivered bs rs
-delivered (b ∷ bs) (r ∷ rs) = b ∷ delivered bs rs
-delivered bs rs = []
+abbrev pub delivered_packets : List (List ℕ) → List Answer → List (List ℕ)
+delivered_packets (b ∷ bs) (Refused Memory ∷ rs) = delivered_packets bs rs
+delivered_packets (b ∷ bs) (r ∷ rs) = b ∷ delivered_packets bs rs
+delivered_packets bs rs = []
 
-abbrev pub answered : List Answer → List Answer
-answered [] = []
-answered (Refused Memory ∷ rs) = answered rs
-answered (r ∷ rs) = r ∷ answered rs
+abbrev pub delivered_answers : List Answer → List Answer
+delivered_answers [] = []
+delivered_answers (Refused Memory ∷ rs) = delivered_answers rs
+delivered_answers (r ∷ rs) = r ∷ delivered_answers rs
 
 -- memory is wanted only for a packet that would have been judged, and only where the window may want it
 abbrev pub WantsWhereJudged : Type 0 → Association → ℕ → set.FinSet nat_cmp → List (List ℕ) → List Answer → List (Option ℕ) → Type 0
@@ -150,14 +150,14 @@ pub record Deliveries (want : Type 0) (old : Receiving) (packets : List (List �
   pub each_answered : length answers ≡ length packets
   -- how the packets that count as delivered were judged: there is one such list
   pub numbers : List (Option ℕ)
-  pub judged : IsJudged (history old (delivered packets answers) numbers)
-  pub answers_due : AreAnswers (history old (delivered packets answers) numbers) (answered answers)
+  pub judged : IsJudged (history old (delivered_packets packets answers) numbers)
+  pub answers_due : AreAnswers (history old (delivered_packets packets answers) numbers) (delivered_answers answers)
   pub memory : WantsWhereJudged want old.association old.window.size old.window.taken packets answers numbers
   -- at most once, whatever was delivered
-  pub at_most_once : AtMostOnce (history old (delivered packets answers) numbers)
+  pub at_most_once : AtMostOnce (history old (delivered_packets packets answers) numbers)
   -- exactly at the first delivery, where no check value was forged
-  pub exactly_at_first : (sent : finite_map.FinMap nat_cmp (List ℕ)) → Unforged (history old (delivered packets answers) numbers) sent
-      → ExactlyAtFirst (history old (delivered packets answers) numbers) sent
+  pub exactly_at_first : (sent : finite_map.FinMap nat_cmp (List ℕ)) → Unforged (history old (delivered_packets packets answers) numbers) sent
+      → ExactlyAtFirst (history old (delivered_packets packets answers) numbers) sent
   -- what the end is afterwards
   pub association : new.association ≡ old.association
   pub window : Shows new.window old.window.size (taken_after old.window.taken numbers)
@@ -170,6 +170,25 @@ pub record AnswersFirst (want : Type 0) (k : ℕ) (old : Receiving) (packets : L
   -- packet by packet, so that calls in a row can be joined to one run
   pub run : Run want old (take k packets) answers new
   pub deliveries : Deliveries want old (take k packets) answers new
+
+-- what was appended to a list of answers
+abbrev pub answers_since : List Answer → List Answer → List Answer
+answers_since before after = drop (length before) after
+
+-- However the packets that have an answer were judged, which is determined, no number was judged twice, nor one that was taken
+-- before them.
+pub record JudgesAtMostOnce (old : Receiving) (packets : List (List ℕ)) (answers : List Answer) : Type 0 where
+  pub numbers : List (Option ℕ)
+  pub judged : IsJudged (history old (delivered_packets packets answers) numbers)
+  pub at_most_once : AtMostOnce (history old (delivered_packets packets answers) numbers)
+
+-- Where no check value was forged, each of them was judged exactly if it was the first delivery, of those in reach of the
+-- window, of what was sent.
+pub record JudgesExactlyAtFirst (old : Receiving) (packets : List (List ℕ)) (answers : List Answer) : Type 0 where
+  pub numbers : List (Option ℕ)
+  pub judged : IsJudged (history old (delivered_packets packets answers) numbers)
+  pub exactly_at_first : (sent : finite_map.FinMap nat_cmp (List ℕ)) → Unforged (history old (delivered_packets packets answers) numbers) sent
+      → ExactlyAtFirst (history old (delivered_packets packets answers) numbers) sent
 
 -- There was no room for one more answer: the list was left after some of its packets, and not at its end.
 abbrev pub IsStop : Type 0 → Receiving → List (List ℕ) → List Answer → ListFault → Receiving → List Answer → Type 0

@@ -3,13 +3,13 @@ use Rattle.std.specs.Prelude.{ℕ}
 use Rattle.esp.specs.declared.fault.EspFault.{EspFault}
 use Rattle.esp.specs.declared.fault.EspFault.TheVariants.{Exhausted, PayloadSize, BadLength, Old, Replayed, BadNumber, BadIcv, BadPadding, Memory}
 
-abbrev pub code_of : EspFault → ℕ
-code_of Exhausted = 12
-code_of PayloadSize = 13
-code_of BadLength = 14
-code_of Old = 15
-code_of Replayed = 16
-code_of BadNumber = 17
-code_of BadIcv = 18
-code_of BadPadding = 19
-code_of Memory = 20
+abbrev pub esp_fault_code : EspFault → ℕ
+esp_fault_code Exhausted = 12
+esp_fault_code PayloadSize = 13
+esp_fault_code BadLength = 14
+esp_fault_code Old = 15
+esp_fault_code Replayed = 16
+esp_fault_code BadNumber = 17
+esp_fault_code BadIcv = 18
+esp_fault_code BadPadding = 19
+esp_fault_code Memory = 20

@@ -14,23 +14,23 @@ use Rattle.esp.specs.declared.fault.EspFault.TheVariants.{Exhausted, PayloadSize
 
 -- The refusals of a packet that is not judged, each where those before it don't apply: its length, its number, a number
 -- below the window, one that was taken, the check value.
-abbrev pub IsRefusal : Association → Seen → List ℕ → EspFault → Type 0
-IsRefusal a w b BadLength = ¬ IsJudgedLength (length b)
-IsRefusal a w b BadNumber = IsJudgedLength (length b) × ((n : ℕ) → ¬ IsNumber a.extended w (low_half b) n)
-IsRefusal a w b Old =
+abbrev pub IsOpeningRefusal : Association → Seen → List ℕ → EspFault → Type 0
+IsOpeningRefusal a w b BadLength = ¬ IsJudgedLength (length b)
+IsOpeningRefusal a w b BadNumber = IsJudgedLength (length b) × ((n : ℕ) → ¬ IsNumber a.extended w (low_half b) n)
+IsOpeningRefusal a w b Old =
     IsJudgedLength (length b)
     × ((n : ℕ) × IsNumber a.extended w (low_half b) n × (n + w.size ≤ w.top))
-IsRefusal a w b Replayed =
+IsOpeningRefusal a w b Replayed =
     IsJudgedLength (length b)
     × ((n : ℕ) × IsNumber a.extended w (low_half b) n × (w.top < n + w.size) × (set.contains w.taken n ≡ true))
-IsRefusal a w b BadIcv =
+IsOpeningRefusal a w b BadIcv =
     IsJudgedLength (length b)
     × ((n : ℕ) × IsNumber a.extended w (low_half b) n × (w.top < n + w.size) × (set.contains w.taken n ≡ false)
     × (¬ PassesIntegrity a n b))
-IsRefusal a w b Exhausted = ⊥
-IsRefusal a w b PayloadSize = ⊥
-IsRefusal a w b BadPadding = ⊥
-IsRefusal a w b Memory = ⊥
+IsOpeningRefusal a w b Exhausted = ⊥
+IsOpeningRefusal a w b PayloadSize = ⊥
+IsOpeningRefusal a w b BadPadding = ⊥
+IsOpeningRefusal a w b Memory = ⊥
 
 -- n is the packet's number at this end, and was not taken
 pub record IsFreshNumber (r : Receiving) (b : List ℕ) (n : ℕ) : Type 0 where
@@ -60,7 +60,7 @@ pub record WastesNumber (old : Receiving) (b : List ℕ) (n : ℕ) (new : Receiv
 abbrev pub Refuses : Type 0 → Receiving → List ℕ → EspFault → Receiving → Type 0
 Refuses want old b BadPadding new = (n : ℕ) × WastesNumber old b n new
 Refuses want old b Memory new = want × ((n : ℕ) × Judges old.association old.window b n) × (new ≡ old)
-Refuses want old b e new = IsRefusal old.association old.window b e × (new ≡ old)
+Refuses want old b e new = IsOpeningRefusal old.association old.window b e × (new ≡ old)
 
 -- one packet, its answer, and the end before and after it
 abbrev pub Step : Type 0 → Receiving → List ℕ → Answer → Receiving → Type 0

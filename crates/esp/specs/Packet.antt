@@ -8,8 +8,8 @@ use Rattle.mac.specs.Hmac.{icv_sha256}
 use Rattle.esp.specs.declared.association.Association.{Association}
 
 -- several runs of octets, one after the other
-abbrev pub joined : List (Bor (List ℕ)) → List ℕ
-joined parts = flat_map (λ part. part.now) parts
+abbrev pub joined_parts : List (Bor (List ℕ)) → List ℕ
+joined_parts parts = flat_map (λ part. part.now) parts
 
 -- every number lies below this
 abbrev pub number_limit : Bool → ℕ

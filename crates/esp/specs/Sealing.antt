@@ -31,8 +31,8 @@ pub record Seals (old : Sending) (next : ℕ) (payload before : List ℕ) (n : �
   pub shortest : IsShortestPacket old.association n next payload packet
 
 -- why no packet was sealed, each where those before it don't apply: no number is left, the payload is too long, memory
-abbrev pub SealRefusal : Sending → List ℕ → EspFault → Type 0
-SealRefusal s payload Exhausted = ¬ HasNumber s
-SealRefusal s payload PayloadSize = HasNumber s × (¬ FitsPacket payload)
-SealRefusal s payload Memory = HasNumber s × FitsPacket payload
-SealRefusal s payload _ = ⊥
+abbrev pub IsSealRefusal : Sending → List ℕ → EspFault → Type 0
+IsSealRefusal s payload Exhausted = ¬ HasNumber s
+IsSealRefusal s payload PayloadSize = HasNumber s × (¬ FitsPacket payload)
+IsSealRefusal s payload Memory = HasNumber s × FitsPacket payload
+IsSealRefusal s payload _ = ⊥

@@ -1,11 +1,12 @@
 //! The receiver's end of an association (RFC 4303 section 3.4).
-ghost use Rattle.std.specs.Prelude.{◌≡◌, ℕ, ◌-◌, ◌≤◌, length, take, drop};
-ghost use Rattle.std.specs.Prelude.{All, IsTrue, ◌↔◌, OnOk, IfOk, IfErr, IfSome, IfNone};
-ghost use Rattle.replay.specs.Window.{IsSound};
+ghost use Rattle.std.specs.Prelude.{◌≡◌, ℕ, ◌+◌, ◌-◌, ◌≤◌, length, take, drop, vec_len};
+ghost use Rattle.std.specs.Prelude.{All, IsTrue, ◌↔◌, OnOk, IfOk, IfErr, IfSome, IfNone, IsOk};
+ghost use Rattle.std.specs.Vec.{vec_capacity};
+ghost use Rattle.replay.specs.Window.{IsSoundWindow};
 ghost use Rattle.esp.specs.Judging.{IsNumber};
 ghost use Rattle.esp.specs.Packet.{check_value, IsOf};
-ghost use Rattle.esp.specs.Opening.{IsRefusal, IsFreshNumber, HandsUp, Refuses, Step};
-ghost use Rattle.esp.specs.Delivery.{AnswersFirst, IsStop, octets_of};
+ghost use Rattle.esp.specs.Opening.{IsOpeningRefusal, IsFreshNumber, HandsUp, Refuses, Step};
+ghost use Rattle.esp.specs.Delivery.{AnswersFirst, IsStop, JudgesAtMostOnce, JudgesExactlyAtFirst, answers_since, octets_of};
 
 use crate::association::Association;
 use crate::packet::{CHECK, HEAD, contents, is_judged_length, low_half_of};
@@ -67,7 +68,7 @@ impl<W: Window> Inbound<W> {
 
     /// What holds of the replay window at all times. Does nothing.
     pub fn window_is_sound(&self)
-        ensures { IsSound self.now.window }
+        ensures { IsSoundWindow self.now.window }
     {
         let _ = &self.window;
     }
@@ -112,7 +113,7 @@ impl<W: Window> Inbound<W> {
     /// The packet's number, if it has one that was not taken.
     fn fresh_number(&self, packet: &[u8]) -> Result<u64, EspFault>
         ensures fresh { IfOk result (IsFreshNumber self.now packet.now) }
-        ensures refused { IfErr result (IsRefusal self.now.association self.now.window packet.now) }
+        ensures refused { IfErr result (IsOpeningRefusal self.now.association self.now.window packet.now) }
     {
         if !is_judged_length(packet.len()) {
             return Err(EspFault::BadLength);
@@ -163,10 +164,26 @@ impl<W: Window> Inbound<W> {
     /// next answer. The place of an answer is reserved before its packet is opened: none is opened without its answer.
     pub fn open_all(&mut self, packets: &[Vec<u8>], out: &mut Vec<Answer>) -> Result<(), ListFault>
         requires { All (IsOf self.old.association) (octets_of packets.now) }
+        ensures at_most_once { JudgesAtMostOnce self.old (octets_of packets.now) (answers_since out.old.items out.new.items) }
+        ensures exactly_at_first { JudgesExactlyAtFirst self.old (octets_of packets.now)
+            (answers_since out.old.items out.new.items) }
+        ensures answers { OnOk result (AnswersFirst W.may_want (length packets.now) self.old
+            (octets_of packets.now) out.old.items self.new out.new.items) }
+        ensures stopped { IfErr result (λ fault. IsStop W.may_want self.old
+            (octets_of packets.now) out.old.items fault self.new out.new.items) }
+        ensures room { vec_len out.old + length packets.now ≤ vec_capacity out.old → IsOk result }
+    {
+        self.answer_each(packets, out)
+    }
+
+    /// Opens packets in order, each after the place of its answer was reserved.
+    fn answer_each(&mut self, packets: &[Vec<u8>], out: &mut Vec<Answer>) -> Result<(), ListFault>
+        requires { All (IsOf self.old.association) (octets_of packets.now) }
         ensures all { OnOk result (AnswersFirst W.may_want (length packets.now) self.old
             (octets_of packets.now) out.old.items self.new out.new.items) }
         ensures stopped { IfErr result (λ fault. IsStop W.may_want self.old
             (octets_of packets.now) out.old.items fault self.new out.new.items) }
+        ensures room { vec_len out.old + length packets.now ≤ vec_capacity out.old → IsOk result }
     {
         // Every window is sound, also where no packet comes.
         let _ = &self.window;

@@ -1,7 +1,7 @@
 //! Facts about the definitions, each the contract of a function that does nothing: what a sealed packet is to its receiver,
-//! that calls in a row are one run, and that the premise of the theorem on deliveries can be met.
+//! what calls in a row are, and that the premise of the theorem on deliveries can be met.
 ghost use Rattle.std.specs.Prelude.{◌≡◌, ◌≢◌, ℕ, List, ◌++◌, length, Option};
-ghost use Rattle.replay.specs.Window.{IsSound};
+ghost use Rattle.replay.specs.Window.{IsSoundWindow};
 ghost use Rattle.esp.specs.declared.association.Association.{Association};
 ghost use Rattle.esp.specs.declared.answer.Answer.{Answer};
 ghost use Rattle.esp.specs.Sealing.{IsShortestPacket, FitsPacket};
@@ -20,15 +20,23 @@ pub fn sealed_packets_open()
         → IsShortestPacket a n next payload b → FitsPacket payload → IsOpenable a n next payload b }
 {}
 
-/// Calls of [`Inbound::open`](crate::Inbound::open) and [`Inbound::open_all`](crate::Inbound::open_all) in a row are one run:
-/// a packet that is handed up is a step, runs can be joined, and what is said of the deliveries of one list holds of a whole run: no number is judged twice over all of them.
-pub fn calls_in_a_row_are_one_run<W: Window>()
-    ensures opened { (r s : Receiving) (b payload : List ℕ) (n next : ℕ)
+/// A packet that [`Inbound::open`](crate::Inbound::open) hands up is one step of a run, as one of a list is.
+pub fn handed_up_packets_are_steps<W: Window>()
+    ensures { (r s : Receiving) (b payload : List ℕ) (n next : ℕ)
         → HandsUp r b n next payload s → Step W.may_want r b (Answer.Up n next 8 (length payload)) s }
-    ensures joined { (r s t : Receiving) (bs cs : List (List ℕ)) (xs ys : List Answer)
+{}
+
+/// Two runs of which one begins where the other ended are one run: so calls in a row are.
+pub fn runs_in_a_row_are_one_run<W: Window>()
+    ensures { (r s t : Receiving) (bs cs : List (List ℕ)) (xs ys : List Answer)
         → Run W.may_want r bs xs s → Run W.may_want s cs ys t → Run W.may_want r (bs ++ cs) (xs ++ ys) t }
-    ensures whole { (r s : Receiving) (bs : List (List ℕ)) (xs : List Answer)
-        → IsSound r.window → Run W.may_want r bs xs s → Deliveries W.may_want r bs xs s }
+{}
+
+/// What is promised of one list of deliveries holds of every run, over however many calls: no number is judged twice, and where
+/// no check value was forged each sent packet is judged exactly at its first delivery within reach.
+pub fn every_run_judges_at_most_once<W: Window>()
+    ensures { (r s : Receiving) (bs : List (List ℕ)) (xs : List Answer)
+        → IsSoundWindow r.window → Run W.may_want r bs xs s → Deliveries W.may_want r bs xs s }
 {}
 
 /// How a list of packets is judged is determined by the receiver and the packets: there is one list of numbers.

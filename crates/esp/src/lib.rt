@@ -19,7 +19,7 @@ mod answer;
 mod association;
 mod fault;
 mod inbound;
-mod laws;
+pub mod laws;
 mod outbound;
 mod packet;
 #[cfg(test)]
@@ -28,8 +28,4 @@ mod tests;
 pub use answer::Answer;
 pub use fault::{EspFault, ListFault};
 pub use inbound::{Inbound, Opened};
-pub use laws::{
-    a_block_window_wants_no_memory, calls_in_a_row_are_one_run, judging_is_determined,
-    premise_is_met, sealed_packets_open,
-};
 pub use outbound::Outbound;

@@ -1,8 +1,9 @@
 //! The sender's end of an association (RFC 4303 section 3.3).
-ghost use Rattle.std.specs.Prelude.{◌≡◌, ◌+◌, ◌%◌, ◌<◌, ◌≤◌, ◌++◌, length, vec_len, IfOk, IfErr};
+ghost use Rattle.std.specs.Prelude.{◌≡◌, ◌≢◌, ◌+◌, ◌%◌, ◌<◌, ◌≤◌, ◌++◌, length, vec_len, IfOk, IfErr};
 ghost use Rattle.std.specs.Vec.{vec_capacity};
-ghost use Rattle.esp.specs.Packet.{joined, packet};
-ghost use Rattle.esp.specs.Sealing.{Seals, SealRefusal};
+ghost use Rattle.esp.specs.Packet.{joined_parts, packet};
+ghost use Rattle.esp.specs.Sealing.{Seals, IsSealRefusal};
+ghost use Rattle.esp.specs.declared.fault.EspFault.{EspFault};
 
 use crate::EspFault;
 use crate::association::Association;
@@ -63,8 +64,11 @@ impl Outbound {
     pub fn seal(&mut self, next: u8, payload: &[u8], out: &mut Vec<u8>) -> Result<u64, EspFault>
         ensures sealed { IfOk result (λ number.
             Seals self.old next payload.now out.old.items number self.new out.new.items) }
-        ensures refused { IfErr result (λ fault. SealRefusal self.old payload.now fault
+        ensures refused { IfErr result (λ fault. IsSealRefusal self.old payload.now fault
             × (self.new ≡ self.old) × (out.new.items ≡ out.old.items)) }
+        // A packet is its payload and 26 to 29 octets more.
+        ensures room { vec_len out.old + (length payload.now + 29) ≤ vec_capacity out.old
+            → IfErr result (λ fault. fault ≢ EspFault.Memory) }
     {
         let Some(number) = self.association.number_after(self.last) else {
             return Err(EspFault::Exhausted);
@@ -104,8 +108,8 @@ fn append_packet(
 
 /// Appends the parts, for which there is room, one after the other.
 fn append(out: &mut Vec<u8>, parts: &[&[u8]])
-    requires { vec_len out.old + length (joined parts.now) ≤ vec_capacity out.old }
-    ensures items { out.new.items ≡ out.old.items ++ joined parts.now }
+    requires { vec_len out.old + length (joined_parts parts.now) ≤ vec_capacity out.old }
+    ensures items { out.new.items ≡ out.old.items ++ joined_parts parts.now }
     ensures capacity { vec_capacity out.old ≤ vec_capacity out.new }
 {
     for part in parts {

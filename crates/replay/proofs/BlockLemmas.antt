@@ -12,7 +12,7 @@ use Rattle.std.proofs.lemmas.Nat.Bits.{bit_at_set_same, bit_at_set_other, bit_at
 use Rattle.std.proofs.lemmas.List.{get_or-set_other, get_or-replicate, get_or_past, length-replicate, length-set}
 use Rattle.std.proofs.lemmas.Grind.{get_or-set_at}
 use Rattle.replay.specs.declared.window.Judgement.TheVariants.{Taken, Fresh}
-use Rattle.replay.specs.Window.{IsSound, Takes, judgement, unused}
+use Rattle.replay.specs.Window.{IsSoundWindow, Takes, judgement, unused_window}
 use Rattle.replay.specs.WindowFacts.{IsFresh}
 use Rattle.replay.specs.Blocks.{IsRing, is_marked, is_twin, last_numbers, shown, span_of, place_of}
 use Rattle.replay.proofs.JudgementLemmas.{judged_in_span}
@@ -130,7 +130,7 @@ shows : (top : ℕ) (blocks : List ℕ) (q : ℕ) → IsShown top blocks q → s
 shows top blocks q s = shown_is top blocks q ∙ both_true _ _ s.marked (is_in_last _ top q s.not_zero s.up_to_top s.in_span)
 
 -- the window that a ring shows is sound
-pub shown_sound : (top : ℕ) (blocks : List ℕ) → IsRing top blocks → IsSound (shown top blocks)
+pub shown_sound : (top : ℕ) (blocks : List ℕ) → IsRing top blocks → IsSoundWindow (shown top blocks)
 shown_sound top blocks ring =
     let spans : 1 ≤ span_of blocks = let least = ring.least in omega arith in
     record {
@@ -148,7 +148,7 @@ last_of_none zero = refl
 last_of_none (suc count) = refl
 
 -- a ring of cleared blocks shows the window without numbers
-pub shown_start : (m : ℕ) → shown 0 (replicate m 0) ≡ unused m
+pub shown_start : (m : ℕ) → shown 0 (replicate m 0) ≡ unused_window m
 shown_start m =
     let size : span_of (replicate m 0) ≡ 64 * (m - 1) = ap (λ k. 64 * (k - 1)) (length-replicate m 0) in
     let none = ap (filter (is_marked (replicate m 0))) (last_of_none (span_of (replicate m 0))) in

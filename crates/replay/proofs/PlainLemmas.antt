@@ -10,14 +10,14 @@ use Rattle.std.proofs.lemmas.List.Folds.{list_any-append}
 use Rattle.std.proofs.lemmas.Map.Views.{any-filter_same}
 use Rattle.std.proofs.lemmas.Map.Keys.{IsDistinct-push, IsDistinct-head, IsDistinct-tail, IsDistinct-cons}
 use Rattle.replay.specs.declared.window.Judgement.TheVariants.{Taken, Fresh}
-use Rattle.replay.specs.Window.{IsSound, listed, judgement, Takes}
+use Rattle.replay.specs.Window.{IsSoundWindow, listed, judgement, Takes}
 use Rattle.replay.specs.WindowFacts.{IsFresh}
 use Rattle.replay.proofs.JudgementLemmas.{judged_in_span}
 
 nothing_taken : {P : Type 0} (q : ℕ) → set.contains {R = nat_cmp} set.empty q ≡ true → P
 nothing_taken q is = let none = set.contains-empty nat_cmp q in cc
 
-pub sound_start : (size : ℕ) → 1 ≤ size → IsSound (listed 0 size [])
+pub sound_start : (size : ℕ) → 1 ≤ size → IsSoundWindow (listed 0 size [])
 sound_start size spans =
     record {
       spans = spans;
@@ -50,7 +50,7 @@ inside_span true was_taken in_span new old = sym (new refl)
 inside_span false true in_span new old = sym (old refl)
 inside_span false false in_span new old = refl
 
-pub takes_inside : (top size n : ℕ) (numbers : List ℕ) → IsSound (listed top size numbers) → IsFresh (listed top size numbers) n → n ≤ top → Takes (listed top size numbers) n (listed top size (numbers ++ n ∷ []))
+pub takes_inside : (top size n : ℕ) (numbers : List ℕ) → IsSoundWindow (listed top size numbers) → IsFresh (listed top size numbers) n → n ≤ top → Takes (listed top size numbers) n (listed top size (numbers ++ n ∷ []))
 takes_inside top size n numbers sound is_fresh below =
     record {
       top = omega arith;
@@ -71,7 +71,7 @@ and_swap false false = refl
 span_by_sum : (top n size : ℕ) → 1 ≤ size → nat_lt (top - n) size ≡ nat_lt top (n + size)
 span_by_sum top n size spans = grind (arith, nat_tests)
 
-pub takes_above : (top size n : ℕ) (numbers : List ℕ) → IsSound (listed top size numbers) → top < n → Takes (listed top size numbers) n (listed n size (filter (λ y. nat_lt (n - y) size) (numbers ++ n ∷ [])))
+pub takes_above : (top size n : ℕ) (numbers : List ℕ) → IsSoundWindow (listed top size numbers) → top < n → Takes (listed top size numbers) n (listed n size (filter (λ y. nat_lt (n - y) size) (numbers ++ n ∷ [])))
 takes_above top size n numbers sound above =
     record {
       top = omega arith;

@@ -3,5 +3,5 @@ use Rattle.std.specs.Prelude.{ℕ}
 use Rattle.replay.specs.declared.fault.ReplayFault.{ReplayFault}
 use Rattle.replay.specs.declared.fault.ReplayFault.TheVariants.{Memory}
 
-abbrev pub code_of : ReplayFault → ℕ
-code_of Memory = 20
+abbrev pub replay_fault_code : ReplayFault → ℕ
+replay_fault_code Memory = 20

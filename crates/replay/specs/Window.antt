@@ -16,7 +16,7 @@ abbrev pub listed : ℕ → ℕ → List ℕ → Seen
 listed top size numbers = record { top = top; size = size; taken = set.from_list numbers }
 
 -- what holds of every window
-pub record IsSound (w : Seen) : Type 0 where
+pub record IsSoundWindow (w : Seen) : Type 0 where
   -- it spans some numbers
   pub spans : 1 ≤ w.size
   -- each taken number lies in the span that ends at the greatest one, and is not 0
@@ -42,8 +42,8 @@ pub record Takes (old : Seen) (n : ℕ) (new : Seen) : Type 0 where
   pub taken : (q : ℕ) → set.contains new.taken q ≡ ((nat_eq q n || set.contains old.taken q) && nat_lt new.top (q + new.size))
 
 -- a window of m blocks of 64 numbers, of which one is always being filled, before any number was taken
-abbrev pub unused : ℕ → Seen
-unused m = record { top = 0; size = 64 * (m - 1); taken = set.empty }
+abbrev pub unused_window : ℕ → Seen
+unused_window m = record { top = 0; size = 64 * (m - 1); taken = set.empty }
 
 -- what a window may be made of: a power of two of blocks, from 2 to 128
 abbrev pub IsBlockCount : ℕ → Type 0

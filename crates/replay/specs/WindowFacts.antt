@@ -5,7 +5,7 @@ use Rattle.std.specs.FinSet as set
 use Rattle.std.proofs.Common.{arith, sym, ◌∙◌, ap, inl, inr, eq-eqb}
 use Rattle.std.proofs.lemmas.Bool.Decides.{nat_tests, leb_tells}
 use Rattle.replay.specs.declared.window.Judgement.TheVariants.{Zero, Old, Taken, Fresh}
-use Rattle.replay.specs.Window.{Seen, IsSound, judgement, Takes}
+use Rattle.replay.specs.Window.{Seen, IsSoundWindow, judgement, Takes}
 
 -- what it means that a number is fresh
 pub record IsFresh (w : Seen) (n : ℕ) : Type 0 where
@@ -53,7 +53,7 @@ or_true : (a b : Bool) → b ≡ true → (a || b) ≡ true
 or_true true b is = refl
 or_true false b is = is
 
-top_taken : (old new : Seen) (n : ℕ) → IsSound old → IsFresh old n → Takes old n new → set.contains new.taken new.top ≡ true
+top_taken : (old new : Seen) (n : ℕ) → IsSoundWindow old → IsFresh old n → Takes old n new → set.contains new.taken new.top ≡ true
 top_taken old new n sound is_fresh takes =
     let span : nat_lt new.top (new.top + new.size) ≡ true = let spans = sound.spans in let size = takes.size in grind (arith, nat_tests) in
     let one : (nat_eq new.top n || set.contains old.taken new.top) ≡ true =
@@ -68,7 +68,7 @@ top_taken old new n sound is_fresh takes =
     in takes.taken new.top ∙ is_kept (nat_eq new.top n) (set.contains old.taken new.top) _ one span
 
 -- taking a fresh number leaves a sound window sound
-pub takes_sound : (old new : Seen) (n : ℕ) → IsSound old → IsFresh old n → n < 2 ^ 64 → Takes old n new → IsSound new
+pub takes_sound : (old new : Seen) (n : ℕ) → IsSoundWindow old → IsFresh old n → n < 2 ^ 64 → Takes old n new → IsSoundWindow new
 takes_sound old new n sound is_fresh fits takes =
     record {
       spans = let spans = sound.spans in let size = takes.size in omega arith;

@@ -1,6 +1,6 @@
 //! A window of blocks of bits (RFC 6479).
 ghost use Rattle.std.specs.Prelude.{◌≡◌, ℕ, ◌+◌, ◌*◌, ◌-◌, ◌/◌, ◌%◌, ◌<◌, ◌≤◌, ◌||◌, max, length, get_or, IfOk};
-ghost use Rattle.replay.specs.Window.{IsBlockCount, IsSound, Takes, judgement, unused};
+ghost use Rattle.replay.specs.Window.{IsBlockCount, IsSoundWindow, Takes, judgement, unused_window};
 ghost use Rattle.replay.specs.Blocks.{IsRing, is_marked, is_twin, shown};
 
 use crate::{Judgement, ReplayFault, Window};
@@ -17,7 +17,7 @@ pub struct BlockWindow {
     top: u64,
     blocks: Vec<u64>,
     ghost ring: { IsRing top blocks.items },
-    ghost sound: { IsSound (shown top blocks.items) },
+    ghost sound: { IsSoundWindow (shown top blocks.items) },
 }
 
 impl BlockWindow {
@@ -25,7 +25,7 @@ impl BlockWindow {
     /// 64 (blocks - 1) numbers. [`ReplayFault::Memory`] where there is no memory for the blocks, 8 octets each.
     pub fn new(alloc: Global, blocks: u32) -> Result<BlockWindow, ReplayFault>
         requires { IsBlockCount blocks }
-        ensures { IfOk result (λ window. ⟦<BlockWindow as Window>⟧.seen window ≡ unused blocks) }
+        ensures { IfOk result (λ window. ⟦<BlockWindow as Window>⟧.seen window ≡ unused_window blocks) }
     {
         let blocks = vec![in alloc; 0; blocks as usize].map_err(|_| ReplayFault::Memory)?;
         Ok(BlockWindow { top: 0, blocks })

@@ -1,7 +1,7 @@
 //! A window that keeps a list of the numbers taken.
 ghost use Rattle.std.specs.Prelude.{◌≡◌, ◌-◌, nat_eq, nat_lt, filter};
 ghost use Rattle.std.specs.List.{IsDistinct, IsDistinct-prop};
-ghost use Rattle.replay.specs.Window.{IsBlockCount, IsSound, listed, unused};
+ghost use Rattle.replay.specs.Window.{IsBlockCount, IsSoundWindow, listed, unused_window};
 
 use crate::{Judgement, ReplayFault, Window};
 use std::alloc::Global;
@@ -13,7 +13,7 @@ pub struct PlainWindow {
     top: u64,
     size: u64,
     taken: Vec<u64>,
-    ghost sound: { IsSound (listed top size taken.items) },
+    ghost sound: { IsSoundWindow (listed top size taken.items) },
     ghost each_once: { IsDistinct nat_eq taken.items } by { IsDistinct-prop nat_eq taken.items },
 }
 
@@ -22,7 +22,7 @@ impl PlainWindow {
     /// 64 (blocks - 1) numbers, and takes no memory until a number is taken.
     pub fn new(alloc: Global, blocks: u32) -> PlainWindow
         requires { IsBlockCount blocks }
-        ensures { ⟦<PlainWindow as Window>⟧.seen result ≡ unused blocks }
+        ensures { ⟦<PlainWindow as Window>⟧.seen result ≡ unused_window blocks }
     {
         PlainWindow {
             top: 0,

@@ -29,7 +29,7 @@ pub fn is_block_count(m: u32) -> bool
 /// Asking about a number is apart from taking it: a receiver asks, checks the packet's integrity, and only then takes.
 pub trait Window {
     ghost use Rattle.std.specs.Prelude.{ℕ};
-    ghost use Rattle.replay.specs.Window.{Seen, IsSound, judgement, Takes};
+    ghost use Rattle.replay.specs.Window.{Seen, IsSoundWindow, judgement, Takes};
 
     /// The window as contracts see it.
     ghost seen: { Self → Seen };
@@ -57,7 +57,7 @@ pub trait Window {
         ensures refused { OnErr result ((seen self.new ≡ seen self.old) × may_want) };
 
     /// What holds of every window.
-    ghost sound: { (w : Self) → IsSound (seen w) };
+    ghost sound: { (w : Self) → IsSoundWindow (seen w) };
 }
 
 #[cfg(test)]

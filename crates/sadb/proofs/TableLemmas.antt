@@ -466,7 +466,7 @@ pub all_sound : (now : Database) (x : GivenSpis) (s : PairsBySerial) → table_o
     → ((spi : ℕ) → set.contains x.reserved spi ≡ true → (x.start ≤ spi) × (spi < x.start + x.given) × (map.get x.serials spi ≡ None))
     → ((spi : ℕ) → IsSome (map.get x.serials spi) → (x.start ≤ spi) × (spi < x.start + x.given))
     → ((serial : ℕ) (pair : Pair) → map.get s.pairs serial ≡ Some pair → pair.serial ≡ serial)
-    → ((serial : ℕ) (pair : Pair) → map.get s.pairs serial ≡ Some pair → window.IsSound pair.inbound.window)
+    → ((serial : ℕ) (pair : Pair) → map.get s.pairs serial ≡ Some pair → window.IsSoundWindow pair.inbound.window)
     → ((serial : ℕ) → IsSome (map.get s.pairs serial) → (1 ≤ serial) × (serial < s.next))
     → IsSound now
 all_sound now x s shown sound first start reserved held serial windows given =

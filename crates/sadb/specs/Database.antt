@@ -6,7 +6,7 @@ use Rattle.std.specs.FinMap as map
 use Rattle.std.specs.FinSet as set
 use Rattle.esp.specs.Opening.{HandsUp, Refuses}
 use Rattle.esp.specs.Packet.{IsOf}
-use Rattle.esp.specs.Sealing.{SealRefusal, Seals}
+use Rattle.esp.specs.Sealing.{IsSealRefusal, Seals}
 use Rattle.esp.specs.Views.{Receiving, Sending}
 use Rattle.esp.specs.declared.fault.EspFault.{EspFault}
 use Rattle.policy.specs.Decisions.{Covers}
@@ -191,7 +191,7 @@ pub record SealsAt (old : PairMap) (serial next : ℕ) (payload before : List �
 pub record SealRefusalAt (pairs : PairMap) (serial : ℕ) (payload : List ℕ) (fault : EspFault) : Type 0 where
   pub pair : Pair
   pub there : pair_at pairs serial ≡ Some pair
-  pub refused : SealRefusal pair.outbound payload fault
+  pub refused : IsSealRefusal pair.outbound payload fault
 
 -- the SPI is one of those that were given
 pub record WasGiven (d : Database) (spi : ℕ) : Type 0 where
@@ -211,7 +211,7 @@ pub record IsSound (d : Database) : Type 0 where
   pub serial : (serial : ℕ) (pair : Pair) → pair_at d.pairs serial ≡ Some pair → pair.serial ≡ serial
   pub serial_given : (serial : ℕ) (pair : Pair) → pair_at d.pairs serial ≡ Some pair → (1 ≤ serial) × (serial < d.next)
   -- its window is sound
-  pub window : (serial : ℕ) (pair : Pair) → pair_at d.pairs serial ≡ Some pair → window.IsSound pair.inbound.window
+  pub window : (serial : ℕ) (pair : Pair) → pair_at d.pairs serial ≡ Some pair → window.IsSoundWindow pair.inbound.window
   -- its inbound SPI was given, is not reserved, and is no other pair's
   pub spi_given : (serial spi : ℕ) → HasInbound d.pairs spi serial → WasGiven d spi
   pub spi_taken : (serial spi : ℕ) → HasInbound d.pairs spi serial → ¬ IsReserved d spi
