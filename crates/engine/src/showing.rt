@@ -2,7 +2,6 @@
 ghost use Rattle.std.specs.Prelude.{◌≤◌};
 
 mod lines;
-mod places;
 #[cfg(test)]
 mod tests;
 
@@ -34,7 +33,7 @@ fn show_message<R: Read, W: Write>(
     let mut octets = Vec::new(alloc);
     read_hex(&text, &mut octets)?;
     let message = decode_message(alloc, &octets).map_err(refused)?;
-    let lines = lines::of_message(alloc, &message, &octets)?;
+    let lines = lines::of_message(alloc, &message, octets.len())?;
     write_whole(writer, lines.as_bytes())
 }
 

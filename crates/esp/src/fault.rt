@@ -1,6 +1,6 @@
 //! The refusals of this crate.
 ghost use Rattle.std.specs.Prelude.{◌≡◌};
-ghost use Rattle.esp.specs.Faults.{esp_fault_code};
+ghost use Rattle.esp.specs.Faults.{code_of_esp_fault};
 
 use thiserror::Error;
 
@@ -40,7 +40,7 @@ pub enum EspFault {
 impl EspFault {
     /// The refusal's number, as programs print it behind `E`.
     pub fn code(self) -> u8
-        ensures { result ≡ esp_fault_code self }
+        ensures { result ≡ code_of_esp_fault self }
     {
         match self {
             EspFault::Exhausted => 12,

@@ -3,11 +3,11 @@ use Rattle.std.proofs.Common.{ℕ, ◌==◌, ◌∷◌, [], List, Option, Some, 
 use Rattle.std.specs.List.{filter}
 use Rattle.wire.specs.Payloads.{type_of}
 use Rattle.wire.specs.declared.payload.Payload.{Payload}
-use Rattle.exchange.specs.Counting.{alone}
+use Rattle.exchange.specs.Counting.{lone_item}
 
 -- what is only, once one was found or none
 abbrev alone_after : Option Payload → List Payload → Option Payload
-alone_after None ps = alone ps
+alone_after None ps = lone_item ps
 alone_after (Some p) [] = Some p
 alone_after (Some p) (q ∷ ps) = None
 

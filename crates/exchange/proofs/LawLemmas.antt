@@ -6,8 +6,9 @@ use Rattle.wire.specs.declared.proposal.Transform.{Transform}
 use Rattle.suite.specs.declared.choice.Chosen.{Chosen}
 use Rattle.suite.specs.declared.choice.Wanted.{Wanted}
 use Rattle.suite.specs.declared.choice.Wanted.TheVariants.{Ike, Esp}
-use Rattle.suite.specs.Choice.{acceptable_transforms, key_length_attribute, kinds, sequence_numbers, without_attributes, ChoosesNumbers, HasSpi, IsAcceptable, IsAcceptableTransform, IsChosen, IsFirstAcceptable}
-use Rattle.exchange.specs.Offers.{answered, answered_transforms, count_of_kind, offered, offered_transforms, IsAnswer}
+use Rattle.suite.specs.Choice.{acceptable_transforms, key_length_attribute, kinds, sequence_numbers, without_attributes, ChoosesNumbers, HasSpi, IsAcceptableProposal, IsAcceptableTransform, IsChosenProposal, IsFirstAcceptable}
+use Rattle.exchange.proofs.OfferLemmas.{one_item}
+use Rattle.exchange.specs.Offers.{answer_of, answered_transforms, count_of_kind, offer_of, offered_transforms, IsAcceptableAnswer}
 
 All-nil : {X : Type 0} (P : X → Type 0) → All P []
 All-nil P = λ k d below. absurd (omega arith)
@@ -19,7 +20,7 @@ all_4 : {X : Type 0} (P : X → Type 0) (a b c d : X) → P a → P b → P c �
 all_4 P a b c d pa pb pc pd = All-cons P a (b ∷ c ∷ d ∷ []) pa (all_3 P b c d pb pc pd)
 
 ike_acceptable : (encr group : ℕ) (key_length : Option ℕ) (number : ℕ) →
-    IsAcceptable (Ike encr key_length group) (record { number = number; protocol = 1; spi = []; transforms = acceptable_transforms (Ike encr key_length group) })
+    IsAcceptableProposal (Ike encr key_length group) (record { number = number; protocol = 1; spi = []; transforms = acceptable_transforms (Ike encr key_length group) })
 ike_acceptable encr group key_length number =
     let w = Ike encr key_length group in
     let e : Transform = record { kind = 1; id = encr; attributes = key_length_attribute key_length } in
@@ -49,7 +50,7 @@ numbers_acceptable true true wanted = (3, omega arith, refl)
 numbers_acceptable false true wanted = let no = wanted refl in cc
 
 esp_acceptable : (allowed extended : Bool) (spi : List ℕ) (number : ℕ) → HasSpi (Esp allowed) spi → (extended ≡ true → allowed ≡ true) →
-    IsAcceptable (Esp allowed) (record { number = number; protocol = 3; spi = spi; transforms = without_attributes 1 11 ∷ without_attributes 3 12 ∷ sequence_numbers extended ∷ [] })
+    IsAcceptableProposal (Esp allowed) (record { number = number; protocol = 3; spi = spi; transforms = without_attributes 1 11 ∷ without_attributes 3 12 ∷ sequence_numbers extended ∷ [] })
 esp_acceptable allowed extended spi number form wanted =
     let w = Esp allowed in
     let a = without_attributes 1 11 in
@@ -67,7 +68,7 @@ esp_acceptable allowed extended spi number form wanted =
           (2, n, omega arith, refl, (five, numbers_acceptable allowed extended wanted));
     }
 
-both_acceptable : (spi : List ℕ) → HasSpi (Esp true) spi → IsAcceptable (Esp true) (offered (Esp true) spi)
+both_acceptable : (spi : List ℕ) → HasSpi (Esp true) spi → IsAcceptableProposal (Esp true) (offer_of (Esp true) spi)
 both_acceptable spi form =
     let w = Esp true in
     let a = without_attributes 1 11 in
@@ -85,8 +86,8 @@ both_acceptable spi form =
           (2, m, omega arith, refl, (refl, (3, omega arith, refl)));
     }
 
-pub offer_acceptable : (wanted : Wanted) (spi : List ℕ) → HasSpi wanted spi → IsAcceptable wanted (offered wanted spi)
-offer_acceptable (Ike encr key_length group) spi form = subst (λ (x : List ℕ). IsAcceptable (Ike encr key_length group) (offered (Ike encr key_length group) x)) (sym form) (ike_acceptable encr group key_length 1)
+pub offer_acceptable : (wanted : Wanted) (spi : List ℕ) → HasSpi wanted spi → IsAcceptableProposal wanted (offer_of wanted spi)
+offer_acceptable (Ike encr key_length group) spi form = subst (λ (x : List ℕ). IsAcceptableProposal (Ike encr key_length group) (offer_of (Ike encr key_length group) x)) (sym form) (ike_acceptable encr group key_length 1)
 offer_acceptable (Esp false) spi form = esp_acceptable false false spi 1 form (λ e. cc)
 offer_acceptable (Esp true) spi form = both_acceptable spi form
 
@@ -100,13 +101,13 @@ wanted_if false true (suc (suc zero), within, at) is = absurd (let k : 0 ≡ 1 =
 wanted_if false true (suc (suc (suc k)), within, at) is = absurd (omega (arith, within))
 
 esp_answer : (allowed extended : Bool) (spi : List ℕ) (number : ℕ) → HasSpi (Esp allowed) spi → (extended ≡ true → allowed ≡ true) → number ≡ 1 →
-    IsAnswer (Esp allowed) (record { number = number; protocol = 3; spi = spi; transforms = answered_transforms (Esp allowed) extended })
+    IsAcceptableAnswer (Esp allowed) (record { number = number; protocol = 3; spi = spi; transforms = answered_transforms (Esp allowed) extended })
 esp_answer allowed false spi number form wanted one = record { acceptable = esp_acceptable allowed false spi number form wanted; number = one; one_each = all_3 (λ (kind : ℕ). count_of_kind (answered_transforms (Esp allowed) false) kind ≡ 1) 1 3 5 refl refl refl }
 esp_answer allowed true spi number form wanted one = record { acceptable = esp_acceptable allowed true spi number form wanted; number = one; one_each = all_3 (λ (kind : ℕ). count_of_kind (answered_transforms (Esp allowed) true) kind ≡ 1) 1 3 5 refl refl refl }
 
-pub answer_is : (wanted : Wanted) (proposals : List Proposal) (chosen : Chosen) (spi : List ℕ) → HasSpi wanted spi → IsChosen wanted proposals chosen → chosen.number ≡ 1 → IsAnswer wanted (answered wanted chosen spi)
+pub answer_is : (wanted : Wanted) (proposals : List Proposal) (chosen : Chosen) (spi : List ℕ) → HasSpi wanted spi → IsChosenProposal wanted proposals chosen → chosen.number ≡ 1 → IsAcceptableAnswer wanted (answer_of wanted chosen spi)
 answer_is (Ike encr key_length group) proposals chosen spi form found one =
-    subst (λ (x : List ℕ). IsAnswer (Ike encr key_length group) (answered (Ike encr key_length group) chosen x)) (sym form)
+    subst (λ (x : List ℕ). IsAcceptableAnswer (Ike encr key_length group) (answer_of (Ike encr key_length group) chosen x)) (sym form)
     (record { acceptable = ike_acceptable encr group key_length chosen.number; number = one; one_each = all_4 (λ (kind : ℕ). count_of_kind (acceptable_transforms (Ike encr key_length group)) kind ≡ 1) 1 2 3 4 refl refl refl refl })
 answer_is (Esp allowed) proposals chosen spi form found one = esp_answer allowed chosen.extended spi chosen.number form (wanted_if allowed chosen.extended found.numbers.acceptable.1) one
 
@@ -117,7 +118,7 @@ numbers_first allowed extended has = record { place = 2; here = refl; acceptable
   before (suc zero) other below at is = absurd (let same : without_attributes 3 12 ≡ other = cc in let k : 3 ≡ 5 = ap (λ (t : Transform). t.kind) same ∙ is.0 in omega arith)
   before (suc (suc k)) other below at is = absurd (omega (arith, below))
 
-pub numbers_kept : (wanted : Wanted) (proposals : List Proposal) (chosen : Chosen) (spi : List ℕ) → IsChosen wanted proposals chosen → ChoosesNumbers wanted (answered wanted chosen spi).transforms chosen.extended
+pub numbers_kept : (wanted : Wanted) (proposals : List Proposal) (chosen : Chosen) (spi : List ℕ) → IsChosenProposal wanted proposals chosen → ChoosesNumbers wanted (answer_of wanted chosen spi).transforms chosen.extended
 numbers_kept (Ike encr key_length group) proposals chosen spi found = found.numbers
 numbers_kept (Esp allowed) proposals chosen spi found = numbers_first allowed chosen.extended found.numbers.acceptable.1
 
@@ -145,10 +146,6 @@ same_cipher e g e' g' k k' (j, t, below, at, (is, has)) = cipher_of e g k t (j, 
 same_group : (e g e' g' : ℕ) (k k' : Option ℕ) → Any (IsAcceptableTransform (Ike e' k' g') 4) (acceptable_transforms (Ike e k g)) → without_attributes 4 g ≡ without_attributes 4 g'
 same_group e g e' g' k k' (j, t, below, at, (is, has)) = group_of e g k t (j, below, at) is ∙ sym (group_of e' g' k' t has is)
 
-only_item : (p : Proposal) (place : ℕ) (q : Proposal) → slice_get (p ∷ []) place ≡ Some q → q ≡ p
-only_item p zero q e = cc
-only_item p (suc place) q e = cc
-
 -- extended sequence numbers are found among what is offered only where they are offered
 offered_if : (allowed extended : Bool) (place : ℕ) → slice_get (offered_transforms (Esp allowed)) place ≡ Some (sequence_numbers extended) → extended ≡ true → allowed ≡ true
 offered_if true extended place at is = refl
@@ -158,33 +155,33 @@ offered_if false true (suc zero) at is = absurd (let e : without_attributes 3 12
 offered_if false true (suc (suc zero)) at is = absurd (let e : sequence_numbers false ≡ sequence_numbers true = cc in let k : 0 ≡ 1 = ap (λ (t : Transform). t.id) e in omega arith)
 offered_if false true (suc (suc (suc place))) at is = cc
 
-one_found : (ours theirs : Wanted) (spi : List ℕ) (chosen : Chosen) (found : IsChosen theirs (offered ours spi ∷ []) chosen) → found.proposal ≡ offered ours spi
-one_found ours theirs spi chosen found = only_item (offered ours spi) chosen.place found.proposal found.here
+one_found : (ours theirs : Wanted) (spi : List ℕ) (chosen : Chosen) (found : IsChosenProposal theirs (offer_of ours spi ∷ []) chosen) → found.proposal ≡ offer_of ours spi
+one_found ours theirs spi chosen found = sym (one_item (offer_of ours spi) chosen.place found.proposal found.here)
 
-found_acceptable : (ours theirs : Wanted) (spi : List ℕ) (chosen : Chosen) → IsChosen theirs (offered ours spi ∷ []) chosen → IsAcceptable theirs (offered ours spi)
-found_acceptable ours theirs spi chosen found = subst (λ (p : Proposal). IsAcceptable theirs p) (one_found ours theirs spi chosen found) found.acceptable
+found_acceptable : (ours theirs : Wanted) (spi : List ℕ) (chosen : Chosen) → IsChosenProposal theirs (offer_of ours spi ∷ []) chosen → IsAcceptableProposal theirs (offer_of ours spi)
+found_acceptable ours theirs spi chosen found = subst (λ (p : Proposal). IsAcceptableProposal theirs p) (one_found ours theirs spi chosen found) found.acceptable
 
-found_one : (ours theirs : Wanted) (spi : List ℕ) (chosen : Chosen) → IsChosen theirs (offered ours spi ∷ []) chosen → chosen.number ≡ 1
+found_one : (ours theirs : Wanted) (spi : List ℕ) (chosen : Chosen) → IsChosenProposal theirs (offer_of ours spi ∷ []) chosen → chosen.number ≡ 1
 found_one ours theirs spi chosen found = found.number ∙ ap (λ (p : Proposal). p.number) (one_found ours theirs spi chosen found)
 
-found_numbers : (ours theirs : Wanted) (spi : List ℕ) (chosen : Chosen) → IsChosen theirs (offered ours spi ∷ []) chosen → ChoosesNumbers theirs (offered_transforms ours) chosen.extended
+found_numbers : (ours theirs : Wanted) (spi : List ℕ) (chosen : Chosen) → IsChosenProposal theirs (offer_of ours spi ∷ []) chosen → ChoosesNumbers theirs (offered_transforms ours) chosen.extended
 found_numbers ours theirs spi chosen found = subst (λ (p : Proposal). ChoosesNumbers theirs p.transforms chosen.extended) (one_found ours theirs spi chosen found) found.numbers
 
 list_4 : (a b c d e f : Transform) → a ≡ e → d ≡ f → a ∷ b ∷ c ∷ d ∷ [] ≡ e ∷ b ∷ c ∷ f ∷ []
 list_4 a b c d e f is too = cc
 
-ike_answer : (encr group : ℕ) (key_length : Option ℕ) (number : ℕ) (spi : List ℕ) → spi ≡ [] → number ≡ 1 → IsAnswer (Ike encr key_length group) (record { number = number; protocol = 1; spi = spi; transforms = acceptable_transforms (Ike encr key_length group) })
+ike_answer : (encr group : ℕ) (key_length : Option ℕ) (number : ℕ) (spi : List ℕ) → spi ≡ [] → number ≡ 1 → IsAcceptableAnswer (Ike encr key_length group) (record { number = number; protocol = 1; spi = spi; transforms = acceptable_transforms (Ike encr key_length group) })
 ike_answer encr group key_length number spi form one =
-    subst (λ (x : List ℕ). IsAnswer (Ike encr key_length group) (record { number = number; protocol = 1; spi = x; transforms = acceptable_transforms (Ike encr key_length group) })) (sym form)
+    subst (λ (x : List ℕ). IsAcceptableAnswer (Ike encr key_length group) (record { number = number; protocol = 1; spi = x; transforms = acceptable_transforms (Ike encr key_length group) })) (sym form)
     (record { acceptable = ike_acceptable encr group key_length number; number = one; one_each = all_4 (λ (kind : ℕ). count_of_kind (acceptable_transforms (Ike encr key_length group)) kind ≡ 1) 1 2 3 4 refl refl refl refl })
 
-same_ike : (e g e' g' : ℕ) (k k' : Option ℕ) (spi : List ℕ) → IsAcceptable (Ike e' k' g') (offered (Ike e k g) spi) → acceptable_transforms (Ike e k g) ≡ acceptable_transforms (Ike e' k' g')
+same_ike : (e g e' g' : ℕ) (k k' : Option ℕ) (spi : List ℕ) → IsAcceptableProposal (Ike e' k' g') (offer_of (Ike e k g) spi) → acceptable_transforms (Ike e k g) ≡ acceptable_transforms (Ike e' k' g')
 same_ike e g e' g' k k' spi is =
     list_4 _ (without_attributes 2 5) (without_attributes 3 12) _ _ _ (same_cipher e g e' g' k k' (is.each 0 1 (omega arith))) (same_group e g e' g' k k' (is.each 3 4 (omega arith)))
 
-pub answer_agreed : (ours theirs : Wanted) (spi answer : List ℕ) (chosen : Chosen) → HasSpi ours answer → IsChosen theirs (offered ours spi ∷ []) chosen → IsAnswer ours (answered theirs chosen answer)
+pub answer_agreed : (ours theirs : Wanted) (spi answer : List ℕ) (chosen : Chosen) → HasSpi ours answer → IsChosenProposal theirs (offer_of ours spi ∷ []) chosen → IsAcceptableAnswer ours (answer_of theirs chosen answer)
 answer_agreed (Ike e k g) (Ike e' k' g') spi answer chosen form found =
-    subst (λ (ts : List Transform). IsAnswer (Ike e k g) (record { number = chosen.number; protocol = 1; spi = answer; transforms = ts }))
+    subst (λ (ts : List Transform). IsAcceptableAnswer (Ike e k g) (record { number = chosen.number; protocol = 1; spi = answer; transforms = ts }))
     (same_ike e g e' g' k k' spi (found_acceptable (Ike e k g) (Ike e' k' g') spi chosen found))
     (ike_answer e g k chosen.number answer form (found_one (Ike e k g) (Ike e' k' g') spi chosen found))
 answer_agreed (Ike e k g) (Esp b) spi answer chosen form found = absurd (let x : 1 ≡ 3 = (found_acceptable (Ike e k g) (Esp b) spi chosen found).protocol in omega arith)
@@ -193,7 +190,7 @@ answer_agreed (Esp a) (Esp b) spi answer chosen form found =
     let numbers = found_numbers (Esp a) (Esp b) spi chosen found in
     esp_answer a chosen.extended answer chosen.number form (offered_if a chosen.extended numbers.place numbers.here) (found_one (Esp a) (Esp b) spi chosen found)
 
-pub numbers_agreed : (ours theirs : Wanted) (spi answer : List ℕ) (chosen : Chosen) → IsChosen theirs (offered ours spi ∷ []) chosen → ChoosesNumbers ours (answered theirs chosen answer).transforms chosen.extended
+pub numbers_agreed : (ours theirs : Wanted) (spi answer : List ℕ) (chosen : Chosen) → IsChosenProposal theirs (offer_of ours spi ∷ []) chosen → ChoosesNumbers ours (answer_of theirs chosen answer).transforms chosen.extended
 numbers_agreed (Ike e k g) (Ike e' k' g') spi answer chosen found = found.numbers
 numbers_agreed (Ike e k g) (Esp b) spi answer chosen found = absurd (let x : 1 ≡ 3 = (found_acceptable (Ike e k g) (Esp b) spi chosen found).protocol in omega arith)
 numbers_agreed (Esp a) (Ike e' k' g') spi answer chosen found = absurd (let x : 3 ≡ 1 = (found_acceptable (Esp a) (Ike e' k' g') spi chosen found).protocol in omega arith)
@@ -246,7 +243,7 @@ found_at (u ∷ us) (suc place) t is = deeper u us t (found_at us place t is)
 there : (w : Wanted) (kind : ℕ) (x : Transform) (ts : List Transform) → ((t : Transform) → Contains (acceptable_transforms w) t → t.kind ≡ kind → x ≡ t) → Any (IsAcceptableTransform w kind) ts → Contains ts x
 there w kind x ts alike (j, t, below, at, (is, has)) = subst (λ (y : Transform). Contains ts y) (sym (alike t has is)) (j, below, at)
 
-pub answer_taken : (wanted : Wanted) (proposals : List Proposal) (chosen : Chosen) (spi : List ℕ) (found : IsChosen wanted proposals chosen) → All (λ t. Contains found.proposal.transforms t) (answered wanted chosen spi).transforms
+pub answer_taken : (wanted : Wanted) (proposals : List Proposal) (chosen : Chosen) (spi : List ℕ) (found : IsChosenProposal wanted proposals chosen) → All (λ t. Contains found.proposal.transforms t) (answer_of wanted chosen spi).transforms
 answer_taken (Ike e k g) proposals chosen spi found =
     let w = Ike e k g in
     let ts = found.proposal.transforms in

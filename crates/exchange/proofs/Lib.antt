@@ -1,5 +1,4 @@
-pub mod SealedLemmas
-pub mod CountingLemmas
-pub mod OfferLemmas
-pub mod LawLemmas
-pub mod SizeLemmas
+mod SealedLemmas
+mod CountingLemmas
+mod OfferLemmas
+mod LawLemmas

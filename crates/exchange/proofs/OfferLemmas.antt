@@ -7,8 +7,8 @@ use Rattle.wire.specs.declared.proposal.Proposal.{Proposal}
 use Rattle.wire.specs.declared.proposal.Transform.{Transform}
 use Rattle.suite.specs.declared.choice.Chosen.{Chosen}
 use Rattle.suite.specs.declared.choice.Wanted.{Wanted}
-use Rattle.suite.specs.Choice.{kinds, IsAcceptable, IsChosen}
-use Rattle.exchange.specs.Offers.{count_of_kind, IsAnswer}
+use Rattle.suite.specs.Choice.{kinds, IsAcceptableProposal, IsChosenProposal}
+use Rattle.exchange.specs.Offers.{count_of_kind, AcceptsAnswer, IsAcceptableAnswer}
 
 -- each type once
 abbrev pub OneEach : List Transform → List ℕ → Type 0
@@ -20,23 +20,28 @@ one_each_holds transforms ks passes = λ k d below. eqb-true (count_of_kind tran
 pub one_each_passes : (transforms : List Transform) (ks : List ℕ) → OneEach transforms ks → list_all (λ kind. count_of_kind transforms kind == 1) ks ≡ true
 one_each_passes transforms ks each = list_all-from_AllPass (λ kind. count_of_kind transforms kind == 1) ks (λ k d below. eq-eqb (count_of_kind transforms (get_or ks k d)) 1 (each k d below))
 
-one_item : (p : Proposal) (place : ℕ) (q : Proposal) → slice_get (p ∷ []) place ≡ Some q → p ≡ q
+pub one_item : (p : Proposal) (place : ℕ) (q : Proposal) → slice_get (p ∷ []) place ≡ Some q → p ≡ q
 one_item p zero q e = cc
 one_item p (suc place) q e = cc
 
-pub accepted_by : (w : Wanted) (ps : List Proposal) (p : Proposal) (r : Option Chosen) → ps ≡ p ∷ [] → p.number ≡ 1 → OneEach p.transforms (kinds w) → MatchOption r (All (λ q. ¬ IsAcceptable w q) ps) (IsChosen w ps)
-    → MatchOption r ((q : Proposal) → ps ≡ q ∷ [] → ¬ IsAnswer w q) (λ chosen. (q : Proposal) × (ps ≡ q ∷ []) × IsAnswer w q × IsChosen w ps chosen)
-accepted_by w ps p None is number each none = λ q here answer. subst (λ (xs : List Proposal). All (λ x. ¬ IsAcceptable w x) xs) here none 0 q (omega arith) answer.acceptable
+pub accepted_by : (w : Wanted) (ps : List Proposal) (p : Proposal) (r : Option Chosen) → ps ≡ p ∷ [] → p.number ≡ 1 → OneEach p.transforms (kinds w) → MatchOption r (All (λ q. ¬ IsAcceptableProposal w q) ps) (IsChosenProposal w ps)
+    → MatchOption r ((q : Proposal) → ps ≡ q ∷ [] → ¬ IsAcceptableAnswer w q) (AcceptsAnswer w ps)
+accepted_by w ps p None is number each none = λ q here answer. subst (λ (xs : List Proposal). All (λ x. ¬ IsAcceptableProposal w x) xs) here none 0 q (omega arith) answer.acceptable
 accepted_by w ps p (Some chosen) is number each found =
     let same : p ≡ found.proposal = one_item p chosen.place found.proposal (subst (λ (xs : List Proposal). slice_get xs chosen.place ≡ Some found.proposal) is found.here) in
-    (p, is, record { acceptable = subst (λ (x : Proposal). IsAcceptable w x) (sym same) found.acceptable; number = number; one_each = each }, found)
+    record {
+      proposal = p;
+      alone = is;
+      answer = record { acceptable = subst (λ (x : Proposal). IsAcceptableProposal w x) (sym same) found.acceptable; number = number; one_each = each };
+      choice = found;
+    }
 
 abbrev head_of : List Proposal → Proposal → Proposal
 head_of [] p = p
 head_of (q ∷ qs) p = q
 
 -- what a list of one is answered with is said of its item
-pub refused_by : (w : Wanted) (ps : List Proposal) (p : Proposal) → ps ≡ p ∷ [] → ((p.number ≡ 1) × OneEach p.transforms (kinds w) → ⊥) → (q : Proposal) → ps ≡ q ∷ [] → ¬ IsAnswer w q
+pub refused_by : (w : Wanted) (ps : List Proposal) (p : Proposal) → ps ≡ p ∷ [] → ((p.number ≡ 1) × OneEach p.transforms (kinds w) → ⊥) → (q : Proposal) → ps ≡ q ∷ [] → ¬ IsAcceptableAnswer w q
 refused_by w ps p is not q here answer =
     let same : p ≡ q = ap (λ xs. head_of xs p) (sym is ∙ here) in
     not (subst (λ (x : Proposal). (x.number ≡ 1) × OneEach x.transforms (kinds w)) (sym same) (answer.number, answer.one_each))

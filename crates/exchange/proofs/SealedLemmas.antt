@@ -1,25 +1,26 @@
 -- The message in clear, taken apart, and put together again round an encrypted payload.
 use Rattle.std.proofs.Common.{◌≡◌, ℕ, ◌+◌, ◌<◌, ◌≤◌, List, [], ◌∷◌, ◌++◌, length, take, drop, slice_index, Option, Some, refl, sym, ap, subst, ◌-◌, ◌≢◌, inl, inr, ◌∙◌, append_assoc, arith}
-use Rattle.std.specs.List.{AllByRecursion}
+use Rattle.std.specs.Prelude.{◌⊎◌}
+use Rattle.std.specs.List.{AllByRecursion, sum_by}
 use Rattle.std.proofs.lemmas.List.{length-append, take_at, drop_at, take-append-drop}
 use Rattle.std.proofs.Math.Seq.{get_or-append_seam}
 use Rattle.byteorder.specs.Endian.{big_bytes}
 use Rattle.byteorder.specs.Numbers.{length-bytes_high_first}
-use Rattle.wire.specs.Parts.{IsZero, AreOctets}
+use Rattle.wire.specs.Parts.{IsZero}
+use Rattle.base.specs.Octets.{IsOctet, AreOctets}
 use Rattle.wire.specs.Messages.{Spells, SpellsPlainly}
 use Rattle.wire.specs.Payloads.{SpellsPayloads, IsClear}
 use Rattle.wire.specs.declared.message.Message.{Message}
 use Rattle.wire.specs.declared.message.Header.{Header}
+use Rattle.wire.specs.Sizes.{size_of}
+use Rattle.wire.specs.declared.payload.Payload.{Payload}
 use Rattle.wire.specs.declared.payload.Payload.TheVariants.{Sealed}
 use Rattle.suite.specs.declared.keys.Keys.{Keys}
 use Rattle.suite.specs.Sealing.{AreKeys, AreSealable}
 use Rattle.wire.specs.declared.fault.WireFault.{WireFault}
-use Rattle.wire.specs.declared.fault.WireFault.TheVariants.{Memory, TooLong}
-use Rattle.wire.proofs.Promises.{memory_or}
-use Rattle.wire.proofs.Takes.{octets_front, octets_drop}
-use Rattle.wire.proofs.Encoding.{plain_is_spelled}
-use Rattle.wire.proofs.WrittenPayloads.{payloads_weaken, payloads_same}
-use Rattle.exchange.specs.Sealed.{head_of, sealed_head, wrapped, opened_as, IsSealed, CanBeSealed, OpensAgain}
+use Rattle.wire.specs.declared.fault.WireFault.TheVariants.{Short, TooLong, BadLength, BadVersion, BadChain, BadProposal, BadSelector, BadNonce, BadField, Memory}
+use Rattle.base.proofs.OctetLemmas.{octets_front, octets_drop}
+use Rattle.exchange.specs.Sealed.{head_of, sealed_head, sealed_octets, plain_behind, IsSealed, CanBeSealed, OpensAgain}
 
 length-big : (n x : ℕ) → length (big_bytes n x) ≡ n
 length-big n x = length-bytes_high_first n x
@@ -122,13 +123,13 @@ enclosed m clear body s few octets =
     (subst (λ (x : List ℕ). SpellsPlainly (holding m s.first body) (x ++ body)) (sym is) (enclosed_with m clear body s few (subst (λ (x : List ℕ). AreOctets (x ++ body)) is octets)))
 
 -- what the calls make is the message wrapped
-pub is_wrapped : (body_of : Keys → List ℕ → List ℕ → List ℕ → List ℕ) (sealed_size : ℕ → ℕ) (keys : Keys) (fresh clear : List ℕ) (size : ℕ) (head plain body whole : List ℕ) → size ≡ sealed_size (length clear - 28) → head ≡ sealed_head clear size → plain ≡ drop 28 clear → body ≡ body_of keys head plain fresh → whole ≡ head ++ body → whole ≡ wrapped body_of sealed_size keys fresh clear
+pub is_wrapped : (body_of : Keys → List ℕ → List ℕ → List ℕ → List ℕ) (sealed_size : ℕ → ℕ) (keys : Keys) (fresh clear : List ℕ) (size : ℕ) (head plain body whole : List ℕ) → size ≡ sealed_size (length clear - 28) → head ≡ sealed_head clear size → plain ≡ drop 28 clear → body ≡ body_of keys head plain fresh → whole ≡ head ++ body → whole ≡ sealed_octets body_of sealed_size keys fresh clear
 is_wrapped body_of sealed_size keys fresh clear size head plain body whole sized head_made plain_made body_made made =
     let head_told : head ≡ sealed_head clear (sealed_size (length clear - 28)) = head_made ∙ ap (sealed_head clear) sized in
     made ∙ ap (λ (x : List ℕ). head ++ x) (body_made ∙ ap (λ (x : List ℕ). body_of keys head x fresh) plain_made) ∙ ap (λ (x : List ℕ). x ++ body_of keys x (drop 28 clear) fresh) head_told
 
 -- the cipher's body has the length that was told
-pub is_sealed : (body_of : Keys → List ℕ → List ℕ → List ℕ → List ℕ) (sealed_size : ℕ → ℕ) → ((keys : Keys) (head plain fresh : List ℕ) → AreSealable keys head plain fresh → length (body_of keys head plain fresh) ≡ sealed_size (length plain)) → (keys : Keys) (fresh : List ℕ) (m : Message) (clear whole : List ℕ) → SpellsPlainly m clear → AreKeys keys → AreOctets fresh → length fresh ≡ 16 → 32 + sealed_size (length clear - 28) ≤ 3000 → whole ≡ wrapped body_of sealed_size keys fresh clear → AreOctets whole → IsSealed body_of keys fresh m whole
+pub is_sealed : (body_of : Keys → List ℕ → List ℕ → List ℕ → List ℕ) (sealed_size : ℕ → ℕ) → ((keys : Keys) (head plain fresh : List ℕ) → AreSealable keys head plain fresh → length (body_of keys head plain fresh) ≡ sealed_size (length plain)) → (keys : Keys) (fresh : List ℕ) (m : Message) (clear whole : List ℕ) → SpellsPlainly m clear → AreKeys keys → AreOctets fresh → length fresh ≡ 16 → 32 + sealed_size (length clear - 28) ≤ 3000 → whole ≡ sealed_octets body_of sealed_size keys fresh clear → AreOctets whole → IsSealed body_of keys fresh m whole
 is_sealed body_of sealed_size told keys fresh m clear whole s keyed fresh_octets sixteen few made octets =
     let size = sealed_size (length clear - 28) in
     let c = clear_cut m clear s in
@@ -156,36 +157,52 @@ is_sealed body_of sealed_size told keys fresh m clear whole s keyed fresh_octets
     }
 
 -- two spellings of one message are equally long
-pub as_long : (m : Message) (a b : List ℕ) → SpellsPlainly m a → SpellsPlainly m b → length a ≡ length b
-as_long m a b s t =
-    let c = clear_cut m a s in
-    let d = clear_cut m b t in
-    omega (arith, c.long, d.long, payloads_same s.first t.first m.payloads s.payloads t.payloads s.chain (payloads_weaken t.first m.payloads t.payloads t.chain))
+-- what the laws of the format say of messages: what is spelled with zeros is spelled, and lengths follow from sizes
+abbrev pub WeakensMessages : Type 0
+WeakensMessages = (m : Message) (b : List ℕ) → SpellsPlainly m b → Spells m b
+
+abbrev pub WeakensPayloads : Type 0
+WeakensPayloads = (first : ℕ) (ps : List Payload) (x : List ℕ) → SpellsPayloads IsZero first ps x → SpellsPayloads IsOctet first ps x
+
+abbrev pub HaveTheirSize : Type 0
+HaveTheirSize = (m : Message) (b : List ℕ) → Spells m b → length b ≡ 28 + sum_by size_of m.payloads
+
+memory_or : (f : WireFault) → (f ≡ Memory) ⊎ (f ≢ Memory)
+memory_or Memory = inl refl
+memory_or Short = inr (λ e. cc)
+memory_or BadLength = inr (λ e. cc)
+memory_or BadVersion = inr (λ e. cc)
+memory_or (BadChain at) = inr (λ e. cc)
+memory_or (BadProposal at) = inr (λ e. cc)
+memory_or (BadSelector at) = inr (λ e. cc)
+memory_or (BadNonce at) = inr (λ e. cc)
+memory_or (BadField at) = inr (λ e. cc)
+memory_or TooLong = inr (λ e. cc)
 
 -- what can be sent is refused for memory alone
-pub sendable_encodes : (m : Message) (f : WireFault) → CanBeSealed m → (f ≢ Memory → (b : List ℕ) → Spells m b → ⊥) → f ≡ Memory
-sendable_encodes m f sendable unspelled = elim (memory_or f) [
+pub sendable_encodes : WeakensMessages → (m : Message) (f : WireFault) → CanBeSealed m → (f ≢ Memory → (b : List ℕ) → Spells m b → ⊥) → f ≡ Memory
+sendable_encodes weaken m f sendable unspelled = elim (memory_or f) [
   | inl is ↦ is
-  | inr other ↦ absurd (unspelled other sendable.clear (plain_is_spelled m sendable.clear sendable.spelled))
+  | inr other ↦ absurd (unspelled other sendable.clear (weaken m sendable.clear sendable.spelled))
 ]
 
-pub sendable_fits : (m : Message) (f : WireFault) (clear : List ℕ) (size : ℕ) → SpellsPlainly m clear → CanBeSealed m → size ≤ length clear - 28 + 128 → (f ≢ Memory → (f ≡ TooLong) × (3000 < 32 + size)) → f ≡ Memory
-sendable_fits m f clear size s sendable bounded long = elim (memory_or f) [
+pub sendable_fits : WeakensMessages → HaveTheirSize → (m : Message) (f : WireFault) (clear : List ℕ) (size : ℕ) → SpellsPlainly m clear → CanBeSealed m → size ≤ length clear - 28 + 128 → (f ≢ Memory → (f ≡ TooLong) × (3000 < 32 + size)) → f ≡ Memory
+sendable_fits weaken sized m f clear size s sendable bounded long = elim (memory_or f) [
   | inl is ↦ is
-  | inr other ↦ absurd (omega (arith, (long other).1, as_long m clear sendable.clear s sendable.spelled, sendable.few, (clear_cut m clear s).long))
+  | inr other ↦ absurd (omega (arith, (long other).1, sized m clear (weaken m clear s), sized m sendable.clear (weaken m sendable.clear sendable.spelled), sendable.few))
 ]
 
 pub at_least_a_header : (m : Message) (clear : List ℕ) → SpellsPlainly m clear → 28 ≤ length clear
 at_least_a_header m clear s = omega (arith, (clear_cut m clear s).long)
 
 -- what was sealed opens
-pub opens_again : (body_of : Keys → List ℕ → List ℕ → List ℕ → List ℕ) (plain_of : Keys → List ℕ → List ℕ → Option (List ℕ)) → ((keys : Keys) (head plain fresh : List ℕ) → AreSealable keys head plain fresh → plain_of keys head (body_of keys head plain fresh) ≡ Some plain) → (keys : Keys) (fresh : List ℕ) (m : Message) (b : List ℕ) → AreKeys keys → AreOctets fresh → length fresh ≡ 16 → AllByRecursion IsClear m.payloads → IsSealed body_of keys fresh m b → OpensAgain plain_of keys m b
-opens_again body_of plain_of again keys fresh m b keyed fresh_octets sixteen clear s =
+pub opens_again : WeakensMessages → WeakensPayloads → (body_of : Keys → List ℕ → List ℕ → List ℕ → List ℕ) (plain_of : Keys → List ℕ → List ℕ → Option (List ℕ)) → ((keys : Keys) (head plain fresh : List ℕ) → AreSealable keys head plain fresh → plain_of keys head (body_of keys head plain fresh) ≡ Some plain) → (keys : Keys) (fresh : List ℕ) (m : Message) (b : List ℕ) → AreKeys keys → AreOctets fresh → length fresh ≡ 16 → AllByRecursion IsClear m.payloads → IsSealed body_of keys fresh m b → OpensAgain plain_of keys m b
+opens_again weaken weaken_payloads body_of plain_of again keys fresh m b keyed fresh_octets sixteen clear s =
     let head_octets : AreOctets (take 32 b) = octets_front (take 32 b) (drop 32 b) (subst AreOctets (sym (take-append-drop 32 b)) s.whole.octets) in
     record {
       sealed = Sealed s.first (body_of keys (head_of b) s.plain fresh);
       plain = record { first = s.first; octets = s.plain };
-      spelled = plain_is_spelled (holding m s.first (body_of keys (head_of b) s.plain fresh)) b s.whole;
-      opens = ap (opened_as s.first) (again keys (head_of b) s.plain fresh (record { keyed = keyed; head_octets = head_octets; plain_octets = s.octets; fresh_octets = fresh_octets; fresh_long = sixteen }));
-      payloads = record { clear = clear; payloads = payloads_weaken s.first m.payloads s.plain s.spelled; octets = s.octets };
+      spelled = weaken (holding m s.first (body_of keys (head_of b) s.plain fresh)) b s.whole;
+      opens = ap (plain_behind s.first) (again keys (head_of b) s.plain fresh (record { keyed = keyed; head_octets = head_octets; plain_octets = s.octets; fresh_octets = fresh_octets; fresh_long = sixteen }));
+      payloads = record { clear = clear; payloads = weaken_payloads s.first m.payloads s.plain s.spelled; octets = s.octets };
     }

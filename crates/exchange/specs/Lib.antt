@@ -3,6 +3,3 @@ pub mod Counting
 pub mod Notices
 pub mod Deletions
 pub mod Offers
-pub mod Sizes
-pub mod TestCipher
-pub mod TestCipherLaws

@@ -1,7 +1,8 @@
 -- Messages whose payloads are encrypted (RFC 7296 section 3.14).
 use Rattle.std.specs.Prelude.{◌≡◌, ◌<◌, ◌≤◌, ◌⊎◌, ℕ, Option, Some, None, List, [], ◌∷◌, ◌++◌, ◌+◌, ◌-◌, length, take, drop, slice_index}
 use Rattle.byteorder.specs.Endian.{big_bytes}
-use Rattle.wire.specs.Parts.{IsZero, AreOctets}
+use Rattle.wire.specs.Parts.{IsZero}
+use Rattle.base.specs.Octets.{AreOctets}
 use Rattle.wire.specs.Payloads.{SpellsPayloads, SpellsChain}
 use Rattle.wire.specs.Messages.{Spells, SpellsPlainly}
 use Rattle.wire.specs.Refusals.{IsEncodingFaultOf}
@@ -9,7 +10,7 @@ use Rattle.wire.specs.declared.fault.WireFault.{WireFault}
 use Rattle.wire.specs.declared.fault.WireFault.TheVariants.{TooLong}
 use Rattle.wire.specs.declared.message.Message.{Message}
 use Rattle.wire.specs.declared.payload.Payload.{Payload}
-use Rattle.wire.specs.declared.payload.Payload.TheVariants.{Sa, Ke, IdI, IdR, Auth, Nonce, Notify, Delete, TsI, TsR, Sealed, Skipped, Unknown}
+use Rattle.wire.specs.declared.payload.Payload.TheVariants.{Sealed}
 use Rattle.suite.specs.declared.keys.Keys.{Keys}
 use Rattle.exchange.specs.declared.sealed.Plain.{Plain}
 
@@ -33,8 +34,8 @@ sealed_head clear body =
     take 16 clear ++ 46 ∷ take 7 (drop 17 clear) ++ big_bytes 4 (32 + body) ++ slice_index clear 16 ∷ 0 ∷ big_bytes 2 (4 + body)
 
 -- the message in clear, with its payloads as the body of an encrypted one
-abbrev pub wrapped : (Keys → List ℕ → List ℕ → List ℕ → List ℕ) → (ℕ → ℕ) → Keys → List ℕ → List ℕ → List ℕ
-wrapped body_of sealed_size keys fresh clear =
+abbrev pub sealed_octets : (Keys → List ℕ → List ℕ → List ℕ → List ℕ) → (ℕ → ℕ) → Keys → List ℕ → List ℕ → List ℕ
+sealed_octets body_of sealed_size keys fresh clear =
     let head = sealed_head clear (sealed_size (length clear - 28)) in
     head ++ body_of keys head (drop 28 clear) fresh
 
@@ -51,45 +52,34 @@ IsSealingFaultOf sealed_size m f =
     IsEncodingFaultOf m f ⊎ ((f ≡ TooLong) × (clear : List ℕ) × SpellsPlainly m clear × (3000 < 32 + sealed_size (length clear - 28)))
 
 -- the first type and the body of an encrypted payload
-abbrev pub sealed_in : Payload → Option Plain
-sealed_in (Sa proposals) = None
-sealed_in (Ke group octets) = None
-sealed_in (IdI kind octets) = None
-sealed_in (IdR kind octets) = None
-sealed_in (Auth method octets) = None
-sealed_in (Nonce octets) = None
-sealed_in (Notify protocol spi kind octets) = None
-sealed_in (Delete protocol spis) = None
-sealed_in (TsI selectors) = None
-sealed_in (TsR selectors) = None
-sealed_in (Sealed first body) = Some (record { first = first; octets = body })
-sealed_in (Skipped kind octets) = None
-sealed_in (Unknown kind critical octets) = None
+abbrev pub body_in : Payload → Option Plain
+body_in (Sealed first body) = Some (record { first = first; octets = body })
+body_in _ = None
 
 -- those of a message that has an encrypted payload and no other
-abbrev pub sealed_alone : List Payload → Option Plain
-sealed_alone [] = None
-sealed_alone (p ∷ []) = sealed_in p
-sealed_alone (p ∷ q ∷ ps) = None
+abbrev pub lone_body : List Payload → Option Plain
+lone_body [] = None
+lone_body (p ∷ []) = body_in p
+lone_body (p ∷ q ∷ ps) = None
 
 -- what the body opens to, where it does, behind the same first type
-abbrev pub opened_as : ℕ → Option (List ℕ) → Option Plain
-opened_as first None = None
-opened_as first (Some plain) = Some (record { first = first; octets = plain })
+abbrev pub plain_behind : ℕ → Option (List ℕ) → Option Plain
+plain_behind first None = None
+plain_behind first (Some plain) = Some (record { first = first; octets = plain })
 
-abbrev pub opened_by : (List ℕ → Option (List ℕ)) → Option Plain → Option Plain
-opened_by plain_of None = None
-opened_by plain_of (Some sealed) = opened_as sealed.first (plain_of sealed.octets)
+abbrev pub plain_by : (List ℕ → Option (List ℕ)) → Option Plain → Option Plain
+plain_by plain_of None = None
+plain_by plain_of (Some sealed) = plain_behind sealed.first (plain_of sealed.octets)
 
 -- What a datagram with these payloads opens to under keys; none where another payload stands beside the encrypted one, or
 -- the body doesn't open.
-abbrev pub opened : (Keys → List ℕ → List ℕ → Option (List ℕ)) → Keys → List ℕ → List Payload → Option Plain
-opened plain_of keys b payloads = opened_by (λ body. plain_of keys (head_of b) body) (sealed_alone payloads)
+abbrev pub plain_of_message : (Keys → List ℕ → List ℕ → Option (List ℕ)) → Keys → List ℕ → List Payload → Option Plain
+plain_of_message plain_of keys b payloads = plain_by (λ body. plain_of keys (head_of b) body) (lone_body payloads)
 
 -- The datagram spells a message of one encrypted payload, and that opens to octets that spell the payloads.
 pub record OpensAgain (plain_of : Keys → List ℕ → List ℕ → Option (List ℕ)) (keys : Keys) (m : Message) (b : List ℕ) : Type 0 where
   pub sealed : Payload
   pub plain : Plain
   pub spelled : Spells (record { header = m.header; payloads = sealed ∷ [] }) b
-  pub opens : opened plain_of keys b (sealed ∷ []) ≡ Some plain
+  pub opens : plain_of_message plain_of keys b (sealed ∷ []) ≡ Some plain
   pub payloads : SpellsChain plain.first m.payloads plain.octets

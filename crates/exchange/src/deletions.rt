@@ -2,16 +2,17 @@
 ghost use Rattle.std.specs.Prelude.{◌≡◌, ◌<◌, IfOk, IsTrue, ◌↔◌};
 ghost use Rattle.exchange.specs.Deletions.{is_deletion, spis_in, deletes_association, count_of_spis, esp_spis};
 
+use base::Items;
 use std::alloc::{AllocError, Global};
-use suite::transforms::{ESP, IKE};
-use wire::{Items, Payload};
+use wire::Payload;
+use wire::numbers::{ESP_PROTOCOL, IKE_PROTOCOL};
 
 /// Whether the association under which the payloads come is to be deleted itself (RFC 7296, section 1.4.1).
 pub fn deletes_association(payloads: &[Payload]) -> bool
     ensures { result ≡ deletes_association payloads.now }
 {
     for payload in payloads {
-        if is_deletion(payload, IKE) {
+        if is_deletion(payload, IKE_PROTOCOL) {
             return true;
         }
     }
@@ -39,7 +40,7 @@ pub fn esp_spis(alloc: Global, payloads: &[Payload]) -> Result<Items<u32>, Alloc
 {
     let mut spis = Vec::new(alloc);
     for payload in payloads {
-        if is_deletion(payload, ESP) {
+        if is_deletion(payload, ESP_PROTOCOL) {
             spis.extend_from_slice(spis_in(payload))?;
         }
     }

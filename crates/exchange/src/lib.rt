@@ -18,14 +18,13 @@
 #![tactic(auto)]
 
 mod deletions;
-mod laws;
+pub mod laws;
 mod notices;
 mod offers;
 mod payloads;
 mod sealed;
 
 pub use deletions::{deletes_association, esp_spis, names_more_than};
-pub use laws::{ends_agree, offers_are_answered, short_messages_can_be_sent};
 pub use notices::{Notice, asked_cookie, has_invalid_syntax, leading_cookie, returned_cookie};
 pub use offers::{accept, answer, offer};
 pub use payloads::{

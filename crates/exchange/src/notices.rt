@@ -3,13 +3,13 @@ ghost use Rattle.std.specs.Prelude.{◌≡◌, None, Some, IfOk, MatchOption};
 ghost use Rattle.std.specs.List.{list_any};
 ghost use Rattle.exchange.specs.Notices.{type_of_notice, data_of_notice, payload_of_notice, returned_cookie, cookie_in, leading_cookie, asked_cookie, is_invalid_syntax};
 
+use base::Items;
 use std::alloc::{AllocError, Global};
-use wire::{Items, Payload};
-
-// Types of notices (section 3.10.1).
-const INVALID_SYNTAX: u16 = 7;
-
-const COOKIE: u16 = 16390;
+use wire::Payload;
+use wire::numbers::{
+    AUTHENTICATION_FAILED, COOKIE, INVALID_SYNTAX, NO_ADDITIONAL_SAS, NO_PROPOSAL_CHOSEN,
+    TS_UNACCEPTABLE, UNSUPPORTED_CRITICAL_PAYLOAD,
+};
 
 // The most octets of a cookie (section 2.6).
 const COOKIE_LIMIT: usize = 64;
@@ -39,12 +39,12 @@ impl Notice {
         ensures { result ≡ type_of_notice self.now }
     {
         match self {
-            Notice::UnsupportedCriticalPayload { .. } => 1,
+            Notice::UnsupportedCriticalPayload { .. } => UNSUPPORTED_CRITICAL_PAYLOAD,
             Notice::InvalidSyntax => INVALID_SYNTAX,
-            Notice::NoProposalChosen => 14,
-            Notice::AuthenticationFailed => 24,
-            Notice::NoAdditionalSas => 35,
-            Notice::TsUnacceptable => 38,
+            Notice::NoProposalChosen => NO_PROPOSAL_CHOSEN,
+            Notice::AuthenticationFailed => AUTHENTICATION_FAILED,
+            Notice::NoAdditionalSas => NO_ADDITIONAL_SAS,
+            Notice::TsUnacceptable => TS_UNACCEPTABLE,
             Notice::Cookie { .. } => COOKIE,
         }
     }

@@ -3,8 +3,8 @@ ghost use Rattle.std.specs.Prelude.{◌≡◌, ◌==◌, ◌++◌, ◌∷◌, []
 ghost use Rattle.std.specs.List.{list_all};
 ghost use Rattle.wire.specs.declared.proposal.Proposal.{Proposal};
 ghost use Rattle.wire.specs.declared.proposal.Transform.{Transform};
-ghost use Rattle.suite.specs.Choice.{kinds, key_length_attribute, protocol_of, without_attributes, HasSpi, IsAcceptable, IsChosen};
-ghost use Rattle.exchange.specs.Offers.{answered, count_of_kind, fixed_transforms, offered, IsAnswer};
+ghost use Rattle.suite.specs.Choice.{kinds, key_length_attribute, wanted_protocol, without_attributes, HasSpi, IsAcceptableProposal, IsChosenProposal};
+ghost use Rattle.exchange.specs.Offers.{answer_of, count_of_kind, fixed_transforms, offer_of, AcceptsAnswer, IsAcceptableAnswer};
 
 use std::alloc::{AllocError, Global};
 use suite::transforms::{
@@ -21,7 +21,7 @@ const OFFERED: u8 = 1;
 /// a child. Where extended sequence numbers are wanted, they are offered before those of 32 bits. An error is for want of memory
 /// alone.
 pub fn offer(alloc: Global, wanted: &Wanted, spi: &[u8]) -> Result<Proposal, AllocError>
-    ensures { IfOk result (λ proposal. proposal ≡ offered wanted.now spi.now) }
+    ensures { IfOk result (λ proposal. proposal ≡ offer_of wanted.now spi.now) }
 {
     let mut transforms = fixed(alloc, wanted)?;
     if let Wanted::Esp { extended } = wanted {
@@ -41,7 +41,7 @@ pub fn answer(
     chosen: &Chosen,
     spi: &[u8],
 ) -> Result<Proposal, AllocError>
-    ensures { IfOk result (λ proposal. proposal ≡ answered wanted.now chosen.now spi.now) }
+    ensures { IfOk result (λ proposal. proposal ≡ answer_of wanted.now chosen.now spi.now) }
 {
     let mut transforms = fixed(alloc, wanted)?;
     if let Wanted::Esp { .. } = wanted {
@@ -55,13 +55,12 @@ pub fn answer(
     proposal(alloc, chosen.number, wanted, spi, transforms)
 }
 
-/// What an answer to this end's offer chose (RFC 7296, section 2.7), `None` where it is none: it has one proposal, of number 1, with an SPI of the
-/// protocol's form, one acceptable transform of each type and no other. Takes no memory.
+/// What an answer to this end's offer chose (RFC 7296, section 2.7), `None` where it is none: it has one proposal, of number 1,
+/// with an SPI of the protocol's form, one acceptable transform of each type and no other. Takes no memory.
 pub fn accept(proposals: &[Proposal], wanted: &Wanted) -> Option<Chosen>
     ensures { MatchOption result
-        ((proposal : Proposal) → proposals.now ≡ proposal ∷ [] → ¬ IsAnswer wanted.now proposal)
-        (λ chosen. (proposal : Proposal) × (proposals.now ≡ proposal ∷ []) × IsAnswer wanted.now proposal
-        × IsChosen wanted.now proposals.now chosen) }
+        ((proposal : Proposal) → proposals.now ≡ proposal ∷ [] → ¬ IsAcceptableAnswer wanted.now proposal)
+        (AcceptsAnswer wanted.now proposals.now) }
 {
     match proposals {
         [proposal] if is_first(proposal, wanted) => choose(proposals, wanted),
@@ -109,7 +108,7 @@ fn proposal(
 ) -> Result<Proposal, AllocError>
     ensures { IfOk result (λ proposal. proposal ≡ record {
       number = number;
-      protocol = protocol_of wanted.now;
+      protocol = wanted_protocol wanted.now;
       spi = spi.now;
       transforms = transforms;
     }) }

@@ -1,31 +1,17 @@
 //! Which payloads of a message count.
-ghost use Rattle.std.specs.Prelude.{◌≡◌, ◌≢◌, ◌==◌, List, ℕ, Some, MatchOption};
+ghost use Rattle.std.specs.Prelude.{◌≡◌, ◌==◌, Some, None, MatchOption};
 ghost use Rattle.std.specs.Option.{option_copied};
-ghost use Rattle.wire.specs.declared.payload.Payload.{Payload};
-ghost use Rattle.wire.specs.declared.proposal.Proposal.{Proposal};
-ghost use Rattle.wire.specs.declared.selector.Selector.{Selector};
-ghost use Rattle.exchange.specs.Counting.{has_type, offers_protocol, only, proposals_in, unknown_critical};
+ghost use Rattle.exchange.specs.Counting.{only_auth, only_id_i, only_id_r, only_ke, only_nonce, only_sa, only_ts_i, only_ts_r};
+ghost use Rattle.exchange.specs.Counting.{has_ke, offers_protocol, only, proposals_in, unknown_critical};
 ghost use Rattle.std.specs.List.{list_any};
+ghost use Rattle.wire.specs.Numbers.{IKE_PROTOCOL};
 
-use suite::transforms::IKE;
-use wire::{Payload, Proposal, Selector};
-
-// The types of payloads (RFC 7296, section 3.2).
-const SA: u8 = 33;
-
-const KE: u8 = 34;
-
-const ID_I: u8 = 35;
-
-const ID_R: u8 = 36;
-
-const AUTH: u8 = 39;
-
-const NONCE: u8 = 40;
-
-const TS_I: u8 = 44;
-
-const TS_R: u8 = 45;
+use base::Selector;
+use wire::numbers::{
+    AUTH_TYPE, ID_I_TYPE, ID_R_TYPE, IKE_PROTOCOL, KE_TYPE, NONCE_TYPE, SA_TYPE, TS_I_TYPE,
+    TS_R_TYPE,
+};
+use wire::{Payload, Proposal};
 
 /// The type of the first payload that is not known and is marked as critical (RFC 7296, section 2.5), `None` where there is
 /// none. A request that has it is refused; in an answer it is passed over.
@@ -47,10 +33,10 @@ pub fn unknown_critical(payloads: &[Payload]) -> Option<u8>
 
 /// Whether a key exchange payload is there (section 3.4).
 pub fn has_ke(payloads: &[Payload]) -> bool
-    ensures { result ≡ has_type 34 payloads.now }
+    ensures { result ≡ has_ke payloads.now }
 {
     for payload in payloads {
-        if payload.number() == KE {
+        if let Payload::Ke { .. } = payload {
             return true;
         }
     }
@@ -59,7 +45,7 @@ pub fn has_ke(payloads: &[Payload]) -> bool
 
 /// Whether a proposal is for an IKE association (section 3.3.1).
 pub fn offers_ike(payloads: &[Payload]) -> bool
-    ensures { result ≡ list_any (offers_protocol 1) payloads.now }
+    ensures { result ≡ list_any (offers_protocol IKE_PROTOCOL) payloads.now }
 {
     for payload in payloads {
         if is_for_ike(proposals_in(payload)) {
@@ -70,10 +56,10 @@ pub fn offers_ike(payloads: &[Payload]) -> bool
 }
 
 fn is_for_ike(proposals: &[Proposal]) -> bool
-    ensures { result ≡ list_any (λ proposal. proposal.protocol == 1) proposals.now }
+    ensures { result ≡ list_any (λ proposal. proposal.protocol == IKE_PROTOCOL) proposals.now }
 {
     for proposal in proposals {
-        if proposal.protocol == IKE {
+        if proposal.protocol == IKE_PROTOCOL {
             return true;
         }
     }
@@ -107,11 +93,9 @@ pub fn only(payloads: &[Payload], kind: u8) -> Option<&Payload>
 
 /// The proposals of the only security association payload (RFC 7296, section 3.3), `None` where there is not just one.
 pub fn only_sa(payloads: &[Payload]) -> Option<&[Proposal]>
-    ensures { MatchOption result
-        ((proposals : List Proposal) → only 33 payloads.now ≢ Some (Payload.Sa proposals))
-        (λ proposals. only 33 payloads.now ≡ Some (Payload.Sa proposals.now)) }
+    ensures { MatchOption result (only_sa payloads.now ≡ None) (λ found. only_sa payloads.now ≡ Some found.now) }
 {
-    match only(payloads, SA)? {
+    match only(payloads, SA_TYPE)? {
         Payload::Sa(proposals) => Some(proposals.as_slice()),
         _ => None,
     }
@@ -119,11 +103,9 @@ pub fn only_sa(payloads: &[Payload]) -> Option<&[Proposal]>
 
 /// The group and the public value of the only key exchange payload (section 3.4), `None` where there is not just one.
 pub fn only_ke(payloads: &[Payload]) -> Option<(u16, &[u8])>
-    ensures { MatchOption result
-        ((group : ℕ) (octets : List ℕ) → only 34 payloads.now ≢ Some (Payload.Ke group octets))
-        (λ found. only 34 payloads.now ≡ Some (Payload.Ke found.0 found.1.now)) }
+    ensures { MatchOption result (only_ke payloads.now ≡ None) (λ found. only_ke payloads.now ≡ Some (found.0, found.1.now)) }
 {
-    match only(payloads, KE)? {
+    match only(payloads, KE_TYPE)? {
         Payload::Ke { group, data } => Some((*group, data.as_slice())),
         _ => None,
     }
@@ -131,11 +113,9 @@ pub fn only_ke(payloads: &[Payload]) -> Option<(u16, &[u8])>
 
 /// The type and the data of the only identity of an initiator (section 3.5), `None` where there is not just one.
 pub fn only_id_i(payloads: &[Payload]) -> Option<(u8, &[u8])>
-    ensures { MatchOption result
-        ((kind : ℕ) (octets : List ℕ) → only 35 payloads.now ≢ Some (Payload.IdI kind octets))
-        (λ found. only 35 payloads.now ≡ Some (Payload.IdI found.0 found.1.now)) }
+    ensures { MatchOption result (only_id_i payloads.now ≡ None) (λ found. only_id_i payloads.now ≡ Some (found.0, found.1.now)) }
 {
-    match only(payloads, ID_I)? {
+    match only(payloads, ID_I_TYPE)? {
         Payload::IdI { kind, data } => Some((*kind, data.as_slice())),
         _ => None,
     }
@@ -143,11 +123,9 @@ pub fn only_id_i(payloads: &[Payload]) -> Option<(u8, &[u8])>
 
 /// The type and the data of the only identity of a responder (section 3.5), `None` where there is not just one.
 pub fn only_id_r(payloads: &[Payload]) -> Option<(u8, &[u8])>
-    ensures { MatchOption result
-        ((kind : ℕ) (octets : List ℕ) → only 36 payloads.now ≢ Some (Payload.IdR kind octets))
-        (λ found. only 36 payloads.now ≡ Some (Payload.IdR found.0 found.1.now)) }
+    ensures { MatchOption result (only_id_r payloads.now ≡ None) (λ found. only_id_r payloads.now ≡ Some (found.0, found.1.now)) }
 {
-    match only(payloads, ID_R)? {
+    match only(payloads, ID_R_TYPE)? {
         Payload::IdR { kind, data } => Some((*kind, data.as_slice())),
         _ => None,
     }
@@ -155,11 +133,9 @@ pub fn only_id_r(payloads: &[Payload]) -> Option<(u8, &[u8])>
 
 /// The method and the data of the only authentication payload (section 3.8), `None` where there is not just one.
 pub fn only_auth(payloads: &[Payload]) -> Option<(u8, &[u8])>
-    ensures { MatchOption result
-        ((method : ℕ) (octets : List ℕ) → only 39 payloads.now ≢ Some (Payload.Auth method octets))
-        (λ found. only 39 payloads.now ≡ Some (Payload.Auth found.0 found.1.now)) }
+    ensures { MatchOption result (only_auth payloads.now ≡ None) (λ found. only_auth payloads.now ≡ Some (found.0, found.1.now)) }
 {
-    match only(payloads, AUTH)? {
+    match only(payloads, AUTH_TYPE)? {
         Payload::Auth { method, data } => Some((*method, data.as_slice())),
         _ => None,
     }
@@ -167,11 +143,9 @@ pub fn only_auth(payloads: &[Payload]) -> Option<(u8, &[u8])>
 
 /// The only nonce (section 3.9), `None` where there is not just one.
 pub fn only_nonce(payloads: &[Payload]) -> Option<&[u8]>
-    ensures { MatchOption result
-        ((octets : List ℕ) → only 40 payloads.now ≢ Some (Payload.Nonce octets))
-        (λ octets. only 40 payloads.now ≡ Some (Payload.Nonce octets.now)) }
+    ensures { MatchOption result (only_nonce payloads.now ≡ None) (λ found. only_nonce payloads.now ≡ Some found.now) }
 {
-    match only(payloads, NONCE)? {
+    match only(payloads, NONCE_TYPE)? {
         Payload::Nonce(octets) => Some(octets.as_slice()),
         _ => None,
     }
@@ -179,11 +153,9 @@ pub fn only_nonce(payloads: &[Payload]) -> Option<&[u8]>
 
 /// The selectors of the only payload for the initiator's side (section 3.13), `None` where there is not just one.
 pub fn only_ts_i(payloads: &[Payload]) -> Option<&[Selector]>
-    ensures { MatchOption result
-        ((selectors : List Selector) → only 44 payloads.now ≢ Some (Payload.TsI selectors))
-        (λ selectors. only 44 payloads.now ≡ Some (Payload.TsI selectors.now)) }
+    ensures { MatchOption result (only_ts_i payloads.now ≡ None) (λ found. only_ts_i payloads.now ≡ Some found.now) }
 {
-    match only(payloads, TS_I)? {
+    match only(payloads, TS_I_TYPE)? {
         Payload::TsI(selectors) => Some(selectors.as_slice()),
         _ => None,
     }
@@ -191,11 +163,9 @@ pub fn only_ts_i(payloads: &[Payload]) -> Option<&[Selector]>
 
 /// The selectors of the only payload for the responder's side (section 3.13), `None` where there is not just one.
 pub fn only_ts_r(payloads: &[Payload]) -> Option<&[Selector]>
-    ensures { MatchOption result
-        ((selectors : List Selector) → only 45 payloads.now ≢ Some (Payload.TsR selectors))
-        (λ selectors. only 45 payloads.now ≡ Some (Payload.TsR selectors.now)) }
+    ensures { MatchOption result (only_ts_r payloads.now ≡ None) (λ found. only_ts_r payloads.now ≡ Some found.now) }
 {
-    match only(payloads, TS_R)? {
+    match only(payloads, TS_R_TYPE)? {
         Payload::TsR(selectors) => Some(selectors.as_slice()),
         _ => None,
     }

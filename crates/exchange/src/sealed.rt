@@ -1,6 +1,6 @@
 //! Messages whose payloads are encrypted (RFC 7296, section 3.14).
 ghost use Rattle.std.specs.Prelude.{◌≡◌, ◌≢◌, ◌<◌, ◌≤◌, ◌+◌, ◌-◌, ◌++◌, ◌∷◌, [], List, ℕ, Ok, None, Some, length, OnOk, OnErr, IfErr, IfOk, IsOk};
-ghost use Rattle.wire.specs.Parts.{AreOctets};
+ghost use Rattle.base.specs.Octets.{Appends, AreOctets};
 ghost use Rattle.wire.specs.Messages.{Spells};
 ghost use Rattle.wire.specs.Payloads.{SpellsChain, IsClear};
 ghost use Rattle.std.specs.List.{AllByRecursion};
@@ -8,23 +8,16 @@ ghost use Rattle.wire.specs.declared.message.Message.{Message};
 ghost use Rattle.wire.specs.declared.payload.Payload.{Payload};
 ghost use Rattle.suite.specs.declared.keys.Keys.{Keys};
 ghost use Rattle.suite.specs.Sealing.{AreKeys};
-ghost use Rattle.exchange.specs.Sealed.{opened, sealed_alone, sealed_head, wrapped, IsSealed, IsSealingFaultOf, CanBeSealed, OpensAgain};
+ghost use Rattle.exchange.specs.Sealed.{plain_of_message, lone_body, sealed_head, sealed_octets, IsSealed, IsSealingFaultOf, CanBeSealed, OpensAgain};
 
 use std::alloc::{AllocError, Global};
 use suite::{Keys, Sealer};
+use wire::laws::{plain_spellings_are_spellings, spellings_have_their_size};
+use wire::numbers::{HEADER_LENGTH, MESSAGE_LIMIT, SEALED_TYPE};
 use wire::{Items, Message, Payload, WireFault, encode_message};
-
-// The octets of a header (section 3.1).
-const HEADER_LENGTH: usize = 28;
 
 // The octets before a body: the header, and that of the encrypted payload (section 3.2).
 const HEAD_LENGTH: usize = 32;
-
-// The most that a message has, a limit of this implementation.
-const LIMIT: usize = 3000;
-
-// The type of an encrypted payload (section 3.2).
-const SEALED: u8 = 46;
 
 /// What an encrypted payload holds: payloads in octets, and the type of the first of them, 0 for none.
 #[derive(Clone, Debug, PartialEq, Eq, Drop)]
@@ -46,24 +39,25 @@ pub fn seal_message<S: Sealer>(
     fresh: &[u8; 16],
     out: &mut Vec<u8>,
 ) -> Result<(), WireFault>
-    ensures sealed { OnOk result ((b : List ℕ) × IsSealed S.body_of keys.now fresh.now message.now b
-        × (out.new.items ≡ out.old.items ++ b)) }
+    ensures sealed { OnOk result (Appends (IsSealed S.body_of keys.now fresh.now message.now) out.old.items out.new.items) }
     ensures fault { IfErr result (λ f. f ≢ WireFault.Memory → IsSealingFaultOf S.sealed_size message.now f) }
     ensures memory { CanBeSealed message.now → IfErr result (λ f. f ≡ WireFault.Memory) }
     ensures refused { OnErr result (out.new.items ≡ out.old.items) }
 {
-    // Brings that both keys have 32 octets, which the laws of a sealer ask for.
+    // Brings that both keys have 32 octets, which the laws of a sealer ask for, and what the laws of the format say of lengths.
     let _ = keys.as_slices();
+    plain_spellings_are_spellings();
+    spellings_have_their_size();
     let alloc = *out.allocator();
     let mut clear = Vec::new(alloc);
     encode_message(message, &mut clear)?;
-    let whole = wrapped(alloc, sealer, keys, &clear, fresh)?;
+    let whole = sealed_octets(alloc, sealer, keys, &clear, fresh)?;
     out.extend_from_slice(&whole)?;
     Ok(())
 }
 
 // A message in clear, with its payloads as the body of an encrypted one.
-fn wrapped<S: Sealer>(
+fn sealed_octets<S: Sealer>(
     alloc: Global,
     sealer: &S,
     keys: &Keys,
@@ -71,13 +65,13 @@ fn wrapped<S: Sealer>(
     fresh: &[u8; 16],
 ) -> Result<Vec<u8>, WireFault>
     requires { 28 ≤ length clear.now }
-    ensures made { IfOk result (λ whole. whole.items ≡ wrapped S.body_of S.sealed_size keys.now fresh.now clear.now) }
+    ensures made { IfOk result (λ whole. whole.items ≡ sealed_octets S.body_of S.sealed_size keys.now fresh.now clear.now) }
     ensures short { IsOk result → 32 + S.sealed_size (length clear.now - 28) ≤ 3000 }
     ensures refused { IfErr result (λ f. f ≢ WireFault.Memory
         → (f ≡ WireFault.TooLong) × (3000 < 32 + S.sealed_size (length clear.now - 28))) }
 {
     let length = sealer.sealed_len(clear.len() - HEADER_LENGTH);
-    if length > LIMIT - HEAD_LENGTH {
+    if length > MESSAGE_LIMIT - HEAD_LENGTH {
         return Err(WireFault::TooLong);
     }
     let mut whole = sealed_head(alloc, clear, length)?;
@@ -96,7 +90,7 @@ fn sealed_head(alloc: Global, clear: &[u8], body: usize) -> Result<Vec<u8>, Allo
 {
     let mut head = Vec::with_capacity(alloc, HEAD_LENGTH)?;
     head.extend_from_slice(&clear[..16])?;
-    head.push(SEALED)?;
+    head.push(SEALED_TYPE)?;
     head.extend_from_slice(&clear[17..24])?;
     head.extend_from_slice(&((HEAD_LENGTH + body) as u32).to_be_bytes())?;
     head.push(clear[16])?;
@@ -116,9 +110,9 @@ pub fn open_message<S: Sealer>(
     message: &Message,
 ) -> Result<Option<Plain>, AllocError>
     requires { Spells message.now octets.now }
-    ensures opened { IfOk result (λ plain. plain ≡ opened S.plain_of keys.now octets.now message.now.payloads) }
+    ensures opened { IfOk result (λ plain. plain ≡ plain_of_message S.plain_of keys.now octets.now message.now.payloads) }
     // Where nothing can be opened, no memory is taken.
-    ensures idle { sealed_alone message.now.payloads ≡ None → result ≡ Ok None }
+    ensures idle { lone_body message.now.payloads ≡ None → result ≡ Ok None }
 {
     let [Payload::Sealed { first, body }] = message.payloads.as_slice() else {
         return Ok(None);
@@ -135,4 +129,6 @@ pub fn open_message<S: Sealer>(
 pub fn sealed_messages_open<S: Sealer>(sealer: &S)
     ensures { (keys : Keys) (fresh : List ℕ) (m : Message) (b : List ℕ) → AreKeys keys → AreOctets fresh → length fresh ≡ 16
         → AllByRecursion IsClear m.payloads → IsSealed S.body_of keys fresh m b → OpensAgain S.plain_of keys m b }
-{}
+{
+    plain_spellings_are_spellings();
+}

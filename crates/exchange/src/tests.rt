@@ -1,5 +1,3 @@
-mod cipher;
 mod counting;
 mod notices;
 mod offers;
-mod sealing;

@@ -1,27 +1,29 @@
 -- Decisions, flows and answers are determined, and answers can be sent.
-use Rattle.std.proofs.Common.{◌+◌, ◌≡◌, inl, inr, ℕ, zero, suc, ◌≤◌, List, [], ◌∷◌, ◌++◌, length, lit<, Option, Some, None, refl, sym, ◌∙◌, ap, subst, arith}
+use Rattle.std.proofs.Common.{◌≡◌, ◌≢◌, inl, inr, ℕ, zero, suc, ◌≤◌, List, [], ◌∷◌, length, Option, Some, None, refl, sym, ◌∙◌, ap, subst, arith}
 use Rattle.std.specs.List.{slice_get}
 use Rattle.std.proofs.lemmas.Bool.Decides.{leb_tells}
 use Rattle.std.proofs.lemmas.Option.{none-some, slice_get_within}
-use Rattle.wire.specs.declared.selector.Selector.{Selector}
+use Rattle.base.specs.Addresses.{family_of}
+use Rattle.base.specs.Lists.{IsFirst}
+use Rattle.base.specs.Octets.{Octets}
+use Rattle.base.specs.declared.selector.Selector.{Selector}
 use Rattle.policy.specs.declared.point.Point.{Point}
 use Rattle.policy.specs.declared.flow.Flow.{Flow}
 use Rattle.policy.specs.declared.flow.Ports.{Ports}
 use Rattle.policy.specs.declared.entry.Entry.{Entry}
 use Rattle.policy.specs.declared.entry.Action.{Action}
-use Rattle.policy.specs.declared.entry.Action.TheVariants.{Protect}
+use Rattle.policy.specs.declared.entry.Action.TheVariants.{Protect, Discard}
 use Rattle.policy.specs.declared.policy.Direction.{Direction}
-use Rattle.policy.specs.Points.{FitsFields, HasPorts, HoldsPoint, IsNonempty, Meets, IsCommonPart}
-use Rattle.policy.specs.Decisions.{HoldsFlow, IsFirst, IsDecision, local_side, remote_side}
-use Rattle.policy.specs.Packets.{ArePorts, IsFlowOf, IsInnerRefusal, LacksPorts, content}
-use Rattle.policy.specs.Entries.{IsFirstFault, IsSound}
+use Rattle.policy.specs.declared.policy.Direction.TheVariants.{Outward, Inward}
+use Rattle.policy.specs.Points.{FitsFields, HoldsPoint, IsNonempty, Meets, IsCommonPart}
+use Rattle.policy.specs.Decisions.{HoldsFlow, IsDecision, local_side, remote_side}
+use Rattle.policy.specs.Packets.{ArePorts, IsFlowOf, IsInnerRefusal, IsIpv4Packet, IsIpv6Packet, LacksPorts, ipv4_content, ipv4_protocol, ipv6_content, next_header}
+use Rattle.policy.specs.Entries.{IsFirstEntryAtFault, IsSoundEntry, IsSoundPolicy}
 use Rattle.policy.specs.declared.fault.InnerFault.{InnerFault}
-use Rattle.policy.specs.declared.fault.InnerFault.TheVariants.{BadInner, Fragment}
+use Rattle.policy.specs.declared.fault.InnerFault.TheVariants.{BadInner, Fragment, ExtensionHeader}
 use Rattle.policy.specs.declared.fault.NarrowFault.TheVariants.{Unacceptable}
-use Rattle.byteorder.specs.Endian.{big_bytes}
-use Rattle.wire.specs.Parts.{SpellsEach}
-use Rattle.wire.specs.Selectors.{SpellsSelector}
-use Rattle.policy.specs.Narrowing.{HoldsFirst, MeetsOffer, FitsFirst, FitsSome, IsChosen, IsNarrowed, IsNarrowing, HasAllCommonPoints, IsPartOfOffer, IsRefusal, IsSendable, LieInside}
+use Rattle.policy.specs.Narrowing.{AnswersOffer, AreSendable, HoldsFirst, MeetsOffer, FitsFirst, FitsSome, IsChosenEntry, IsNarrowed, IsNarrowing, HasAllCommonPoints, IsNarrowRefusal, IsSendableSelector, LieInsidePolicy, LieInSide}
+use Rattle.policy.proofs.RangeLemmas.{family_held}
 use Rattle.policy.proofs.Scanning.{same_item}
 use Rattle.policy.proofs.PointLemmas.{same_selector, ends_of_point, ordered_ports}
 
@@ -45,7 +47,7 @@ one_decision entries f d a b (inl one) (inr (none, _)) = absurd (none one.place 
 one_decision entries f d a b (inr (none, _)) (inl other) = absurd (none other.place other.entry other.first.there other.first.holds)
 one_decision entries f d a b (inr (_, one)) (inr (_, other)) = one ∙ sym other
 
-one_port_pair : (protocol : ℕ) (octets : List ℕ) (a b : Option Ports) → ArePorts protocol octets a → ArePorts protocol octets b → a ≡ b
+one_port_pair : (protocol : ℕ) (octets : Octets) (a b : Option Ports) → ArePorts protocol octets a → ArePorts protocol octets b → a ≡ b
 one_port_pair protocol octets None None one other = refl
 one_port_pair protocol octets None (Some b) one other = absurd (one other.0)
 one_port_pair protocol octets (Some a) None one other = absurd (other one.0)
@@ -54,15 +56,26 @@ one_port_pair protocol octets (Some a) (Some b) one other =
     let target : a.target ≡ b.target = one.3 ∙ sym other.3 in
     λ i. Some (record { source = source i; target = target i })
 
-pub one_flow : (b : List ℕ) (f g : Flow) → IsFlowOf b f → IsFlowOf b g → f ≡ g
-one_flow b f g one other =
-    let protocol : f.protocol ≡ g.protocol = one.protocol ∙ sym other.protocol in
-    let source : f.source ≡ g.source = one.source ∙ sym other.source in
-    let target : f.target ≡ g.target = one.target ∙ sym other.target in
-    let ports : f.ports ≡ g.ports = one_port_pair g.protocol (content b) f.ports g.ports (subst (λ (p : ℕ). ArePorts p (content b) f.ports) protocol one.ports) other.ports in
-    λ i. record { protocol = protocol i; source = source i; target = target i; ports = ports i }
+same_flow : (f g : Flow) → f.protocol ≡ g.protocol → f.source ≡ g.source → f.target ≡ g.target → f.ports ≡ g.ports → f ≡ g
+same_flow f g protocol source target ports = λ i. record { protocol = protocol i; source = source i; target = target i; ports = ports i }
 
-pub one_chosen : (entries : List Entry) (i r : List Selector) (k l : ℕ) (e d : Entry) → IsChosen entries i r k e → IsChosen entries i r l d → e ≡ d
+-- a packet is of one version
+one_version : (b : Octets) → IsIpv4Packet b → ¬ IsIpv6Packet b
+one_version b four six = let version = four.version in let other = six.version in omega arith
+
+pub one_flow : (b : Octets) (f g : Flow) → IsFlowOf b f → IsFlowOf b g → f ≡ g
+one_flow b f g (inl one) (inl other) =
+    same_flow f g (one.protocol ∙ sym other.protocol) (one.source ∙ sym other.source) (one.target ∙ sym other.target) (one_port_pair (ipv4_protocol b) (ipv4_content b) f.ports g.ports one.ports other.ports)
+one_flow b f g (inr one) (inr other) =
+    same_flow f g (one.protocol ∙ sym other.protocol) (one.source ∙ sym other.source) (one.target ∙ sym other.target) (one_port_pair (next_header b) (ipv6_content b) f.ports g.ports one.ports other.ports)
+one_flow b f g (inl one) (inr other) = absurd (one_version b one.packet other.packet)
+one_flow b f g (inr one) (inl other) = absurd (one_version b other.packet one.packet)
+
+pub one_family : (b : Octets) (f : Flow) → IsFlowOf b f → family_of f.source ≡ family_of f.target
+one_family b f (inl four) = ap family_of four.source ∙ sym (ap family_of four.target)
+one_family b f (inr six) = ap family_of six.source ∙ sym (ap family_of six.target)
+
+pub one_chosen : (entries : List Entry) (i r : List Selector) (k l : ℕ) (e d : Entry) → IsChosenEntry entries i r k e → IsChosenEntry entries i r l d → e ≡ d
 one_chosen entries i r k l e d (inl one) (inl other) = (one_first (FitsFirst i r) entries k l e d one other).1
 one_chosen entries i r k l e d (inl one) (inr (none, _)) = absurd (none k e one.there one.holds)
 one_chosen entries i r k l e d (inr (none, _)) (inl other) = absurd (none l d other.there other.holds)
@@ -98,34 +111,52 @@ one_narrowing entries i r answer_i answer_r other_i other_r one two =
 
 -- refusals exclude answers and one another
 
-lacks_ports_apart : (b : List ℕ) (f : Flow) → IsFlowOf b f → ¬ LacksPorts b
-lacks_ports_apart b f is lacks = go f.ports is.ports where
-  go : (ports : Option Ports) → ArePorts f.protocol (content b) ports → ⊥
-  go None none = none (subst HasPorts (sym is.protocol) lacks.protocol)
-  go (Some ports) some = let long = some.1 in let short = lacks.short in omega arith
+ports_or_lacking : (protocol : ℕ) (content : Octets) (ports : Option Ports) → ArePorts protocol content ports → ¬ LacksPorts protocol content
+ports_or_lacking protocol content None none lacks = none lacks.0
+ports_or_lacking protocol content (Some ports) some lacks = omega (arith, some.1, lacks.1)
 
-pub flow_or_refusal : (b : List ℕ) (f : Flow) (e : InnerFault) → IsFlowOf b f → ¬ IsInnerRefusal b e
-flow_or_refusal b f BadInner is (inl none) = none is.packet
-flow_or_refusal b f BadInner is (inr lacks) = lacks_ports_apart b f is lacks
-flow_or_refusal b f Fragment is fragment = is.whole fragment.1
+-- the flow of a packet of one version, and what the other version's rules say of the packet
+not_bad : (b : Octets) (f : Flow) → IsFlowOf b f → ¬ IsInnerRefusal b BadInner
+not_bad b f (inl four) (inl none, six) = none four.packet
+not_bad b f (inl four) (inr short, six) = ports_or_lacking (ipv4_protocol b) (ipv4_content b) f.ports four.ports short.short
+not_bad b f (inr six) (four, inl none) = none six.packet
+not_bad b f (inr six) (four, inr short) = ports_or_lacking (next_header b) (ipv6_content b) f.ports six.ports short.short
 
-pub one_refusal : (b : List ℕ) (one other : InnerFault) → IsInnerRefusal b one → IsInnerRefusal b other → one ≡ other
+pub flow_or_refusal : (b : Octets) (f : Flow) (e : InnerFault) → IsFlowOf b f → ¬ IsInnerRefusal b e
+flow_or_refusal b f BadInner is refusal = not_bad b f is refusal
+flow_or_refusal b f Fragment (inl four) fragment = four.whole fragment.1
+flow_or_refusal b f Fragment (inr six) fragment = one_version b fragment.0 six.packet
+flow_or_refusal b f ExtensionHeader (inl four) extension = one_version b four.packet extension.0
+flow_or_refusal b f ExtensionHeader (inr six) extension = six.plain extension.1
+
+bad_or_fragment : (b : Octets) → IsInnerRefusal b BadInner → ¬ IsInnerRefusal b Fragment
+bad_or_fragment b (inl none, six) fragment = none fragment.0
+bad_or_fragment b (inr short, six) fragment = short.whole fragment.1
+
+bad_or_extension : (b : Octets) → IsInnerRefusal b BadInner → ¬ IsInnerRefusal b ExtensionHeader
+bad_or_extension b (four, inl none) extension = none extension.0
+bad_or_extension b (four, inr short) extension = short.plain extension.1
+
+pub one_refusal : (b : Octets) (one other : InnerFault) → IsInnerRefusal b one → IsInnerRefusal b other → one ≡ other
 one_refusal b BadInner BadInner first second = refl
 one_refusal b Fragment Fragment first second = refl
-one_refusal b BadInner Fragment (inl none) second = absurd (none second.0)
-one_refusal b BadInner Fragment (inr lacks) second = absurd (lacks.whole second.1)
-one_refusal b Fragment BadInner first (inl none) = absurd (none first.0)
-one_refusal b Fragment BadInner first (inr lacks) = absurd (lacks.whole first.1)
+one_refusal b ExtensionHeader ExtensionHeader first second = refl
+one_refusal b BadInner Fragment first second = absurd (bad_or_fragment b first second)
+one_refusal b Fragment BadInner first second = absurd (bad_or_fragment b second first)
+one_refusal b BadInner ExtensionHeader first second = absurd (bad_or_extension b first second)
+one_refusal b ExtensionHeader BadInner first second = absurd (bad_or_extension b second first)
+one_refusal b Fragment ExtensionHeader first second = absurd (one_version b first.0 second.0)
+one_refusal b ExtensionHeader Fragment first second = absurd (one_version b second.0 first.0)
 
-pub sound_or_fault : (entries : List Entry) (place : ℕ) → IsSound entries → ¬ IsFirstFault entries place
+pub sound_or_fault : (entries : List Entry) (place : ℕ) → IsSoundPolicy entries → ¬ IsFirstEntryAtFault entries place
 sound_or_fault entries place sound first =
     let here = first.here in
     elim here.fault [
-      | inl bad ↦ bad (sound.ordered place here.entry here.there)
+      | inl bad ↦ bad (sound.each place here.entry here.there)
       | inr late ↦ (let few = sound.few in let within = slice_get_within entries place here.entry here.there in omega arith)
     ]
 
-pub one_fault : (entries : List Entry) (k l : ℕ) → IsFirstFault entries k → IsFirstFault entries l → k ≡ l
+pub one_fault : (entries : List Entry) (k l : ℕ) → IsFirstEntryAtFault entries k → IsFirstEntryAtFault entries l → k ≡ l
 one_fault entries k l first second =
     elim (leb_tells k l) [
       | inl (_, below) ↦
@@ -136,10 +167,29 @@ one_fault entries k l first second =
       | inr (_, less) ↦ absurd (first.before l less second.here)
     ]
 
-pub narrowed_or_refused : (entries : List Entry) (i r answer_i answer_r : List Selector) → IsNarrowing entries i r answer_i answer_r → ¬ IsRefusal entries i r Unacceptable
+pub narrowed_or_refused : (entries : List Entry) (i r answer_i answer_r : List Selector) → IsNarrowing entries i r answer_i answer_r → ¬ IsNarrowRefusal entries i r Unacceptable
 narrowed_or_refused entries i r answer_i answer_r n none = none (record { place = n.place; entry = n.entry; chosen = n.chosen })
 
 -- answers that can be sent
+
+-- an answered selector is the part of an offered one inside a side
+record IsPartOf (side : Selector) (offered : List Selector) (part : Selector) : Type 0 where
+  place : ℕ
+  selector : Selector
+  there : slice_get offered place ≡ Some selector
+  common : IsCommonPart (HoldsPoint selector) (HoldsPoint side) part
+
+later_part : (side s : Selector) (ss : List Selector) (part : Selector) → IsPartOf side ss part → IsPartOf side (s ∷ ss) part
+later_part side s ss part is = record { place = suc is.place; selector = is.selector; there = is.there; common = is.common }
+
+part_kept : (side : Selector) (offered answer : List Selector) → IsNarrowed side offered answer → (k : ℕ) (part : Selector) → slice_get answer k ≡ Some part → IsPartOf side offered part
+part_kept side [] answer is k part there = absurd (none-some part (sym (ap (λ (xs : List Selector). slice_get xs k) is) ∙ there))
+part_kept side (s ∷ ss) answer (inr (_, rest)) k part there = later_part side s ss part (part_kept side ss answer rest k part there)
+part_kept side (s ∷ ss) answer (inl kept) zero part there =
+    let same : kept.part ≡ part = same_item kept.part part (sym (ap (λ (xs : List Selector). slice_get xs 0) kept.begins) ∙ there) in
+    subst (IsPartOf side (s ∷ ss)) same (record { place = 0; selector = s; there = refl; common = kept.common })
+part_kept side (s ∷ ss) answer (inl kept) (suc k) part there =
+    later_part side s ss part (part_kept side ss kept.others kept.rest k part (sym (ap (λ (xs : List Selector). slice_get xs (suc k)) kept.begins) ∙ there))
 
 no_more : (side : Selector) (offered answer : List Selector) → IsNarrowed side offered answer → length answer ≤ length offered
 no_more side [] answer is = let e : length answer ≡ 0 = ap length is in omega arith
@@ -148,36 +198,6 @@ no_more side (s ∷ ss) answer (inl kept) =
     let e : length answer ≡ suc (length kept.others) = ap length kept.begins in
     omega arith
 no_more side (s ∷ ss) answer (inr (_, rest)) = let fewer = no_more side ss answer rest in omega arith
-
-inside_of : Selector → List ℕ
-inside_of s = big_bytes 2 s.start_port ++ big_bytes 2 s.end_port ++ big_bytes 4 s.start_address ++ big_bytes 4 s.end_address
-
-octets_of : Selector → List ℕ
-octets_of s = 7 ∷ s.protocol ∷ big_bytes 2 (4 + length (inside_of s)) ++ inside_of s
-
-spelled_one : (s : Selector) → FitsFields s → IsNonempty (HoldsPoint s) → SpellsSelector s (octets_of s)
-unfolding octets_of inside_of
-spelled_one s fits some = record {
-  part = record { spelled = refl; fits = lit< tt };
-  ports = ordered_ports s some.point some.inside;
-  addresses = (ends_of_point s some.point some.inside).0;
-  port = fits.end_port;
-  address = fits.end_address;
-}
-
-spelled_each : (side : Selector) (offered answer : List Selector) → IsNarrowed side offered answer → (octets : List ℕ) × SpellsEach SpellsSelector answer octets
-spelled_each side [] answer is = ([], subst (λ (xs : List Selector). SpellsEach SpellsSelector xs []) (sym is) refl)
-spelled_each side (s ∷ ss) answer (inl kept) =
-    let later = spelled_each side ss kept.others kept.rest in
-    let all : SpellsEach SpellsSelector (kept.part ∷ kept.others) (octets_of kept.part ++ later.0) = record {
-      front = octets_of kept.part;
-      rest = later.0;
-      joined = refl;
-      first = spelled_one kept.part kept.common.fields kept.common.some;
-      others = later.1;
-    }
-    in (octets_of kept.part ++ later.0, subst (λ (xs : List Selector). SpellsEach SpellsSelector xs (octets_of kept.part ++ later.0)) (sym kept.begins) all)
-spelled_each side (s ∷ ss) answer (inr (_, rest)) = spelled_each side ss answer rest
 
 some_answer : (offered answer : List Selector) (side : Selector) → HasAllCommonPoints side offered answer → MeetsOffer side offered → 1 ≤ length answer
 some_answer offered answer side points meeting =
@@ -189,29 +209,25 @@ first_meets : (side : Selector) (offered : List Selector) → HoldsFirst side of
 first_meets side [] holds = absurd holds
 first_meets side (s ∷ ss) (some, inside) = record { point = some.point; in_one = record { place = zero; selector = s; there = refl; held = some.inside }; in_other = inside some.point some.inside }
 
-chosen_meets : (entries : List Entry) (i r : List Selector) (k : ℕ) (e : Entry) → IsChosen entries i r k e → MeetsOffer (remote_side e) i × MeetsOffer (local_side e) r
+chosen_meets : (entries : List Entry) (i r : List Selector) (k : ℕ) (e : Entry) → IsChosenEntry entries i r k e → MeetsOffer (remote_side e) i × MeetsOffer (local_side e) r
 chosen_meets entries i r k e (inl first) = (first_meets (remote_side e) i first.holds.remote, first_meets (local_side e) r first.holds.local)
 chosen_meets entries i r k e (inr (_, some)) = (some.holds.remote, some.holds.local)
 
-sendable : (side : Selector) (offered answer : List Selector) → length offered ≤ 16 → IsNarrowed side offered answer → HasAllCommonPoints side offered answer → MeetsOffer side offered → IsSendable answer
-sendable side offered answer few narrowed points meeting =
-    let each = spelled_each side offered answer narrowed in
-    record {
-      body = length answer ∷ 0 ∷ 0 ∷ 0 ∷ each.0;
-      spelled = record {
-        reserved_1 = 0;
-        reserved_2 = 0;
-        reserved_3 = 0;
-        free = (refl, refl, refl);
-        selectors = each.0;
-        spelled = refl;
-        some = some_answer offered answer side points meeting;
-        few = let fewer = no_more side offered answer narrowed in omega arith;
-        each = each.1;
-      };
-    }
+-- a selector that has a point and whose numbers fit
+sendable_one : (s : Selector) → FitsFields s → IsNonempty (HoldsPoint s) → IsSendableSelector s
+sendable_one s fits some = record { fields = fits; ports = ordered_ports s some.point some.inside; addresses = (ends_of_point s some.point some.inside).0 }
 
-pub answers_sendable : (entries : List Entry) (i r answer_i answer_r : List Selector) → length i ≤ 16 → length r ≤ 16 → IsNarrowing entries i r answer_i answer_r → IsSendable answer_i × IsSendable answer_r
+sendable_each : (side : Selector) (offered answer : List Selector) → IsNarrowed side offered answer → (k : ℕ) (s : Selector) → slice_get answer k ≡ Some s → IsSendableSelector s
+sendable_each side offered answer is k s there = let kept = part_kept side offered answer is k s there in sendable_one s kept.common.fields kept.common.some
+
+sendable : (side : Selector) (offered answer : List Selector) → length offered ≤ 16 → IsNarrowed side offered answer → HasAllCommonPoints side offered answer → MeetsOffer side offered → AreSendable answer
+sendable side offered answer few narrowed points meeting = record {
+  some = some_answer offered answer side points meeting;
+  few = let fewer = no_more side offered answer narrowed in omega arith;
+  each = sendable_each side offered answer narrowed;
+}
+
+pub answers_sendable : (entries : List Entry) (i r answer_i answer_r : List Selector) → length i ≤ 16 → length r ≤ 16 → IsNarrowing entries i r answer_i answer_r → AreSendable answer_i × AreSendable answer_r
 answers_sendable entries i r answer_i answer_r few_i few_r n =
     let meeting = chosen_meets entries i r n.place n.entry n.chosen in
     (sendable (remote_side n.entry) i answer_i few_i n.narrowed_i n.points_i meeting.0, sendable (local_side n.entry) r answer_r few_r n.narrowed_r n.points_r meeting.1)
@@ -227,7 +243,7 @@ first_kept side first others answer fits holds (inl kept) =
 first_kept side first others answer fits holds (inr (apart, _)) =
     absurd (apart (record { point = holds.0.point; in_one = holds.0.inside; in_other = holds.1 holds.0.point holds.0.inside }))
 
-chosen_first : (entries : List Entry) (i r : List Selector) (k l : ℕ) (e d : Entry) → slice_get entries l ≡ Some d → FitsFirst i r d → IsChosen entries i r k e → FitsFirst i r e
+chosen_first : (entries : List Entry) (i r : List Selector) (k l : ℕ) (e d : Entry) → slice_get entries l ≡ Some d → FitsFirst i r d → IsChosenEntry entries i r k e → FitsFirst i r e
 chosen_first entries i r k l e d there fits (inl first) = first.holds
 chosen_first entries i r k l e d there fits (inr (none, _)) = absurd (none l d there fits)
 
@@ -238,40 +254,46 @@ first_choices entries place e first_i first_r i r answer_i answer_r there fits f
     let chosen = chosen_first entries (first_i ∷ i) (first_r ∷ r) n.place place n.entry e there fits n.chosen in
     (first_kept (remote_side n.entry) first_i i answer_i fields_i chosen.remote n.narrowed_i, first_kept (local_side n.entry) first_r r answer_r fields_r chosen.local n.narrowed_r)
 
--- each answered selector lies in an offered one
+-- answers lie inside their offer and the policy
 
-later_part : (side s : Selector) (ss : List Selector) (part : Selector) → IsPartOfOffer side ss part → IsPartOfOffer side (s ∷ ss) part
-later_part side s ss part is = record { place = suc is.place; selector = is.selector; there = is.there; some = is.some; in_offer = is.in_offer; in_side = is.in_side }
-
-part_of_offer : (side : Selector) (offered answer : List Selector) → IsNarrowed side offered answer → (k : ℕ) (part : Selector) → slice_get answer k ≡ Some part → IsPartOfOffer side offered part
-part_of_offer side [] answer is k part there = absurd (none-some part (sym (ap (λ (xs : List Selector). slice_get xs k) is) ∙ there))
-part_of_offer side (s ∷ ss) answer (inr (_, rest)) k part there = later_part side s ss part (part_of_offer side ss answer rest k part there)
-part_of_offer side (s ∷ ss) answer (inl kept) zero part there =
-    let same : kept.part ≡ part = same_item kept.part part (sym (ap (λ (xs : List Selector). slice_get xs 0) kept.begins) ∙ there) in
-    subst (IsPartOfOffer side (s ∷ ss)) same
-    (record {
-      place = 0;
-      selector = s;
-      there = refl;
-      some = kept.common.some;
-      in_offer = λ p held. ((kept.common.points p).0 held).0;
-      in_side = λ p held. ((kept.common.points p).0 held).1;
-    })
-part_of_offer side (s ∷ ss) answer (inl kept) (suc k) part there =
-    later_part side s ss part (part_of_offer side ss kept.others kept.rest k part (sym (ap (λ (xs : List Selector). slice_get xs (suc k)) kept.begins) ∙ there))
-
-protects_chosen : (entries : List Entry) (i r : List Selector) (k : ℕ) (e : Entry) → IsChosen entries i r k e → (slice_get entries k ≡ Some e) × (e.action ≡ Protect)
+protects_chosen : (entries : List Entry) (i r : List Selector) (k : ℕ) (e : Entry) → IsChosenEntry entries i r k e → (slice_get entries k ≡ Some e) × (e.action ≡ Protect)
 protects_chosen entries i r k e (inl one) = (one.there, one.holds.protects)
 protects_chosen entries i r k e (inr (_, one)) = (one.there, one.holds.protects)
 
-pub lie_inside : (entries : List Entry) (i r answer_i answer_r : List Selector) → IsNarrowing entries i r answer_i answer_r → LieInside entries i r answer_i answer_r
-lie_inside entries i r answer_i answer_r is =
+answers_offer : (side : Selector) (offered answer : List Selector) → IsNarrowed side offered answer → HasAllCommonPoints side offered answer → MeetsOffer side offered → AnswersOffer answer offered
+answers_offer side offered answer narrowed points meeting = record {
+  some = some_answer offered answer side points meeting;
+  each = λ k s there.
+      let kept = part_kept side offered answer narrowed k s there in
+      record { some = kept.common.some; place = kept.place; selector = kept.selector; there = kept.there; inside = λ p held. ((kept.common.points p).0 held).0 };
+}
+
+pub answer_offers : (entries : List Entry) (i r answer_i answer_r : List Selector) → IsNarrowing entries i r answer_i answer_r → AnswersOffer answer_i i × AnswersOffer answer_r r
+answer_offers entries i r answer_i answer_r n =
+    let meeting = chosen_meets entries i r n.place n.entry n.chosen in
+    (answers_offer (remote_side n.entry) i answer_i n.narrowed_i n.points_i meeting.0, answers_offer (local_side n.entry) r answer_r n.narrowed_r n.points_r meeting.1)
+
+in_side : (side : Selector) (offered answer : List Selector) → IsNarrowed side offered answer → LieInSide answer side
+in_side side offered answer narrowed = λ k s there p held. (((part_kept side offered answer narrowed k s there).common.points p).0 held).1
+
+pub lie_inside_policy : (entries : List Entry) (i r answer_i answer_r : List Selector) → IsNarrowing entries i r answer_i answer_r → LieInsidePolicy entries answer_i answer_r
+lie_inside_policy entries i r answer_i answer_r is =
     let chosen = protects_chosen entries i r is.place is.entry is.chosen in
     record {
       place = is.place;
       entry = is.entry;
       there = chosen.0;
       protects = chosen.1;
-      each_i = part_of_offer (remote_side is.entry) i answer_i is.narrowed_i;
-      each_r = part_of_offer (local_side is.entry) r answer_r is.narrowed_r;
+      side_i = in_side (remote_side is.entry) i answer_i is.narrowed_i;
+      side_r = in_side (local_side is.entry) r answer_r is.narrowed_r;
     }
+
+-- flows between two families
+
+no_mixed : (e : Entry) (f : Flow) (d : Direction) → IsSoundEntry e → HoldsFlow d f e → family_of f.source ≡ family_of f.target
+no_mixed e f Outward sound held = sym (family_held e.local f.source held.0.address) ∙ sound.family ∙ family_held e.remote f.target held.1.address
+no_mixed e f Inward sound held = sym (family_held e.remote f.source held.0.address) ∙ sym sound.family ∙ family_held e.local f.target held.1.address
+
+pub mixed_discarded : (entries : List Entry) (f : Flow) (d : Direction) (a : Action) → IsSoundPolicy entries → family_of f.source ≢ family_of f.target → IsDecision entries f d a → a ≡ Discard
+mixed_discarded entries f d a sound mixed (inl one) = absurd (mixed (no_mixed one.entry f d (sound.each one.place one.entry one.first.there) one.first.holds))
+mixed_discarded entries f d a sound mixed (inr (_, discard)) = discard

@@ -1,5 +1,6 @@
-pub mod Scanning
-pub mod PointLemmas
-pub mod EntryLemmas
-pub mod NarrowLemmas
-pub mod LawLemmas
+mod Scanning
+mod RangeLemmas
+mod PointLemmas
+mod EntryLemmas
+mod NarrowLemmas
+mod LawLemmas

@@ -4,17 +4,18 @@ use Rattle.std.specs.Prelude.{MatchOption}
 use Rattle.std.specs.Borrow.{Bor}
 use Rattle.std.specs.List.{slice_get}
 use Rattle.std.proofs.lemmas.List.{append-nil, drop_all}
-use Rattle.wire.specs.declared.selector.Selector.{Selector}
+use Rattle.base.specs.declared.selector.Selector.{Selector}
 use Rattle.policy.specs.declared.point.Point.{Point}
 use Rattle.policy.specs.declared.entry.Entry.{Entry}
 use Rattle.policy.specs.Points.{HoldsPoint, HoldsAny, Meets, IsCommonPart}
-use Rattle.policy.specs.Decisions.{IsFirst, HoldsOfNone, local_side, remote_side}
-use Rattle.policy.specs.Narrowing.{FitsFirst, FitsSome, IsChosen, IsAcceptable, IsNarrowed, IsNarrowing, HasAllCommonPoints}
+use Rattle.base.specs.Lists.{IsFirst, HoldsOfNone}
+use Rattle.policy.specs.Decisions.{local_side, remote_side}
+use Rattle.policy.specs.Narrowing.{FitsFirst, FitsSome, IsChosenEntry, IsAcceptableOffer, IsNarrowed, IsNarrowing, HasAllCommonPoints}
 
 -- where no entry fits both first selectors, the first that fits something is chosen
 pub chosen_some : (entries : List Entry) (i r : List Selector) (found : Option (Bor Entry)) → HoldsOfNone (FitsFirst i r) entries
     → MatchOption found (HoldsOfNone (FitsSome i r) entries) (λ e. (k : ℕ) × IsFirst (FitsSome i r) entries k e.now)
-    → MatchOption found (¬ IsAcceptable entries i r) (λ e. (k : ℕ) × IsChosen entries i r k e.now)
+    → MatchOption found (¬ IsAcceptableOffer entries i r) (λ e. (k : ℕ) × IsChosenEntry entries i r k e.now)
 chosen_some entries i r None none_first none_some = λ accepted.
     elim accepted.chosen [
       | inl first ↦ none_first accepted.place accepted.entry first.there first.holds
@@ -93,7 +94,7 @@ common_points side (s ∷ others) answer (inr (apart, rest)) = λ p.
           ],
     )
 
-pub narrowing : (entries items : List Entry) (i r answer_i answer_r : List Selector) (e : Entry) (remote local : Selector) → items ≡ entries → ((k : ℕ) × IsChosen items i r k e)
+pub narrowing : (entries items : List Entry) (i r answer_i answer_r : List Selector) (e : Entry) (remote local : Selector) → items ≡ entries → ((k : ℕ) × IsChosenEntry items i r k e)
     → remote ≡ remote_side e → local ≡ local_side e → IsNarrowed remote i answer_i → IsNarrowed local r answer_r → IsNarrowing entries i r answer_i answer_r
 narrowing entries items i r answer_i answer_r e remote local same chosen is_remote is_local narrowed_i narrowed_r =
     let by_remote : IsNarrowed (remote_side e) i answer_i = subst (λ (s : Selector). IsNarrowed s i answer_i) is_remote narrowed_i in
@@ -101,9 +102,12 @@ narrowing entries items i r answer_i answer_r e remote local same chosen is_remo
     record {
       place = chosen.0;
       entry = e;
-      chosen = subst (λ (xs : List Entry). IsChosen xs i r chosen.0 e) same chosen.1;
+      chosen = subst (λ (xs : List Entry). IsChosenEntry xs i r chosen.0 e) same chosen.1;
       narrowed_i = by_remote;
       narrowed_r = by_local;
       points_i = common_points (remote_side e) i answer_i by_remote;
       points_r = common_points (local_side e) r answer_r by_local;
     }
+
+pub acceptable : (entries items : List Entry) (i r : List Selector) (e : Entry) → items ≡ entries → ((k : ℕ) × IsChosenEntry items i r k e) → IsAcceptableOffer entries i r
+acceptable entries items i r e same chosen = record { place = chosen.0; entry = e; chosen = subst (λ (xs : List Entry). IsChosenEntry xs i r chosen.0 e) same chosen.1 }

@@ -2,11 +2,15 @@
 use Rattle.std.proofs.Common.{◌≡◌, ◌≢◌, ◌⊎◌, ℕ, zero, suc, Bool, true, false, List, [], ◌∷◌, length, get_or, ◌^◌, ◌<◌, ◌≤◌, Option, Some, None, refl, sym, ◌∙◌, subst, inl, inr, min, max, arith}
 use Rattle.std.specs.Bool.{then_some}
 use Rattle.std.specs.Prelude.{IsTrue, ◌↔◌, MatchOption, is_some}
-use Rattle.wire.specs.declared.selector.Selector.{Selector}
+use Rattle.base.specs.declared.selector.Selector.{Selector}
+use Rattle.base.specs.Addresses.{AreApart, HoldsAddress, IsAddress, IsCommonRange, IsOrdered, LiesWithin, family_of_range}
+use Rattle.base.specs.declared.address.Address.{Address}
+use Rattle.base.specs.declared.address.Range.{Range}
 use Rattle.policy.specs.declared.point.Point.{Point}
 use Rattle.policy.specs.Points.{FitsFields, HasPorts, IsPortOf, FitsProtocol, FitsPort, HoldsPoint, IsNonempty, LiesIn, Meets, IsCommonPart}
 use Rattle.policy.specs.Narrowing.{HoldsFirst}
 use Rattle.policy.specs.Ends.{HasFittingPort, IsCommonProtocol, HaveNoCommonProtocol}
+use Rattle.policy.proofs.RangeLemmas.{end_fits, end_held, end_of, family_held, ordered_by, same_range, start_fits, start_held, start_of, within_by_ends, within_holds}
 
 -- a point of the selector with this protocol, address and port
 pub record CanHave (s : Selector) (protocol : ℕ) (port : Option ℕ) : Type 0 where
@@ -15,12 +19,12 @@ pub record CanHave (s : Selector) (protocol : ℕ) (port : Option ℕ) : Type 0 
   pub kind : IsPortOf protocol port
   pub range : FitsPort s.start_port s.end_port port
 
-pub held_at : (s : Selector) (protocol address : ℕ) (port : Option ℕ) → address < 2 ^ 32 → s.start_address ≤ address → address ≤ s.end_address → CanHave s protocol port
+pub held_at : (s : Selector) (protocol : ℕ) (address : Address) (port : Option ℕ) → IsAddress address → HoldsAddress s.addresses address → CanHave s protocol port
     → HoldsPoint s (record { protocol = protocol; address = address; port = port })
-held_at s protocol address port small from to can = record {
+held_at s protocol address port small held can = record {
   point = record { protocol = can.small; address = small; port = can.kind };
   protocol = can.wanted;
-  address = (from, to);
+  address = held;
   port = can.range;
 }
 
@@ -30,12 +34,12 @@ some_port s fits (inl (inl any, ordered)) = let small = fits.start_port in (6, S
 some_port s fits (inl (inr ports, ordered)) = let small = fits.start_port in (s.protocol, Some s.start_port, record { small = fits.protocol; wanted = inr refl; kind = (ports, small); range = (omega arith, ordered) })
 some_port s fits (inr (other, none, start, end)) = (s.protocol, None, record { small = fits.protocol; wanted = inr refl; kind = none; range = (start, end) })
 
-pub has_point : (s : Selector) → FitsFields s → s.start_address ≤ s.end_address → HasFittingPort s.protocol s.start_port s.end_port → IsNonempty (HoldsPoint s)
+pub has_point : (s : Selector) → FitsFields s → IsOrdered s.addresses → HasFittingPort s.protocol s.start_port s.end_port → IsNonempty (HoldsPoint s)
 has_point s fits ordered port =
     let some = some_port s fits port in
     record {
-      point = record { protocol = some.0; address = s.start_address; port = some.1 };
-      inside = held_at s some.0 s.start_address some.1 fits.start_address (omega arith) ordered some.2;
+      point = record { protocol = some.0; address = start_of s.addresses; port = some.1 };
+      inside = held_at s some.0 (start_of s.addresses) some.1 (start_fits s.addresses fits.addresses) (start_held s.addresses ordered) some.2;
     }
 
 pub any_or_one : (protocol : ℕ) → (protocol ≡ 0) ⊎ (protocol ≢ 0)
@@ -52,8 +56,8 @@ fitting_port s protocol None (inr same) kind range =
       | inr one ↦ inr (one, λ ports. kind (subst HasPorts same ports), range.0, range.1)
     ]
 
-pub ends_of_point : (s : Selector) (p : Point) → HoldsPoint s p → (s.start_address ≤ s.end_address) × HasFittingPort s.protocol s.start_port s.end_port
-ends_of_point s p held = (let address = held.address in omega arith, fitting_port s p.protocol p.port held.protocol held.point.port held.port)
+pub ends_of_point : (s : Selector) (p : Point) → HoldsPoint s p → IsOrdered s.addresses × HasFittingPort s.protocol s.start_port s.end_port
+ends_of_point s p held = (ordered_by s.addresses p.address held.address, fitting_port s p.protocol p.port held.protocol held.point.port held.port)
 
 -- one selector in another
 
@@ -69,8 +73,7 @@ wider a b x y None start end small range = (omega (arith, range.0), omega (arith
 -- the ends of one selector lie in those of another
 pub record EndsLieIn (s t : Selector) : Type 0 where
   pub protocol : FitsProtocol t.protocol s.protocol
-  pub start_address : t.start_address ≤ s.start_address
-  pub end_address : s.end_address ≤ t.end_address
+  pub addresses : LiesWithin s.addresses t.addresses
   pub start_port : t.start_port ≤ s.start_port
   pub end_port : s.end_port ≤ t.end_port
 
@@ -78,7 +81,7 @@ pub lies_in : (s t : Selector) → t.end_port < 2 ^ 16 → EndsLieIn s t → Lie
 lies_in s t small ends = λ p held. record {
   point = held.point;
   protocol = fits_through s.protocol t.protocol p.protocol ends.protocol held.protocol;
-  address = let start = ends.start_address in let end = ends.end_address in (omega (arith, held.address.0), omega (arith, held.address.1));
+  address = within_holds s.addresses t.addresses p.address ends.addresses held.address;
   port = wider s.start_port s.end_port t.start_port t.end_port p.port ends.start_port ends.end_port small held.port;
 }
 
@@ -88,20 +91,17 @@ both_ports t (inr six) (inl any) = any
 both_ports t (inr six) (inr seventeen) = absurd (omega arith)
 
 -- a protocol of ports that a selector may have, and what its points of any fitting port say
-module _ (s t : Selector) (fits : FitsFields s) (inside : LiesIn (HoldsPoint s) (HoldsPoint t)) (ordered : s.start_address ≤ s.end_address) where
-  held_first : (protocol : ℕ) (port : Option ℕ) → CanHave s protocol port → HoldsPoint t (record { protocol = protocol; address = s.start_address; port = port })
-  held_first protocol port can = inside _ (held_at s protocol s.start_address port fits.start_address (omega arith) ordered can)
+module _ (s t : Selector) (fits : FitsFields s) (inside : LiesIn (HoldsPoint s) (HoldsPoint t)) (ordered : IsOrdered s.addresses) where
+  held_first : (protocol : ℕ) (port : Option ℕ) → CanHave s protocol port → HoldsPoint t (record { protocol = protocol; address = start_of s.addresses; port = port })
+  held_first protocol port can = inside _ (held_at s protocol (start_of s.addresses) port (start_fits s.addresses fits.addresses) (start_held s.addresses ordered) can)
 
-  held_last : (protocol : ℕ) (port : Option ℕ) → CanHave s protocol port → HoldsPoint t (record { protocol = protocol; address = s.end_address; port = port })
-  held_last protocol port can = inside _ (held_at s protocol s.end_address port fits.end_address ordered (omega arith) can)
+  held_last : (protocol : ℕ) (port : Option ℕ) → CanHave s protocol port → HoldsPoint t (record { protocol = protocol; address = end_of s.addresses; port = port })
+  held_last protocol port can = inside _ (held_at s protocol (end_of s.addresses) port (end_fits s.addresses fits.addresses) (end_held s.addresses ordered) can)
 
-  starts_inside : (protocol : ℕ) (port : Option ℕ) → CanHave s protocol port → t.start_address ≤ s.start_address
-  starts_inside protocol port can = (held_first protocol port can).address.0
+  addresses_inside : (protocol : ℕ) (port : Option ℕ) → CanHave s protocol port → LiesWithin s.addresses t.addresses
+  addresses_inside protocol port can = within_by_ends s.addresses t.addresses (held_first protocol port can).address (held_last protocol port can).address
 
-  ends_inside : (protocol : ℕ) (port : Option ℕ) → CanHave s protocol port → s.end_address ≤ t.end_address
-  ends_inside protocol port can = (held_last protocol port can).address.1
-
-  protocol_at : (protocol port : ℕ) → HasPorts protocol → protocol < 2 ^ 8 → FitsProtocol s.protocol protocol → port < 2 ^ 16 → s.start_port ≤ port → port ≤ s.end_port → HoldsPoint t (record { protocol = protocol; address = s.start_address; port = Some port })
+  protocol_at : (protocol port : ℕ) → HasPorts protocol → protocol < 2 ^ 8 → FitsProtocol s.protocol protocol → port < 2 ^ 16 → s.start_port ≤ port → port ≤ s.end_port → HoldsPoint t (record { protocol = protocol; address = start_of s.addresses; port = Some port })
   protocol_at protocol port ports byte wanted small from to = held_first protocol (Some port) (record { small = byte; wanted = wanted; kind = (ports, small); range = (from, to) })
 
   ends_lie_in : HasFittingPort s.protocol s.start_port s.end_port → EndsLieIn s t
@@ -112,8 +112,7 @@ module _ (s t : Selector) (fits : FitsFields s) (inside : LiesIn (HoldsPoint s) 
       let some = some_port s fits (inl (inl any, range)) in
       record {
         protocol = inl (both_ports t.protocol start.protocol other.protocol);
-        start_address = start.address.0;
-        end_address = ends_inside some.0 some.1 some.2;
+        addresses = addresses_inside some.0 some.1 some.2;
         start_port = start.port.0;
         end_port = end.port.1;
       }
@@ -123,8 +122,7 @@ module _ (s t : Selector) (fits : FitsFields s) (inside : LiesIn (HoldsPoint s) 
       let some = some_port s fits (inl (inr ports, range)) in
       record {
         protocol = start.protocol;
-        start_address = start.address.0;
-        end_address = ends_inside some.0 some.1 some.2;
+        addresses = addresses_inside some.0 some.1 some.2;
         start_port = start.port.0;
         end_port = end.port.1;
       }
@@ -133,8 +131,7 @@ module _ (s t : Selector) (fits : FitsFields s) (inside : LiesIn (HoldsPoint s) 
       let here = held_first s.protocol None can in
       record {
         protocol = here.protocol;
-        start_address = here.address.0;
-        end_address = ends_inside s.protocol None can;
+        addresses = addresses_inside s.protocol None can;
         start_port = omega (arith, here.port.0);
         end_port = omega (arith, here.port.1);
       }
@@ -146,15 +143,19 @@ lies_in_ends s t fits some inside =
 
 -- the common part of two selectors
 
--- the part between the greater starts and the lesser ends
-pub part_of : Selector → Selector → ℕ → Selector
-part_of s t protocol = record {
+-- the part between the greater start and the lesser end of the ports, and of these addresses
+pub part_of : Selector → Selector → ℕ → Range → Selector
+part_of s t protocol addresses = record {
   protocol = protocol;
   start_port = max s.start_port t.start_port;
   end_port = min s.end_port t.end_port;
-  start_address = max s.start_address t.start_address;
-  end_address = min s.end_address t.end_address;
+  addresses = addresses;
 }
+
+-- the ports of a selector are those that its fields can have
+pub record FitsPorts (s : Selector) : Type 0 where
+  pub start : s.start_port < 2 ^ 16
+  pub end : s.end_port < 2 ^ 16
 
 ports_in_both : (a b x y : ℕ) (port : Option ℕ) → b < 2 ^ 16 → y < 2 ^ 16 → FitsPort (max a x) (min b y) port → FitsPort a b port × FitsPort x y port
 ports_in_both a b x y (Some port) small other range = ((omega (arith, range.0), omega (arith, range.1)), (omega (arith, range.0), omega (arith, range.1)))
@@ -164,51 +165,51 @@ ports_from_both : (a b x y : ℕ) (port : Option ℕ) → FitsPort a b port → 
 ports_from_both a b x y (Some port) one other = (omega (arith, one.0, other.0), omega (arith, one.1, other.1))
 ports_from_both a b x y None one other = (omega (arith, one.0, other.0), omega (arith, one.1, other.1))
 
-module _ (s t : Selector) (protocol : ℕ) (byte : protocol < 2 ^ 8) (fits : FitsFields s) (fits_t : FitsFields t) (common : IsCommonProtocol s.protocol t.protocol protocol) where
-  in_both : (p : Point) → HoldsPoint (part_of s t protocol) p → HoldsPoint s p × HoldsPoint t p
+module _ (s t : Selector) (protocol : ℕ) (addresses : Range) (byte : protocol < 2 ^ 8) (fits : FitsPorts s) (fits_t : FitsPorts t) (common : IsCommonProtocol s.protocol t.protocol protocol) (range : IsCommonRange s.addresses t.addresses addresses) where
+  in_both : (p : Point) → HoldsPoint (part_of s t protocol addresses) p → HoldsPoint s p × HoldsPoint t p
   unfolding part_of
   in_both p held =
       let protocols = (common p.protocol).0 held.protocol in
-      let ports = ports_in_both s.start_port s.end_port t.start_port t.end_port p.port fits.end_port fits_t.end_port held.port in
-      let from = held.address.0 in
-      let to = held.address.1 in (
-        record { point = held.point; protocol = protocols.0; address = (omega arith, omega arith); port = ports.0 },
-        record { point = held.point; protocol = protocols.1; address = (omega arith, omega arith); port = ports.1 },
+      let ports = ports_in_both s.start_port s.end_port t.start_port t.end_port p.port fits.end fits_t.end held.port in
+      let address = (range.addresses p.address).0 held.address in (
+        record { point = held.point; protocol = protocols.0; address = address.0; port = ports.0 },
+        record { point = held.point; protocol = protocols.1; address = address.1; port = ports.1 },
       )
 
-  from_both : (p : Point) → HoldsPoint s p × HoldsPoint t p → HoldsPoint (part_of s t protocol) p
+  from_both : (p : Point) → HoldsPoint s p × HoldsPoint t p → HoldsPoint (part_of s t protocol addresses) p
   unfolding part_of
   from_both p (one, two) =
-      let from = one.address.0 in
-      let to = one.address.1 in
-      let from_two = two.address.0 in
-      let to_two = two.address.1 in
       record {
         point = one.point;
         protocol = (common p.protocol).1 (one.protocol, two.protocol);
-        address = (omega arith, omega arith);
+        address = (range.addresses p.address).1 (one.address, two.address);
         port = ports_from_both s.start_port s.end_port t.start_port t.end_port p.port one.port two.port;
       }
 
-  part_fits : FitsFields (part_of s t protocol)
+  part_fits : FitsFields (part_of s t protocol addresses)
   unfolding part_of
   part_fits =
-      let start_port = fits.start_port in
-      let start_port_t = fits_t.start_port in
-      let end_port = fits.end_port in
-      let start_address = fits.start_address in
-      let start_address_t = fits_t.start_address in
-      let end_address = fits.end_address in
-      record { protocol = byte; start_port = omega arith; end_port = omega arith; start_address = omega arith; end_address = omega arith }
+      let start_port = fits.start in
+      let start_port_t = fits_t.start in
+      let end_port = fits.end in
+      record { protocol = byte; start_port = omega arith; end_port = omega arith; addresses = range.fits }
 
-  pub common_part : IsNonempty (HoldsPoint (part_of s t protocol)) → IsCommonPart (HoldsPoint s) (HoldsPoint t) (part_of s t protocol)
+  pub common_part : IsNonempty (HoldsPoint (part_of s t protocol addresses)) → IsCommonPart (HoldsPoint s) (HoldsPoint t) (part_of s t protocol addresses)
   common_part some = record { points = λ p. (in_both p, from_both p); some = some; fields = part_fits }
 
-  pub nothing_common : ¬ IsNonempty (HoldsPoint (part_of s t protocol)) → ¬ Meets (HoldsPoint s) (HoldsPoint t)
+  pub nothing_common : ¬ IsNonempty (HoldsPoint (part_of s t protocol addresses)) → ¬ Meets (HoldsPoint s) (HoldsPoint t)
   nothing_common none meeting = none (record { point = meeting.point; inside = from_both meeting.point (meeting.in_one, meeting.in_other) })
 
 pub no_common_protocol : (s t : Selector) → HaveNoCommonProtocol s.protocol t.protocol → ¬ Meets (HoldsPoint s) (HoldsPoint t)
 no_common_protocol s t none meeting = none meeting.point.protocol meeting.in_one.protocol meeting.in_other.protocol
+
+pub no_common_address : (s t : Selector) → AreApart s.addresses t.addresses → ¬ Meets (HoldsPoint s) (HoldsPoint t)
+no_common_address s t apart meeting = apart meeting.point.address meeting.in_one.address meeting.in_other.address
+
+-- selectors of two families
+pub families_apart : (s t : Selector) → family_of_range s.addresses ≢ family_of_range t.addresses → ¬ Meets (HoldsPoint s) (HoldsPoint t)
+families_apart s t differ meeting =
+    differ (family_held s.addresses meeting.point.address meeting.in_one.address ∙ sym (family_held t.addresses meeting.point.address meeting.in_other.address))
 
 pub any_and_other : (other : ℕ) → (one : ℕ) → one ≡ 0 → IsCommonProtocol one other other
 any_and_other other one any protocol = (λ fits. (inl any, fits), λ fits. fits.1)
@@ -229,18 +230,17 @@ pub part_meets : (s t : Selector) (part : Option Selector) → MatchOption part 
 part_meets s t None none = (λ is. absurd (cc), λ some. absurd (none some))
 part_meets s t (Some part) common = (λ is. let both = (common.points common.some.point).0 common.some.inside in record { point = common.some.point; in_one = both.0; in_other = both.1 }, λ some. refl)
 
-pub same_part : (s t : Selector) (protocol start_port end_port start_address end_address : ℕ)
-    → start_port ≡ max s.start_port t.start_port → end_port ≡ min s.end_port t.end_port → start_address ≡ max s.start_address t.start_address → end_address ≡ min s.end_address t.end_address
-    → ◌≡◌ {A = Selector} (record { protocol = protocol; start_port = start_port; end_port = end_port; start_address = start_address; end_address = end_address }) (part_of s t protocol)
+pub same_part : (s t : Selector) (protocol start_port end_port : ℕ) (addresses : Range) → start_port ≡ max s.start_port t.start_port → end_port ≡ min s.end_port t.end_port
+    → ◌≡◌ {A = Selector} (record { protocol = protocol; start_port = start_port; end_port = end_port; addresses = addresses }) (part_of s t protocol addresses)
 unfolding part_of
-same_part s t protocol start_port end_port start_address end_address a b c d = λ i. record { protocol = protocol; start_port = a i; end_port = b i; start_address = c i; end_address = d i }
+same_part s t protocol start_port end_port addresses a b = λ i. record { protocol = protocol; start_port = a i; end_port = b i; addresses = addresses }
 
 -- the common part, where it has a point
-pub some_part : (s t part : Selector) (protocol : ℕ) (b : Bool) → protocol < 2 ^ 8 → FitsFields s → FitsFields t → IsCommonProtocol s.protocol t.protocol protocol
-    → part ≡ part_of s t protocol → (IsTrue b ↔ IsNonempty (HoldsPoint part))
+pub some_part : (s t part : Selector) (protocol : ℕ) (addresses : Range) (b : Bool) → protocol < 2 ^ 8 → FitsPorts s → FitsPorts t → IsCommonProtocol s.protocol t.protocol protocol
+    → IsCommonRange s.addresses t.addresses addresses → part ≡ part_of s t protocol addresses → (IsTrue b ↔ IsNonempty (HoldsPoint part))
     → MatchOption (then_some b part) (¬ Meets (HoldsPoint s) (HoldsPoint t)) (IsCommonPart (HoldsPoint s) (HoldsPoint t))
-some_part s t part protocol true byte fits fits_t common is tells = subst (λ (c : Selector). IsCommonPart (HoldsPoint s) (HoldsPoint t) c) (sym is) (common_part s t protocol byte fits fits_t common (subst (λ (c : Selector). IsNonempty (HoldsPoint c)) is (tells.0 refl)))
-some_part s t part protocol false byte fits fits_t common is tells = nothing_common s t protocol byte fits fits_t common (λ some. absurd (let yes = tells.1 (subst (λ (c : Selector). IsNonempty (HoldsPoint c)) (sym is) some) in cc))
+some_part s t part protocol addresses true byte fits fits_t common range is tells = subst (λ (c : Selector). IsCommonPart (HoldsPoint s) (HoldsPoint t) c) (sym is) (common_part s t protocol addresses byte fits fits_t common range (subst (λ (c : Selector). IsNonempty (HoldsPoint c)) is (tells.0 refl)))
+some_part s t part protocol addresses false byte fits fits_t common range is tells = nothing_common s t protocol addresses byte fits fits_t common range (λ some. absurd (let yes = tells.1 (subst (λ (c : Selector). IsNonempty (HoldsPoint c)) (sym is) some) in cc))
 
 -- the first of a list, as it is read
 pub first_to : (side : Selector) (offered : List Selector) (d : Selector) → 0 < length offered → IsNonempty (HoldsPoint (get_or offered 0 d)) → LiesIn (HoldsPoint (get_or offered 0 d)) (HoldsPoint side) → HoldsFirst side offered
@@ -265,9 +265,8 @@ same_selector s t fits fits_t some inside back =
     let protocol = fits_both s.protocol t.protocol ends.protocol other.protocol in
     let start_port : s.start_port ≡ t.start_port = (let a = ends.start_port in let b = other.start_port in omega arith) in
     let end_port : s.end_port ≡ t.end_port = (let a = ends.end_port in let b = other.end_port in omega arith) in
-    let start_address : s.start_address ≡ t.start_address = (let a = ends.start_address in let b = other.start_address in omega arith) in
-    let end_address : s.end_address ≡ t.end_address = (let a = ends.end_address in let b = other.end_address in omega arith) in
-    λ i. record { protocol = protocol i; start_port = start_port i; end_port = end_port i; start_address = start_address i; end_address = end_address i }
+    let addresses : s.addresses ≡ t.addresses = same_range s.addresses t.addresses ends.addresses other.addresses in
+    λ i. record { protocol = protocol i; start_port = start_port i; end_port = end_port i; addresses = addresses i }
 
 pub ordered_ports : (s : Selector) (p : Point) → HoldsPoint s p → s.start_port ≤ s.end_port
 ordered_ports s p held =

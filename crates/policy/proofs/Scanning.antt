@@ -3,7 +3,7 @@ use Rattle.std.proofs.Common.{◌≡◌, ◌⊎◌, inl, inr, ℕ, ◌+◌, ◌<
 use Rattle.std.specs.List.{slice_get}
 use Rattle.std.proofs.lemmas.Option.{slice_get_within}
 use Rattle.std.proofs.lemmas.Bool.Decides.{leb_tells}
-use Rattle.policy.specs.Decisions.{HoldsOfNone}
+use Rattle.base.specs.Lists.{HoldsOfNone}
 
 -- P holds of no item before the place
 abbrev pub HoldsOfNoneBefore : {A : Type 0} → (A → Type 0) → List A → ℕ → Type 0
@@ -27,3 +27,20 @@ none_more P xs place x there not before = λ k y below is holds.
 
 pub none_at_all : {A : Type 0} (P : A → Type 0) (xs : List A) (place : ℕ) → length xs ≤ place → HoldsOfNoneBefore P xs place → HoldsOfNone P xs
 none_at_all P xs place end before = λ k y is holds. before k y (let within = slice_get_within xs k y is in omega arith) is holds
+
+-- P holds of each item before the place
+abbrev pub HoldsOfEachBefore : {A : Type 0} → (A → Type 0) → List A → ℕ → Type 0
+HoldsOfEachBefore {A} P xs place = (k : ℕ) (y : A) → k < place → slice_get xs k ≡ Some y → P y
+
+pub each_yet : {A : Type 0} (P : A → Type 0) (xs : List A) → HoldsOfEachBefore P xs 0
+each_yet P xs = λ k y before there. absurd (omega arith)
+
+pub each_more : {A : Type 0} (P : A → Type 0) (xs : List A) (place : ℕ) (x : A) → slice_get xs place ≡ Some x → P x → HoldsOfEachBefore P xs place → HoldsOfEachBefore P xs (place + 1)
+each_more P xs place x there here before = λ k y below is.
+    elim (before_or_here k place below) [
+      | inl less ↦ before k y less is
+      | inr same ↦ subst P (same_item x y (sym there ∙ ap (slice_get xs) (sym same) ∙ is)) here
+    ]
+
+pub each_of_all : {A : Type 0} (P : A → Type 0) (xs : List A) (place : ℕ) → length xs ≤ place → HoldsOfEachBefore P xs place → (k : ℕ) (y : A) → slice_get xs k ≡ Some y → P y
+each_of_all P xs place end before = λ k y is. before k y (let within = slice_get_within xs k y is in omega arith) is

@@ -1,7 +1,8 @@
 -- What the policy does with a flow (RFC 4301 sections 4.4.1 and 5).
-use Rattle.std.specs.Prelude.{◌≡◌, ◌<◌, ◌⊎◌, ℕ, List, Some, slice_get}
+use Rattle.std.specs.Prelude.{◌≡◌, ◌⊎◌, ℕ, List}
 use Rattle.std.specs.Option.{option_map}
-use Rattle.wire.specs.declared.selector.Selector.{Selector}
+use Rattle.base.specs.Lists.{HoldsOfNone, IsFirst}
+use Rattle.base.specs.declared.selector.Selector.{Selector}
 use Rattle.policy.specs.declared.point.Point.{Point}
 use Rattle.policy.specs.declared.flow.Flow.{Flow}
 use Rattle.policy.specs.declared.entry.Entry.{Entry}
@@ -13,10 +14,18 @@ use Rattle.policy.specs.Points.{HoldsPoint, HoldsAny}
 
 -- the two points of a flow
 abbrev pub source_point : Flow → Point
-source_point f = record { protocol = f.protocol; address = f.source; port = option_map (λ ports. ports.source) f.ports }
+source_point f = record {
+  protocol = f.protocol;
+  address = f.source;
+  port = option_map (λ ports. ports.source) f.ports;
+}
 
 abbrev pub target_point : Flow → Point
-target_point f = record { protocol = f.protocol; address = f.target; port = option_map (λ ports. ports.target) f.ports }
+target_point f = record {
+  protocol = f.protocol;
+  address = f.target;
+  port = option_map (λ ports. ports.target) f.ports;
+}
 
 -- the two sides of an entry, each a selector with the entry's protocol
 abbrev pub local_side : Entry → Selector
@@ -24,8 +33,7 @@ local_side e = record {
   protocol = e.protocol;
   start_port = e.local_ports.0;
   end_port = e.local_ports.1;
-  start_address = e.local.0;
-  end_address = e.local.1;
+  addresses = e.local;
 }
 
 abbrev pub remote_side : Entry → Selector
@@ -33,24 +41,15 @@ remote_side e = record {
   protocol = e.protocol;
   start_port = e.remote_ports.0;
   end_port = e.remote_ports.1;
-  start_address = e.remote.0;
-  end_address = e.remote.1;
+  addresses = e.remote;
 }
 
 -- an entry holds both points of a flow; outward the source is on the local side, inward on the remote one
 abbrev pub HoldsFlow : Direction → Flow → Entry → Type 0
-HoldsFlow Outward f e = HoldsPoint (local_side e) (source_point f) × HoldsPoint (remote_side e) (target_point f)
-HoldsFlow Inward f e = HoldsPoint (remote_side e) (source_point f) × HoldsPoint (local_side e) (target_point f)
-
--- x is the first of a list of which P holds, at this place
-pub record IsFirst {A : Type 0} (P : A → Type 0) (xs : List A) (place : ℕ) (x : A) : Type 0 where
-  pub there : slice_get xs place ≡ Some x
-  pub holds : P x
-  pub before : (k : ℕ) (y : A) → k < place → slice_get xs k ≡ Some y → ¬ P y
-
--- P holds of none in a list
-abbrev pub HoldsOfNone : {A : Type 0} → (A → Type 0) → List A → Type 0
-HoldsOfNone {A} P xs = (k : ℕ) (y : A) → slice_get xs k ≡ Some y → ¬ P y
+HoldsFlow Outward f e =
+    HoldsPoint (local_side e) (source_point f) × HoldsPoint (remote_side e) (target_point f)
+HoldsFlow Inward f e =
+    HoldsPoint (remote_side e) (source_point f) × HoldsPoint (local_side e) (target_point f)
 
 -- the first entry that holds the flow decides
 pub record IsDecidedByEntry (entries : List Entry) (f : Flow) (d : Direction) (action : Action) : Type 0 where
@@ -61,7 +60,8 @@ pub record IsDecidedByEntry (entries : List Entry) (f : Flow) (d : Direction) (a
 
 -- the action for a flow; where no entry holds it, it is discarded
 abbrev pub IsDecision : List Entry → Flow → Direction → Action → Type 0
-IsDecision entries f d action = IsDecidedByEntry entries f d action ⊎ (HoldsOfNone (HoldsFlow d f) entries × (action ≡ Discard))
+IsDecision entries f d action =
+    IsDecidedByEntry entries f d action ⊎ (HoldsOfNone (HoldsFlow d f) entries × (action ≡ Discard))
 
 -- selectors cover a flow: the sources hold its source, the targets its target
 abbrev pub Covers : List Selector → List Selector → Flow → Type 0

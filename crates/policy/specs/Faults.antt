@@ -3,20 +3,21 @@ use Rattle.std.specs.Prelude.{ℕ}
 use Rattle.policy.specs.declared.fault.PolicyFault.{PolicyFault}
 use Rattle.policy.specs.declared.fault.PolicyFault.TheVariants.{BadEntry}
 use Rattle.policy.specs.declared.fault.InnerFault.{InnerFault}
-use Rattle.policy.specs.declared.fault.InnerFault.TheVariants.{BadInner, Fragment}
+use Rattle.policy.specs.declared.fault.InnerFault.TheVariants.{BadInner, Fragment, ExtensionHeader}
 use Rattle.policy.specs.declared.fault.NarrowFault.{NarrowFault}
 use Rattle.policy.specs.declared.fault.NarrowFault.TheVariants.{Unacceptable, Memory}
 
-abbrev pub policy_code_of : PolicyFault → ℕ
-policy_code_of (BadEntry place) = 6
+abbrev pub code_of_policy_fault : PolicyFault → ℕ
+code_of_policy_fault (BadEntry place) = 6
 
-abbrev pub place_of : PolicyFault → ℕ
-place_of (BadEntry place) = place
+abbrev pub place_of_policy_fault : PolicyFault → ℕ
+place_of_policy_fault (BadEntry place) = place
 
-abbrev pub inner_code_of : InnerFault → ℕ
-inner_code_of BadInner = 21
-inner_code_of Fragment = 22
+abbrev pub code_of_inner_fault : InnerFault → ℕ
+code_of_inner_fault BadInner = 21
+code_of_inner_fault Fragment = 22
+code_of_inner_fault ExtensionHeader = 39
 
-abbrev pub narrow_code_of : NarrowFault → ℕ
-narrow_code_of Unacceptable = 23
-narrow_code_of Memory = 24
+abbrev pub code_of_narrow_fault : NarrowFault → ℕ
+code_of_narrow_fault Unacceptable = 23
+code_of_narrow_fault Memory = 24

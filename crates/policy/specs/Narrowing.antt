@@ -1,16 +1,16 @@
 -- What a responder makes of the selectors that it is offered (RFC 7296 section 2.9): TSi are the initiator's, which is remote
 -- to it, TSr its own.
-use Rattle.std.specs.Prelude.{◌≡◌, ◌⊎◌, ◌↔◌, ℕ, List, [], ◌∷◌, Some, slice_get}
-use Rattle.wire.specs.declared.selector.Selector.{Selector}
-use Rattle.wire.specs.Parts.{IsZero}
-use Rattle.wire.specs.Selectors.{SpellsSelectors}
+use Rattle.std.specs.Prelude.{◌≡◌, ◌<◌, ◌≤◌, ◌⊎◌, ◌↔◌, ℕ, List, [], ◌∷◌, Some, length, slice_get}
+use Rattle.base.specs.Addresses.{IsOrdered}
+use Rattle.base.specs.Lists.{HoldsOfNone, IsFirst}
+use Rattle.base.specs.declared.selector.Selector.{Selector}
 use Rattle.policy.specs.declared.point.Point.{Point}
 use Rattle.policy.specs.declared.entry.Entry.{Entry}
 use Rattle.policy.specs.declared.entry.Action.TheVariants.{Protect}
 use Rattle.policy.specs.declared.fault.NarrowFault.{NarrowFault}
 use Rattle.policy.specs.declared.fault.NarrowFault.TheVariants.{Unacceptable, Memory}
-use Rattle.policy.specs.Points.{HoldsPoint, HoldsAny, IsNonempty, LiesIn, Meets, IsCommonPart}
-use Rattle.policy.specs.Decisions.{IsFirst, HoldsOfNone, local_side, remote_side}
+use Rattle.policy.specs.Points.{FitsFields, HoldsPoint, HoldsAny, IsPortRange, IsNonempty, LiesIn, Meets, IsCommonPart}
+use Rattle.policy.specs.Decisions.{local_side, remote_side}
 
 -- a side holds the whole of the first selector offered, which has a point
 abbrev pub HoldsFirst : Selector → List Selector → Type 0
@@ -34,13 +34,15 @@ pub record FitsSome (initiator responder : List Selector) (e : Entry) : Type 0 w
   pub local : MeetsOffer (local_side e) responder
 
 -- the entry that an offer is narrowed to: the first that fits both first selectors, else the first that fits something
-abbrev pub IsChosen : List Entry → List Selector → List Selector → ℕ → Entry → Type 0
-IsChosen entries initiator responder place e =
+abbrev pub IsChosenEntry : List Entry → List Selector → List Selector → ℕ → Entry → Type 0
+IsChosenEntry entries initiator responder place e =
     IsFirst (FitsFirst initiator responder) entries place e
-    ⊎ (HoldsOfNone (FitsFirst initiator responder) entries × IsFirst (FitsSome initiator responder) entries place e)
+    ⊎ (HoldsOfNone (FitsFirst initiator responder) entries
+    × IsFirst (FitsSome initiator responder) entries place e)
 
 -- of an offered selector, the part inside a side, which has points; others follow
-pub record IsKept (side offered : Selector) (Others : List Selector → Type 0) (answer : List Selector) : Type 0 where
+pub record IsKeptPart (side offered : Selector) (Others : List Selector → Type 0) (answer : List Selector)
+    : Type 0 where
   pub part : Selector
   pub others : List Selector
   pub begins : answer ≡ part ∷ others
@@ -51,53 +53,71 @@ pub record IsKept (side offered : Selector) (Others : List Selector → Type 0) 
 abbrev pub IsNarrowed : Selector → List Selector → List Selector → Type 0
 IsNarrowed side [] answer = answer ≡ []
 IsNarrowed side (offered ∷ others) answer =
-    IsKept side offered (IsNarrowed side others) answer
+    IsKeptPart side offered (IsNarrowed side others) answer
     ⊎ ((¬ Meets (HoldsPoint offered) (HoldsPoint side)) × IsNarrowed side others answer)
 
 -- the answer has exactly the points that are offered and inside the side
 abbrev pub HasAllCommonPoints : Selector → List Selector → List Selector → Type 0
-HasAllCommonPoints side offered answer = (p : Point) → HoldsAny answer p ↔ (HoldsAny offered p × HoldsPoint side p)
+HasAllCommonPoints side offered answer = (p : Point)
+    → HoldsAny answer p ↔ (HoldsAny offered p × HoldsPoint side p)
 
 -- both lists narrowed to the entry that is chosen for them
-pub record IsNarrowing (entries : List Entry) (initiator responder answer_i answer_r : List Selector) : Type 0 where
+pub record IsNarrowing (entries : List Entry) (initiator responder answer_i answer_r : List Selector)
+    : Type 0 where
   pub place : ℕ
   pub entry : Entry
-  pub chosen : IsChosen entries initiator responder place entry
+  pub chosen : IsChosenEntry entries initiator responder place entry
   pub narrowed_i : IsNarrowed (remote_side entry) initiator answer_i
   pub narrowed_r : IsNarrowed (local_side entry) responder answer_r
   pub points_i : HasAllCommonPoints (remote_side entry) initiator answer_i
   pub points_r : HasAllCommonPoints (local_side entry) responder answer_r
 
--- a selector has points, all of them inside one offered selector and inside a side
-pub record IsPartOfOffer (side : Selector) (offered : List Selector) (part : Selector) : Type 0 where
+-- some entry is chosen for an offer
+pub record IsAcceptableOffer (entries : List Entry) (initiator responder : List Selector) : Type 0 where
+  pub place : ℕ
+  pub entry : Entry
+  pub chosen : IsChosenEntry entries initiator responder place entry
+
+-- the refusals of an offer: Unacceptable where no entry is chosen, want of memory only where one is
+abbrev pub IsNarrowRefusal : List Entry → List Selector → List Selector → NarrowFault → Type 0
+IsNarrowRefusal entries initiator responder Unacceptable = ¬ IsAcceptableOffer entries initiator responder
+IsNarrowRefusal entries initiator responder Memory = IsAcceptableOffer entries initiator responder
+
+-- a selector has points, all of them inside one offered selector
+pub record LiesInOffer (offered : List Selector) (s : Selector) : Type 0 where
+  pub some : IsNonempty (HoldsPoint s)
   pub place : ℕ
   pub selector : Selector
   pub there : slice_get offered place ≡ Some selector
-  pub some : IsNonempty (HoldsPoint part)
-  pub in_offer : LiesIn (HoldsPoint part) (HoldsPoint selector)
-  pub in_side : LiesIn (HoldsPoint part) (HoldsPoint side)
+  pub inside : LiesIn (HoldsPoint s) (HoldsPoint selector)
 
--- each member of both lists is such a part, with the sides of one entry that protects
-pub record LieInside (entries : List Entry) (initiator responder answer_i answer_r : List Selector) : Type 0 where
+-- an answer to an offer: it is not empty, and each of its selectors lies inside the offer
+pub record AnswersOffer (answer offered : List Selector) : Type 0 where
+  pub some : 0 < length answer
+  pub each : (k : ℕ) (s : Selector) → slice_get answer k ≡ Some s → LiesInOffer offered s
+
+-- each selector lies inside a side
+abbrev pub LieInSide : List Selector → Selector → Type 0
+LieInSide ss side = (k : ℕ) (s : Selector) → slice_get ss k ≡ Some s → LiesIn (HoldsPoint s) (HoldsPoint side)
+
+-- both lists lie inside the sides of one entry that protects
+pub record LieInsidePolicy (entries : List Entry) (answer_i answer_r : List Selector) : Type 0 where
   pub place : ℕ
   pub entry : Entry
   pub there : slice_get entries place ≡ Some entry
   pub protects : entry.action ≡ Protect
-  pub each_i : (k : ℕ) (part : Selector) → slice_get answer_i k ≡ Some part → IsPartOfOffer (remote_side entry) initiator part
-  pub each_r : (k : ℕ) (part : Selector) → slice_get answer_r k ≡ Some part → IsPartOfOffer (local_side entry) responder part
+  pub side_i : LieInSide answer_i (remote_side entry)
+  pub side_r : LieInSide answer_r (local_side entry)
 
--- some entry is chosen
-pub record IsAcceptable (entries : List Entry) (initiator responder : List Selector) : Type 0 where
-  pub place : ℕ
-  pub entry : Entry
-  pub chosen : IsChosen entries initiator responder place entry
+-- a payload of traffic selectors can carry it (RFC 7296 section 3.13.1): its fields have room for the numbers, and no range ends
+-- before it starts
+pub record IsSendableSelector (s : Selector) : Type 0 where
+  pub fields : FitsFields s
+  pub ports : IsPortRange s.start_port s.end_port
+  pub addresses : IsOrdered s.addresses
 
--- the refusals of an offer: Unacceptable where no entry is chosen, want of memory only where one is
-abbrev pub IsRefusal : List Entry → List Selector → List Selector → NarrowFault → Type 0
-IsRefusal entries initiator responder Unacceptable = ¬ IsAcceptable entries initiator responder
-IsRefusal entries initiator responder Memory = IsAcceptable entries initiator responder
-
--- a payload of traffic selectors can carry the list (RFC 7296 section 3.13)
-pub record IsSendable (ss : List Selector) : Type 0 where
-  pub body : List ℕ
-  pub spelled : SpellsSelectors IsZero ss body
+-- a payload of traffic selectors can carry the list (RFC 7296 section 3.13): 1 to 16 of them, a limit of this implementation
+pub record AreSendable (ss : List Selector) : Type 0 where
+  pub some : 1 ≤ length ss
+  pub few : length ss ≤ 16
+  pub each : (k : ℕ) (s : Selector) → slice_get ss k ≡ Some s → IsSendableSelector s

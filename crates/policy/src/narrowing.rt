@@ -1,15 +1,15 @@
 //! Narrowing an offer of selectors to a policy.
 ghost use Rattle.std.specs.Prelude.{IsTrue, ◌↔◌, MatchOption, IfOk, IfErr, ℕ};
 ghost use Rattle.policy.specs.declared.entry.Entry.{Entry};
-ghost use Rattle.policy.specs.Decisions.{HoldsOfNone, IsFirst};
-ghost use Rattle.policy.specs.Narrowing.{FitsFirst, FitsSome, HoldsFirst, IsAcceptable, IsNarrowed, IsNarrowing, IsRefusal, IsChosen, MeetsOffer};
+ghost use Rattle.base.specs.Lists.{HoldsOfNone, IsFirst};
+ghost use Rattle.policy.specs.Narrowing.{FitsFirst, FitsSome, HoldsFirst, IsAcceptableOffer, IsChosenEntry, IsNarrowRefusal, IsNarrowed, IsNarrowing, MeetsOffer};
 
 use crate::entry::{Action, Entry};
 use crate::fault::NarrowFault;
 use crate::policy::Policy;
 use crate::selectors::{common_part, has_point, lies_in, meets};
+use base::{Items, Selector};
 use std::alloc::{AllocError, Global};
-use wire::{Items, Selector};
 
 /// What a responder agrees to: the initiator's selectors and its own.
 #[derive(Debug, Drop, PartialEq, Eq)]
@@ -32,8 +32,9 @@ pub fn narrow(
     offered_r: &[Selector],
     policy: &Policy,
 ) -> Result<Narrowed, NarrowFault>
-    ensures narrowed { IfOk result (λ n. IsNarrowing policy.now offered_i.now offered_r.now n.initiator n.responder) }
-    ensures refused { IfErr result (IsRefusal policy.now offered_i.now offered_r.now) }
+    ensures narrowed { IfOk result (λ n.
+        IsNarrowing policy.now offered_i.now offered_r.now n.initiator n.responder) }
+    ensures refused { IfErr result (IsNarrowRefusal policy.now offered_i.now offered_r.now) }
 {
     let Some(entry) = chosen(policy.entries(), offered_i, offered_r) else {
         return Err(NarrowFault::Unacceptable);
@@ -73,8 +74,8 @@ fn chosen<'a>(
     offered_i: &[Selector],
     offered_r: &[Selector],
 ) -> Option<&'a Entry>
-    ensures { MatchOption result (¬ IsAcceptable entries.now offered_i.now offered_r.now)
-        (λ entry. (place : ℕ) × IsChosen entries.now offered_i.now offered_r.now place entry.now) }
+    ensures { MatchOption result (¬ IsAcceptableOffer entries.now offered_i.now offered_r.now)
+        (λ entry. (place : ℕ) × IsChosenEntry entries.now offered_i.now offered_r.now place entry.now) }
 {
     if let Some(entry) = first_that_fits_first(entries, offered_i, offered_r) {
         return Some(entry);

@@ -2,11 +2,13 @@
 ghost use Rattle.std.specs.Prelude.{IsTrue, ◌↔◌};
 ghost use Rattle.policy.specs.Points.{HasPorts};
 
-/// One end of a flow: an IP protocol, an IPv4 address, and a port exactly where the protocol is TCP or UDP (6 or 17).
+use base::Address;
+
+/// One end of a flow: an IP protocol, an address, and a port exactly where the protocol is TCP or UDP (6 or 17).
 #[derive(Clone, Copy, Debug, PartialEq, Eq)]
 pub struct Point {
     pub protocol: u8,
-    pub address: u32,
+    pub address: Address,
     pub port: Option<u16>,
 }
 

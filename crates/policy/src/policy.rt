@@ -1,15 +1,15 @@
 //! A policy and its decisions.
 ghost use Rattle.std.specs.Prelude.{◌≡◌, IsTrue, ◌↔◌, IfOk, IfErr, List};
 ghost use Rattle.policy.specs.Decisions.{HoldsFlow, IsDecision};
-ghost use Rattle.policy.specs.Entries.{IsFirstFault, IsSound};
-ghost use Rattle.policy.specs.Faults.{place_of};
+ghost use Rattle.policy.specs.Entries.{IsFirstEntryAtFault, IsSoundPolicy};
+ghost use Rattle.policy.specs.Faults.{place_of_policy_fault};
 
 use crate::entry::{Action, Entry};
 use crate::fault::PolicyFault;
 use crate::flow::Flow;
 use crate::selectors::holds;
+use base::Items;
 use std::marker::Model;
-use wire::Items;
 
 /// The most entries that a policy may have, a limit of this implementation.
 const ENTRY_LIMIT: usize = 256;
@@ -35,25 +35,25 @@ pub struct Policy {
 impl Model for Policy {
     ghost use Rattle.std.specs.Prelude.{List};
     ghost use Rattle.policy.specs.declared.entry.Entry.{Entry};
-    ghost use Rattle.policy.specs.Entries.{IsSound};
+    ghost use Rattle.policy.specs.Entries.{IsSoundPolicy};
 
     ghost Value = { List Entry };
 
     ghost view = { λ p. p.entries };
 
-    ghost invariant = { λ p. IsSound p.entries };
+    ghost invariant = { λ p. IsSoundPolicy p.entries };
 }
 
 impl Policy {
-    /// A policy of at most 256 entries, which takes no memory. [`PolicyFault::BadEntry`] tells the first entry that has a
-    /// range whose end is below its start, or that comes after 256 others.
+    /// A policy of at most 256 entries, which takes no memory. [`PolicyFault::BadEntry`] (E6) tells the first entry that has a
+    /// range whose end is below its start or sides of two families, or that comes after 256 others.
     pub fn new(entries: Items<Entry>) -> Result<Policy, PolicyFault>
         ensures policy { IfOk result (λ policy. policy ≡ entries) }
-        ensures sound { IfOk result (λ policy. IsSound policy) }
-        ensures fault { IfErr result (λ fault. IsFirstFault entries (place_of fault)) }
+        ensures sound { IfOk result (λ policy. IsSoundPolicy policy) }
+        ensures fault { IfErr result (λ fault. IsFirstEntryAtFault entries (place_of_policy_fault fault)) }
     {
         for (index, entry) in entries.as_slice().iter().enumerate() {
-            if index >= ENTRY_LIMIT || !entry.is_ordered() {
+            if index >= ENTRY_LIMIT || !entry.is_sound() {
                 return Err(PolicyFault::BadEntry { index });
             }
         }
@@ -63,7 +63,7 @@ impl Policy {
     /// The entries in their order, of which none is at fault.
     pub fn entries(&self) -> &[Entry]
         ensures entries { result.now ≡ self.now }
-        ensures sound { IsSound self.now }
+        ensures sound { IsSoundPolicy self.now }
     {
         self.entries.as_slice()
     }

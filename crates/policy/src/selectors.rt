@@ -1,21 +1,21 @@
 //! Selectors as sets of points.
 ghost use Rattle.std.specs.Prelude.{◌≡◌, IsTrue, ◌↔◌, MatchOption};
+ghost use Rattle.base.specs.Addresses.{FitsRange};
 ghost use Rattle.policy.specs.Points.{FitsProtocol, IsNonempty, HoldsAny, HoldsPoint, IsCommonPart, LiesIn, Meets};
 ghost use Rattle.policy.specs.Decisions.{Covers};
 ghost use Rattle.policy.specs.Ends.{HaveNoCommonProtocol, IsCommonProtocol};
 
-use crate::addresses::AddressRange;
 use crate::flow::Flow;
 use crate::point::{ANY_PROTOCOL, Point};
 use crate::ports::PortRange;
-use wire::Selector;
+use base::{Range, Selector};
 
 /// Whether the sources hold the source of a flow, and the targets its target: protocol and address fit, and the port lies in
 /// the range. Where the flow's protocol has no ports, only the range of all ports fits.
 pub fn covers(sources: &[Selector], targets: &[Selector], flow: &Flow) -> bool
     ensures { IsTrue result ↔ Covers sources.now targets.now flow.now }
 {
-    any_holds(sources, flow.source_point()) && any_holds(targets, flow.target_point())
+    any_holds(targets, flow.target_point()) && any_holds(sources, flow.source_point())
 }
 
 /// Whether any of the selectors holds a point.
@@ -35,7 +35,7 @@ pub(crate) fn holds(selector: &Selector, point: Point) -> bool
     ensures { IsTrue result ↔ HoldsPoint selector.now point }
 {
     fits_protocol(selector.protocol, point.protocol)
-        && addresses_of(selector).holds(point.address)
+        && selector.addresses.holds(point.address)
         && ports_of(selector).fits(point.protocol, point.port)
 }
 
@@ -43,7 +43,8 @@ pub(crate) fn holds(selector: &Selector, point: Point) -> bool
 pub(crate) fn has_point(selector: &Selector) -> bool
     ensures { IsTrue result ↔ IsNonempty (HoldsPoint selector.now) }
 {
-    ports_of(selector).has_port_of(selector.protocol) && addresses_of(selector).is_ordered()
+    let addresses = range_of(selector.addresses);
+    ports_of(selector).has_port_of(selector.protocol) && addresses.is_ordered()
 }
 
 /// Whether a selector that has a point lies in another.
@@ -51,10 +52,10 @@ pub(crate) fn lies_in(selector: &Selector, other: &Selector) -> bool
     requires { IsNonempty (HoldsPoint selector.now) }
     ensures { IsTrue result ↔ LiesIn (HoldsPoint selector.now) (HoldsPoint other.now) }
 {
-    let addresses = addresses_of(selector);
+    let addresses = range_of(selector.addresses);
     let ports = ports_of(selector);
     fits_protocol(other.protocol, selector.protocol)
-        && addresses.lies_in(addresses_of(other))
+        && addresses.lies_in(other.addresses)
         && ports.lies_in(ports_of(other))
 }
 
@@ -71,14 +72,13 @@ pub(crate) fn common_part(one: &Selector, other: &Selector) -> Option<Selector>
         (IsCommonPart (HoldsPoint one.now) (HoldsPoint other.now)) }
 {
     let protocol = common_protocol(one.protocol, other.protocol)?;
-    let addresses = addresses_of(one).common(addresses_of(other));
+    let addresses = one.addresses.common(other.addresses)?;
     let ports = ports_of(one).common(ports_of(other));
     let part = Selector {
         protocol,
         start_port: ports.start,
         end_port: ports.end,
-        start_address: addresses.start,
-        end_address: addresses.end,
+        addresses,
     };
     has_point(&part).then_some(part)
 }
@@ -103,16 +103,20 @@ fn fits_protocol(wanted: u8, protocol: u8) -> bool
     wanted == ANY_PROTOCOL || wanted == protocol
 }
 
-fn addresses_of(selector: &Selector) -> AddressRange
-    ensures start { result.start ≡ selector.now.start_address }
-    ensures end { result.end ≡ selector.now.end_address }
-{
-    AddressRange::new(selector.start_address, selector.end_address)
-}
-
 fn ports_of(selector: &Selector) -> PortRange
     ensures start { result.start ≡ selector.now.start_port }
     ensures end { result.end ≡ selector.now.end_port }
 {
     PortRange::new(selector.start_port, selector.end_port)
+}
+
+/// The range itself. It is taken apart and put together, so that it is known of its numbers that they fit their family.
+fn range_of(addresses: Range) -> Range
+    ensures same { result ≡ addresses }
+    ensures fits { FitsRange result }
+{
+    match addresses {
+        Range::V4(start, end) => Range::V4(start, end),
+        Range::V6(start, end) => Range::V6(start, end),
+    }
 }

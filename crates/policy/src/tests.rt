@@ -1,8 +1,10 @@
 mod faults;
+mod ipv6;
 mod large;
 mod laws;
 mod memory;
 mod narrowing;
+mod offers;
 mod packets;
 mod plain;
 mod policies;

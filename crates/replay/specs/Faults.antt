@@ -3,5 +3,5 @@ use Rattle.std.specs.Prelude.{ℕ}
 use Rattle.replay.specs.declared.fault.ReplayFault.{ReplayFault}
 use Rattle.replay.specs.declared.fault.ReplayFault.TheVariants.{Memory}
 
-abbrev pub replay_fault_code : ReplayFault → ℕ
-replay_fault_code Memory = 20
+abbrev pub code_of_replay_fault : ReplayFault → ℕ
+code_of_replay_fault Memory = 20

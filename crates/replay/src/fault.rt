@@ -1,6 +1,6 @@
 //! The refusals of this crate.
 ghost use Rattle.std.specs.Prelude.{◌≡◌};
-ghost use Rattle.replay.specs.Faults.{replay_fault_code};
+ghost use Rattle.replay.specs.Faults.{code_of_replay_fault};
 
 use thiserror::Error;
 
@@ -15,7 +15,7 @@ pub enum ReplayFault {
 impl ReplayFault {
     /// The refusal's number, as programs print it behind `E`.
     pub fn code(self) -> u8
-        ensures { result ≡ replay_fault_code self }
+        ensures { result ≡ code_of_replay_fault self }
     {
         match self {
             ReplayFault::Memory => 20,

@@ -1,13 +1,43 @@
-// A library with one function.
+//! The request numbers of one IKE association (RFC 7296 sections 2.1 to 2.4): which of the peer's requests took effect and what
+//! was answered to them, which requests of this end wait for an answer, and when one goes out again.
+//!
+//! [`Incoming`] judges the number of a request that came, and keeps the replies that may be asked for again. [`Outgoing`] gives
+//! this end's requests their numbers and holds them until they are answered. A [`Timer`] tells when a request goes out again.
+//! What a request says, and by what key it is sealed, is nothing to this crate. Making room may take memory; nothing else does.
+//!
+//! Contracts see the numbers as finite sets and what is kept as finite maps (`specs/Incoming`, `specs/Outgoing`); how they are
+//! kept (`specs/Storage`) is in no public clause.
+//!
+//! ```text
+//! let mut incoming = Incoming::after_initial(alloc);   // number 0, that of IKE_SA_INIT, is in effect
+//! incoming.judge(1)                                    // Fresh
+//! incoming.prepare()?;
+//! incoming.take(1, reply);
+//! incoming.judge(1)                                    // Repeat, with the reply's octets
+//!
+//! let mut outgoing = Outgoing::new(alloc);
+//! let number = outgoing.prepare()?;                    // 0
+//! outgoing.issue(request);
+//! let request = outgoing.count(0);                     // its answer came
+//! ```
 #![tactic(auto)]
 
-ghost use Rattle.std.specs.Prelude.{◌≡◌};
-ghost use Rattle.requests.specs.Echo.{echo_of};
+mod by_number;
+mod fault;
+mod incoming;
+mod laws;
+mod numbers;
+mod outgoing;
+mod timer;
 
-// The `ensures` clause is the contract: what `echo` returns is `echo_of` of its argument, a definition
-// in `specs/Echo.antt`, which a caller's clause can cite too.
-pub fn echo(x: usize) -> usize
-    ensures { result ≡ echo_of x }
-{
-    x
-}
+pub use fault::RequestFault;
+pub use incoming::{Incoming, Judgement};
+pub use laws::{
+    a_moment_sends_once, answers_are_determined, judgements_are_determined, later_incoming_follow,
+    later_outgoing_follow, no_number_is_issued_twice, no_number_takes_effect_twice,
+};
+pub use outgoing::Outgoing;
+pub use timer::{Due, Timer};
+
+#[cfg(test)]
+mod tests;

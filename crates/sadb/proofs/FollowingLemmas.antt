@@ -15,7 +15,7 @@ use Rattle.esp.specs.declared.fault.EspFault.{EspFault}
 use Rattle.esp.specs.declared.fault.EspFault.TheVariants.{Exhausted, PayloadSize, BadLength, Old, Replayed, BadNumber, BadIcv, BadPadding, Memory}
 use Rattle.sadb.specs.declared.pair.Pair.{Pair}
 use Rattle.sadb.specs.declared.pair.State.TheVariants.{Deleting}
-use Rattle.sadb.specs.Database.{Database, IsAsBefore, HasInbound, IsReserved, IsSound, Reserves, Releases, Installs, Removes, Marks, OpensAt, RefusesAt, SealsAt, pair_at}
+use Rattle.sadb.specs.Database.{Database, IsAsBefore, HasInbound, IsReserved, IsSoundTable, Reserves, Releases, Installs, Removes, Marks, OpensAt, RefusesAt, SealsAt, RemovesAllOf, PairMap, pair_at}
 use Rattle.sadb.specs.Following.{Follows, IsLaterWindow, IsSamePair, MayCome, WasSamePair}
 use Rattle.sadb.proofs.NumberedLemmas.{inserted_here, inserted_apart, removed_here, removed_apart, member_apart, gone_here, gone_apart}
 use Rattle.sadb.proofs.TableLemmas.{same_association}
@@ -116,7 +116,7 @@ module _ (a b c : Database) (first : Follows a b) (second : Follows b c) where
       }
 
 -- where no pair is added, changed or taken out
-module _ (old new : Database) (pairs : new.pairs ≡ old.pairs) (sound : IsSound old) where
+module _ (old new : Database) (pairs : new.pairs ≡ old.pairs) (sound : IsSoundTable old) where
   kept_pairs : (serial : ℕ) (pair : Pair) → pair_at new.pairs serial ≡ Some pair → serial < old.next → WasSamePair old serial pair
   kept_pairs serial pair there below = record { was = pair; there = ap (λ m. map.get m serial) (sym pairs) ∙ there; same = same_pair pair }
 
@@ -124,7 +124,7 @@ module _ (old new : Database) (pairs : new.pairs ≡ old.pairs) (sound : IsSound
   no_later serial pair there above =
       absurd (let given = sound.serial_given serial pair (ap (λ m. map.get m serial) (sym pairs) ∙ there) in let below = given.1 in omega arith)
 
-pub as_before : (old new : Database) → IsSound old → IsAsBefore old new → Follows old new
+pub as_before : (old new : Database) → IsSoundTable old → IsAsBefore old new → Follows old new
 as_before old new sound is =
     record {
       start = ap (λ d. d.start) is.content;
@@ -135,7 +135,7 @@ as_before old new sound is =
       new_pairs = no_later old new (ap (λ d. d.pairs) is.content) sound;
     }
 
-pub after_reserving : (old new : Database) (spi : ℕ) → IsSound old → Reserves old spi new → Follows old new
+pub after_reserving : (old new : Database) (spi : ℕ) → IsSoundTable old → Reserves old spi new → Follows old new
 after_reserving old new spi sound is =
     let start : new.start ≡ old.start = ap (λ d. d.start) is.content in
     let given : new.given ≡ old.given + 1 = ap (λ d. d.given) is.content in
@@ -162,7 +162,7 @@ still_reserved s spi q there =
       | inr (_, apart) ↦ sym (gone_apart s spi q apart) ∙ there
     ]
 
-pub after_releasing : (old new : Database) (spi : ℕ) → IsSound old → Releases old spi new → Follows old new
+pub after_releasing : (old new : Database) (spi : ℕ) → IsSoundTable old → Releases old spi new → Follows old new
 after_releasing old new spi sound is =
     record {
       start = ap (λ d. d.start) is.content;
@@ -176,7 +176,7 @@ after_releasing old new spi sound is =
 some_pair : (a b : Pair) → Some a ≡ Some b → a ≡ b
 some_pair a b is = ap (λ o. unwrap_or o a) is
 
-pub after_installing : (old new : Database) (spi : ℕ) (pair : Pair) (serial : ℕ) → IsSound old → Installs old spi pair serial new → Follows old new
+pub after_installing : (old new : Database) (spi : ℕ) (pair : Pair) (serial : ℕ) → IsSoundTable old → Installs old spi pair serial new → Follows old new
 after_installing old new spi pair serial sound is =
     let given : new.given ≡ old.given = ap (λ d. d.given) is.content in
     let next : new.next ≡ old.next + 1 = ap (λ d. d.next) is.content in
@@ -204,7 +204,7 @@ after_installing old new spi pair serial sound is =
           ];
     }
 
-pub after_removing : (old new : Database) (serial : ℕ) → IsSound old → Removes old serial new → Follows old new
+pub after_removing : (old new : Database) (serial : ℕ) → IsSoundTable old → Removes old serial new → Follows old new
 after_removing old new serial sound is =
     let pairs : new.pairs ≡ map.remove old.pairs serial = ap (λ d. d.pairs) is.content in
     let was : (n : ℕ) (held : Pair) → pair_at new.pairs n ≡ Some held → pair_at old.pairs n ≡ Some held =
@@ -223,7 +223,7 @@ after_removing old new serial sound is =
     }
 
 -- one pair is another state of itself, and nothing else is changed
-pub after_changing : (old new : Database) (serial : ℕ) (was is : Pair) → IsSound old → pair_at old.pairs serial ≡ Some was → IsSamePair was is
+pub after_changing : (old new : Database) (serial : ℕ) (was is : Pair) → IsSoundTable old → pair_at old.pairs serial ≡ Some was → IsSamePair was is
     → new ≡ record old { pairs = new.pairs } → new.pairs ≡ map.insert old.pairs serial is → Follows old new
 after_changing old new serial was is sound there same rest pairs =
     let before : (n : ℕ) (held : Pair) → pair_at new.pairs n ≡ Some held → WasSamePair old n held =
@@ -244,14 +244,30 @@ after_changing old new serial was is sound there same rest pairs =
           absurd (let one = before n held here in let given = sound.serial_given n one.was one.there in let below = given.1 in omega arith);
     }
 
-pub after_marking : (old new : Database) (serial : ℕ) → IsSound old → Marks old.pairs serial new.pairs → new ≡ record old { pairs = new.pairs } → Follows old new
-after_marking old new serial sound is rest =
-    after_changing old new serial is.pair (record is.pair { state = Deleting }) sound is.there
-    (record { serial = refl; ike = refl; inbound = refl; outbound = refl; local = refl; remote = refl; state = λ _. refl; last = omega arith; window = same_window is.pair.inbound.window }) rest is.changed
+pub after_emptying : (old new : Database) (ike : ℕ) → IsSoundTable old → RemovesAllOf old ike new → Follows old new
+after_emptying old new ike sound is =
+    let was : (n : ℕ) (held : Pair) → pair_at new.pairs n ≡ Some held → pair_at old.pairs n ≡ Some held = λ n held there. ((is.kept n held).0 there).0 in
+    record {
+      start = ap (λ d. d.start) is.content;
+      given = let same : new.given ≡ old.given = ap (λ d. d.given) is.content in omega arith;
+      next = let same : new.next ≡ old.next = ap (λ d. d.next) is.content in omega arith;
+      reserved = λ q there. inl (ap (λ d. set.contains d.reserved q) (sym is.content) ∙ there);
+      old_pairs = λ n held there below. record { was = held; there = was n held there; same = same_pair held };
+      new_pairs = λ n held there above. absurd (let given = sound.serial_given n held (was n held there) in let below = given.1 in omega arith);
+    }
 
-pub after_opening : (old new : Database) (serial : ℕ) (packet : List ℕ) (number next : ℕ) (payload : List ℕ) → IsSound old → OpensAt old.pairs serial packet number next payload new.pairs → new ≡ record old { pairs = new.pairs } → Follows old new
-after_opening old new serial packet number next payload sound is rest =
-    after_changing old new serial is.pair (record is.pair { inbound = is.inbound }) sound is.there
+-- what changed of the pairs alone
+rest_of : (old new : Database) (pairs : PairMap) → new ≡ record old { pairs = pairs } → new ≡ record old { pairs = new.pairs }
+rest_of old new pairs content = content ∙ ap (λ ps. record old { pairs = ps }) (sym (ap (λ d. d.pairs) content))
+
+pub after_marking : (old new : Database) (serial : ℕ) → IsSoundTable old → Marks old serial new → Follows old new
+after_marking old new serial sound is =
+    after_changing old new serial is.pair (record is.pair { state = Deleting }) sound is.changed.there
+    (record { serial = refl; ike = refl; inbound = refl; outbound = refl; local = refl; remote = refl; state = λ _. refl; last = omega arith; window = same_window is.pair.inbound.window }) (rest_of old new _ is.changed.content) (ap (λ d. d.pairs) is.changed.content)
+
+pub after_opening : (old new : Database) (serial : ℕ) (packet : List ℕ) (number next : ℕ) (payload : List ℕ) → IsSoundTable old → OpensAt old serial packet number next payload new → Follows old new
+after_opening old new serial packet number next payload sound is =
+    after_changing old new serial is.pair (record is.pair { inbound = is.inbound }) sound is.changed.there
     (record {
       serial = refl;
       ike = refl;
@@ -262,11 +278,11 @@ after_opening old new serial packet number next payload sound is rest =
       state = λ deleting. deleting;
       last = omega arith;
       window = window_after_taking is.pair.inbound.window is.inbound.window number is.opened.taken.window;
-    }) rest is.changed
+    }) (rest_of old new _ is.changed.content) (ap (λ d. d.pairs) is.changed.content)
 
-pub after_refusing : (old new : Database) (serial : ℕ) (packet : List ℕ) (fault : EspFault) → IsSound old → RefusesAt old.pairs serial packet fault new.pairs → new ≡ record old { pairs = new.pairs } → Follows old new
-after_refusing old new serial packet fault sound is rest =
-    after_changing old new serial is.pair (record is.pair { inbound = is.inbound }) sound is.there
+pub after_refusing : (old new : Database) (serial : ℕ) (packet : List ℕ) (fault : EspFault) → IsSoundTable old → RefusesAt old serial packet fault new → Follows old new
+after_refusing old new serial packet fault sound is =
+    after_changing old new serial is.pair (record is.pair { inbound = is.inbound }) sound is.changed.there
     (record {
       serial = refl;
       ike = refl;
@@ -277,11 +293,11 @@ after_refusing old new serial packet fault sound is rest =
       state = λ deleting. deleting;
       last = omega arith;
       window = window_after_refusing is.pair.inbound is.inbound packet fault is.refused;
-    }) rest is.changed
+    }) (rest_of old new _ is.changed.content) (ap (λ d. d.pairs) is.changed.content)
 
-pub after_sealing : (old new : Database) (serial next : ℕ) (payload before : List ℕ) (number : ℕ) (after : List ℕ) → IsSound old → SealsAt old.pairs serial next payload before number new.pairs after → new ≡ record old { pairs = new.pairs } → Follows old new
-after_sealing old new serial next payload before number after sound is rest =
-    after_changing old new serial is.pair (record is.pair { outbound = is.outbound }) sound is.there
+pub after_sealing : (old new : Database) (serial next : ℕ) (payload before : List ℕ) (number : ℕ) (after : List ℕ) → IsSoundTable old → SealsAt old serial next payload before number new after → Follows old new
+after_sealing old new serial next payload before number after sound is =
+    after_changing old new serial is.pair (record is.pair { outbound = is.outbound }) sound is.changed.there
     (record {
       serial = refl;
       ike = refl;
@@ -292,14 +308,14 @@ after_sealing old new serial next payload before number after sound is rest =
       state = λ deleting. deleting;
       last = let number_is = is.sealed.number in let last : is.outbound.last ≡ number = ap (λ s. s.last) is.sealed.last in omega arith;
       window = same_window is.pair.inbound.window;
-    }) rest is.changed
+    }) (rest_of old new _ is.changed.content) (ap (λ d. d.pairs) is.changed.content)
 
 -- a pair that has an SPI for which one may come, at a sound table that has it already
-no_pair_may_come : (d : Database) (serial spi : ℕ) → IsSound d → HasInbound d.pairs spi serial → MayCome d spi → ⊥
+no_pair_may_come : (d : Database) (serial spi : ℕ) → IsSoundTable d → HasInbound d.pairs spi serial → MayCome d spi → ⊥
 no_pair_may_come d serial spi sound held (inl reserved) = sound.spi_taken serial spi held reserved
 no_pair_may_come d serial spi sound held (inr above) = let given = (sound.spi_given serial spi held).before_next in omega arith
 
-pub one_pair_for_ever : (a c : Database) (spi serial later : ℕ) → IsSound a → Follows a c → HasInbound a.pairs spi serial → HasInbound c.pairs spi later → later ≡ serial
+pub one_pair_for_ever : (a c : Database) (spi serial later : ℕ) → IsSoundTable a → Follows a c → HasInbound a.pairs spi serial → HasInbound c.pairs spi later → later ≡ serial
 one_pair_for_ever a c spi serial later sound follows first second =
     elim (leb_tells a.next later) [
       | inl (_, upward) ↦ absurd (no_pair_may_come a serial spi sound first (subst (MayCome a) second.its_own (follows.new_pairs later second.pair second.there upward)))

@@ -1,7 +1,9 @@
-pub mod NumberedLemmas
-pub mod PlacesLemmas
-pub mod GivenLemmas
-pub mod PairsLemmas
-pub mod TableLemmas
-pub mod FollowingLemmas
-pub mod LookupLemmas
+mod NumberedLemmas
+mod PlacesLemmas
+mod GivenLemmas
+mod PairsLemmas
+mod TableLemmas
+mod FollowingLemmas
+mod LookupLemmas
+mod AssociationLemmas
+mod ReadyLemmas

@@ -8,7 +8,7 @@ use Rattle.policy.specs.declared.flow.Flow.{Flow}
 use Rattle.sadb.specs.declared.fault.TableFault.{TableFault}
 use Rattle.sadb.specs.declared.fault.TableFault.TheVariants.{Full, Spent, Memory}
 use Rattle.sadb.specs.declared.pair.Pair.{Pair}
-use Rattle.sadb.specs.Database.{Database, PairMap, IsRefusal, IsInbound, IsOutbound, IsAfter}
+use Rattle.sadb.specs.Database.{Database, PairMap, IsTableRefusal, IsInbound, IsOutbound, IsAfter}
 
 -- two numbers of which neither is below the other
 one_of_them : (a b : ℕ) → ¬ (a < b) → ¬ (b < a) → a ≡ b
@@ -40,7 +40,7 @@ one_after pairs serial a b first second =
     (λ below. none-some a (sym (second.least a.serial first.above below) ∙ first.there))
     (λ below. none-some b (sym (first.least b.serial second.above below) ∙ second.there)))
 
-pub one_refusal : (d : Database) (a b : TableFault) → IsRefusal d a → IsRefusal d b → a ≡ b
+pub one_refusal : (d : Database) (a b : TableFault) → IsTableRefusal d a → IsTableRefusal d b → a ≡ b
 one_refusal d Full Full first second = refl
 one_refusal d Full Spent first second = absurd (second.0 first)
 one_refusal d Full Memory first second = absurd (second.0 first)

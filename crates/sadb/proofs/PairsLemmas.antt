@@ -10,7 +10,7 @@ use Rattle.std.specs.Cmp.{nat_cmp_total}
 use Rattle.std.specs.FinMap as map
 use Rattle.slab.specs.Slab.{Slab, get, slab_len, entries, Updates, with_value}
 use Rattle.slab.proofs.SlabLemmas.{Updates-with_value, Contains-cons, Contains-cons_cases, Contains-entries}
-use Rattle.replay.specs.Window.{IsSound}
+use Rattle.replay.specs.Window.{IsSoundWindow}
 use Rattle.sadb.specs.declared.pair.Pair.{Pair}
 use Rattle.policy.specs.declared.flow.Flow.{Flow}
 use Rattle.policy.specs.Decisions.{Covers}
@@ -103,14 +103,14 @@ others_kept keys old new index key slot by_serial at updates other apart =
 
 -- the window of each pair is sound
 abbrev AreSound : Slab Pair → Type 0
-AreSound slab = (key : ℕ) (pair : Pair) → get slab key ≡ Some pair → IsSound pair.inbound.window
+AreSound slab = (key : ℕ) (pair : Pair) → get slab key ≡ Some pair → IsSoundWindow pair.inbound.window
 
-sound_some : (pair : Pair) → IsSound pair.inbound.window → (p : Pair) → Some pair ≡ Some p → IsSound p.inbound.window
+sound_some : (pair : Pair) → IsSoundWindow pair.inbound.window → (p : Pair) → Some pair ≡ Some p → IsSoundWindow p.inbound.window
 sound_some pair sound p is =
     let same : pair ≡ p = cc in
-    subst (λ (x : Pair). IsSound x.inbound.window) same sound
+    subst (λ (x : Pair). IsSoundWindow x.inbound.window) same sound
 
-windows_after : (old new : Slab Pair) (key : ℕ) (slot : Option Pair) → AreSound old → Updates old new key slot → ((p : Pair) → slot ≡ Some p → IsSound p.inbound.window) → AreSound new
+windows_after : (old new : Slab Pair) (key : ℕ) (slot : Option Pair) → AreSound old → Updates old new key slot → ((p : Pair) → slot ≡ Some p → IsSoundWindow p.inbound.window) → AreSound new
 windows_after old new key slot sound updates here k p is =
     elim (cases_eq k key) [
       | inl at ↦ here p (sym (ap (get new) at ∙ updates.changed) ∙ is)
@@ -146,7 +146,7 @@ module _ (keys : List (Option ℕ)) (old new : Slab Pair) (serial index key : �
         | inr apart ↦ ap serial_of (updates.others k apart)
       ]
 
-  pub by_serial_changed : changed.serial ≡ pair.serial → IsSound changed.inbound.window → slab_len new ≡ slab_len old → IsIndexed keys new
+  pub by_serial_changed : changed.serial ≡ pair.serial → IsSoundWindow changed.inbound.window → slab_len new ≡ slab_len old → IsIndexed keys new
   by_serial_changed same sound counted =
       record {
         there = λ i k at. serials_kept same k ∙ by_serial.there i k at;
@@ -240,7 +240,7 @@ module _ (keys : List (Option ℕ)) (old new : Slab Pair) (key : ℕ) (pair : Pa
       kept zero was = was
       kept (suc i) was = key_before i (in_range keys i k was) ∙ was
 
-  pub by_serial_added : pair.serial ≡ length keys + 1 → IsSound pair.inbound.window → slab_len new ≡ slab_len old + 1 → IsIndexed longer new
+  pub by_serial_added : pair.serial ≡ length keys + 1 → IsSoundWindow pair.inbound.window → slab_len new ≡ slab_len old + 1 → IsIndexed longer new
   by_serial_added numbered sound counted =
       record {
         there = there_added numbered;
@@ -321,7 +321,7 @@ module _ (keys : List (Option ℕ)) (slab : Slab Pair) (pairs : map.FinMap nat_c
       let s = stands_in_view serial pair there in
       own_serial keys slab serial s.index s.key pair by_serial s.found
 
-  pub sound_window : IsIndexed keys slab → (serial : ℕ) (pair : Pair) → map.get pairs serial ≡ Some pair → IsSound pair.inbound.window
+  pub sound_window : IsIndexed keys slab → (serial : ℕ) (pair : Pair) → map.get pairs serial ≡ Some pair → IsSoundWindow pair.inbound.window
   sound_window by_serial serial pair there =
       let s = stands_in_view serial pair there in
       by_serial.windows s.key pair s.found.there
@@ -379,7 +379,7 @@ module _ (keys : List (Option ℕ)) (slab : Slab Pair) (pairs : map.FinMap nat_c
     updated : Updates slab (with_value slab key changed) key (Some changed)
     updated = Updates-with_value slab key changed (ap is_some there)
 
-    pub written_by_serial : changed.serial ≡ pair.serial → IsSound changed.inbound.window → IsIndexed keys (with_value slab key changed)
+    pub written_by_serial : changed.serial ≡ pair.serial → IsSoundWindow changed.inbound.window → IsIndexed keys (with_value slab key changed)
     written_by_serial same sound =
         by_serial_changed keys slab (with_value slab key changed) serial where_it_stands.index key pair changed by_serial where_it_stands.found updated same sound (len_with_value slab key pair changed there)
 
@@ -420,7 +420,7 @@ module _ (keys keys' : List (Option ℕ)) (old new : Slab Pair) (pairs : map.Fin
       ap (map.get pairs) serial_is ∙ ap (λ (m : map.FinMap nat_cmp Pair). map.get m (length keys + 1)) (sym shown)
       ∙ new_serial keys old new key pair by_serial vacant updates
 
-  pub added_by_serial : pair.serial ≡ serial → IsSound pair.inbound.window → slab_len new ≡ slab_len old + 1 → IsIndexed keys' new
+  pub added_by_serial : pair.serial ≡ serial → IsSoundWindow pair.inbound.window → slab_len new ≡ slab_len old + 1 → IsIndexed keys' new
   added_by_serial numbered sound counted =
       subst (λ (ks : List (Option ℕ)). IsIndexed ks new) (sym longer)
       (by_serial_added keys old new key pair by_serial vacant updates (numbered ∙ serial_is) sound counted)

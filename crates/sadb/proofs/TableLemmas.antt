@@ -14,8 +14,9 @@ use Rattle.esp.specs.declared.fault.EspFault.{EspFault}
 use Rattle.esp.specs.declared.fault.EspFault.TheVariants.{Exhausted, PayloadSize, BadLength, Old, Replayed, BadNumber, BadIcv, BadPadding, Memory}
 use Rattle.replay.specs.Window as window
 use Rattle.sadb.specs.declared.pair.Pair.{Pair}
-use Rattle.sadb.specs.Database.{Database, IsFull, IsSpent, IsAsBefore, IsReserved, Reserves, Releases, Installs, Removes, HasInbound, IsInbound, IsSound, IsStart, PairMap, OpensAt, RefusesAt, SealsAt, SealRefusalAt}
-use Rattle.sadb.specs.Storage.{GivenSpis, PairsBySerial, IsTable, spi_of}
+use Rattle.sadb.specs.declared.pair.State.TheVariants.{Deleting}
+use Rattle.sadb.specs.Database.{Database, IsFull, IsSpent, IsAsBefore, IsReserved, Reserves, Releases, Installs, Removes, HasInbound, IsInbound, IsSoundTable, IsStart, PairMap, SealRefusalAt, ChangesAt, Marks, OpensAt, RefusesAt, SealsAt}
+use Rattle.sadb.specs.Storage.{GivenSpis, PairsBySerial, IsTable, spi_of, MarksPair, OpensPair, RefusesPair, SealsPair}
 use Rattle.sadb.proofs.NumberedLemmas.{member_here, inserted_here, inserted_apart, inserted_same, removed_here, removed_apart}
 use Rattle.sadb.proofs.GivenLemmas.{some_member, removed_len, inserted_len}
 
@@ -155,6 +156,7 @@ released_in now x new s spi shown sound is_reserved new_is =
           room = min new.room (s.room - set.len new.reserved);
         };
         room = omega arith;
+        no_more = omega arith;
       };
     }
 
@@ -222,10 +224,10 @@ module _ (x : GivenSpis) (s : PairsBySerial) (sound : IsTable x s) (spi serial :
 pub installed_in : (now : Database) (x new : GivenSpis) (s more : PairsBySerial) (spi : ℕ) (pair : Pair) (serial : ℕ)
     → table_of x s ≡ now → IsTable x s → IsReserved now spi → pair.inbound.association.spi ≡ spi
     → serial ≡ s.next → map.get s.pairs serial ≡ None
-    → more ≡ record { next = s.next + 1; pairs = map.insert s.pairs serial (numbered_as serial pair); room = more.room } → s.room ≤ more.room + 1
+    → more ≡ record { next = s.next + 1; pairs = map.insert s.pairs serial (numbered_as serial pair); room = more.room } → s.room ≤ more.room + 1 → more.room ≤ s.room
     → new ≡ record x { reserved = set.remove x.reserved spi; serials = map.insert x.serials spi serial } → map.get x.serials spi ≡ None
     → InstalledIn now new more spi pair serial
-installed_in now x new s more spi pair serial shown sound is_reserved its_own next no_pair more_is more_room new_is no_serial =
+installed_in now x new s more spi pair serial shown sound is_reserved its_own next no_pair more_is more_room no_more new_is no_serial =
     let is : set.contains x.reserved spi ≡ true = ap (λ d. set.contains d.reserved spi) shown ∙ is_reserved in
     let some : 1 ≤ set.len x.reserved = some_member x.reserved spi is in
     let new_given : new.given ≡ x.given = ap (λ y. y.given) new_is in
@@ -267,6 +269,7 @@ installed_in now x new s more spi pair serial shown sound is_reserved its_own ne
           room = min new.room (more.room - set.len new.reserved);
         };
         room = omega arith;
+        no_more = omega arith;
       };
     }
 
@@ -302,10 +305,10 @@ module _ (x : GivenSpis) (s : PairsBySerial) (sound : IsTable x s) (serial : ℕ
 
 pub removed_in : (now : Database) (x new : GivenSpis) (s less : PairsBySerial) (serial : ℕ) (pair : Pair)
     → table_of x s ≡ now → IsTable x s → map.get s.pairs serial ≡ Some pair
-    → less ≡ record s { pairs = map.remove s.pairs serial; room = less.room } → s.room ≤ less.room
+    → less ≡ record s { pairs = map.remove s.pairs serial; room = less.room } → s.room ≤ less.room → less.room ≤ s.room + 1
     → new ≡ record x { serials = map.remove x.serials pair.inbound.association.spi }
     → RemovedIn now new less serial
-removed_in now x new s less serial pair shown sound there less_is less_room new_is =
+removed_in now x new s less serial pair shown sound there less_is less_room no_more new_is =
     let new_given : new.given ≡ x.given = ap (λ y. y.given) new_is in
     let new_room : new.room ≡ x.room = ap (λ y. y.room) new_is in
     let new_reserved : new.reserved ≡ x.reserved = ap (λ y. y.reserved) new_is in
@@ -342,6 +345,7 @@ removed_in now x new s less serial pair shown sound there less_is less_room new_
           room = min new.room (less.room - set.len new.reserved);
         };
         room = omega arith;
+        no_more = omega arith;
       };
     }
 
@@ -409,7 +413,7 @@ refused_unchanged old new packet BadIcv not is = is.1
 refused_unchanged old new packet BadPadding not is = absurd (not refl)
 refused_unchanged old new packet Memory not is = absurd is.0
 
-pub pairs_unchanged : (old new : PairMap) (serial : ℕ) (packet : List ℕ) (fault : EspFault) → fault ≢ BadPadding → RefusesAt old serial packet fault new → new ≡ old
+pub pairs_unchanged : (old new : PairMap) (serial : ℕ) (packet : List ℕ) (fault : EspFault) → fault ≢ BadPadding → RefusesPair old serial packet fault new → new ≡ old
 pairs_unchanged old new serial packet fault not is =
     let same : is.inbound ≡ is.pair.inbound = refused_unchanged is.pair.inbound is.inbound packet fault not is.refused in
     is.changed ∙ ap (λ inbound. map.insert old serial (record is.pair { inbound = inbound })) same ∙ inserted_same old serial is.pair is.there
@@ -435,7 +439,7 @@ found_inbound now x s spi serial (Some p) shown sound held value own = (is_inbou
 -- after an opening, whatever came of it
 pub opened_in : (x : GivenSpis) (s new : PairsBySerial) (serial : ℕ) (packet : List ℕ) → (result : Result Opened EspFault)
     → IsTable x s → new ≡ record s { pairs = new.pairs }
-    → IfOk result (λ o. OpensAt s.pairs serial packet o.number o.next o.payload.now new.pairs) → IfErr result (λ fault. RefusesAt s.pairs serial packet fault new.pairs)
+    → IfOk result (λ o. OpensPair s.pairs serial packet o.number o.next o.payload.now new.pairs) → IfErr result (λ fault. RefusesPair s.pairs serial packet fault new.pairs)
     → IsTable x new
 opened_in x s new serial packet (Ok o) sound rest up refused =
     changed_in x s new serial up.pair (record up.pair { inbound = up.inbound }) sound up.there (ap (λ a. a.spi) up.opened.taken.association) rest up.changed
@@ -444,7 +448,7 @@ opened_in x s new serial packet (Err fault) sound rest up refused =
 
 -- a refused packet leaves the whole table as it was, but for bad padding
 pub opened_unchanged : (now : Database) (x : GivenSpis) (s new : PairsBySerial) (serial : ℕ) (packet : List ℕ) → (result : Result Opened EspFault)
-    → table_of x s ≡ now → new ≡ record s { pairs = new.pairs } → IfErr result (λ fault. RefusesAt s.pairs serial packet fault new.pairs)
+    → table_of x s ≡ now → new ≡ record s { pairs = new.pairs } → IfErr result (λ fault. RefusesPair s.pairs serial packet fault new.pairs)
     → IfErr result (λ fault. fault ≢ BadPadding → table_of x new ≡ now)
 opened_unchanged now x s new serial packet (Ok o) shown rest refused = tt
 opened_unchanged now x s new serial packet (Err fault) shown rest refused =
@@ -454,7 +458,7 @@ opened_unchanged now x s new serial packet (Err fault) shown rest refused =
 -- after sealing, whatever came of it
 pub sealed_in : (x : GivenSpis) (s new : PairsBySerial) (serial next : ℕ) (payload before after : List ℕ) → (result : Result ℕ EspFault)
     → IsTable x s → new ≡ record s { pairs = new.pairs }
-    → IfOk result (λ number. SealsAt s.pairs serial next payload before number new.pairs after) → IfErr result (λ fault. SealRefusalAt s.pairs serial payload fault × (new ≡ s) × (after ≡ before))
+    → IfOk result (λ number. SealsPair s.pairs serial next payload before number new.pairs after) → IfErr result (λ fault. SealRefusalAt s.pairs serial payload fault × (new ≡ s) × (after ≡ before))
     → IsTable x new
 sealed_in x s new serial next payload before after (Ok number) sound rest sealed refused =
     changed_in x s new serial sealed.pair (record sealed.pair { outbound = sealed.outbound }) sound sealed.there refl rest sealed.changed
@@ -468,9 +472,9 @@ pub all_sound : (now : Database) (x : GivenSpis) (s : PairsBySerial) → table_o
     → ((serial : ℕ) (pair : Pair) → map.get s.pairs serial ≡ Some pair → pair.serial ≡ serial)
     → ((serial : ℕ) (pair : Pair) → map.get s.pairs serial ≡ Some pair → window.IsSoundWindow pair.inbound.window)
     → ((serial : ℕ) → IsSome (map.get s.pairs serial) → (1 ≤ serial) × (serial < s.next))
-    → IsSound now
+    → IsSoundTable now
 all_sound now x s shown sound first start reserved held serial windows given =
-    subst IsSound shown
+    subst IsSoundTable shown
     (record {
       start = start;
       given = sound.given;
@@ -485,3 +489,51 @@ all_sound now x s shown sound first start reserved held serial windows given =
       spi_taken = λ n spi is not. none-some n (sym (reserved spi not).2 ∙ held_by x s spi n sound is);
       apart = λ n other spi one two. same_some n other (sym (held_by x s spi n sound one) ∙ held_by x s spi other sound two);
     })
+
+-- ---- one pair changed, as the whole table shows it
+
+pub changes_at : (now : Database) (x : GivenSpis) (s new : PairsBySerial) (serial : ℕ) (was is : Pair) → table_of x s ≡ now → map.get s.pairs serial ≡ Some was
+    → new ≡ record s { pairs = new.pairs } → new.pairs ≡ map.insert s.pairs serial is → ChangesAt now serial was is (table_of x new)
+changes_at now x s new serial was is shown there rest changed =
+    subst (λ (d : Database). ChangesAt d serial was is (table_of x new)) shown
+    (record { there = there; content = ap (table_of x) (rest ∙ ap (λ ps. record s { pairs = ps }) changed) })
+
+pub marks_at : (now : Database) (x : GivenSpis) (s new : PairsBySerial) (serial : ℕ) → table_of x s ≡ now → new ≡ record s { pairs = new.pairs }
+    → MarksPair s.pairs serial new.pairs → Marks now serial (table_of x new)
+marks_at now x s new serial shown rest m = record {
+  pair = m.pair;
+  changed = changes_at now x s new serial m.pair (record m.pair { state = Deleting }) shown m.there rest m.changed;
+}
+
+pub opens_at : (now : Database) (x : GivenSpis) (s new : PairsBySerial) (serial : ℕ) (packet : List ℕ) (result : Result Opened EspFault) → table_of x s ≡ now
+    → new ≡ record s { pairs = new.pairs } → IfOk result (λ o. OpensPair s.pairs serial packet o.number o.next o.payload.now new.pairs)
+    → IfOk result (λ o. OpensAt now serial packet o.number o.next o.payload.now (table_of x new))
+opens_at now x s new serial packet (Ok o) shown rest up = record {
+  pair = up.pair;
+  inbound = up.inbound;
+  opened = up.opened;
+  changed = changes_at now x s new serial up.pair (record up.pair { inbound = up.inbound }) shown up.there rest up.changed;
+}
+opens_at now x s new serial packet (Err fault) shown rest up = tt
+
+pub refuses_at : (now : Database) (x : GivenSpis) (s new : PairsBySerial) (serial : ℕ) (packet : List ℕ) (result : Result Opened EspFault) → table_of x s ≡ now
+    → new ≡ record s { pairs = new.pairs } → IfErr result (λ fault. RefusesPair s.pairs serial packet fault new.pairs)
+    → IfErr result (λ fault. RefusesAt now serial packet fault (table_of x new))
+refuses_at now x s new serial packet (Ok o) shown rest refused = tt
+refuses_at now x s new serial packet (Err fault) shown rest refused = record {
+  pair = refused.pair;
+  inbound = refused.inbound;
+  refused = refused.refused;
+  changed = changes_at now x s new serial refused.pair (record refused.pair { inbound = refused.inbound }) shown refused.there rest refused.changed;
+}
+
+pub seals_at : (now : Database) (x : GivenSpis) (s new : PairsBySerial) (serial next : ℕ) (payload before after : List ℕ) (result : Result ℕ EspFault) → table_of x s ≡ now
+    → new ≡ record s { pairs = new.pairs } → IfOk result (λ number. SealsPair s.pairs serial next payload before number new.pairs after)
+    → IfOk result (λ number. SealsAt now serial next payload before number (table_of x new) after)
+seals_at now x s new serial next payload before after (Ok number) shown rest sealed = record {
+  pair = sealed.pair;
+  outbound = sealed.outbound;
+  sealed = sealed.sealed;
+  changed = changes_at now x s new serial sealed.pair (record sealed.pair { outbound = sealed.outbound }) shown sealed.there rest sealed.changed;
+}
+seals_at now x s new serial next payload before after (Err fault) shown rest sealed = tt

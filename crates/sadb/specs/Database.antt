@@ -1,5 +1,5 @@
 -- The security association database (RFC 4301 section 4.4.2), as a finite map from serials to pairs.
-use Rattle.std.specs.Prelude.{◌≡◌, ◌+◌, ◌^◌, ◌<◌, ◌≤◌, ℕ, List, true, Option, Some, None, IsSome, refl}
+use Rattle.std.specs.Prelude.{◌≡◌, ◌≢◌, ◌↔◌, ◌+◌, ◌^◌, ◌<◌, ◌≤◌, ℕ, List, true, Option, Some, None, IsSome, refl}
 use Rattle.std.specs.Ordering.{nat_cmp}
 use Rattle.std.specs.Coded.{Coded, code_by, coded×, coded_ℕ}
 use Rattle.std.specs.FinMap as map
@@ -46,8 +46,8 @@ pub record IsStart (start : ℕ) : Type 0 where
   pub most : start + 65536 ≤ 2 ^ 32
 
 -- no pair, and no SPI given
-abbrev pub unused : ℕ → Database
-unused start = record { start = start; given = 0; reserved = set.empty; next = 1; pairs = map.empty; room = 0 }
+abbrev pub empty_table : ℕ → Database
+empty_table start = record { start = start; given = 0; reserved = set.empty; next = 1; pairs = map.empty; room = 0 }
 
 abbrev pub IsReserved : Database → ℕ → Type 0
 IsReserved d spi = set.contains d.reserved spi ≡ true
@@ -61,10 +61,16 @@ abbrev pub IsSpent : Database → Type 0
 IsSpent d = 65536 ≤ d.given
 
 -- why no SPI is given, each where those before it don't apply
-abbrev pub IsRefusal : Database → TableFault → Type 0
-IsRefusal d Full = IsFull d
-IsRefusal d Spent = (¬ IsFull d) × IsSpent d
-IsRefusal d Memory = (¬ IsFull d) × (¬ IsSpent d) × (d.room ≡ 0)
+abbrev pub IsTableRefusal : Database → TableFault → Type 0
+IsTableRefusal d Full = IsFull d
+IsTableRefusal d Spent = (¬ IsFull d) × IsSpent d
+IsTableRefusal d Memory = (¬ IsFull d) × (¬ IsSpent d) × (d.room ≡ 0)
+
+-- an SPI can be given without memory
+pub record IsReady (d : Database) : Type 0 where
+  pub room : 1 ≤ d.room
+  pub not_full : ¬ IsFull d
+  pub not_spent : ¬ IsSpent d
 
 -- the content is as it was, and there is at least as much room
 pub record IsAsBefore (old new : Database) : Type 0 where
@@ -82,6 +88,7 @@ pub record Releases (old : Database) (spi : ℕ) (new : Database) : Type 0 where
   pub reserved : IsReserved old spi
   pub content : new ≡ record old { reserved = set.remove old.reserved spi; room = new.room }
   pub room : old.room ≤ new.room
+  pub no_more : new.room ≤ old.room + 1
 
 -- the pair comes for which the SPI was reserved, under the next serial
 pub record Installs (old : Database) (spi : ℕ) (pair : Pair) (serial : ℕ) (new : Database) : Type 0 where
@@ -95,6 +102,7 @@ pub record Installs (old : Database) (spi : ℕ) (pair : Pair) (serial : ℕ) (n
     room = new.room;
   }
   pub room : old.room ≤ new.room
+  pub no_more : new.room ≤ old.room + 1
 
 -- the pair is there no more
 pub record Removes (old : Database) (serial : ℕ) (new : Database) : Type 0 where
@@ -102,6 +110,7 @@ pub record Removes (old : Database) (serial : ℕ) (new : Database) : Type 0 whe
   pub there : map.get old.pairs serial ≡ Some pair
   pub content : new ≡ record old { pairs = map.remove old.pairs serial; room = new.room }
   pub room : old.room ≤ new.room
+  pub no_more : new.room ≤ old.room + 1
 
 -- What is said of the pairs alone.
 abbrev pub PairMap : Type 0
@@ -120,12 +129,6 @@ pub record IsLive (pairs : PairMap) (serial : ℕ) : Type 0 where
   pub there : pair_at pairs serial ≡ Some pair
   pub live : pair.state ≡ Live
 
--- the pair with this serial is Deleting from then on
-pub record Marks (old : PairMap) (serial : ℕ) (new : PairMap) : Type 0 where
-  pub pair : Pair
-  pub there : pair_at old serial ≡ Some pair
-  pub changed : new ≡ map.insert old serial (record pair { state = Deleting })
-
 -- the pair with this serial has this inbound SPI, Live or Deleting
 pub record HasInbound (pairs : PairMap) (spi serial : ℕ) : Type 0 where
   pub pair : Pair
@@ -143,6 +146,36 @@ pub record IsAfter (pairs : PairMap) (serial : ℕ) (pair : Pair) : Type 0 where
   pub there : pair_at pairs pair.serial ≡ Some pair
   pub above : serial < pair.serial
   pub least : (other : ℕ) → serial < other → other < pair.serial → pair_at pairs other ≡ None
+
+-- the pair with this serial belongs to this IKE association
+pub record BelongsTo (pairs : PairMap) (ike serial : ℕ) : Type 0 where
+  pub pair : Pair
+  pub there : pair_at pairs serial ≡ Some pair
+  pub its : pair.ike ≡ ike
+
+-- the next pair of an IKE association by serial
+pub record IsNextOf (pairs : PairMap) (ike serial next : ℕ) : Type 0 where
+  pub belongs : BelongsTo pairs ike next
+  pub above : serial < next
+  pub least : (other : ℕ) → serial < other → other < next → ¬ BelongsTo pairs ike other
+
+-- the pair with this serial belongs to this IKE association and sends under this SPI
+pub record SendsUnder (pairs : PairMap) (ike spi serial : ℕ) : Type 0 where
+  pub pair : Pair
+  pub there : pair_at pairs serial ≡ Some pair
+  pub its : pair.ike ≡ ike
+  pub under : pair.outbound.association.spi ≡ spi
+
+-- of those that do, the one of the least serial
+pub record IsSenderUnder (pairs : PairMap) (ike spi serial : ℕ) : Type 0 where
+  pub sends : SendsUnder pairs ike spi serial
+  pub least : (other : ℕ) → other < serial → ¬ SendsUnder pairs ike spi other
+
+-- all pairs of an IKE association are there no more, and all others as they were
+pub record RemovesAllOf (old : Database) (ike : ℕ) (new : Database) : Type 0 where
+  pub kept : (serial : ℕ) (pair : Pair) → (pair_at new.pairs serial ≡ Some pair) ↔ ((pair_at old.pairs serial ≡ Some pair) × (pair.ike ≢ ike))
+  pub content : new ≡ record old { pairs = new.pairs; room = new.room }
+  pub room : old.room ≤ new.room
 
 -- the pair with this serial carries the flow outward: it is Live, its local selectors hold the source and its remote ones
 -- the target (RFC 4301 section 5.1)
@@ -163,29 +196,36 @@ pub record IsFor (pairs : PairMap) (serial : ℕ) (packet : List ℕ) : Type 0 w
   pub there : pair_at pairs serial ≡ Some pair
   pub addressed : IsOf pair.inbound.association packet
 
--- the inbound association of the pair with this serial hands the packet up, and no other pair is changed
-pub record OpensAt (old : PairMap) (serial : ℕ) (packet : List ℕ) (number next : ℕ) (payload : List ℕ) (new : PairMap) : Type 0 where
+-- One pair became another under the same serial, and nothing else of the table changed, its room neither.
+pub record ChangesAt (old : Database) (serial : ℕ) (was is : Pair) (new : Database) : Type 0 where
+  pub there : pair_at old.pairs serial ≡ Some was
+  pub content : new ≡ record old { pairs = map.insert old.pairs serial is }
+
+-- the pair with this serial is Deleting from then on
+pub record Marks (old : Database) (serial : ℕ) (new : Database) : Type 0 where
   pub pair : Pair
-  pub there : pair_at old serial ≡ Some pair
+  pub changed : ChangesAt old serial pair (record pair { state = Deleting }) new
+
+-- the inbound association of the pair with this serial hands the packet up
+pub record OpensAt (old : Database) (serial : ℕ) (packet : List ℕ) (number next : ℕ) (payload : List ℕ) (new : Database) : Type 0 where
+  pub pair : Pair
   pub inbound : Receiving
   pub opened : HandsUp pair.inbound packet number next payload inbound
-  pub changed : new ≡ map.insert old serial (record pair { inbound = inbound })
+  pub changed : ChangesAt old serial pair (record pair { inbound = inbound }) new
 
--- it refuses the packet, never for want of memory, and no other pair is changed
-pub record RefusesAt (old : PairMap) (serial : ℕ) (packet : List ℕ) (fault : EspFault) (new : PairMap) : Type 0 where
+-- it refuses the packet, never for want of memory
+pub record RefusesAt (old : Database) (serial : ℕ) (packet : List ℕ) (fault : EspFault) (new : Database) : Type 0 where
   pub pair : Pair
-  pub there : pair_at old serial ≡ Some pair
   pub inbound : Receiving
   pub refused : Refuses ⊥ pair.inbound packet fault inbound
-  pub changed : new ≡ map.insert old serial (record pair { inbound = inbound })
+  pub changed : ChangesAt old serial pair (record pair { inbound = inbound }) new
 
--- the outbound association of the pair with this serial seals a packet, and no other pair is changed
-pub record SealsAt (old : PairMap) (serial next : ℕ) (payload before : List ℕ) (number : ℕ) (new : PairMap) (after : List ℕ) : Type 0 where
+-- the outbound association of the pair with this serial seals a packet
+pub record SealsAt (old : Database) (serial next : ℕ) (payload before : List ℕ) (number : ℕ) (new : Database) (after : List ℕ) : Type 0 where
   pub pair : Pair
-  pub there : pair_at old serial ≡ Some pair
   pub outbound : Sending
   pub sealed : Seals pair.outbound next payload before number outbound after
-  pub changed : new ≡ map.insert old serial (record pair { outbound = outbound })
+  pub changed : ChangesAt old serial pair (record pair { outbound = outbound }) new
 
 -- why it seals nothing
 pub record SealRefusalAt (pairs : PairMap) (serial : ℕ) (payload : List ℕ) (fault : EspFault) : Type 0 where
@@ -199,7 +239,7 @@ pub record WasGiven (d : Database) (spi : ℕ) : Type 0 where
   pub before_next : spi < d.start + d.given
 
 -- What holds of every table.
-pub record IsSound (d : Database) : Type 0 where
+pub record IsSoundTable (d : Database) : Type 0 where
   pub start : IsStart d.start
   pub given : d.given ≤ 65536
   pub first : 1 ≤ d.next

@@ -1,16 +1,21 @@
 -- How a table keeps its content: what came of each SPI given, and the pairs in a slab with an index from serials to keys. No
 -- public clause speaks of these.
-use Rattle.std.specs.Prelude.{◌≡◌, ◌+◌, ◌≤◌, ℕ, zero, suc, Bool, true, false, List, Option, Some, None, length, slice_index_or, refl}
+use Rattle.std.specs.Prelude.{◌≡◌, ◌⊎◌, ◌+◌, ◌≤◌, ℕ, zero, suc, Bool, true, false, List, Option, Some, None, length, slice_index_or, refl}
 use Rattle.std.specs.Ordering.{nat_cmp}
 use Rattle.std.specs.Coded.{Coded, code_by, coded×, coded_ℕ}
 use Rattle.std.specs.FinMap as map
 use Rattle.std.specs.FinSet as set
+use Rattle.esp.specs.Opening.{HandsUp, Refuses}
+use Rattle.esp.specs.Sealing.{Seals}
+use Rattle.esp.specs.Views.{Receiving, Sending}
+use Rattle.esp.specs.declared.fault.EspFault.{EspFault}
 use Rattle.slab.specs.Slab.{Slab, get, slab_len}
-use Rattle.replay.specs.Window.{IsSound}
+use Rattle.replay.specs.Window.{IsSoundWindow}
 use Rattle.sadb.specs.declared.pair.Pair.{Pair}
+use Rattle.sadb.specs.declared.pair.State.TheVariants.{Deleting}
 use Rattle.sadb.specs.declared.places.Place.{Place}
 use Rattle.sadb.specs.declared.places.Place.TheVariants.{Reserved, Held, Gone}
-use Rattle.sadb.specs.Database.{IsStart}
+use Rattle.sadb.specs.Database.{Database, BelongsTo, IsStart, PairMap, Removes, pair_at}
 use Rattle.sadb.specs.Numbered.{numbered, passing}
 use Rattle.sadb.specs.Views.{pair_code}
 
@@ -53,7 +58,7 @@ pub record IsIndexed (keys : List (Option ℕ)) (slab : Slab Pair) : Type 0 wher
   pub there : (i key : ℕ) → key_at keys i ≡ Some key → serial_of (get slab key) ≡ Some (i + 1)
   pub back : (key serial : ℕ) → serial_of (get slab key) ≡ Some serial → key_of keys serial ≡ Some key
   pub counted : slab_len slab ≡ map.len (shown_pairs keys slab)
-  pub windows : (key : ℕ) (pair : Pair) → get slab key ≡ Some pair → IsSound pair.inbound.window
+  pub windows : (key : ℕ) (pair : Pair) → get slab key ≡ Some pair → IsSoundWindow pair.inbound.window
 
 -- The SPIs given: the first one, how many there are, those reserved, the serials of the pairs of others, and how many more fit
 -- without memory.
@@ -109,3 +114,40 @@ pub record IsTable (x : GivenSpis) (s : PairsBySerial) : Type 0 where
   -- the serial of an SPI's pair, and the SPI of a serial's pair
   pub there : (spi serial : ℕ) → map.get x.serials spi ≡ Some serial → spi_of (map.get s.pairs serial) ≡ Some spi
   pub back : (serial spi : ℕ) → spi_of (map.get s.pairs serial) ≡ Some spi → map.get x.serials spi ≡ Some serial
+
+-- What a call does to one pair of the map, and to no other.
+
+-- the pair with this serial is Deleting from then on
+pub record MarksPair (old : PairMap) (serial : ℕ) (new : PairMap) : Type 0 where
+  pub pair : Pair
+  pub there : pair_at old serial ≡ Some pair
+  pub changed : new ≡ map.insert old serial (record pair { state = Deleting })
+
+-- the inbound association of the pair with this serial hands the packet up, and no other pair is changed
+pub record OpensPair (old : PairMap) (serial : ℕ) (packet : List ℕ) (number next : ℕ) (payload : List ℕ) (new : PairMap) : Type 0 where
+  pub pair : Pair
+  pub there : pair_at old serial ≡ Some pair
+  pub inbound : Receiving
+  pub opened : HandsUp pair.inbound packet number next payload inbound
+  pub changed : new ≡ map.insert old serial (record pair { inbound = inbound })
+
+-- it refuses the packet, never for want of memory, and no other pair is changed
+pub record RefusesPair (old : PairMap) (serial : ℕ) (packet : List ℕ) (fault : EspFault) (new : PairMap) : Type 0 where
+  pub pair : Pair
+  pub there : pair_at old serial ≡ Some pair
+  pub inbound : Receiving
+  pub refused : Refuses ⊥ pair.inbound packet fault inbound
+  pub changed : new ≡ map.insert old serial (record pair { inbound = inbound })
+
+-- the outbound association of the pair with this serial seals a packet, and no other pair is changed
+pub record SealsPair (old : PairMap) (serial next : ℕ) (payload before : List ℕ) (number : ℕ) (new : PairMap) (after : List ℕ) : Type 0 where
+  pub pair : Pair
+  pub there : pair_at old serial ≡ Some pair
+  pub outbound : Sending
+  pub sealed : Seals pair.outbound next payload before number outbound after
+  pub changed : new ≡ map.insert old serial (record pair { outbound = outbound })
+
+-- a pair is removed, if it belongs to this IKE association
+abbrev pub RemovesIfOf : Database → ℕ → ℕ → Database → Type 0
+RemovesIfOf old ike serial new =
+    (BelongsTo old.pairs ike serial × Removes old serial new) ⊎ ((¬ BelongsTo old.pairs ike serial) × (new ≡ old))

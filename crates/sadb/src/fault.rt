@@ -1,6 +1,6 @@
 //! The refusals of this crate.
 ghost use Rattle.std.specs.Prelude.{◌≡◌};
-ghost use Rattle.sadb.specs.Faults.{code_of};
+ghost use Rattle.sadb.specs.Faults.{code_of_table_fault};
 
 use thiserror::Error;
 
@@ -21,7 +21,7 @@ pub enum TableFault {
 impl TableFault {
     /// The refusal's number, as programs print it behind `E`.
     pub fn code(self) -> u8
-        ensures { result ≡ code_of self }
+        ensures { result ≡ code_of_table_fault self }
     {
         match self {
             TableFault::Full => 25,

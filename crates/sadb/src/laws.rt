@@ -3,8 +3,8 @@
 ghost use Rattle.std.specs.Prelude.{◌≡◌, ◌≢◌, ℕ, List};
 ghost use Rattle.esp.specs.declared.fault.EspFault.{EspFault};
 ghost use Rattle.policy.specs.declared.flow.Flow.{Flow};
-ghost use Rattle.sadb.specs.Database.{Database, HasInbound, Installs, IsAfter, IsAsBefore, IsInbound, IsOutbound, IsRefusal, IsSound};
-ghost use Rattle.sadb.specs.Database.{Marks, OpensAt, PairMap, RefusesAt, Releases, Removes, Reserves, SealsAt};
+ghost use Rattle.sadb.specs.Database.{Database, HasInbound, IsReady, Installs, IsAfter, IsAsBefore, IsInbound, IsOutbound, IsTableRefusal, IsSoundTable};
+ghost use Rattle.sadb.specs.Database.{Marks, OpensAt, PairMap, RefusesAt, Releases, RemovesAllOf, Removes, Reserves, SealsAt};
 ghost use Rattle.sadb.specs.Following.{Follows};
 ghost use Rattle.sadb.specs.Mirrors.{Mirrors, reflection};
 ghost use Rattle.sadb.specs.declared.fault.TableFault.{TableFault};
@@ -15,23 +15,34 @@ ghost use Rattle.sadb.specs.declared.pair.Pair.{Pair};
 /// or becomes another pair's. Following is transitive, so this holds of any number of calls.
 pub fn later_tables_follow()
     ensures transitive { (a b c : Database) → Follows a b → Follows b c → Follows a c }
-    ensures preparing { (old new : Database) → IsSound old → IsAsBefore old new → Follows old new }
-    ensures reserving { (old new : Database) (spi : ℕ) → IsSound old → Reserves old spi new → Follows old new }
-    ensures releasing { (old new : Database) (spi : ℕ) → IsSound old → Releases old spi new → Follows old new }
+    ensures preparing { (old new : Database) → IsSoundTable old → IsAsBefore old new → Follows old new }
+    ensures reserving { (old new : Database) (spi : ℕ) → IsSoundTable old → Reserves old spi new → Follows old new }
+    ensures releasing { (old new : Database) (spi : ℕ) → IsSoundTable old → Releases old spi new → Follows old new }
     ensures installing { (old new : Database) (spi : ℕ) (pair : Pair) (serial : ℕ)
-        → IsSound old → Installs old spi pair serial new → Follows old new }
-    ensures removing { (old new : Database) (serial : ℕ) → IsSound old → Removes old serial new → Follows old new }
-    ensures marking { (old new : Database) (serial : ℕ) → IsSound old → Marks old.pairs serial new.pairs
-        → new ≡ record old { pairs = new.pairs } → Follows old new }
-    ensures opening { (old new : Database) (serial : ℕ) (packet : List ℕ) (number next : ℕ) (payload : List ℕ) → IsSound old
-        → OpensAt old.pairs serial packet number next payload new.pairs
-        → new ≡ record old { pairs = new.pairs } → Follows old new }
-    ensures refusing { (old new : Database) (serial : ℕ) (packet : List ℕ) (fault : EspFault) → IsSound old
-        → RefusesAt old.pairs serial packet fault new.pairs
-        → new ≡ record old { pairs = new.pairs } → Follows old new }
+        → IsSoundTable old → Installs old spi pair serial new → Follows old new }
+    ensures removing { (old new : Database) (serial : ℕ) → IsSoundTable old → Removes old serial new → Follows old new }
+    ensures emptying { (old new : Database) (ike : ℕ) → IsSoundTable old → RemovesAllOf old ike new → Follows old new }
+    ensures marking { (old new : Database) (serial : ℕ) → IsSoundTable old → Marks old serial new → Follows old new }
+    ensures opening { (old new : Database) (serial : ℕ) (packet : List ℕ) (number next : ℕ) (payload : List ℕ)
+        → IsSoundTable old → OpensAt old serial packet number next payload new → Follows old new }
+    ensures refusing { (old new : Database) (serial : ℕ) (packet : List ℕ) (fault : EspFault)
+        → IsSoundTable old → RefusesAt old serial packet fault new → Follows old new }
     ensures sealing { (old new : Database) (serial next : ℕ) (payload before : List ℕ) (number : ℕ) (after : List ℕ)
-        → IsSound old → SealsAt old.pairs serial next payload before number new.pairs after
-        → new ≡ record old { pairs = new.pairs } → Follows old new }
+        → IsSoundTable old → SealsAt old serial next payload before number new after → Follows old new }
+{}
+
+/// Room that was made stays until an SPI is given for it: a table that is ready to give one without memory is so after a
+/// release, a removal, the end of a pair's traffic outward, an opening, whatever came of it, and a sealing.
+pub fn room_stays()
+    ensures releasing { (old new : Database) (spi : ℕ) → IsReady old → Releases old spi new → IsReady new }
+    ensures removing { (old new : Database) (serial : ℕ) → IsReady old → Removes old serial new → IsReady new }
+    ensures marking { (old new : Database) (serial : ℕ) → IsReady old → Marks old serial new → IsReady new }
+    ensures opening { (old new : Database) (serial : ℕ) (packet : List ℕ) (number next : ℕ) (payload : List ℕ)
+        → IsReady old → OpensAt old serial packet number next payload new → IsReady new }
+    ensures refusing { (old new : Database) (serial : ℕ) (packet : List ℕ) (fault : EspFault)
+        → IsReady old → RefusesAt old serial packet fault new → IsReady new }
+    ensures sealing { (old new : Database) (serial next : ℕ) (payload before : List ℕ) (number : ℕ) (after : List ℕ)
+        → IsReady old → SealsAt old serial next payload before number new after → IsReady new }
 {}
 
 /// An SPI that was given is not given again, whatever is done between.
@@ -42,7 +53,7 @@ pub fn no_spi_is_given_twice()
 
 /// An inbound SPI names one pair for ever: what has it later is the pair that had it, under the same serial.
 pub fn an_spi_names_one_pair()
-    ensures { (a c : Database) (spi serial later : ℕ) → IsSound a → Follows a c
+    ensures { (a c : Database) (spi serial later : ℕ) → IsSoundTable a → Follows a c
         → HasInbound a.pairs spi serial → HasInbound c.pairs spi later → later ≡ serial }
 {}
 
@@ -52,7 +63,7 @@ pub fn answers_are_determined()
     ensures inbound { (pairs : PairMap) (spi : ℕ) (a b : Pair) → IsInbound pairs spi a → IsInbound pairs spi b → a ≡ b }
     ensures outbound { (pairs : PairMap) (flow : Flow) (a b : ℕ) → IsOutbound pairs flow a → IsOutbound pairs flow b → a ≡ b }
     ensures after { (pairs : PairMap) (serial : ℕ) (a b : Pair) → IsAfter pairs serial a → IsAfter pairs serial b → a ≡ b }
-    ensures refusal { (d : Database) (a b : TableFault) → IsRefusal d a → IsRefusal d b → a ≡ b }
+    ensures refusal { (d : Database) (a b : TableFault) → IsTableRefusal d a → IsTableRefusal d b → a ≡ b }
 {}
 
 /// A pair that mirrors another is mirrored by it.

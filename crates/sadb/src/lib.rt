@@ -22,7 +22,7 @@
 #![tactic(auto)]
 
 mod fault;
-mod laws;
+pub mod laws;
 mod pair;
 mod pairs;
 mod places;
@@ -30,10 +30,6 @@ mod spi;
 mod table;
 
 pub use fault::TableFault;
-pub use laws::{
-    an_spi_names_one_pair, answers_are_determined, later_tables_follow, mirroring_is_symmetric,
-    mirrors_exist, no_spi_is_given_twice,
-};
 pub use pair::{Pair, State};
 pub use spi::Spi;
 pub use table::Table;

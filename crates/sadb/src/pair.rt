@@ -1,9 +1,9 @@
 //! Pairs of associations.
 ghost use Rattle.std.specs.Prelude.{◌≡◌};
 
+use base::{Items, Selector};
 use esp::{Inbound, Outbound};
 use replay::BlockWindow;
-use wire::{Items, Selector};
 
 /// Whether a pair carries packets outward.
 #[derive(Clone, Copy, Debug, PartialEq, Eq)]

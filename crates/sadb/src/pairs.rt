@@ -1,13 +1,14 @@
 //! The pairs of a table, by their serials.
-ghost use Rattle.std.specs.Prelude.{◌≡◌, ◌+◌, ◌<◌, ◌≤◌, ◌^◌, ℕ, List, Some, None, IsOk, OnOk, IfOk, IfErr, IfSome, IfNone, IsSome, IsTrue, ◌↔◌};
+ghost use Rattle.std.specs.Vec.{vec_capacity};
+ghost use Rattle.esp.specs.declared.fault.EspFault.{EspFault};
+ghost use Rattle.std.specs.Prelude.{◌≢◌, length, vec_len, ◌≡◌, ◌+◌, ◌<◌, ◌≤◌, ◌^◌, ℕ, List, Some, None, IsOk, OnOk, IfOk, IfErr, IfSome, IfNone, IsSome, IsTrue, ◌↔◌};
 ghost use Rattle.std.specs.Option.{option_copied};
 ghost use Rattle.std.specs.FinMap as map;
 ghost use Rattle.policy.specs.Decisions.{Covers};
-ghost use Rattle.replay.specs.Window.{IsSound};
+ghost use Rattle.replay.specs.Window.{IsSoundWindow};
 ghost use Rattle.sadb.specs.declared.pair.Pair as held;
-ghost use Rattle.sadb.specs.Database.{Marks, IsAfter, Carries, IsOutbound};
-ghost use Rattle.sadb.specs.Storage.{key_of};
-ghost use Rattle.sadb.specs.Database.{IsFor, OpensAt, RefusesAt, SealsAt, SealRefusalAt};
+ghost use Rattle.sadb.specs.Database.{BelongsTo, Carries, IsAfter, IsFor, IsNextOf, IsOutbound, IsSenderUnder, SealRefusalAt, SendsUnder};
+ghost use Rattle.sadb.specs.Storage.{MarksPair, OpensPair, RefusesPair, SealsPair, key_of};
 
 use crate::pair::{Pair, State};
 use esp::{EspFault, Opened};
@@ -71,7 +72,7 @@ impl Pairs {
         ensures first { 1 ≤ self.now.next }
         ensures serial { (serial : ℕ) (pair : held.Pair) → map.get self.now.pairs serial ≡ Some pair → pair.serial ≡ serial }
         ensures windows { (serial : ℕ) (pair : held.Pair) → map.get self.now.pairs serial ≡ Some pair
-            → IsSound pair.inbound.window }
+            → IsSoundWindow pair.inbound.window }
         ensures given { (serial : ℕ) → IsSome (map.get self.now.pairs serial) → (1 ≤ serial) × (serial < self.now.next) }
     {
         // Opens the model, so that its invariant is known here.
@@ -110,6 +111,7 @@ impl Pairs {
           room = self.new.room;
         } }
         ensures room { self.old.room ≤ self.new.room + 1 }
+        ensures no_more { self.new.room ≤ self.old.room }
     {
         let serial = self.keys.len() as u32 + 1;
         pair.serial = serial;
@@ -126,6 +128,7 @@ impl Pairs {
         ensures there { map.get self.old.pairs serial ≡ Some result }
         ensures content { self.new ≡ record self.old { pairs = map.remove self.old.pairs serial; room = self.new.room } }
         ensures room { self.old.room ≤ self.new.room }
+        ensures no_more { self.new.room ≤ self.old.room + 1 }
     {
         let key = key(&self.keys, serial).unwrap();
         self.keys[serial as usize - 1] = None;
@@ -143,7 +146,7 @@ impl Pairs {
     /// Ends a pair's traffic outward.
     pub fn mark(&mut self, serial: u32)
         requires { IsSome (map.get self.old.pairs serial) }
-        ensures marked { Marks self.old.pairs serial self.new.pairs }
+        ensures marked { MarksPair self.old.pairs serial self.new.pairs }
         ensures rest { self.new ≡ record self.old { pairs = self.new.pairs } }
     {
         let key = key(&self.keys, serial).unwrap();
@@ -153,8 +156,8 @@ impl Pairs {
     /// Opens a packet by a pair's inbound association.
     pub fn open<'a>(&mut self, serial: u32, packet: &'a [u8]) -> Result<Opened<'a>, EspFault>
         requires { IsFor self.old.pairs serial packet.now }
-        ensures up { IfOk result (λ o. OpensAt self.old.pairs serial packet.now o.number o.next o.payload.now self.new.pairs) }
-        ensures refused { IfErr result (λ fault. RefusesAt self.old.pairs serial packet.now fault self.new.pairs) }
+        ensures up { IfOk result (λ o. OpensPair self.old.pairs serial packet.now o.number o.next o.payload.now self.new.pairs) }
+        ensures refused { IfErr result (λ fault. RefusesPair self.old.pairs serial packet.now fault self.new.pairs) }
         ensures rest { self.new ≡ record self.old { pairs = self.new.pairs } }
     {
         let key = key(&self.keys, serial).unwrap();
@@ -175,10 +178,12 @@ impl Pairs {
     ) -> Result<u64, EspFault>
         requires { IsSome (map.get self.old.pairs serial) }
         ensures sealed { IfOk result (λ number.
-            SealsAt self.old.pairs serial next payload.now out.old.items number self.new.pairs out.new.items) }
+            SealsPair self.old.pairs serial next payload.now out.old.items number self.new.pairs out.new.items) }
         ensures refused { IfErr result (λ fault. SealRefusalAt self.old.pairs serial payload.now fault
             × (self.new ≡ self.old) × (out.new.items ≡ out.old.items)) }
         ensures rest { self.new ≡ record self.old { pairs = self.new.pairs } }
+        ensures space { vec_len out.old + (length payload.now + 29) ≤ vec_capacity out.old
+            → IfErr result (λ fault. fault ≢ EspFault.Memory) }
     {
         let key = key(&self.keys, serial).unwrap();
         self.slab[key].outbound.seal(next, payload, out)
@@ -196,6 +201,64 @@ impl Pairs {
             }
         }
         self.get(first?)
+    }
+
+    /// The serial of the next pair.
+    pub fn next(&self) -> u32
+        requires { self.now.next < 2 ^ 32 }
+        ensures { result ≡ self.now.next }
+    {
+        self.keys.len() as u32 + 1
+    }
+
+    /// Whether a serial is that of a pair of an IKE association.
+    pub fn belongs_to(&self, serial: u32, ike: u32) -> bool
+        ensures { IsTrue result ↔ BelongsTo self.now.pairs ike serial }
+    {
+        match self.get(serial) {
+            Some(pair) => pair.ike == ike,
+            None => false,
+        }
+    }
+
+    /// The serial of the next pair of an IKE association.
+    pub fn next_of(&self, ike: u32, serial: u32) -> Option<u32>
+        requires { self.now.next < 2 ^ 32 }
+        ensures some { IfSome result (IsNextOf self.now.pairs ike serial) }
+        ensures none { IfNone result ((other : ℕ) → serial < other → ¬ BelongsTo self.now.pairs ike other) }
+    {
+        self.invariants_hold();
+        for other in serial.saturating_add(1)..self.next() {
+            if self.belongs_to(other, ike) {
+                return Some(other);
+            }
+        }
+        None
+    }
+
+    /// Whether a serial is that of a pair of an IKE association that sends under an SPI.
+    fn sends_under(&self, serial: u32, ike: u32, spi: u32) -> bool
+        ensures { IsTrue result ↔ SendsUnder self.now.pairs ike spi serial }
+    {
+        match self.get(serial) {
+            Some(pair) => pair.ike == ike && pair.outbound.spi() == spi,
+            None => false,
+        }
+    }
+
+    /// The least serial of a pair of an IKE association that sends under an SPI.
+    pub fn sender_under(&self, ike: u32, spi: u32) -> Option<u32>
+        requires { self.now.next < 2 ^ 32 }
+        ensures some { IfSome result (IsSenderUnder self.now.pairs ike spi) }
+        ensures none { IfNone result ((serial : ℕ) → ¬ SendsUnder self.now.pairs ike spi serial) }
+    {
+        self.invariants_hold();
+        for serial in 0..self.next() {
+            if self.sends_under(serial, ike, spi) {
+                return Some(serial);
+            }
+        }
+        None
     }
 
     /// Of the pairs that carry a flow outward, the one of the greatest serial.

@@ -1,8 +1,11 @@
 //! The association table.
-ghost use Rattle.std.specs.Prelude.{◌≡◌, ◌≢◌, ◌+◌, ◌<◌, ◌≤◌, ℕ, List, Some, None, OnOk, IfOk, IfErr, IfSome, IfNone, IsOk};
-ghost use Rattle.sadb.specs.Database.{IsStart, unused, IsFull, IsSpent, IsRefusal, IsAsBefore, Reserves, IsReserved, Releases, Installs};
-ghost use Rattle.sadb.specs.Database.{pair_at, IsThere, Removes, IsLive, Marks, HasInbound, IsInbound, IsSound, IsAfter, Carries, IsOutbound};
-ghost use Rattle.sadb.specs.Database.{IsFor, OpensAt, RefusesAt, SealsAt, SealRefusalAt};
+ghost use Rattle.std.specs.Prelude.{◌≡◌, ◌≢◌, ◌+◌, ◌<◌, ◌≤◌, ℕ, List, Some, None, OnOk, IfOk, IfErr, IfSome, IfNone, IsOk, length, vec_len};
+ghost use Rattle.sadb.specs.Database.{IsStart, empty_table, IsFull, IsSpent, IsTableRefusal, IsAsBefore, Reserves, IsReserved, Releases, Installs};
+ghost use Rattle.sadb.specs.Database.{pair_at, IsThere, Removes, IsLive, Marks, HasInbound, IsInbound, IsSoundTable, IsAfter, Carries, IsOutbound};
+ghost use Rattle.sadb.specs.Database.{BelongsTo, IsFor, IsNextOf, IsSenderUnder, OpensAt, RefusesAt, RemovesAllOf, SealsAt, SealRefusalAt, SendsUnder};
+ghost use Rattle.std.specs.Vec.{vec_capacity};
+ghost use Rattle.sadb.specs.Storage.{RemovesIfOf};
+ghost use Rattle.esp.specs.declared.fault.EspFault.{EspFault};
 
 use crate::pairs::Pairs;
 use crate::places::Places;
@@ -58,7 +61,7 @@ impl Table {
     /// An empty table whose first inbound SPI is `start`, from 256 to 2^32 - 65,536. Takes no memory.
     pub fn new(alloc: Global, start: u32) -> Table
         requires { IsStart start }
-        ensures { result ≡ unused start }
+        ensures { result ≡ empty_table start }
     {
         Table {
             places: Places::new(alloc, start),
@@ -68,7 +71,7 @@ impl Table {
 
     /// What holds of every table. Does nothing.
     pub fn invariants_hold(&self)
-        ensures { IsSound self.now }
+        ensures { IsSoundTable self.now }
     {
         self.places.invariants_hold();
         self.pairs.invariants_hold();
@@ -83,7 +86,7 @@ impl Table {
         ensures content { IsAsBefore self.old self.new }
         ensures ok { IfOk result (λ spi. (spi ≡ self.old.start + self.old.given) × (1 ≤ self.new.room)
             × (¬ IsFull self.old) × (¬ IsSpent self.old)) }
-        ensures refused { IfErr result (IsRefusal self.old) }
+        ensures refused { IfErr result (IsTableRefusal self.old) }
         ensures succeeds { 1 ≤ self.old.room → ¬ IsFull self.old → ¬ IsSpent self.old → IsOk result }
     {
         if self.pairs.len() + self.places.reserved() >= MOST_HELD {
@@ -108,7 +111,7 @@ impl Table {
     pub fn reserve(&mut self) -> Result<Spi, TableFault>
         ensures ok { IfOk result (λ spi. Reserves self.old spi self.new × (¬ IsFull self.old) × (¬ IsSpent self.old)) }
         ensures reserved { IfOk result (IsReserved self.new) }
-        ensures refused { IfErr result (λ fault. IsRefusal self.old fault × IsAsBefore self.old self.new) }
+        ensures refused { IfErr result (λ fault. IsTableRefusal self.old fault × IsAsBefore self.old self.new) }
         ensures succeeds { 1 ≤ self.old.room → ¬ IsFull self.old → ¬ IsSpent self.old → IsOk result }
     {
         self.prepare()?;
@@ -157,8 +160,7 @@ impl Table {
     /// asks only for one that is Live. Takes no memory.
     pub fn mark(&mut self, serial: u32)
         requires { IsLive self.old.pairs serial }
-        ensures marked { Marks self.old.pairs serial self.new.pairs }
-        ensures rest { self.new ≡ record self.old { pairs = self.new.pairs } }
+        ensures { Marks self.old serial self.new }
     {
         self.pairs.mark(serial);
     }
@@ -180,15 +182,51 @@ impl Table {
         self.pairs.after(serial)
     }
 
+    /// The serial of the next pair of an IKE association, Live or Deleting: the least above the given one. From 0 on, one after the
+    /// other, all are found, in one walk over the serials given so far. Takes no memory.
+    pub fn next_of(&self, ike: u32, serial: u32) -> Option<u32>
+        ensures some { IfSome result (IsNextOf self.now.pairs ike serial) }
+        ensures none { IfNone result ((other : ℕ) → serial < other → ¬ BelongsTo self.now.pairs ike other) }
+    {
+        self.pairs.next_of(ike, serial)
+    }
+
+    /// The serial of the pair of an IKE association that sends under an SPI, Live or Deleting; of several, which a peer may make by
+    /// naming one SPI twice, the least. Takes no memory.
+    pub fn sender_under(&self, ike: u32, spi: u32) -> Option<u32>
+        ensures some { IfSome result (IsSenderUnder self.now.pairs ike spi) }
+        ensures none { IfNone result ((serial : ℕ) → ¬ SendsUnder self.now.pairs ike spi serial) }
+    {
+        self.pairs.sender_under(ike, spi)
+    }
+
+    /// Takes all pairs of an IKE association out for good, in one walk over the serials given so far. Takes no memory.
+    pub fn remove_all_of(&mut self, ike: u32)
+        ensures { RemovesAllOf self.old ike self.new }
+    {
+        self.invariants_hold();
+        for serial in 0..self.pairs.next() {
+            self.remove_if_of(serial, ike);
+        }
+    }
+
+    /// Takes a pair out, if it is there and belongs to an IKE association.
+    fn remove_if_of(&mut self, serial: u32, ike: u32)
+        ensures { RemovesIfOf self.old ike serial self.new }
+    {
+        if self.pairs.belongs_to(serial, ike) {
+            self.remove(serial);
+        }
+    }
+
     /// Opens a packet by the inbound association of a pair, as [`esp::Inbound::open`] does, with its refusals but for want of
     /// memory, which never comes. The caller asks only for a pair that is there, with a packet that begins with its inbound SPI
     /// or is shorter than one. Takes no memory.
     pub fn open<'a>(&mut self, serial: u32, packet: &'a [u8]) -> Result<Opened<'a>, EspFault>
         requires { IsFor self.old.pairs serial packet.now }
-        ensures up { IfOk result (λ o. OpensAt self.old.pairs serial packet.now o.number o.next o.payload.now self.new.pairs) }
-        ensures refused { IfErr result (λ fault. RefusesAt self.old.pairs serial packet.now fault self.new.pairs) }
+        ensures up { IfOk result (λ o. OpensAt self.old serial packet.now o.number o.next o.payload.now self.new) }
+        ensures refused { IfErr result (λ fault. RefusesAt self.old serial packet.now fault self.new) }
         ensures unchanged { IfErr result (λ fault. fault ≢ EspFault.BadPadding → self.new ≡ self.old) }
-        ensures rest { self.new ≡ record self.old { pairs = self.new.pairs } }
     {
         self.pairs.open(serial, packet)
     }
@@ -205,10 +243,12 @@ impl Table {
     ) -> Result<u64, EspFault>
         requires { IsThere self.old.pairs serial }
         ensures sealed { IfOk result (λ number.
-            SealsAt self.old.pairs serial next payload.now out.old.items number self.new.pairs out.new.items) }
+            SealsAt self.old serial next payload.now out.old.items number self.new out.new.items) }
         ensures refused { IfErr result (λ fault. SealRefusalAt self.old.pairs serial payload.now fault
             × (self.new ≡ self.old) × (out.new.items ≡ out.old.items)) }
-        ensures rest { self.new ≡ record self.old { pairs = self.new.pairs } }
+        // A packet is its payload and 26 to 29 octets more.
+        ensures room { vec_len out.old + (length payload.now + 29) ≤ vec_capacity out.old
+            → IfErr result (λ fault. fault ≢ EspFault.Memory) }
     {
         self.pairs.seal(serial, next, payload, out)
     }

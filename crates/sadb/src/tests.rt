@@ -1,3 +1,4 @@
+mod association;
 mod changes;
 mod faults;
 mod fixture;

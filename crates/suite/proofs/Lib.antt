@@ -1,2 +1,1 @@
-pub mod ChoiceLemmas
-pub mod OctetLemmas
+mod ChoiceLemmas

@@ -39,9 +39,9 @@ kinds (Ike encr key_length group) = 1 ∷ 2 ∷ 3 ∷ 4 ∷ []
 kinds (Esp extended) = 1 ∷ 3 ∷ 5 ∷ []
 
 -- section 3.3.1: IKE is 1, ESP is 3
-abbrev pub protocol_of : Wanted → ℕ
-protocol_of (Ike encr key_length group) = 1
-protocol_of (Esp extended) = 3
+abbrev pub wanted_protocol : Wanted → ℕ
+wanted_protocol (Ike encr key_length group) = 1
+wanted_protocol (Esp extended) = 3
 
 -- A first exchange names no SPI (section 3.3.1). ESP's has 4 octets and is not one of those up to 255, which are reserved
 -- (RFC 4303, section 2.1).
@@ -53,8 +53,8 @@ abbrev pub IsAcceptableTransform : Wanted → ℕ → Transform → Type 0
 IsAcceptableTransform wanted kind transform = (transform.kind ≡ kind) × Contains (acceptable_transforms wanted) transform
 
 -- a proposal of which an acceptable transform of each type can be taken
-pub record IsAcceptable (wanted : Wanted) (proposal : Proposal) : Type 0 where
-  pub protocol : proposal.protocol ≡ protocol_of wanted
+pub record IsAcceptableProposal (wanted : Wanted) (proposal : Proposal) : Type 0 where
+  pub protocol : proposal.protocol ≡ wanted_protocol wanted
   pub spi : HasSpi wanted proposal.spi
   pub no_other : All (λ transform. Contains (kinds wanted) transform.kind) proposal.transforms
   pub each : All (λ kind. Any (IsAcceptableTransform wanted kind) proposal.transforms) (kinds wanted)
@@ -72,10 +72,10 @@ ChoosesNumbers (Ike encr key_length group) transforms extended = extended ≡ fa
 ChoosesNumbers (Esp allowed) transforms extended = IsFirstAcceptable (Esp allowed) 5 transforms (sequence_numbers extended)
 
 -- the first acceptable proposal is chosen, and its number is kept (section 3.3.1)
-pub record IsChosen (wanted : Wanted) (proposals : List Proposal) (chosen : Chosen) : Type 0 where
+pub record IsChosenProposal (wanted : Wanted) (proposals : List Proposal) (chosen : Chosen) : Type 0 where
   pub proposal : Proposal
   pub here : slice_get proposals chosen.place ≡ Some proposal
-  pub acceptable : IsAcceptable wanted proposal
-  pub first : (k : ℕ) (other : Proposal) → k < chosen.place → slice_get proposals k ≡ Some other → ¬ IsAcceptable wanted other
+  pub acceptable : IsAcceptableProposal wanted proposal
+  pub first : (k : ℕ) (other : Proposal) → k < chosen.place → slice_get proposals k ≡ Some other → ¬ IsAcceptableProposal wanted other
   pub number : chosen.number ≡ proposal.number
   pub numbers : ChoosesNumbers wanted proposal.transforms chosen.extended

@@ -1,8 +1,6 @@
 pub mod Nonces
 pub mod Keys
-pub mod Proved
+pub mod SignedOctets
 pub mod Choice
 pub mod Sealing
-pub mod Agreeing
-pub mod TestCaller
-pub mod TestCallerLaws
+pub mod Callers

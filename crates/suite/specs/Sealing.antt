@@ -1,6 +1,6 @@
 -- What a cipher is asked to seal, and what opening does (RFC 7296, section 3.14).
 use Rattle.std.specs.Prelude.{◌≡◌, ℕ, Bool, true, false, Option, Some, None, List, ◌++◌, length}
-use Rattle.wire.specs.Parts.{AreOctets}
+use Rattle.base.specs.Octets.{AreOctets}
 use Rattle.suite.specs.declared.keys.Keys.{Keys}
 
 -- both keys have 32 octets

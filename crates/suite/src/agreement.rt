@@ -2,7 +2,7 @@
 ghost use Rattle.std.specs.Prelude.{◌≡◌, IfOk};
 
 use std::alloc::{AllocError, Global};
-use wire::Items;
+use base::Items;
 
 /// The agreement by which two ends come to a shared secret (RFC 7296, sections 2.14 and 3.4).
 ///
@@ -10,7 +10,7 @@ use wire::Items;
 /// ends are refused is allowed, but not one alone.
 pub trait Agreement {
     ghost use Rattle.std.specs.Prelude.{ℕ, List, Option};
-    ghost use Rattle.suite.specs.Agreeing.{FitsPayload, IsSecret};
+    ghost use Rattle.suite.specs.Callers.{FitsPayload, IsSecret};
 
     /// The group's number (section 3.3.2).
     ghost group_number: { ℕ };

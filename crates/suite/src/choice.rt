@@ -5,6 +5,7 @@ use crate::transforms::{
     AUTH_HMAC_SHA2_256_128, ENCR, ENCR_NULL, ESN, ESP, EXTENSION, FIRST_SPI, GROUP, IKE, INTEG,
     KEY_LENGTH, NO_EXTENSION, PRF, PRF_HMAC_SHA2_256,
 };
+use crate::{Agreement, Sealer};
 use byteorder::{BigEndian, ByteOrder};
 use wire::{Attribute, Proposal, Transform};
 
@@ -40,12 +41,24 @@ const IKE_KINDS: [u8; 4] = [ENCR, PRF, INTEG, GROUP];
 
 const ESP_KINDS: [u8; 3] = [ENCR, INTEG, ESN];
 
-ghost use Rattle.suite.specs.Choice.{acceptable_transforms, key_length_attribute, kinds, protocol_of, without_attributes, ChoosesNumbers, HasSpi, IsAcceptable, IsAcceptableTransform, IsChosen, IsFirstAcceptable};
+ghost use Rattle.suite.specs.Choice.{acceptable_transforms, key_length_attribute, kinds, wanted_protocol, without_attributes, ChoosesNumbers, HasSpi, IsAcceptableProposal, IsAcceptableTransform, IsChosenProposal, IsFirstAcceptable};
 
 impl Wanted {
+    /// What an IKE association is to have by a caller's traits: its cipher and its group.
+    pub fn ike<C: Sealer + Agreement>(caller: &C) -> Wanted
+        ensures { result ≡ Wanted.Ike C.cipher.id C.cipher.key_length C.group_number }
+    {
+        let cipher = caller.transform();
+        Wanted::Ike {
+            encr: cipher.id,
+            key_length: cipher.key_length,
+            group: caller.group(),
+        }
+    }
+
     /// The protocol that a proposal is for (RFC 7296, section 3.3.1).
     pub fn protocol(&self) -> u8
-        ensures { result ≡ protocol_of self.now }
+        ensures { result ≡ wanted_protocol self.now }
     {
         match self {
             Wanted::Ike { .. } => IKE,
@@ -106,8 +119,8 @@ impl Wanted {
 /// another type. A transform with another attribute than the wanted key length is not acceptable.
 pub fn choose(proposals: &[Proposal], wanted: &Wanted) -> Option<Chosen>
     ensures { MatchOption result
-        (All (λ proposal. ¬ IsAcceptable wanted.now proposal) proposals.now)
-        (IsChosen wanted.now proposals.now) }
+        (All (λ proposal. ¬ IsAcceptableProposal wanted.now proposal) proposals.now)
+        (IsChosenProposal wanted.now proposals.now) }
 {
     for (place, proposal) in proposals.iter().enumerate() {
         if is_acceptable(proposal, wanted) {
@@ -122,7 +135,7 @@ pub fn choose(proposals: &[Proposal], wanted: &Wanted) -> Option<Chosen>
 }
 
 fn is_acceptable(proposal: &Proposal, wanted: &Wanted) -> bool
-    ensures { IsTrue result ↔ IsAcceptable wanted.now proposal.now }
+    ensures { IsTrue result ↔ IsAcceptableProposal wanted.now proposal.now }
 {
     has_protocol(proposal, wanted) && has_transforms(proposal.transforms.as_slice(), wanted)
 }
@@ -130,7 +143,7 @@ fn is_acceptable(proposal: &Proposal, wanted: &Wanted) -> bool
 // Whether the proposal is for the wanted protocol, with an SPI of its form.
 fn has_protocol(proposal: &Proposal, wanted: &Wanted) -> bool
     ensures { IsTrue result
-        ↔ ((proposal.now.protocol ≡ protocol_of wanted.now) × HasSpi wanted.now proposal.now.spi) }
+        ↔ ((proposal.now.protocol ≡ wanted_protocol wanted.now) × HasSpi wanted.now proposal.now.spi) }
 {
     proposal.protocol == wanted.protocol() && wanted.allows_spi(proposal.spi.as_slice())
 }

@@ -1,6 +1,6 @@
 //! The keys of one direction.
 ghost use Rattle.std.specs.Prelude.{◌≡◌, length};
-ghost use Rattle.wire.specs.Parts.{AreOctets};
+ghost use Rattle.base.specs.Octets.{AreOctets};
 
 use std::fmt;
 

@@ -2,7 +2,8 @@
 //! proves, and the traits that a caller gives.
 //!
 //! [`ike_keys`] derives the seven keys of an association, [`child_keys`] those of a child; [`choose`] takes the first
-//! acceptable proposal; [`proof_octets`] appends what an end proves of itself. Of these four only [`proof_octets`] takes memory. The numbers of transforms stand in [`transforms`].
+//! acceptable proposal; [`proof_octets`] appends what an end proves of itself. Of these four
+//! only [`proof_octets`] takes memory. The numbers of transforms stand in [`transforms`].
 //!
 //! Ciphers, key agreement and signatures are the caller's: a [`Sealer`], an [`Agreement`] and a [`Proof`]. What they mean
 //! stands in ghost members of the traits, so that what opens as what is a fact about octets, and their laws are laws of
@@ -25,7 +26,7 @@ mod key_record;
 mod keys;
 mod nonce;
 mod proof;
-mod proved;
+mod signed_octets;
 mod sealer;
 #[cfg(test)]
 mod tests;
@@ -39,5 +40,5 @@ pub use key_record::{KeyRecord, child_keys, ike_keys};
 pub use keys::Keys;
 pub use nonce::Nonce;
 pub use proof::Proof;
-pub use proved::proof_octets;
+pub use signed_octets::proof_octets;
 pub use sealer::{Cipher, Sealer};

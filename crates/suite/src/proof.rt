@@ -2,7 +2,7 @@
 ghost use Rattle.std.specs.Prelude.{◌≡◌, IfOk};
 
 use std::alloc::{AllocError, Global};
-use wire::Items;
+use base::Items;
 
 /// How an end proves its identity and checks its peer's (RFC 7296, sections 2.15 and 3.8).
 ///
@@ -11,8 +11,8 @@ use wire::Items;
 /// length of proofs depends on the value, a ghost field of it can say that they fit.
 pub trait Proof {
     ghost use Rattle.std.specs.Prelude.{ℕ, Bool, List};
-    ghost use Rattle.wire.specs.Parts.{AreOctets};
-    ghost use Rattle.suite.specs.Agreeing.{FitsPayload};
+    ghost use Rattle.base.specs.Octets.{AreOctets};
+    ghost use Rattle.suite.specs.Callers.{FitsPayload};
 
     /// The number of the method by which this end proves (section 3.8).
     ghost own_method: { Self → ℕ };

@@ -1,7 +1,6 @@
-mod caller;
 mod choice;
 mod keys;
-mod proved;
+mod signed_octets;
 
 // The octets 0, 1, 2 and so on.
 fn counted<const N: usize>() -> [u8; N] {

@@ -2,7 +2,7 @@
 use Rattle.std.proofs.Common.{◌≡◌, ℕ, ◌+◌, ◌-◌, ◌^◌, ◌<◌, ◌≤◌, true, false, cond, eqb, leb, List, [], ◌∷◌, ◌++◌, length, Some, None, refl, sym, ap, subst, ◌∙◌, append_assoc, inl, inr, arith, rules, tests}
 use Rattle.std.proofs.lemmas.Bool.{eqb-true, leb-true, leb-false, le-leb, lt-leb}
 use Rattle.byteorder.specs.Endian.{big_bytes}
-use Rattle.wire.specs.Parts.{IsOctet, AreOctets}
+use Rattle.base.specs.Octets.{IsOctet, AreOctets}
 use Rattle.wire.specs.Proposals.{SpellsAttribute, SpellsTransform, SpellsProposal, SpellsProposals, NumberedFrom, AreNumbered}
 use Rattle.wire.specs.Reading.{◌>>=◌, octets_at, octet_at, number_at, each_of, marked_of, attribute_at, transform_of, proposal_of, proposals_of, numbered_from, are_numbered}
 use Rattle.wire.specs.declared.proposal.Attribute.{Attribute}
@@ -10,7 +10,8 @@ use Rattle.wire.specs.declared.proposal.Attribute.TheVariants.{Short, Long}
 use Rattle.wire.specs.declared.proposal.Transform.{Transform}
 use Rattle.wire.specs.declared.proposal.Proposal.{Proposal}
 use Rattle.wire.proofs.Options.{some_is, with_some, with_test, pick, both_true}
-use Rattle.wire.proofs.Takes.{octets_back, octets_takes, octets_again, octet_takes, octet_again, wide2, number_takes, number_again}
+use Rattle.wire.proofs.OctetLemmas.{octets_back}
+use Rattle.wire.proofs.Takes.{octets_takes, octets_again, octet_takes, octet_again, wide2, number_takes, number_again}
 use Rattle.wire.proofs.Sequences.{TakesItem, ItemTakes, ItemAgain, InsideTakes, InsideAgain, each_takes, each_again, marked_takes, marked_again}
 
 -- ---- attributes

@@ -4,16 +4,16 @@ use Rattle.std.proofs.Common.{◌≡◌, ◌≢◌, ℕ, zero, suc, ◌-◌, ◌
 use Rattle.std.specs.List.{AllByRecursion}
 use Rattle.std.proofs.lemmas.Bool.{eqb-true, eqb-false, ne_eqb}
 use Rattle.std.proofs.lemmas.List.{nil_from_length, length-append}
-use Rattle.wire.specs.Parts.{IsOctet, AreOctets}
+use Rattle.base.specs.Octets.{IsOctet, AreOctets}
 use Rattle.wire.specs.Payloads.{type_of, SpellsPayload, SpellsPayloads, following, IsClear}
 use Rattle.wire.specs.Refusals.{LeadsTo, BeginsPart, IsFaultAt}
-use Rattle.wire.specs.Reading.{◌>>>◌, payload_at, chain_at, Linked, linked}
+use Rattle.wire.specs.Reading.{◌>>>◌, payload_at, chain_at, Linked, link_of}
 use Rattle.wire.specs.declared.payload.Payload.{Payload}
 use Rattle.wire.specs.declared.fault.WireFault.{WireFault}
 use Rattle.wire.specs.declared.fault.WireFault.TheVariants as faults
 use Rattle.wire.proofs.Options.{pick}
 use Rattle.wire.proofs.Links.{with_ok, ok_is, err_is, test_ok, payload_shrinks, none_left}
-use Rattle.wire.proofs.Takes.{octets_back, octets_front}
+use Rattle.wire.proofs.OctetLemmas.{octets_back, octets_front}
 use Rattle.wire.proofs.Sequences.{part_long}
 use Rattle.wire.proofs.PayloadReading.{payload_takes, payload_again, payload_fault, fault_payload, clear_follows, type_some, sealed_ends}
 
@@ -80,7 +80,7 @@ others_clear false p ps clear = clear.1
 
 -- the next payload of a chain is read
 pub payload_first : (encrypted : Bool) (end kind next : ℕ) (p : Payload) (front rest xs : List ℕ) → kind ≡ type_of p → xs ≡ front ++ rest → SpellsPayload IsOctet p next front → (type_of p ≡ 46 → (encrypted ≡ true) × (rest ≡ []))
-    → payload_at encrypted end kind xs ≡ Ok (linked p (following p next) rest)
+    → payload_at encrypted end kind xs ≡ Ok (link_of p (following p next) rest)
 payload_first encrypted end kind next p front rest xs is joined s last =
     ap (λ (k : ℕ). payload_at encrypted end k xs) is ∙ ap (payload_at encrypted end (type_of p)) joined ∙ payload_again encrypted end next front rest p s last
 
@@ -97,7 +97,7 @@ chain_again encrypted end (suc steps) kind (p ∷ ps) xs enough clear s =
     let left : length j.rest ≤ steps = omega (arith, part_long s.1 j.first.second j.first.body j.front j.first.part, length-append j.front j.rest, ap length j.joined, enough) in
     let last : type_of p ≡ 46 → (encrypted ≡ true) × (j.rest ≡ []) = λ q.
     (may_be encrypted p ps clear q, (nothing_behind IsOctet ps j.rest (subst (λ (n : ℕ). SpellsPayloads IsOctet n ps j.rest) (sealed_ends IsOctet p s.1 j.first.second j.first.header q) j.others)).1) in
-    chain_step encrypted end steps kind xs (linked p (following p s.1) j.rest) some (payload_first encrypted end kind s.1 p j.front j.rest xs s.0 j.joined j.first last)
+    chain_step encrypted end steps kind xs (link_of p (following p s.1) j.rest) some (payload_first encrypted end kind s.1 p j.front j.rest xs s.0 j.joined j.first last)
     ∙ ap (λ r. r >>> λ qs. Ok (p ∷ qs)) (chain_again encrypted end steps (following p s.1) ps j.rest left (others_clear encrypted p ps clear) j.others)
 
 -- ---- what is refused
@@ -130,11 +130,11 @@ chain_fault encrypted end steps zero xs f enough small fits e =
       | inr over ↦
           let P : WireFault → Type 0 = λ g. FaultyChain encrypted end 0 xs g in
           let other : xs ≢ [] = λ q. eqb-false _ _ over.0 (ap length q) in
-          subst P (err_is {A = List Payload} (faults.BadChain (end - length xs)) f over.1) (record { payloads = []; named = 0; front = []; rest = xs; joined = refl; leads = (refl, refl); here = (refl, inl (refl, other)) })
+          subst P (err_is {A = List Payload} (faults.BadChain (end - length xs)) f over.1) (record { payloads = []; named = 0; front = []; rest = xs; joined = refl; leads = (refl, refl); here = inl (inl (refl, other), refl) })
     ]
 chain_fault encrypted end zero (suc kind) xs f enough small fits e =
     let P : WireFault → Type 0 = λ g. FaultyChain encrypted end (suc kind) xs g in
-    subst P (err_is {A = List Payload} (faults.BadChain (end - length xs)) f e) (record { payloads = []; named = suc kind; front = []; rest = xs; joined = refl; leads = (refl, refl); here = (refl, inr (inl (some_type kind, no_part_in_nothing xs (omega arith)))) })
+    subst P (err_is {A = List Payload} (faults.BadChain (end - length xs)) f e) (record { payloads = []; named = suc kind; front = []; rest = xs; joined = refl; leads = (refl, refl); here = inl (inr (some_type kind, no_part_in_nothing xs (omega arith)), refl) })
 chain_fault encrypted end (suc steps) (suc kind) xs f enough small fits e =
     go (λ k ys less low octets read. chain_fault encrypted end steps k ys f less low octets read) (payload_at encrypted end (suc kind) xs) refl e where
       go : ((k : ℕ) (ys : List ℕ) → length ys ≤ steps → k < 256 → AreOctets ys → chain_at encrypted end steps k ys ≡ Err f → FaultyChain encrypted end k ys f) → (r : Result Linked WireFault) → payload_at encrypted end (suc kind) xs ≡ r → (r >>> λ p. chain_at encrypted end steps p.next p.left >>> λ qs. Ok (p.payload ∷ qs)) ≡ Err f → FaultyChain encrypted end (suc kind) xs f
@@ -164,22 +164,15 @@ chain_fault encrypted end (suc steps) (suc kind) xs f enough small fits e =
 -- the fault of what no payload begins
 here_again : (encrypted : Bool) (end steps kind : ℕ) (xs : List ℕ) (f : WireFault) → length xs ≤ steps → kind < 256 → AreOctets xs → IsFaultAt encrypted kind xs (end - length xs) f → chain_at encrypted end steps kind xs ≡ Err f
 unfolding chain_at
-here_again encrypted end steps zero xs faults.Short enough small fits h = absurd h
-here_again encrypted end steps zero xs faults.BadLength enough small fits h = absurd h
-here_again encrypted end steps zero xs faults.BadVersion enough small fits h = absurd h
-here_again encrypted end steps zero xs (faults.BadChain at) enough small fits h =
-    let over : xs ≢ [] = elim h.1 [ inl a ↦ a.1 | inr (inl b) ↦ absurd (b.0 refl) | inr (inr c) ↦ absurd (zero_is 46 (omega arith) c.0) ] in
-    let some : eqb (length xs) 0 ≡ false = ne_eqb _ _ (λ q. over (nil_from_length xs q)) in
-    rw (some, h.0) refl where
-      zero_is : (n : ℕ) → 0 < n → 0 ≡ n → ⊥
-      zero_is n lt q = absurd (omega arith)
-here_again encrypted end steps zero xs (faults.BadProposal at) enough small fits h = absurd (omega (arith, h.1))
-here_again encrypted end steps zero xs (faults.BadSelector at) enough small fits h = absurd (elim h.1 [ inl a ↦ omega (arith, a) | inr b ↦ omega (arith, b) ])
-here_again encrypted end steps zero xs (faults.BadNonce at) enough small fits h = absurd (omega (arith, h.1))
-here_again encrypted end steps zero xs (faults.BadField at) enough small fits h =
-    absurd (elim h.1 [ inl a ↦ omega (arith, a) | inr (inl a) ↦ omega (arith, a) | inr (inr (inl a)) ↦ omega (arith, a) | inr (inr (inr (inl a))) ↦ omega (arith, a) | inr (inr (inr (inr (inl a)))) ↦ omega (arith, a) | inr (inr (inr (inr (inr a)))) ↦ omega (arith, a) ])
-here_again encrypted end steps zero xs faults.TooLong enough small fits h = absurd h
-here_again encrypted end steps zero xs faults.Memory enough small fits h = absurd h
+here_again encrypted end steps zero xs f enough small fits h = elim h [
+  | inl broken ↦ elim broken.0 [
+    | inl over ↦
+        let some : eqb (length xs) 0 ≡ false = ne_eqb _ _ (λ q. over.1 (nil_from_length xs q)) in
+        ap (λ b. cond b (Ok []) (Err (faults.BadChain (end - length xs)))) some ∙ ap (λ (d : WireFault). Err d) (sym broken.1)
+    | inr named ↦ absurd (named.0 refl)
+  ]
+  | inr bad ↦ absurd (bad.0 refl)
+]
 here_again encrypted end zero (suc kind) xs f enough small fits h =
     let read = fault_payload encrypted end (suc kind) xs f (some_type kind) small fits h in
     ap (λ (d : WireFault). Err d) (err_is {A = Linked} (faults.BadChain (end - length xs)) f (sym (none_left encrypted end (suc kind) xs (omega arith)) ∙ read))
@@ -206,6 +199,6 @@ fault_again encrypted end (suc steps) kind (p ∷ ps) named front rest xs f enou
     let head_fits : AreOctets j.front = octets_front j.front (j.rest ++ rest) whole_fits in
     let next_small : leads.2 < 256 = (subst AreOctets j.first.part.spelled head_fits).0 in
     let follows : following p leads.2 ≡ leads.2 = clear_follows p leads.2 leads.1 in
-    chain_step encrypted end steps kind xs (linked p (following p leads.2) (j.rest ++ rest)) some (payload_first encrypted end kind leads.2 p j.front (j.rest ++ rest) xs leads.0 whole j.first (λ q. absurd (leads.1 q)))
+    chain_step encrypted end steps kind xs (link_of p (following p leads.2) (j.rest ++ rest)) some (payload_first encrypted end kind leads.2 p j.front (j.rest ++ rest) xs leads.0 whole j.first (λ q. absurd (leads.1 q)))
     ∙ ap (λ (n : ℕ). chain_at encrypted end steps n (j.rest ++ rest) >>> λ qs. Ok (p ∷ qs)) follows
     ∙ ap (λ r. r >>> λ qs. Ok (p ∷ qs)) (fault_again encrypted end steps leads.2 ps named j.rest rest (j.rest ++ rest) f left next_small (octets_back j.front (j.rest ++ rest) whole_fits) refl j.others h)

@@ -4,20 +4,21 @@ use Rattle.std.specs.Prelude.{ok_or}
 use Rattle.std.proofs.lemmas.Bool.{ltb-true, ltb-false, lt-ltb, le-ltb, leb-true, leb-false, le-leb, lt-leb}
 use Rattle.std.proofs.lemmas.List.{length-append, take_at, drop_at}
 use Rattle.byteorder.specs.Endian.{big_bytes}
-use Rattle.wire.specs.Parts.{IsZero, AreOctets}
+use Rattle.base.specs.Octets.{AreOctets}
+use Rattle.wire.specs.Parts.{IsZero}
 use Rattle.wire.specs.Messages.{HasFlags, SpellsHeader, Spells, SpellsPlainly}
 use Rattle.wire.specs.Refusals.{fault_in, IsPayloadFault, PassesLimit, IsEncodingFaultOf, IsUnlessMemory}
 use Rattle.wire.specs.Reading.{◌>>=◌, ◌>>>◌}
-use Rattle.wire.specs.Writing.{Fails, number_onto, first_type, payloads_onto, flags_octet, FitsHeader, header_onto, sized, encoded}
+use Rattle.wire.specs.Writing.{Fails, number_onto, first_type, payloads_onto, flags_octet, FitsHeader, header_onto, with_length, encoding_of}
 use Rattle.wire.specs.declared.writer.Unwritten.{Unwritten}
 use Rattle.wire.specs.declared.writer.Unwritten.TheVariants.{Unspelled, Memory}
 use Rattle.wire.specs.declared.message.Message.{Message}
 use Rattle.wire.specs.declared.message.Header.{Header}
 use Rattle.wire.specs.declared.message.Flags.{Flags}
 use Rattle.wire.specs.declared.payload.Payload.{Payload}
-use Rattle.wire.specs.declared.payload.Payload.TheVariants as payloads
 use Rattle.wire.specs.declared.fault.WireFault.{WireFault}
 use Rattle.wire.specs.declared.fault.WireFault.TheVariants as faults
+use Rattle.wire.proofs.FaultLemmas.{InPayload, fault_in_payload}
 use Rattle.wire.proofs.Options.{some_is, with_some, pick}
 use Rattle.wire.proofs.Links.{ok_is, err_is}
 use Rattle.wire.proofs.Promises.{memory_or}
@@ -81,22 +82,22 @@ abbrev head_of : Message → Option (List ℕ)
 head_of m = header_onto m.header (first_type m.payloads) []
 
 abbrev ended : List ℕ → Result (List ℕ) WireFault
-ended whole = cond (ltb 3000 (length whole)) (Err faults.TooLong) (Ok (sized whole))
+ended whole = cond (ltb 3000 (length whole)) (Err faults.TooLong) (Ok (with_length whole))
 
-pub encoded_late : (m : Message) → 16 ≤ m.header.minor → encoded m ≡ Err faults.BadVersion
-unfolding encoded
+pub encoded_late : (m : Message) → 16 ≤ m.header.minor → encoding_of m ≡ Err faults.BadVersion
+unfolding encoding_of
 encoded_late m high = let t : leb 16 m.header.minor ≡ true = le-leb _ _ high in rw t refl
 
-encoded_is : (m : Message) (head : List ℕ) → m.header.minor < 16 → head_of m ≡ Some head → encoded m ≡ (payloads_onto m.payloads head >>> λ whole. ended whole)
-unfolding encoded
+encoded_is : (m : Message) (head : List ℕ) → m.header.minor < 16 → head_of m ≡ Some head → encoding_of m ≡ (payloads_onto m.payloads head >>> λ whole. ended whole)
+unfolding encoding_of
 encoded_is m head low e =
     let t : leb 16 m.header.minor ≡ false = lt-leb _ _ low in
     ap (λ b. cond b (Err faults.BadVersion) (ok_or (head_of m) faults.BadVersion >>> λ x. payloads_onto m.payloads x >>> λ whole. ended whole)) t
     ∙ ap (λ o. ok_or o faults.BadVersion >>> λ x. payloads_onto m.payloads x >>> λ whole. ended whole) e
 
 -- the exits of the code
-pub head_exits : (m : Message) (u : Unwritten) (r : WireFault) → m.header.minor < 16 → (u ≡ Unspelled → r ≡ faults.BadVersion) → (u ≡ Memory → r ≡ faults.Memory) → Fails u (head_of m) → r ≢ faults.Memory → encoded m ≡ Err r
-unfolding encoded
+pub head_exits : (m : Message) (u : Unwritten) (r : WireFault) → m.header.minor < 16 → (u ≡ Unspelled → r ≡ faults.BadVersion) → (u ≡ Memory → r ≡ faults.Memory) → Fails u (head_of m) → r ≢ faults.Memory → encoding_of m ≡ Err r
+unfolding encoding_of
 head_exits m Memory r low spelled memory fails other = absurd (other (memory refl))
 head_exits m Unspelled r low spelled memory fails other =
     let t : leb 16 m.header.minor ≡ false = lt-leb _ _ low in
@@ -104,18 +105,18 @@ head_exits m Unspelled r low spelled memory fails other =
     ∙ ap (λ o. ok_or o faults.BadVersion >>> λ x. payloads_onto m.payloads x >>> λ whole. ended whole) fails
     ∙ ap (λ (f : WireFault). Err f) (sym (spelled refl))
 
-pub payloads_exit : (m : Message) (head : List ℕ) (f : WireFault) → m.header.minor < 16 → head_of m ≡ Some head → (f ≢ faults.Memory → payloads_onto m.payloads head ≡ Err f) → f ≢ faults.Memory → encoded m ≡ Err f
+pub payloads_exit : (m : Message) (head : List ℕ) (f : WireFault) → m.header.minor < 16 → head_of m ≡ Some head → (f ≢ faults.Memory → payloads_onto m.payloads head ≡ Err f) → f ≢ faults.Memory → encoding_of m ≡ Err f
 payloads_exit m head f low e refused other = encoded_is m head low e ∙ ap (λ r. r >>> λ whole. ended whole) (refused other)
 
-pub encoded_long : (m : Message) (head whole : List ℕ) → m.header.minor < 16 → head_of m ≡ Some head → payloads_onto m.payloads head ≡ Ok whole → 3000 < length whole → encoded m ≡ Err faults.TooLong
+pub encoded_long : (m : Message) (head whole : List ℕ) → m.header.minor < 16 → head_of m ≡ Some head → payloads_onto m.payloads head ≡ Ok whole → 3000 < length whole → encoding_of m ≡ Err faults.TooLong
 encoded_long m head whole low e made long =
     let t : ltb 3000 (length whole) ≡ true = lt-ltb _ _ long in
-    encoded_is m head low e ∙ ap (λ r. r >>> λ x. ended x) made ∙ ap (λ b. cond b (Err faults.TooLong) (Ok (sized whole))) t
+    encoded_is m head low e ∙ ap (λ r. r >>> λ x. ended x) made ∙ ap (λ b. cond b (Err faults.TooLong) (Ok (with_length whole))) t
 
-pub encoded_ok : (m : Message) (head whole : List ℕ) → m.header.minor < 16 → head_of m ≡ Some head → payloads_onto m.payloads head ≡ Ok whole → length whole ≤ 3000 → encoded m ≡ Ok (sized whole)
+pub encoded_ok : (m : Message) (head whole : List ℕ) → m.header.minor < 16 → head_of m ≡ Some head → payloads_onto m.payloads head ≡ Ok whole → length whole ≤ 3000 → encoding_of m ≡ Ok (with_length whole)
 encoded_ok m head whole low e made short =
     let t : ltb 3000 (length whole) ≡ false = le-ltb _ _ short in
-    encoded_is m head low e ∙ ap (λ r. r >>> λ x. ended x) made ∙ ap (λ b. cond b (Err faults.TooLong) (Ok (sized whole))) t
+    encoded_is m head low e ∙ ap (λ r. r >>> λ x. ended x) made ∙ ap (λ b. cond b (Err faults.TooLong) (Ok (with_length whole))) t
 
 pub whole_room : (m : Message) (head whole : List ℕ) → m.header.minor < 16 → head_of m ≡ Some head → payloads_onto m.payloads head ≡ Ok whole → 28 ≤ length whole
 whole_room m head whole low e made =
@@ -124,20 +125,20 @@ whole_room m head whole low e made =
 
 -- ---- what is encoded is spelled
 
-sized_is : (front behind whole : List ℕ) → length front ≡ 24 → whole ≡ (front ++ (0 ∷ 0 ∷ 0 ∷ 0 ∷ [])) ++ behind → sized whole ≡ front ++ big_bytes 4 (length whole) ++ behind
+sized_is : (front behind whole : List ℕ) → length front ≡ 24 → whole ≡ (front ++ (0 ∷ 0 ∷ 0 ∷ 0 ∷ [])) ++ behind → with_length whole ≡ front ++ big_bytes 4 (length whole) ++ behind
 sized_is front behind whole size e =
     let split : whole ≡ front ++ (0 ∷ 0 ∷ 0 ∷ 0 ∷ behind) = e ∙ append_assoc front (0 ∷ 0 ∷ 0 ∷ 0 ∷ []) behind in
     let head : take 24 whole ≡ front = ap (take 24) split ∙ take_at front (0 ∷ 0 ∷ 0 ∷ 0 ∷ behind) 24 size in
     let tail : drop 28 whole ≡ behind = ap (drop 28) e ∙ drop_at (front ++ (0 ∷ 0 ∷ 0 ∷ 0 ∷ [])) behind 28 (omega (arith, length-append front (0 ∷ 0 ∷ 0 ∷ 0 ∷ []), size)) in
     ap (λ (y : List ℕ). y ++ big_bytes 4 (length whole) ++ drop 28 whole) head ∙ ap (λ (y : List ℕ). front ++ big_bytes 4 (length whole) ++ y) tail
 
-plain_of : (m : Message) (head whole : List ℕ) → m.header.minor < 16 → head_of m ≡ Some head → payloads_onto m.payloads head ≡ Ok whole → length whole ≤ 3000 → AreOctets (sized whole) → SpellsPlainly m (sized whole)
+plain_of : (m : Message) (head whole : List ℕ) → m.header.minor < 16 → head_of m ≡ Some head → payloads_onto m.payloads head ≡ Ok whole → length whole ≤ 3000 → AreOctets (with_length whole) → SpellsPlainly m (with_length whole)
 plain_of m head whole low e made short octets =
     let h = header_made m.header (first_type m.payloads) head low e in
     let a = payloads_append m.payloads head whole made in
     let whole_is : whole ≡ (h.front ++ (0 ∷ 0 ∷ 0 ∷ 0 ∷ [])) ++ a.added = a.appended ∙ ap (λ (y : List ℕ). y ++ a.added) h.whole in
     let is = sized_is h.front a.added whole h.size whole_is in
-    let same : length (sized whole) ≡ length whole =
+    let same : length (with_length whole) ≡ length whole =
     omega (arith, ap length is, length-append (h.front ++ big_bytes 4 (length whole)) a.added, length-append h.front (big_bytes 4 (length whole)), ap length whole_is, length-append (h.front ++ (0 ∷ 0 ∷ 0 ∷ 0 ∷ [])) a.added, length-append h.front (0 ∷ 0 ∷ 0 ∷ 0 ∷ [])) in
     record {
       first = first_type m.payloads;
@@ -187,49 +188,21 @@ version_cases m fits = go (leb 16 m.header.minor) refl where
 clash_ok : {A : Type 0} {x : A} {f : WireFault} → Ok x ≡ Err f → ⊥
 clash_ok q = cc
 
-pub encoded_plain : (m : Message) (b : List ℕ) → FitsIf m → encoded m ≡ Ok b → AreOctets b → SpellsPlainly m b
+pub encoded_plain : (m : Message) (b : List ℕ) → FitsIf m → encoding_of m ≡ Ok b → AreOctets b → SpellsPlainly m b
 encoded_plain m b fits e octets = elim (version_cases m fits) [
   | inl high ↦ absurd (clash_ok (sym e ∙ encoded_late m high))
   | inr v ↦ go v (payloads_onto m.payloads v.head) refl
 ] where
   go : (v : Encoded m) → (r : Result (List ℕ) WireFault) → payloads_onto m.payloads v.head ≡ r → SpellsPlainly m b
   go v (Err g) q = absurd (clash_ok (sym e ∙ encoded_is m v.head v.low v.made ∙ ap (λ r. r >>> λ x. ended x) q))
-  go v (Ok whole) q = elim (pick (ltb 3000 (length whole)) (Err faults.TooLong) (Ok (sized whole)) (Ok b) (ap (λ r. r >>> λ x. ended x) (sym q) ∙ sym (encoded_is m v.head v.low v.made) ∙ e)) [
+  go v (Ok whole) q = elim (pick (ltb 3000 (length whole)) (Err faults.TooLong) (Ok (with_length whole)) (Ok b) (ap (λ r. r >>> λ x. ended x) (sym q) ∙ sym (encoded_is m v.head v.low v.made) ∙ e)) [
     | inl long ↦ absurd (clash_ok (sym long.1))
     | inr short ↦
-        let is : sized whole ≡ b = ok_is (sized whole) b short.1 in
+        let is : with_length whole ≡ b = ok_is (with_length whole) b short.1 in
         subst (λ (x : List ℕ). SpellsPlainly m x) is (plain_of m v.head whole v.low v.made q (ltb-false _ _ short.0) (subst AreOctets (sym is) octets))
   ]
 
 -- ---- what is refused
-
--- a fault with an offset
-abbrev InPayload : WireFault → Type 0
-InPayload faults.Short = ⊥
-InPayload faults.BadLength = ⊥
-InPayload faults.BadVersion = ⊥
-InPayload (faults.BadChain at) = Unit {0}
-InPayload (faults.BadProposal at) = Unit {0}
-InPayload (faults.BadSelector at) = Unit {0}
-InPayload (faults.BadNonce at) = Unit {0}
-InPayload (faults.BadField at) = Unit {0}
-InPayload faults.TooLong = ⊥
-InPayload faults.Memory = ⊥
-
-fault_in_payload : (p : Payload) (n : ℕ) → InPayload (fault_in p n)
-fault_in_payload (payloads.Sa x) n = tt
-fault_in_payload (payloads.Ke x y) n = tt
-fault_in_payload (payloads.IdI x y) n = tt
-fault_in_payload (payloads.IdR x y) n = tt
-fault_in_payload (payloads.Auth x y) n = tt
-fault_in_payload (payloads.Nonce x) n = tt
-fault_in_payload (payloads.Notify x y z w) n = tt
-fault_in_payload (payloads.Delete x y) n = tt
-fault_in_payload (payloads.TsI x) n = tt
-fault_in_payload (payloads.TsR x) n = tt
-fault_in_payload (payloads.Sealed x y) n = tt
-fault_in_payload (payloads.Skipped x y) n = tt
-fault_in_payload (payloads.Unknown x y z) n = tt
 
 of_payload : (m : Message) (f : WireFault) → m.header.minor < 16 → InPayload f → IsPayloadFault 28 m.payloads f → IsEncodingFaultOf m f
 of_payload m faults.Short low i p = i
@@ -249,7 +222,7 @@ payload_faulty m head f low size p =
     of_payload m f low (subst InPayload (sym p.fault) (fault_in_payload p.payload (length head + length p.octets)))
     (record { before = p.before; payload = p.payload; after = p.after; split = p.split; first = first_type m.payloads; octets = p.octets; leads = p.leads; unspelled = p.unspelled; fault = at })
 
-pub encoded_fault : (m : Message) (f : WireFault) → FitsIf m → encoded m ≡ Err f → IsEncodingFaultOf m f
+pub encoded_fault : (m : Message) (f : WireFault) → FitsIf m → encoding_of m ≡ Err f → IsEncodingFaultOf m f
 encoded_fault m f fits e = elim (version_cases m fits) [
   | inl high ↦ subst (IsEncodingFaultOf m) (err_is {A = List ℕ} faults.BadVersion f (sym (encoded_late m high) ∙ e)) high
   | inr v ↦ go v (payloads_onto m.payloads v.head) refl
@@ -259,7 +232,7 @@ encoded_fault m f fits e = elim (version_cases m fits) [
       let is : g ≡ f = err_is {A = List ℕ} g f (sym (encoded_is m v.head v.low v.made ∙ ap (λ r. r >>> λ x. ended x) q) ∙ e) in
       let size = header_length m.header (first_type m.payloads) v.head (header_made m.header (first_type m.payloads) v.head v.low v.made) in
       subst (IsEncodingFaultOf m) is (payload_faulty m v.head g v.low size (payloads_fault m.payloads v.head g q))
-  go v (Ok whole) q = elim (pick (ltb 3000 (length whole)) (Err faults.TooLong) (Ok (sized whole)) (Err f) (ap (λ r. r >>> λ x. ended x) (sym q) ∙ sym (encoded_is m v.head v.low v.made) ∙ e)) [
+  go v (Ok whole) q = elim (pick (ltb 3000 (length whole)) (Err faults.TooLong) (Ok (with_length whole)) (Err f) (ap (λ r. r >>> λ x. ended x) (sym q) ∙ sym (encoded_is m v.head v.low v.made) ∙ e)) [
     | inl long ↦
         let a = payloads_append m.payloads v.head whole q in
         let size = header_length m.header (first_type m.payloads) v.head (header_made m.header (first_type m.payloads) v.head v.low v.made) in
@@ -268,7 +241,7 @@ encoded_fault m f fits e = elim (version_cases m fits) [
     | inr short ↦ absurd (clash_ok short.1)
   ]
 
-payload_fault_encoded : (m : Message) (f : WireFault) → FitsIf m → m.header.minor < 16 → IsPayloadFault 28 m.payloads f → encoded m ≡ Err f
+payload_fault_encoded : (m : Message) (f : WireFault) → FitsIf m → m.header.minor < 16 → IsPayloadFault 28 m.payloads f → encoding_of m ≡ Err f
 payload_fault_encoded m f fits low p =
     let h = header_some m.header (first_type m.payloads) (fits low) in
     let size = header_length m.header (first_type m.payloads) h.0 (header_made m.header (first_type m.payloads) h.0 low h.1) in
@@ -277,12 +250,12 @@ payload_fault_encoded m f fits low p =
     ∙ ap (λ (n : ℕ). Err (fault_in p.payload (n + length p.octets))) size ∙ ap (λ (d : WireFault). Err d) (sym p.fault) in
     encoded_is m h.0 low h.1 ∙ ap (λ r. r >>> λ x. ended x) bad
 
-long_encoded : (m : Message) → FitsIf m → m.header.minor < 16 → PassesLimit m.payloads → encoded m ≡ Err faults.TooLong
+long_encoded : (m : Message) → FitsIf m → m.header.minor < 16 → PassesLimit m.payloads → encoding_of m ≡ Err faults.TooLong
 long_encoded m fits low long = go (payloads_onto m.payloads h.0) refl where
   h : (head : List ℕ) × (head_of m ≡ Some head)
   h = header_some m.header (first_type m.payloads) (fits low)
 
-  go : (r : Result (List ℕ) WireFault) → payloads_onto m.payloads h.0 ≡ r → encoded m ≡ Err faults.TooLong
+  go : (r : Result (List ℕ) WireFault) → payloads_onto m.payloads h.0 ≡ r → encoding_of m ≡ Err faults.TooLong
   go (Err g) q = absurd (payloads_refuse m.payloads h.0 g q long.0 long.1 long.2)
   go (Ok whole) q =
       let a = payloads_append m.payloads h.0 whole q in
@@ -290,7 +263,7 @@ long_encoded m fits low long = go (payloads_onto m.payloads h.0) refl where
       let same = payloads_same (first_type m.payloads) long.0 m.payloads a.added long.1 a.spelled long.2 in
       encoded_long m h.0 whole low h.1 q (omega (arith, long.3, same, ap length a.appended, length-append h.0 a.added, size))
 
-pub fault_encoded : (m : Message) (f : WireFault) → FitsIf m → IsEncodingFaultOf m f → encoded m ≡ Err f
+pub fault_encoded : (m : Message) (f : WireFault) → FitsIf m → IsEncodingFaultOf m f → encoding_of m ≡ Err f
 fault_encoded m faults.Short fits h = absurd h
 fault_encoded m faults.BadLength fits h = absurd h
 fault_encoded m faults.BadVersion fits h = encoded_late m h
@@ -302,14 +275,14 @@ fault_encoded m (faults.BadField at) fits h = payload_fault_encoded m (faults.Ba
 fault_encoded m faults.TooLong fits h = long_encoded m fits h.0 h.1
 fault_encoded m faults.Memory fits h = absurd h
 
-pub encoded_unspelled : (m : Message) (f : WireFault) → FitsIf m → encoded m ≡ Err f → (b : List ℕ) → Spells m b → ⊥
+pub encoded_unspelled : (m : Message) (f : WireFault) → FitsIf m → encoding_of m ≡ Err f → (b : List ℕ) → Spells m b → ⊥
 encoded_unspelled m f fits e b s = elim (version_cases m fits) [
   | inl high ↦ omega (arith, high, s.head.minor)
   | inr v ↦ go v (payloads_onto m.payloads v.head) refl
 ] where
   go : (v : Encoded m) → (r : Result (List ℕ) WireFault) → payloads_onto m.payloads v.head ≡ r → ⊥
   go v (Err g) q = payloads_refuse m.payloads v.head g q s.first s.payloads s.chain
-  go v (Ok whole) q = elim (pick (ltb 3000 (length whole)) (Err faults.TooLong) (Ok (sized whole)) (Err f) (ap (λ r. r >>> λ x. ended x) (sym q) ∙ sym (encoded_is m v.head v.low v.made) ∙ e)) [
+  go v (Ok whole) q = elim (pick (ltb 3000 (length whole)) (Err faults.TooLong) (Ok (with_length whole)) (Err f) (ap (λ r. r >>> λ x. ended x) (sym q) ∙ sym (encoded_is m v.head v.low v.made) ∙ e)) [
     | inl long ↦
         let a = payloads_append m.payloads v.head whole q in
         let size = header_length m.header (first_type m.payloads) v.head (header_made m.header (first_type m.payloads) v.head v.low v.made) in
@@ -321,11 +294,11 @@ encoded_unspelled m f fits e b s = elim (version_cases m fits) [
 
 -- ---- the promises of the call
 
-pub refused_unless : (m : Message) (g f : WireFault) → FitsIf m → (g ≢ faults.Memory → encoded m ≡ Err g) → IsEncodingFaultOf m f → {U : Type 0} → IsUnlessMemory {T = U} (Err g) (Err f)
+pub refused_unless : (m : Message) (g f : WireFault) → FitsIf m → (g ≢ faults.Memory → encoding_of m ≡ Err g) → IsEncodingFaultOf m f → {U : Type 0} → IsUnlessMemory {T = U} (Err g) (Err f)
 refused_unless m g f fits e h = elim (memory_or g) [
   | inl is ↦ inr (ap (λ (d : WireFault). Err d) is)
   | inr other ↦ inl (ap (λ (d : WireFault). Err d) (err_is {A = List ℕ} g f (sym (e other) ∙ fault_encoded m f fits h)))
 ]
 
-pub encoded_no_fault : (m : Message) (b : List ℕ) (f : WireFault) → FitsIf m → encoded m ≡ Ok b → IsEncodingFaultOf m f → ⊥
+pub encoded_no_fault : (m : Message) (b : List ℕ) (f : WireFault) → FitsIf m → encoding_of m ≡ Ok b → IsEncodingFaultOf m f → ⊥
 encoded_no_fault m b f fits e h = clash_ok (sym e ∙ fault_encoded m f fits h)

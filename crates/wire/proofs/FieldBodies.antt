@@ -1,28 +1,101 @@
 -- The insides of selectors, of the payloads of a few fields, of notifications and deletions.
-use Rattle.std.proofs.Common.{◌≡◌, ℕ, zero, suc, ◌+◌, ◌*◌, ◌^◌, ◌≤◌, Bool, true, false, cond, eqb, leb, ltb, List, [], ◌∷◌, ◌++◌, length, Some, None, refl, sym, ap, subst, ◌∙◌, inl, inr, ◌⊎◌, arith}
+use Rattle.std.proofs.Common.{◌≡◌, ℕ, zero, suc, ◌+◌, ◌*◌, ◌^◌, ◌<◌, ◌≤◌, Bool, true, false, cond, eqb, leb, ltb, List, [], ◌∷◌, ◌++◌, length, Some, None, refl, sym, ap, subst, ◌∙◌, inl, inr, ◌⊎◌, arith}
 use Rattle.std.specs.Prelude.{◌&&◌, ◌||◌}
 use Rattle.std.proofs.lemmas.Bool.{eqb-true, ltb-false, le-ltb, leb-true, le-leb, ne_eqb}
-use Rattle.std.proofs.lemmas.List.{length-append, nil_from_length}
+use Rattle.std.proofs.lemmas.List.{length-append, append-nil, nil_from_length}
 use Rattle.byteorder.specs.Endian.{big_bytes}
-use Rattle.wire.specs.Parts.{IsOctet, AreOctets, IsPart, SpellsEach}
-use Rattle.wire.specs.Selectors.{SpellsSelector, SpellsSelectors}
+use Rattle.base.specs.Octets.{IsOctet, AreOctets}
+use Rattle.wire.specs.Parts.{IsPart, SpellsEach}
+use Rattle.base.specs.Addresses.{FitsRange, IsOrdered}
+use Rattle.base.specs.declared.address.Range.{Range}
+use Rattle.base.specs.declared.address.Range.TheVariants as range
+use Rattle.wire.specs.Selectors.{SpellsSelector, SpellsSelectors, selector_type, ends_octets}
 use Rattle.wire.specs.Fields.{SpellsKe, SpellsTyped, SpellsNonce, SpellsNotify, SpellsDelete, SpellsSpi, HasSpiSize}
-use Rattle.wire.specs.Reading.{◌>>=◌, octets_at, octet_at, number_at, part_at, each_of, selector_at, selectors_of, data_of, ke_of, typed_of, nonce_of, notify_of, delete_of, is_sized}
-use Rattle.wire.specs.declared.selector.Selector.{Selector}
+use Rattle.wire.specs.Reading.{◌>>=◌, octets_at, octet_at, number_at, part_at, each_of, range_at, range_of, is_ordered, is_in_order, in_order, selector_at, is_counted, selectors_of, data_of, ke_of, typed_of, nonce_of, notify_of, delete_of, is_sized}
+use Rattle.base.specs.declared.selector.Selector.{Selector}
 use Rattle.wire.specs.declared.payload.Payload.{Payload}
 use Rattle.wire.specs.declared.payload.Payload.TheVariants.{Notify, Delete}
 use Rattle.wire.proofs.Options.{some_is, with_some, with_test, with_guard, pick, both_true}
-use Rattle.wire.proofs.Takes.{octets_front, octets_back, octets_takes, octets_again, octet_takes, octet_again, wide2, wide4, number_takes, number_again, part_takes, part_again}
+use Rattle.wire.proofs.OctetLemmas.{octets_front, octets_back}
+use Rattle.wire.proofs.Takes.{octets_takes, octets_again, octet_takes, octet_again, IsWide, wide2, wide4, wide16, number_takes, number_again, part_takes, part_again}
 use Rattle.wire.proofs.Sequences.{TakesItem, ItemTakes, ItemAgain, each_takes, each_again, part_long}
 use Rattle.wire.proofs.Bodies.{same_numbers}
 
 -- ---- selectors
 
-abbrev ports_of : ℕ → ℕ → List ℕ → List ℕ
-ports_of start end rest = big_bytes 2 start ++ (big_bytes 2 end ++ rest)
+-- both ends of a range, in so many octets each
+abbrev ends_in : ℕ → ℕ × ℕ → List ℕ
+ends_in width ends = big_bytes width ends.0 ++ big_bytes width ends.1
 
-abbrev addresses_of : ℕ → ℕ → List ℕ → List ℕ
-addresses_of start end rest = big_bytes 4 start ++ (big_bytes 4 end ++ rest)
+record TakesEnds (width limit : ℕ) (made : ℕ → ℕ → Range) (xs : List ℕ) (r : Range) : Type 0 where
+  ends : ℕ × ℕ
+  range_is : made ends.0 ends.1 ≡ r
+  spelled : xs ≡ ends_in width ends
+  start : ends.0 < limit
+  end : ends.1 < limit
+
+ends_take : (width limit : ℕ) → IsWide width limit → (made : ℕ → ℕ → Range) (xs : List ℕ) (r : Range) → AreOctets xs → range_at width made xs ≡ Some r → TakesEnds width limit made xs r
+unfolding range_at
+ends_take width limit wide made xs r fits e =
+    with_some (number_at width xs) _ r e (λ start e1 r1.
+    with_some (number_at width start.1) _ r r1 (λ end e2 r2.
+    with_test (eqb (length end.1) 0) (Some (made start.0 end.0)) r r2 (λ good r3.
+    let t1 = number_takes width limit wide xs start fits e1 in
+    let fits1 : AreOctets start.1 = octets_back (big_bytes width start.0) start.1 (subst AreOctets t1.0 fits) in
+    let t2 = number_takes width limit wide start.1 end fits1 e2 in
+    let nothing : end.1 ≡ [] = nil_from_length end.1 (eqb-true _ _ good) in
+    record {
+      ends = (start.0, end.0);
+      range_is = some_is (made start.0 end.0) r r3;
+      spelled = t1.0 ∙ ap (λ (y : List ℕ). big_bytes width start.0 ++ y) (t2.0 ∙ ap (λ (y : List ℕ). big_bytes width end.0 ++ y) nothing ∙ append-nil (big_bytes width end.0));
+      start = t1.1;
+      end = t2.1;
+    })))
+
+ends_again : (width limit : ℕ) → IsWide width limit → (made : ℕ → ℕ → Range) (start end : ℕ) → start < limit → end < limit → range_at width made (big_bytes width start ++ big_bytes width end) ≡ Some (made start end)
+unfolding range_at
+ends_again width limit wide made start end one other =
+    ap (λ o. o >>= λ u. number_at width u.1 >>= λ v. cond (eqb (length v.1) 0) (Some (made u.0 v.0)) None) (number_again width limit wide start (big_bytes width end) one)
+    ∙ ap (λ (y : List ℕ). number_at width y >>= λ v. cond (eqb (length v.1) 0) (Some (made start v.0)) None) (sym (append-nil (big_bytes width end)))
+    ∙ ap (λ o. o >>= λ v. cond (eqb (length v.1) 0) (Some (made start v.0)) None) (number_again width limit wide end [] other)
+
+-- what a range of the type takes
+record TakesRange (kind : ℕ) (xs : List ℕ) (r : Range) : Type 0 where
+  kind_is : kind ≡ selector_type r
+  spelled : xs ≡ ends_octets r
+  fits : FitsRange r
+
+range_takes : (kind : ℕ) (xs : List ℕ) (r : Range) → AreOctets xs → range_of kind xs ≡ Some r → TakesRange kind xs r
+unfolding range_of
+range_takes kind xs r fits e =
+    elim (pick (eqb kind 7) _ _ _ e) [
+      | inl four ↦
+          let t = ends_take 4 (2 ^ 32) wide4 range.V4 xs r fits four.1 in
+          subst (TakesRange kind xs) t.range_is (record { kind_is = eqb-true _ _ four.0; spelled = t.spelled; fits = (t.start, t.end) })
+      | inr other ↦ with_test (eqb kind 8) (range_at 16 range.V6 xs) r other.1 (λ six e6.
+          let t = ends_take 16 (2 ^ 128) wide16 range.V6 xs r fits e6 in
+          subst (TakesRange kind xs) t.range_is (record { kind_is = eqb-true _ _ six; spelled = t.spelled; fits = (t.start, t.end) }))
+    ]
+
+range_again : (r : Range) → FitsRange r → range_of (selector_type r) (ends_octets r) ≡ Some r
+unfolding range_of
+range_again (range.V4 start end) fits = ends_again 4 (2 ^ 32) wide4 range.V4 start end fits.0 fits.1
+range_again (range.V6 start end) fits = ends_again 16 (2 ^ 128) wide16 range.V6 start end fits.0 fits.1
+
+pub ordered_true : (r : Range) → is_ordered r ≡ true → IsOrdered r
+ordered_true (range.V4 start end) e = leb-true _ _ e
+ordered_true (range.V6 start end) e = leb-true _ _ e
+
+pub true_ordered : (r : Range) → IsOrdered r → is_ordered r ≡ true
+true_ordered (range.V4 start end) le = le-leb _ _ le
+true_ordered (range.V6 start end) le = le-leb _ _ le
+
+pub both_hold : (a b : Bool) → a ≡ true → b ≡ true → (a && b) ≡ true
+both_hold true b e f = f
+both_hold false b e f = absurd cc
+
+pub ordered_again : (s : Selector) → s.start_port ≤ s.end_port → IsOrdered s.addresses → is_in_order s ≡ true
+ordered_again s ports addresses = both_hold (leb s.start_port s.end_port) (is_ordered s.addresses) (le-leb _ _ ports) (true_ordered s.addresses addresses)
 
 pub selector_takes : ItemTakes selector_at SpellsSelector
 unfolding selector_at
@@ -30,49 +103,43 @@ selector_takes xs x fits e =
     with_some (part_at xs) _ x e (λ part e1 r1.
     with_some (number_at 2 part.0.inside) _ x r1 (λ start_port e2 r2.
     with_some (number_at 2 start_port.1) _ x r2 (λ end_port e3 r3.
-    with_some (number_at 4 end_port.1) _ x r3 (λ start_address e4 r4.
-    with_some (number_at 4 start_address.1) _ x r4 (λ end_address e5 r5.
-    let made : Selector = record { protocol = part.0.second; start_port = start_port.0; end_port = end_port.0; start_address = start_address.0; end_address = end_address.0 } in
-    with_test ((eqb part.0.first 7) && (eqb (length end_address.1) 0) && leb start_port.0 end_port.0 && leb start_address.0 end_address.0) (Some (made, part.1)) x r5 (λ good r6.
-    let g1 = both_true ((eqb part.0.first 7) && (eqb (length end_address.1) 0) && leb start_port.0 end_port.0) (leb start_address.0 end_address.0) good in
-    let g2 = both_true ((eqb part.0.first 7) && (eqb (length end_address.1) 0)) (leb start_port.0 end_port.0) g1.0 in
-    let g3 = both_true (eqb part.0.first 7) (eqb (length end_address.1) 0) g2.0 in
+    with_some (range_of part.0.first end_port.1) _ x r3 (λ addresses e4 r4.
+    let made : Selector = record { protocol = part.0.second; start_port = start_port.0; end_port = end_port.0; addresses = addresses } in
+    with_some (in_order made) (λ selector. Some (selector, part.1)) x r4 (λ selector e5 r5.
+    with_test (is_in_order made) (Some made) selector e5 (λ good r6.
+    let g = both_true (leb start_port.0 end_port.0) (is_ordered addresses) good in
+    let same : made ≡ selector = some_is made selector r6 in
+    let is : (made, part.1) ≡ x = ap (λ (s : Selector). (s, part.1)) same ∙ some_is (selector, part.1) x r5 in
     let t1 = part_takes xs part fits e1 in
     let inside_fits : AreOctets part.0.inside = octets_back (part.0.first ∷ part.0.second ∷ big_bytes 2 (4 + length part.0.inside)) part.0.inside (subst AreOctets t1.part.spelled (octets_front t1.front part.1 (subst AreOctets t1.joined fits))) in
     let t2 = number_takes 2 (2 ^ 16) wide2 part.0.inside start_port inside_fits e2 in
     let fits2 : AreOctets start_port.1 = octets_back (big_bytes 2 start_port.0) start_port.1 (subst AreOctets t2.0 inside_fits) in
     let t3 = number_takes 2 (2 ^ 16) wide2 start_port.1 end_port fits2 e3 in
     let fits3 : AreOctets end_port.1 = octets_back (big_bytes 2 end_port.0) end_port.1 (subst AreOctets t3.0 fits2) in
-    let t4 = number_takes 4 (2 ^ 32) wide4 end_port.1 start_address fits3 e4 in
-    let fits4 : AreOctets start_address.1 = octets_back (big_bytes 4 start_address.0) start_address.1 (subst AreOctets t4.0 fits3) in
-    let t5 = number_takes 4 (2 ^ 32) wide4 start_address.1 end_address fits4 e5 in
-    let nothing : end_address.1 ≡ [] = nil_from_length end_address.1 (eqb-true _ _ g3.1) in
-    let inside : List ℕ = big_bytes 2 start_port.0 ++ big_bytes 2 end_port.0 ++ big_bytes 4 start_address.0 ++ big_bytes 4 end_address.0 in
+    let t4 = range_takes part.0.first end_port.1 addresses fits3 e4 in
+    let inside : List ℕ = big_bytes 2 start_port.0 ++ big_bytes 2 end_port.0 ++ ends_octets addresses in
     let inside_is : part.0.inside ≡ inside =
-    t2.0 ∙ ap (λ (r : List ℕ). big_bytes 2 start_port.0 ++ r) (t3.0 ∙ ap (λ (r : List ℕ). big_bytes 2 end_port.0 ++ r) (t4.0 ∙ ap (λ (r : List ℕ). big_bytes 4 start_address.0 ++ r) (t5.0 ∙ ap (λ (r : List ℕ). big_bytes 4 end_address.0 ++ r) nothing))) in
-    let part_is : IsPart 7 part.0.second inside t1.front =
-    subst (λ (y : List ℕ). IsPart 7 part.0.second y t1.front) inside_is (subst (λ (m : ℕ). IsPart m part.0.second part.0.inside t1.front) (eqb-true _ _ g3.0) t1.part) in
-    subst (TakesItem SpellsSelector xs) (some_is (made, part.1) x r6) (record {
+    t2.0 ∙ ap (λ (r : List ℕ). big_bytes 2 start_port.0 ++ r) (t3.0 ∙ ap (λ (r : List ℕ). big_bytes 2 end_port.0 ++ r) t4.spelled) in
+    let part_is : IsPart (selector_type addresses) part.0.second inside t1.front =
+    subst (λ (y : List ℕ). IsPart (selector_type addresses) part.0.second y t1.front) inside_is (subst (λ (m : ℕ). IsPart m part.0.second part.0.inside t1.front) t4.kind_is t1.part) in
+    subst (TakesItem SpellsSelector xs) is (record {
       front = t1.front;
       joined = t1.joined;
-      spelled = record { part = part_is; ports = leb-true _ _ g2.1; addresses = leb-true _ _ g1.1; port = t3.1; address = t5.1 };
+      spelled = record { part = part_is; ports = leb-true _ _ g.0; port = t3.1; addresses = ordered_true addresses g.1; fits = t4.fits };
     })))))))
 
 pub selector_again : ItemAgain selector_at SpellsSelector
 unfolding selector_at
 selector_again a front rest s =
-    let inside : List ℕ = big_bytes 2 a.start_port ++ big_bytes 2 a.end_port ++ big_bytes 4 a.start_address ++ big_bytes 4 a.end_address in
-    let after3 : List ℕ = big_bytes 4 a.end_address ++ [] in
-    let after2 : List ℕ = big_bytes 4 a.start_address ++ after3 in
-    let after1 : List ℕ = big_bytes 2 a.end_port ++ after2 in (
-      ap (λ o. o >>= λ p. number_at 2 p.0.inside >>= λ u. number_at 2 u.1 >>= λ v. number_at 4 v.1 >>= λ w. number_at 4 w.1 >>= λ z. cond ((eqb p.0.first 7) && (eqb (length z.1) 0) && leb u.0 v.0 && leb w.0 z.0) (Some (record { protocol = p.0.second; start_port = u.0; end_port = v.0; start_address = w.0; end_address = z.0 }, p.1)) None) (part_again 7 a.protocol inside front rest s.part)
-          ∙ ap (λ o. o >>= λ u. number_at 2 u.1 >>= λ v. number_at 4 v.1 >>= λ w. number_at 4 w.1 >>= λ z. cond ((eqb (length z.1) 0) && leb u.0 v.0 && leb w.0 z.0) (Some (record { protocol = a.protocol; start_port = u.0; end_port = v.0; start_address = w.0; end_address = z.0 }, rest)) None) (number_again 2 (2 ^ 16) wide2 a.start_port after1 (omega (arith, s.ports, s.port)))
-          ∙ ap (λ o. o >>= λ v. number_at 4 v.1 >>= λ w. number_at 4 w.1 >>= λ z. cond ((eqb (length z.1) 0) && leb a.start_port v.0 && leb w.0 z.0) (Some (record { protocol = a.protocol; start_port = a.start_port; end_port = v.0; start_address = w.0; end_address = z.0 }, rest)) None) (number_again 2 (2 ^ 16) wide2 a.end_port after2 s.port)
-          ∙ ap (λ o. o >>= λ w. number_at 4 w.1 >>= λ z. cond ((eqb (length z.1) 0) && leb a.start_port a.end_port && leb w.0 z.0) (Some (record { protocol = a.protocol; start_port = a.start_port; end_port = a.end_port; start_address = w.0; end_address = z.0 }, rest)) None) (number_again 4 (2 ^ 32) wide4 a.start_address after3 (omega (arith, s.addresses, s.address)))
-          ∙ ap (λ o. o >>= λ z. cond ((eqb (length z.1) 0) && leb a.start_port a.end_port && leb a.start_address z.0) (Some (record { protocol = a.protocol; start_port = a.start_port; end_port = a.end_port; start_address = a.start_address; end_address = z.0 }, rest)) None) (number_again 4 (2 ^ 32) wide4 a.end_address [] s.address)
-          ∙ ap (λ b. cond (b && leb a.start_address a.end_address) (Some (a, rest)) None) (le-leb _ _ s.ports)
-          ∙ ap (λ b. cond b (Some (a, rest)) None) (le-leb _ _ s.addresses),
-      omega (arith, part_long 7 a.protocol inside front s.part),
+    let kind : ℕ = selector_type a.addresses in
+    let ends : List ℕ = ends_octets a.addresses in
+    let inside : List ℕ = big_bytes 2 a.start_port ++ big_bytes 2 a.end_port ++ ends in (
+      ap (λ o. o >>= λ p. number_at 2 p.0.inside >>= λ u. number_at 2 u.1 >>= λ v. range_of p.0.first v.1 >>= λ w. in_order (record { protocol = p.0.second; start_port = u.0; end_port = v.0; addresses = w }) >>= λ z. Some (z, p.1)) (part_again kind a.protocol inside front rest s.part)
+          ∙ ap (λ o. o >>= λ u. number_at 2 u.1 >>= λ v. range_of kind v.1 >>= λ w. in_order (record { protocol = a.protocol; start_port = u.0; end_port = v.0; addresses = w }) >>= λ z. Some (z, rest)) (number_again 2 (2 ^ 16) wide2 a.start_port (big_bytes 2 a.end_port ++ ends) (omega (arith, s.ports, s.port)))
+          ∙ ap (λ o. o >>= λ v. range_of kind v.1 >>= λ w. in_order (record { protocol = a.protocol; start_port = a.start_port; end_port = v.0; addresses = w }) >>= λ z. Some (z, rest)) (number_again 2 (2 ^ 16) wide2 a.end_port ends s.port)
+          ∙ ap (λ o. o >>= λ w. in_order (record { protocol = a.protocol; start_port = a.start_port; end_port = a.end_port; addresses = w }) >>= λ z. Some (z, rest)) (range_again a.addresses s.fits)
+          ∙ ap (λ b. cond b (Some a) None >>= λ z. Some (z, rest)) (ordered_again a s.ports s.addresses),
+      omega (arith, part_long kind a.protocol inside front s.part),
     )
 
 pub three_octets : (front : List ℕ) → length front ≡ 3 → (x : ℕ) × (y : ℕ) × (z : ℕ) × (front ≡ x ∷ y ∷ z ∷ [])
@@ -88,52 +155,70 @@ two_octets (x ∷ []) e = absurd (omega arith)
 two_octets (x ∷ y ∷ []) e = (x, y, refl)
 two_octets (x ∷ y ∷ z ∷ front) e = absurd (omega arith)
 
-selector_length : (a : Selector) (x : List ℕ) → SpellsSelector a x → length x ≡ 16
-selector_length a x s = omega (arith, ap length s.part.spelled)
+-- a selector has 16 or 40 octets
+selector_length : (a : Selector) (x : List ℕ) → SpellsSelector a x → (16 ≤ length x) × (length x ≤ 40)
+selector_length a x s = sized a.addresses s.part where
+  sized : (r : Range) → IsPart (selector_type r) a.protocol (big_bytes 2 a.start_port ++ big_bytes 2 a.end_port ++ ends_octets r) x → (16 ≤ length x) × (length x ≤ 40)
+  sized (range.V4 start end) part = (omega (arith, ap length part.spelled), omega (arith, ap length part.spelled))
+  sized (range.V6 start end) part = (omega (arith, ap length part.spelled), omega (arith, ap length part.spelled))
 
-selectors_length : (found : List Selector) (xs : List ℕ) → SpellsEach SpellsSelector found xs → length xs ≡ 16 * length found
-selectors_length [] xs s = omega (arith, ap length s)
-selectors_length (a ∷ found) xs s = omega (arith, selector_length a s.front s.first, selectors_length found s.rest s.others, length-append s.front s.rest, ap length s.joined)
+selectors_length : (found : List Selector) (xs : List ℕ) → SpellsEach SpellsSelector found xs → (16 * length found ≤ length xs) × (length xs ≤ 40 * length found)
+selectors_length [] xs s = (omega (arith, ap length s), omega (arith, ap length s))
+selectors_length (a ∷ found) xs s =
+    let one = selector_length a s.front s.first in
+    let others = selectors_length found s.rest s.others in
+    let long : length xs ≡ length s.front + length s.rest = ap length s.joined ∙ length-append s.front s.rest in
+    (omega (arith, one.0, others.0, long), omega (arith, one.1, others.1, long))
 
 pub selectors_takes : (xs : List ℕ) (found : List Selector) → AreOctets xs → selectors_of xs ≡ Some found → SpellsSelectors IsOctet found xs
 unfolding selectors_of
 selectors_takes xs found fits e =
     with_some (octet_at xs) _ found e (λ count e1 r1.
     with_some (octets_at 3 count.1) _ found r1 (λ reserved e2 r2.
-    with_test (leb 1 count.0 && leb count.0 16 && (eqb (length reserved.1) (16 * count.0))) (each_of selector_at (length reserved.1) reserved.1) found r2 (λ good e3.
-    let g1 = both_true (leb 1 count.0 && leb count.0 16) (eqb (length reserved.1) (16 * count.0)) good in
-    let g2 = both_true (leb 1 count.0) (leb count.0 16) g1.0 in
+    with_some (cond (is_counted count.0 (length reserved.1)) (each_of selector_at (length reserved.1) reserved.1) None) (λ selectors. cond (eqb (length selectors) count.0) (Some selectors) None) found r2 (λ selectors e3 r3.
+    with_test (is_counted count.0 (length reserved.1)) (each_of selector_at (length reserved.1) reserved.1) selectors e3 (λ good e4.
+    with_test (eqb (length selectors) count.0) (Some selectors) found r3 (λ counted r4.
+    let g1 = both_true (leb 1 count.0 && leb count.0 16 && leb (16 * count.0) (length reserved.1)) (leb (length reserved.1) (40 * count.0)) good in
+    let g2 = both_true (leb 1 count.0 && leb count.0 16) (leb (16 * count.0) (length reserved.1)) g1.0 in
+    let g3 = both_true (leb 1 count.0) (leb count.0 16) g2.0 in
+    let same : selectors ≡ found = some_is selectors found r4 in
     let t1 = octet_takes xs count e1 in
     let fits1 : AreOctets count.1 = (subst AreOctets t1 fits).1 in
     let t2 = octets_takes 3 count.1 reserved e2 in
     let three = three_octets reserved.0 t2.1 in
     let both2 : AreOctets (reserved.0 ++ reserved.1) = subst AreOctets t2.0 fits1 in
     let named : AreOctets (three.0 ∷ three.1 ∷ three.2 ∷ []) = subst AreOctets three.3 (octets_front reserved.0 reserved.1 both2) in
-    let each = each_takes selector_at SpellsSelector selector_takes (length reserved.1) reserved.1 found (octets_back reserved.0 reserved.1 both2) e3 in
-    let count_is : length found ≡ count.0 = omega (arith, selectors_length found reserved.1 each, eqb-true _ _ g1.1) in
-    record {
+    let each = each_takes selector_at SpellsSelector selector_takes (length reserved.1) reserved.1 selectors (octets_back reserved.0 reserved.1 both2) e4 in
+    let count_is : length selectors ≡ count.0 = eqb-true _ _ counted in
+    subst (λ (ss : List Selector). SpellsSelectors IsOctet ss xs) same (record {
       reserved_1 = three.0;
       reserved_2 = three.1;
       reserved_3 = three.2;
       free = (named.0, named.1.0, named.1.1.0);
       selectors = reserved.1;
       spelled = t1 ∙ ap (λ (r : List ℕ). count.0 ∷ r) (t2.0 ∙ ap (λ (r : List ℕ). r ++ reserved.1) three.3) ∙ ap (λ (n : ℕ). n ∷ three.0 ∷ three.1 ∷ three.2 ∷ reserved.1) (sym count_is);
-      some = rw count_is (leb-true _ _ g2.0);
-      few = rw count_is (leb-true _ _ g2.1);
+      some = rw count_is (leb-true _ _ g3.0);
+      few = rw count_is (leb-true _ _ g3.1);
       each = each;
-    })))
+    }))))))
+
+counted_again : (n size : ℕ) → 1 ≤ n → n ≤ 16 → 16 * n ≤ size → size ≤ 40 * n → is_counted n size ≡ true
+counted_again n size some few least most =
+    both_hold (leb 1 n && leb n 16 && leb (16 * n) size) (leb size (40 * n))
+    (both_hold (leb 1 n && leb n 16) (leb (16 * n) size) (both_hold (leb 1 n) (leb n 16) (le-leb _ _ some) (le-leb _ _ few)) (le-leb _ _ least))
+    (le-leb _ _ most)
 
 pub selectors_again : (Free : ℕ → Type 0) (a : List Selector) (xs : List ℕ) → SpellsSelectors Free a xs → selectors_of xs ≡ Some a
 unfolding selectors_of
 selectors_again Free a xs s =
     let n : ℕ = length a in
+    let long = selectors_length a s.selectors s.each in
     ap selectors_of s.spelled
-    ∙ ap (λ o. o >>= λ u. octets_at 3 u.1 >>= λ v. cond (leb 1 u.0 && leb u.0 16 && (eqb (length v.1) (16 * u.0))) (each_of selector_at (length v.1) v.1) None) (octet_again n (s.reserved_1 ∷ s.reserved_2 ∷ s.reserved_3 ∷ s.selectors))
-    ∙ ap (λ o. o >>= λ v. cond (leb 1 n && leb n 16 && (eqb (length v.1) (16 * n))) (each_of selector_at (length v.1) v.1) None) (octets_again (s.reserved_1 ∷ s.reserved_2 ∷ s.reserved_3 ∷ []) s.selectors 3 refl)
-    ∙ ap (λ b. cond (b && leb n 16 && (eqb (length s.selectors) (16 * n))) (each_of selector_at (length s.selectors) s.selectors) None) (le-leb _ _ s.some)
-    ∙ ap (λ b. cond (b && (eqb (length s.selectors) (16 * n))) (each_of selector_at (length s.selectors) s.selectors) None) (le-leb _ _ s.few)
-    ∙ ap (λ b. cond b (each_of selector_at (length s.selectors) s.selectors) None) (same_numbers (length s.selectors) (16 * n) (selectors_length a s.selectors s.each))
-    ∙ each_again selector_at SpellsSelector selector_again a s.selectors (length s.selectors) (omega arith) s.each
+    ∙ ap (λ o. o >>= λ u. octets_at 3 u.1 >>= λ v. cond (is_counted u.0 (length v.1)) (each_of selector_at (length v.1) v.1) None >>= λ w. cond (eqb (length w) u.0) (Some w) None) (octet_again n (s.reserved_1 ∷ s.reserved_2 ∷ s.reserved_3 ∷ s.selectors))
+    ∙ ap (λ o. o >>= λ v. cond (is_counted n (length v.1)) (each_of selector_at (length v.1) v.1) None >>= λ w. cond (eqb (length w) n) (Some w) None) (octets_again (s.reserved_1 ∷ s.reserved_2 ∷ s.reserved_3 ∷ []) s.selectors 3 refl)
+    ∙ ap (λ b. cond b (each_of selector_at (length s.selectors) s.selectors) None >>= λ w. cond (eqb (length w) n) (Some w) None) (counted_again n (length s.selectors) s.some s.few long.0 long.1)
+    ∙ ap (λ o. o >>= λ w. cond (eqb (length w) n) (Some w) None) (each_again selector_at SpellsSelector selector_again a s.selectors (length s.selectors) (omega arith) s.each)
+    ∙ ap (λ b. cond b (Some a) None) (same_numbers n n refl)
 
 -- ---- data of a few octets
 

@@ -1,19 +1,23 @@
-pub mod Options
-pub mod Pieces
-pub mod Loops
-pub mod Links
-pub mod Takes
-pub mod Sequences
-pub mod Bodies
-pub mod FieldBodies
-pub mod Forms
-pub mod PayloadReading
-pub mod ChainReading
-pub mod MessageReading
-pub mod Promises
-pub mod Written
-pub mod WrittenBodies
-pub mod WrittenFields
-pub mod WrittenPayloads
-pub mod WritingLoops
-pub mod Encoding
+pub mod OctetLemmas
+mod Options
+mod FaultLemmas
+mod Pieces
+mod Loops
+mod Links
+mod Takes
+mod Sequences
+mod Bodies
+mod FieldBodies
+mod Forms
+mod PayloadReading
+mod ChainReading
+mod MessageReading
+mod Promises
+mod Written
+mod WrittenBodies
+mod WrittenFields
+mod WrittenPayloads
+mod WritingLoops
+mod Encoding
+mod SizeLemmas
+mod LawLemmas

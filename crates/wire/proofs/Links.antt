@@ -8,7 +8,8 @@ use Rattle.wire.specs.declared.fault.WireFault.{WireFault}
 use Rattle.wire.specs.declared.fault.WireFault.TheVariants as faults
 use Rattle.wire.specs.declared.form.Form.{Form}
 use Rattle.wire.specs.declared.form.Form.TheVariants as forms
-use Rattle.wire.specs.Reading.{◌>>>◌, Answers, part_at, Piece, body_of, form_of, fault_of_form, inside_of, open_of, payload_at, chain_at, Linked, linked}
+use Rattle.wire.specs.Refusals.{fault_of_type}
+use Rattle.wire.specs.Reading.{◌>>>◌, Answers, part_at, Piece, body_of, form_of, inside_of, open_of, payload_at, chain_at, Linked, link_of}
 use Rattle.wire.proofs.Pieces.{part_shrinks}
 
 -- the value of a step that was not refused
@@ -38,7 +39,7 @@ test_ok false d x y e = absurd cc
 
 open_left : (form : Form) (kind offset : ℕ) (part : Piece) (left : List ℕ) (l : Linked) → open_of form kind offset part left ≡ Ok l → l.left ≡ left
 open_left form kind offset part left l e =
-    with_value (body_of form kind part.second part.inside) (fault_of_form form offset) (λ payload. Ok (linked payload part.first left)) l e (λ payload _ r. sym (ap (λ (x : Linked). x.left) (ok_is (linked payload part.first left) l r)))
+    with_value (body_of form kind part.second part.inside) (fault_of_type kind offset) (λ payload. Ok (link_of payload part.first left)) l e (λ payload _ r. sym (ap (λ (x : Linked). x.left) (ok_is (link_of payload part.first left) l r)))
 
 pub inside_left : (encrypted : Bool) (form : Form) (kind offset : ℕ) (part : Piece) (left : List ℕ) (l : Linked) → inside_of encrypted form kind offset part left ≡ Ok l → l.left ≡ left
 inside_left encrypted forms.Sa kind offset part left l e = open_left forms.Sa kind offset part left l e
@@ -52,7 +53,7 @@ inside_left encrypted forms.Delete kind offset part left l e = open_left forms.D
 inside_left encrypted forms.TsI kind offset part left l e = open_left forms.TsI kind offset part left l e
 inside_left encrypted forms.TsR kind offset part left l e = open_left forms.TsR kind offset part left l e
 inside_left encrypted forms.Sealed kind offset part left l e =
-    sym (ap (λ (x : Linked). x.left) (test_ok (encrypted && eqb (length left) 0) (faults.BadChain offset) (linked (payloads.Sealed part.first part.inside) 0 left) l e).1)
+    sym (ap (λ (x : Linked). x.left) (test_ok (encrypted && eqb (length left) 0) (fault_of_type kind offset) (link_of (payloads.Sealed part.first part.inside) 0 left) l e).1)
 inside_left encrypted (forms.Skipped k) kind offset part left l e = open_left (forms.Skipped k) kind offset part left l e
 inside_left encrypted forms.Unknown kind offset part left l e = open_left forms.Unknown kind offset part left l e
 
@@ -90,9 +91,9 @@ chain_more encrypted end zero (suc next) rest some long enough = absurd (omega a
 chain_more encrypted end (suc k) (suc next) rest some long enough = (k, refl, refl)
 
 pub chain_goes_on : (encrypted : Bool) (end : ℕ) (front : List Payload) (next : ℕ) (rest : List ℕ) (total : Result (List Payload) WireFault) (p : Payload) (behind : ℕ) (left : List ℕ)
-    → next ≢ 0 → payload_at encrypted end next rest ≡ Ok (linked p behind left) → ChainSoFar encrypted end front next rest total → ChainSoFar encrypted end (front ++ p ∷ []) behind left total
+    → next ≢ 0 → payload_at encrypted end next rest ≡ Ok (link_of p behind left) → ChainSoFar encrypted end front next rest total → ChainSoFar encrypted end (front ++ p ∷ []) behind left total
 chain_goes_on encrypted end front next rest total p behind left some read so_far =
-    let less : length left < length rest = payload_shrinks encrypted end next rest (linked p behind left) read in
+    let less : length left < length rest = payload_shrinks encrypted end next rest (link_of p behind left) read in
     let m = chain_more encrypted end so_far.steps next rest some (omega arith) so_far.enough in
     let step : chain_at encrypted end so_far.steps next rest ≡ (chain_at encrypted end m.0 behind left >>> λ ps. Ok (p ∷ ps)) =
     m.2 ∙ ap (λ r. r >>> λ x. chain_at encrypted end m.0 x.next x.left >>> λ ps. Ok (x.payload ∷ ps)) read in

@@ -5,7 +5,7 @@ use Rattle.std.proofs.lemmas.Bool.{eqb-true, eqb-false, ne_eqb, ltb-false, le-lt
 use Rattle.std.proofs.lemmas.List.{length-append, length-drop, get_or-take, get_or-drop, drop-drop}
 use Rattle.byteorder.specs.Endian.{big_bytes, big_number}
 use Rattle.byteorder.specs.Numbers.{big_from-take}
-use Rattle.wire.specs.Parts.{IsOctet, AreOctets}
+use Rattle.base.specs.Octets.{IsOctet, AreOctets}
 use Rattle.wire.specs.Messages.{bit, HasFlags, SpellsHeader, SpellsWith, Spells}
 use Rattle.wire.specs.Refusals.{IsFaultAt, IsChainFault, IsFaultOf, HasLength, HasVersion, length_field}
 use Rattle.wire.specs.Reading.{◌>>=◌, ◌>>>◌, octets_at, octet_at, number_at, flags_of, head_at, headed_of, message_of, chain_at}
@@ -16,9 +16,11 @@ use Rattle.wire.specs.declared.message.Flags.{Flags}
 use Rattle.wire.specs.declared.payload.Payload.{Payload}
 use Rattle.wire.specs.declared.fault.WireFault.{WireFault}
 use Rattle.wire.specs.declared.fault.WireFault.TheVariants as faults
+use Rattle.wire.proofs.FaultLemmas.{chain_in_payload}
 use Rattle.wire.proofs.Options.{some_is, with_some, pick}
 use Rattle.wire.proofs.Links.{with_ok, with_value, ok_is, err_is}
-use Rattle.wire.proofs.Takes.{octets_back, octets_drop, octet_in, octet_takes, octet_again, wide4, wide8, number_takes, number_again}
+use Rattle.wire.proofs.OctetLemmas.{octets_back, octets_drop, octet_in}
+use Rattle.wire.proofs.Takes.{octet_takes, octet_again, wide4, wide8, number_takes, number_again}
 use Rattle.wire.proofs.Bodies.{same_numbers}
 use Rattle.wire.proofs.ChainReading.{chain_takes, chain_again, chain_fault, fault_again, FaultyChain}
 
@@ -328,16 +330,16 @@ fault_message b faults.Memory fits h = absurd h
 
 -- the fault of a chain is a fault of the message
 of_chain : (b : List ℕ) (f : WireFault) → HasVersion b → IsChainFault true 28 (slice_index b 16) (drop 28 b) f → IsFaultOf b f
-of_chain b faults.Short h c = absurd c.here
-of_chain b faults.BadLength h c = absurd c.here
-of_chain b faults.BadVersion h c = absurd c.here
+of_chain b faults.Short h c = absurd (chain_in_payload true 28 (slice_index b 16) (drop 28 b) faults.Short c)
+of_chain b faults.BadLength h c = absurd (chain_in_payload true 28 (slice_index b 16) (drop 28 b) faults.BadLength c)
+of_chain b faults.BadVersion h c = absurd (chain_in_payload true 28 (slice_index b 16) (drop 28 b) faults.BadVersion c)
 of_chain b (faults.BadChain at) h c = (h, c)
 of_chain b (faults.BadProposal at) h c = (h, c)
 of_chain b (faults.BadSelector at) h c = (h, c)
 of_chain b (faults.BadNonce at) h c = (h, c)
 of_chain b (faults.BadField at) h c = (h, c)
-of_chain b faults.TooLong h c = absurd c.here
-of_chain b faults.Memory h c = absurd c.here
+of_chain b faults.TooLong h c = absurd (chain_in_payload true 28 (slice_index b 16) (drop 28 b) faults.TooLong c)
+of_chain b faults.Memory h c = absurd (chain_in_payload true 28 (slice_index b 16) (drop 28 b) faults.Memory c)
 
 bind_refused : {A B : Type 0} (r : Result A WireFault) (g : A → B) (f : WireFault) → (r >>> λ x. Ok (g x)) ≡ Err f → r ≡ Err f
 bind_refused (Ok x) g f e = absurd cc

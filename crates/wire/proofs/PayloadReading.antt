@@ -4,10 +4,11 @@ use Rattle.std.specs.Prelude.{ok_or, ◌&&◌}
 use Rattle.std.proofs.lemmas.Bool.{eqb-true, leb-true, leb-false, le-leb, lt-leb}
 use Rattle.std.proofs.lemmas.List.{nil_from_length}
 use Rattle.byteorder.specs.Endian.{big_bytes}
-use Rattle.wire.specs.Parts.{IsOctet, AreOctets, IsPart}
+use Rattle.base.specs.Octets.{IsOctet, AreOctets}
+use Rattle.wire.specs.Parts.{IsPart}
 use Rattle.wire.specs.Payloads.{type_of, type_of_skipped, SpellsBody, IsUnknownType, HasCriticalBit, HasHeader, SpellsPayload, following, IsClear}
-use Rattle.wire.specs.Refusals.{BeginsPart, BeginsPayload, IsRefused, IsFaultAt}
-use Rattle.wire.specs.Reading.{◌>>=◌, ◌>>>◌, part_at, Piece, piece_of, proposals_of, ke_of, typed_of, nonce_of, selectors_of, form_of, fault_of_form, body_of, open_of, inside_of, payload_at, Linked, linked}
+use Rattle.wire.specs.Refusals.{fault_of_type, BeginsPart, BeginsPayload, IsRefused, IsFaultAt}
+use Rattle.wire.specs.Reading.{◌>>=◌, ◌>>>◌, part_at, Piece, piece_of, proposals_of, ke_of, typed_of, nonce_of, selectors_of, form_of, body_of, open_of, inside_of, payload_at, Linked, link_of}
 use Rattle.wire.specs.declared.payload.Payload.{Payload}
 use Rattle.wire.specs.declared.payload.Payload.TheVariants as payloads
 use Rattle.wire.specs.declared.payload.SkippedKind.{SkippedKind}
@@ -18,7 +19,8 @@ use Rattle.wire.specs.declared.fault.WireFault.{WireFault}
 use Rattle.wire.specs.declared.fault.WireFault.TheVariants as faults
 use Rattle.wire.proofs.Options.{some_is, with_some, both_true}
 use Rattle.wire.proofs.Links.{with_value, ok_is, err_is, test_ok}
-use Rattle.wire.proofs.Takes.{octets_front, octets_back, part_takes, part_again}
+use Rattle.wire.proofs.OctetLemmas.{octets_front, octets_back}
+use Rattle.wire.proofs.Takes.{part_takes, part_again}
 use Rattle.wire.proofs.Bodies.{proposals_takes, proposals_again}
 use Rattle.wire.proofs.FieldBodies.{selectors_takes, selectors_again, ke_takes, ke_again, typed_takes, typed_again, nonce_takes, nonce_again, notify_takes, notify_again, delete_takes, delete_again}
 use Rattle.wire.proofs.Forms.{FormIs, form_is, form_unknown}
@@ -40,8 +42,8 @@ critical_bit second fits = go (leb 128 second) refl where
   go false e = let low : second < 128 = leb-false _ _ e in record { reserved = second; low = low; free = fits; value = omega arith }
 
 is_unknown : (kind : ℕ) → kind ≢ 0 → kind < 256 → (kind ≤ 32) ⊎ (49 ≤ kind) → IsUnknownType kind
-is_unknown kind some fits (inl low) = inl (omega arith, low)
-is_unknown kind some fits (inr high) = inr (high, fits)
+is_unknown kind some fits (inl low) = inl (omega arith, omega (arith, low))
+is_unknown kind some fits (inr high) = inr (omega (arith, high), fits)
 
 not_46 : (kind n : ℕ) → kind ≡ n → n ≢ 46 → kind ≢ 46
 not_46 kind n is other e = other (sym is ∙ e)
@@ -120,10 +122,10 @@ part_octets xs front left part fits joined is =
 open_takes : (encrypted : Bool) (form : Form) (kind offset : ℕ) (part : Piece) (xs front left : List ℕ) (l : Linked) → FormIs form kind → kind ≢ 0 → kind < 256 → AreOctets xs → xs ≡ front ++ left
     → IsPart part.first part.second part.inside front → open_of form kind offset part left ≡ Ok l → TakesPayload encrypted kind xs l
 open_takes encrypted form kind offset part xs front left l is some small fits joined head e =
-    with_value (body_of form kind part.second part.inside) (fault_of_form form offset) (λ payload. Ok (linked payload part.first left)) l e (λ payload e1 r1.
+    with_value (body_of form kind part.second part.inside) (fault_of_type kind offset) (λ payload. Ok (link_of payload part.first left)) l e (λ payload e1 r1.
     let o = part_octets xs front left part fits joined head in
     let t = body_takes form kind part.second part.inside payload is some small o.second o.inside e1 in
-    subst (TakesPayload encrypted kind xs) (ok_is (linked payload part.first left) l r1) (record {
+    subst (TakesPayload encrypted kind xs) (ok_is (link_of payload part.first left) l r1) (record {
       front = front;
       next = part.first;
       joined = joined;
@@ -137,8 +139,8 @@ open_takes encrypted form kind offset part xs front left l is some small fits jo
 inside_takes : (encrypted : Bool) (form : Form) (kind offset : ℕ) (part : Piece) (xs front left : List ℕ) (l : Linked) → FormIs form kind → kind ≢ 0 → kind < 256 → AreOctets xs → xs ≡ front ++ left
     → IsPart part.first part.second part.inside front → inside_of encrypted form kind offset part left ≡ Ok l → TakesPayload encrypted kind xs l
 inside_takes encrypted forms.Sealed kind offset part xs front left l is some small fits joined head e =
-    let made : Linked = linked (payloads.Sealed part.first part.inside) 0 left in
-    let t = test_ok (encrypted && eqb (length left) 0) (faults.BadChain offset) made l e in
+    let made : Linked = link_of (payloads.Sealed part.first part.inside) 0 left in
+    let t = test_ok (encrypted && eqb (length left) 0) (fault_of_type kind offset) made l e in
     let b = both_true encrypted (eqb (length left) 0) t.0 in
     let o = part_octets xs front left part fits joined head in
     subst (TakesPayload encrypted kind xs) t.1 (record {
@@ -194,8 +196,8 @@ bit_read true second Free h = le-leb 128 second (omega (arith, h.value))
 bit_read false second Free h = lt-leb 128 second (omega (arith, h.value, h.low))
 
 -- a payload that is not encrypted is read from its body
-open_again : (encrypted : Bool) (form : Form) (kind offset : ℕ) (part : Piece) (rest : List ℕ) (p : Payload) → body_of form kind part.second part.inside ≡ Some p → open_of form kind offset part rest ≡ Ok (linked p part.first rest)
-open_again encrypted form kind offset part rest p e = ap (λ o. ok_or o (fault_of_form form offset) >>> λ payload. Ok (linked payload part.first rest)) e
+open_again : (encrypted : Bool) (form : Form) (kind offset : ℕ) (part : Piece) (rest : List ℕ) (p : Payload) → body_of form kind part.second part.inside ≡ Some p → open_of form kind offset part rest ≡ Ok (link_of p part.first rest)
+open_again encrypted form kind offset part rest p e = ap (λ o. ok_or o (fault_of_type kind offset) >>> λ payload. Ok (link_of payload part.first rest)) e
 
 skipped_form : (s : SkippedKind) → form_of (type_of_skipped s) ≡ forms.Skipped s
 skipped_form skipped.Certificate = refl
@@ -205,7 +207,7 @@ skipped_form skipped.Configuration = refl
 skipped_form skipped.Eap = refl
 
 inside_again : (encrypted : Bool) (offset next second : ℕ) (body rest : List ℕ) (p : Payload) → HasHeader IsOctet p next second → SpellsBody IsOctet p body → (type_of p ≡ 46 → (encrypted ≡ true) × (rest ≡ []))
-    → inside_of encrypted (form_of (type_of p)) (type_of p) offset (piece_of next second body) rest ≡ Ok (linked p (following p next) rest)
+    → inside_of encrypted (form_of (type_of p)) (type_of p) offset (piece_of next second body) rest ≡ Ok (link_of p (following p next) rest)
 unfolding body_of
 inside_again encrypted offset next second body rest (payloads.Sa x) header s last =
     open_again encrypted forms.Sa 33 offset (piece_of next second body) rest (payloads.Sa x) (ap (λ o. o >>= λ y. Some (payloads.Sa y)) (proposals_again IsOctet x body s))
@@ -229,14 +231,14 @@ inside_again encrypted offset next second body rest (payloads.TsR x) header s la
     open_again encrypted forms.TsR 45 offset (piece_of next second body) rest (payloads.TsR x) (ap (λ o. o >>= λ y. Some (payloads.TsR y)) (selectors_again IsOctet x body s))
 inside_again encrypted offset next second body rest (payloads.Sealed x y) header s last =
     let h = last refl in
-    rw (h.0, h.1) (ap (λ (z : List ℕ). Ok (linked (payloads.Sealed next z) 0 [])) s ∙ ap (λ (n : ℕ). Ok (linked (payloads.Sealed n y) 0 [])) header.0)
+    rw (h.0, h.1) (ap (λ (z : List ℕ). Ok (link_of (payloads.Sealed next z) 0 [])) s ∙ ap (λ (n : ℕ). Ok (link_of (payloads.Sealed n y) 0 [])) header.0)
 inside_again encrypted offset next second body rest (payloads.Skipped x y) header s last =
-    rw (skipped_form x) (ap (λ (z : List ℕ). Ok (linked (payloads.Skipped x z) next rest)) s)
+    rw (skipped_form x) (ap (λ (z : List ℕ). Ok (link_of (payloads.Skipped x z) next rest)) s)
 inside_again encrypted offset next second body rest (payloads.Unknown x y z) header s last =
-    rw (form_unknown x header.0, bit_read y second IsOctet header.1) (ap (λ (w : List ℕ). Ok (linked (payloads.Unknown x y w) next rest)) s)
+    rw (form_unknown x header.0, bit_read y second IsOctet header.1) (ap (λ (w : List ℕ). Ok (link_of (payloads.Unknown x y w) next rest)) s)
 
 pub payload_again : (encrypted : Bool) (end next : ℕ) (front rest : List ℕ) (p : Payload) → SpellsPayload IsOctet p next front → (type_of p ≡ 46 → (encrypted ≡ true) × (rest ≡ []))
-    → payload_at encrypted end (type_of p) (front ++ rest) ≡ Ok (linked p (following p next) rest)
+    → payload_at encrypted end (type_of p) (front ++ rest) ≡ Ok (link_of p (following p next) rest)
 unfolding payload_at
 payload_again encrypted end next front rest p s last =
     let offset : ℕ = end - length (front ++ rest) in
@@ -244,22 +246,6 @@ payload_again encrypted end next front rest p s last =
     ∙ inside_again encrypted offset next s.second s.body rest p s.header s.inside last
 
 -- ---- what is refused
-
--- the forms of payloads that may be malformed inside
-abbrev CanFail : Form → Type 0
-CanFail forms.Sa = Unit {0}
-CanFail forms.Ke = Unit {0}
-CanFail forms.IdI = Unit {0}
-CanFail forms.IdR = Unit {0}
-CanFail forms.Auth = Unit {0}
-CanFail forms.Nonce = Unit {0}
-CanFail forms.Notify = Unit {0}
-CanFail forms.Delete = Unit {0}
-CanFail forms.TsI = Unit {0}
-CanFail forms.TsR = Unit {0}
-CanFail forms.Sealed = Unit {0}
-CanFail (forms.Skipped s) = ⊥
-CanFail forms.Unknown = ⊥
 
 -- a refused step that has a value goes on to be refused
 value_err : {A B : Type 0} (o : Option A) (d : WireFault) (g : A → B) (f : WireFault) → (ok_or o d >>> λ x. Ok (g x)) ≡ Err f → (o ≡ None) × (d ≡ f)
@@ -270,35 +256,34 @@ test_err : {A : Type 0} (b : Bool) (d : WireFault) (x : A) (f : WireFault) → c
 test_err true d x f e = absurd cc
 test_err {A = A} false d x f e = err_is {A = A} d f e
 
-open_err : (form : Form) (kind offset : ℕ) (part : Piece) (left : List ℕ) (f : WireFault) → open_of form kind offset part left ≡ Err f → (body_of form kind part.second part.inside ≡ None) × (fault_of_form form offset ≡ f)
-open_err form kind offset part left f e = value_err (body_of form kind part.second part.inside) (fault_of_form form offset) (λ payload. linked payload part.first left) f e
+open_err : (form : Form) (kind offset : ℕ) (part : Piece) (left : List ℕ) (f : WireFault) → open_of form kind offset part left ≡ Err f → fault_of_type kind offset ≡ f
+open_err form kind offset part left f e = (value_err (body_of form kind part.second part.inside) (fault_of_type kind offset) (λ payload. link_of payload part.first left) f e).1
 
-inside_err : (encrypted : Bool) (form : Form) (kind offset : ℕ) (part : Piece) (left : List ℕ) (f : WireFault) → inside_of encrypted form kind offset part left ≡ Err f → CanFail form × (fault_of_form form offset ≡ f)
-unfolding body_of
-inside_err encrypted forms.Sa kind offset part left f e = (tt, (open_err forms.Sa kind offset part left f e).1)
-inside_err encrypted forms.Ke kind offset part left f e = (tt, (open_err forms.Ke kind offset part left f e).1)
-inside_err encrypted forms.IdI kind offset part left f e = (tt, (open_err forms.IdI kind offset part left f e).1)
-inside_err encrypted forms.IdR kind offset part left f e = (tt, (open_err forms.IdR kind offset part left f e).1)
-inside_err encrypted forms.Auth kind offset part left f e = (tt, (open_err forms.Auth kind offset part left f e).1)
-inside_err encrypted forms.Nonce kind offset part left f e = (tt, (open_err forms.Nonce kind offset part left f e).1)
-inside_err encrypted forms.Notify kind offset part left f e = (tt, (open_err forms.Notify kind offset part left f e).1)
-inside_err encrypted forms.Delete kind offset part left f e = (tt, (open_err forms.Delete kind offset part left f e).1)
-inside_err encrypted forms.TsI kind offset part left f e = (tt, (open_err forms.TsI kind offset part left f e).1)
-inside_err encrypted forms.TsR kind offset part left f e = (tt, (open_err forms.TsR kind offset part left f e).1)
-inside_err encrypted forms.Sealed kind offset part left f e = (tt, test_err (encrypted && eqb (length left) 0) (faults.BadChain offset) (linked (payloads.Sealed part.first part.inside) 0 left) f e)
-inside_err encrypted (forms.Skipped s) kind offset part left f e = absurd cc
-inside_err encrypted forms.Unknown kind offset part left f e = absurd cc
+inside_err : (encrypted : Bool) (form : Form) (kind offset : ℕ) (part : Piece) (left : List ℕ) (f : WireFault) → inside_of encrypted form kind offset part left ≡ Err f → fault_of_type kind offset ≡ f
+inside_err encrypted forms.Sealed kind offset part left f e = test_err (encrypted && eqb (length left) 0) (fault_of_type kind offset) (link_of (payloads.Sealed part.first part.inside) 0 left) f e
+inside_err encrypted forms.Sa kind offset part left f e = open_err forms.Sa kind offset part left f e
+inside_err encrypted forms.Ke kind offset part left f e = open_err forms.Ke kind offset part left f e
+inside_err encrypted forms.IdI kind offset part left f e = open_err forms.IdI kind offset part left f e
+inside_err encrypted forms.IdR kind offset part left f e = open_err forms.IdR kind offset part left f e
+inside_err encrypted forms.Auth kind offset part left f e = open_err forms.Auth kind offset part left f e
+inside_err encrypted forms.Nonce kind offset part left f e = open_err forms.Nonce kind offset part left f e
+inside_err encrypted forms.Notify kind offset part left f e = open_err forms.Notify kind offset part left f e
+inside_err encrypted forms.Delete kind offset part left f e = open_err forms.Delete kind offset part left f e
+inside_err encrypted forms.TsI kind offset part left f e = open_err forms.TsI kind offset part left f e
+inside_err encrypted forms.TsR kind offset part left f e = open_err forms.TsR kind offset part left f e
+inside_err encrypted (forms.Skipped s) kind offset part left f e = open_err (forms.Skipped s) kind offset part left f e
+inside_err encrypted forms.Unknown kind offset part left f e = open_err forms.Unknown kind offset part left f e
 
 -- a payload is refused for its header, or for what is in it
 abbrev PayloadErr : (kind offset : ℕ) (xs : List ℕ) (f : WireFault) → Type 0
-PayloadErr kind offset xs f = ((part_at xs ≡ None) × (faults.BadChain offset ≡ f)) ⊎ ((x : Piece × List ℕ) × (part_at xs ≡ Some x) × CanFail (form_of kind) × (fault_of_form (form_of kind) offset ≡ f))
+PayloadErr kind offset xs f = ((part_at xs ≡ None) × (faults.BadChain offset ≡ f)) ⊎ ((x : Piece × List ℕ) × (part_at xs ≡ Some x) × (fault_of_type kind offset ≡ f))
 
 payload_err : (encrypted : Bool) (end kind : ℕ) (xs : List ℕ) (f : WireFault) → payload_at encrypted end kind xs ≡ Err f → PayloadErr kind (end - length xs) xs f
 unfolding payload_at
 payload_err encrypted end kind xs f e = go (part_at xs) refl e where
   go : (o : Option (Piece × List ℕ)) → part_at xs ≡ o → (ok_or o (faults.BadChain (end - length xs)) >>> λ part. inside_of encrypted (form_of kind) kind (end - length xs) part.0 part.1) ≡ Err f → PayloadErr kind (end - length xs) xs f
   go None is e' = inl (is, err_is {A = Linked} (faults.BadChain (end - length xs)) f e')
-  go (Some x) is e' = let i = inside_err encrypted (form_of kind) kind (end - length xs) x.0 x.1 f e' in inr (x, is, i.0, i.1)
+  go (Some x) is e' = inr (x, is, inside_err encrypted (form_of kind) kind (end - length xs) x.0 x.1 f e')
 
 no_part : (xs : List ℕ) → part_at xs ≡ None → BeginsPart xs → ⊥
 no_part xs none b = none_some (sym (ap part_at b.joined ∙ part_again b.first b.second b.inside b.front b.after b.part) ∙ none) where
@@ -306,7 +291,7 @@ no_part xs none b = none_some (sym (ap part_at b.joined ∙ part_again b.first b
   none_some e = cc
 
 -- what begins as a payload is read
-begins_read : (encrypted : Bool) (end kind : ℕ) (xs : List ℕ) (b : BeginsPayload encrypted kind xs) → payload_at encrypted end kind xs ≡ Ok (linked b.payload (following b.payload b.next) b.after)
+begins_read : (encrypted : Bool) (end kind : ℕ) (xs : List ℕ) (b : BeginsPayload encrypted kind xs) → payload_at encrypted end kind xs ≡ Ok (link_of b.payload (following b.payload b.next) b.after)
 begins_read encrypted end kind xs b =
     ap (payload_at encrypted end kind) b.joined ∙ ap (λ (k : ℕ). payload_at encrypted end k (b.front ++ b.after)) b.kind
     ∙ payload_again encrypted end b.next b.front b.after b.payload b.spelled (λ q. b.last (b.kind ∙ q))
@@ -325,38 +310,19 @@ begins_payload : (encrypted : Bool) (kind : ℕ) (xs : List ℕ) (l : Linked) �
 begins_payload encrypted kind xs l t =
     record { payload = l.payload; next = t.next; front = t.front; after = l.left; joined = t.joined; kind = t.kind_is; spelled = t.spelled; last = λ q. let h = t.last q in (h.0, h.1) }
 
-fault_here : (encrypted : Bool) (form : Form) (kind offset : ℕ) (xs : List ℕ) → FormIs form kind → CanFail form → IsRefused encrypted kind xs → IsFaultAt encrypted kind xs offset (fault_of_form form offset)
-fault_here encrypted forms.Sa kind offset xs is can refused = (refl, is, refused)
-fault_here encrypted forms.Ke kind offset xs is can refused = (refl, inl is, refused)
-fault_here encrypted forms.IdI kind offset xs is can refused = (refl, inr (inl is), refused)
-fault_here encrypted forms.IdR kind offset xs is can refused = (refl, inr (inr (inl is)), refused)
-fault_here encrypted forms.Auth kind offset xs is can refused = (refl, inr (inr (inr (inl is))), refused)
-fault_here encrypted forms.Nonce kind offset xs is can refused = (refl, is, refused)
-fault_here encrypted forms.Notify kind offset xs is can refused = (refl, inr (inr (inr (inr (inl is)))), refused)
-fault_here encrypted forms.Delete kind offset xs is can refused = (refl, inr (inr (inr (inr (inr is)))), refused)
-fault_here encrypted forms.TsI kind offset xs is can refused = (refl, inl is, refused)
-fault_here encrypted forms.TsR kind offset xs is can refused = (refl, inr is, refused)
-fault_here encrypted forms.Sealed kind offset xs is can refused = (refl, inr (inr (is, refused)))
-fault_here encrypted (forms.Skipped s) kind offset xs is can refused = absurd can
-fault_here encrypted forms.Unknown kind offset xs is can refused = absurd can
-
 pub payload_fault : (encrypted : Bool) (end kind : ℕ) (xs : List ℕ) (f : WireFault) → kind ≢ 0 → AreOctets xs → payload_at encrypted end kind xs ≡ Err f → IsFaultAt encrypted kind xs (end - length xs) f
-payload_fault encrypted end kind xs f some fits e =
-    let P : WireFault → Type 0 = λ g. IsFaultAt encrypted kind xs (end - length xs) g in
-    elim (payload_err encrypted end kind xs f e) [
-      | inl short ↦ subst P short.1 (refl, inr (inl (some, no_part xs short.0)))
-      | inr bad ↦
-          let refused : IsRefused encrypted kind xs = (begins_part xs bad.0 fits bad.1, refused_read encrypted end kind xs f e) in
-          subst P bad.3 (fault_here encrypted (form_of kind) kind (end - length xs) xs (form_is kind (form_of kind) refl) bad.2 refused)
-    ]
+payload_fault encrypted end kind xs f some fits e = elim (payload_err encrypted end kind xs f e) [
+  | inl short ↦ inl (inr (some, no_part xs short.0), sym short.1)
+  | inr bad ↦ inr (some, (begins_part xs bad.0 fits bad.1, refused_read encrypted end kind xs f e), sym bad.2)
+]
 
-refused_is : (encrypted : Bool) (end kind : ℕ) (xs : List ℕ) → kind ≢ 0 → kind < 256 → AreOctets xs → IsRefused encrypted kind xs → payload_at encrypted end kind xs ≡ Err (fault_of_form (form_of kind) (end - length xs))
+refused_is : (encrypted : Bool) (end kind : ℕ) (xs : List ℕ) → kind ≢ 0 → kind < 256 → AreOctets xs → IsRefused encrypted kind xs → payload_at encrypted end kind xs ≡ Err (fault_of_type kind (end - length xs))
 refused_is encrypted end kind xs some small fits refused = go (payload_at encrypted end kind xs) refl where
-  go : (r : Result Linked WireFault) → payload_at encrypted end kind xs ≡ r → r ≡ Err (fault_of_form (form_of kind) (end - length xs))
+  go : (r : Result Linked WireFault) → payload_at encrypted end kind xs ≡ r → r ≡ Err (fault_of_type kind (end - length xs))
   go (Ok l) e = absurd (refused.1 (begins_payload encrypted kind xs l (payload_takes encrypted end kind xs l some small fits e)))
   go (Err g) e = elim (payload_err encrypted end kind xs g e) [
     | inl short ↦ absurd (no_part xs short.0 refused.0)
-    | inr bad ↦ ap (λ (d : WireFault). Err d) (sym bad.3)
+    | inr bad ↦ ap (λ (d : WireFault). Err d) (sym bad.2)
   ]
 
 short_is : (encrypted : Bool) (end kind : ℕ) (xs : List ℕ) → AreOctets xs → (BeginsPart xs → ⊥) → payload_at encrypted end kind xs ≡ Err (faults.BadChain (end - length xs))
@@ -366,39 +332,14 @@ short_is encrypted end kind xs fits none = ap (λ o. ok_or o (faults.BadChain (e
   go None e = refl
   go (Some x) e = absurd (none (begins_part xs x fits e))
 
--- the fault of a payload of a type that has it
-at_kind : (encrypted : Bool) (end kind n : ℕ) (xs : List ℕ) (fault : ℕ → WireFault) (at : ℕ) → at ≡ end - length xs → kind ≡ n → (fault_of_form (form_of n) (end - length xs) ≡ fault (end - length xs)) → kind ≢ 0 → kind < 256 → AreOctets xs
-    → IsRefused encrypted kind xs → payload_at encrypted end kind xs ≡ Err (fault at)
-at_kind encrypted end kind n xs fault at at_is is same some small fits refused =
-    refused_is encrypted end kind xs some small fits refused
-    ∙ ap (λ (k : ℕ). Err (fault_of_form (form_of k) (end - length xs))) is
-    ∙ ap (λ (d : WireFault). Err d) (same ∙ ap fault (sym at_is))
-
 pub fault_payload : (encrypted : Bool) (end kind : ℕ) (xs : List ℕ) (f : WireFault) → kind ≢ 0 → kind < 256 → AreOctets xs → IsFaultAt encrypted kind xs (end - length xs) f → payload_at encrypted end kind xs ≡ Err f
-fault_payload encrypted end kind xs faults.Short some small fits h = absurd h
-fault_payload encrypted end kind xs faults.BadLength some small fits h = absurd h
-fault_payload encrypted end kind xs faults.BadVersion some small fits h = absurd h
-fault_payload encrypted end kind xs (faults.BadChain at) some small fits h = elim h.1 [
-  | inl over ↦ absurd (some over.0)
-  | inr (inl short) ↦ short_is encrypted end kind xs fits short.1 ∙ ap (λ (n : ℕ). Err (faults.BadChain n)) (sym h.0)
-  | inr (inr sealed) ↦ at_kind encrypted end kind 46 xs faults.BadChain at h.0 sealed.0 refl some small fits sealed.1
+fault_payload encrypted end kind xs f some small fits h = elim h [
+  | inl broken ↦ elim broken.0 [
+    | inl none ↦ absurd (some none.0)
+    | inr short ↦ short_is encrypted end kind xs fits short.1 ∙ ap (λ (d : WireFault). Err d) (sym broken.1)
+  ]
+  | inr bad ↦ refused_is encrypted end kind xs some small fits bad.1 ∙ ap (λ (d : WireFault). Err d) (sym bad.2)
 ]
-fault_payload encrypted end kind xs (faults.BadProposal at) some small fits h = at_kind encrypted end kind 33 xs faults.BadProposal at h.0 h.1 refl some small fits h.2
-fault_payload encrypted end kind xs (faults.BadSelector at) some small fits h = elim h.1 [
-  | inl is ↦ at_kind encrypted end kind 44 xs faults.BadSelector at h.0 is refl some small fits h.2
-  | inr is ↦ at_kind encrypted end kind 45 xs faults.BadSelector at h.0 is refl some small fits h.2
-]
-fault_payload encrypted end kind xs (faults.BadNonce at) some small fits h = at_kind encrypted end kind 40 xs faults.BadNonce at h.0 h.1 refl some small fits h.2
-fault_payload encrypted end kind xs (faults.BadField at) some small fits h = elim h.1 [
-  | inl is ↦ at_kind encrypted end kind 34 xs faults.BadField at h.0 is refl some small fits h.2
-  | inr (inl is) ↦ at_kind encrypted end kind 35 xs faults.BadField at h.0 is refl some small fits h.2
-  | inr (inr (inl is)) ↦ at_kind encrypted end kind 36 xs faults.BadField at h.0 is refl some small fits h.2
-  | inr (inr (inr (inl is))) ↦ at_kind encrypted end kind 39 xs faults.BadField at h.0 is refl some small fits h.2
-  | inr (inr (inr (inr (inl is)))) ↦ at_kind encrypted end kind 41 xs faults.BadField at h.0 is refl some small fits h.2
-  | inr (inr (inr (inr (inr is)))) ↦ at_kind encrypted end kind 42 xs faults.BadField at h.0 is refl some small fits h.2
-]
-fault_payload encrypted end kind xs faults.TooLong some small fits h = absurd h
-fault_payload encrypted end kind xs faults.Memory some small fits h = absurd h
 
 -- ---- the chain behind a payload
 

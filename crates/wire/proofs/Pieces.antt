@@ -1,13 +1,12 @@
 -- What the steps of reading take from the front.
 use Rattle.std.proofs.Common.{◌≡◌, ℕ, ◌+◌, ◌-◌, ◌<◌, ◌≤◌, ◌^◌, ltb, leb, List, length, take, drop, slice_index, Some, sym, ap, inl, inr, arith}
-use Rattle.std.specs.Prelude.{◌==◌, ◌&&◌}
 use Rattle.std.proofs.lemmas.Bool.{ltb-false}
 use Rattle.std.proofs.lemmas.List.{length-drop}
 use Rattle.byteorder.specs.Endian.{big_number}
 use Rattle.wire.specs.declared.proposal.Attribute.{Attribute}
-use Rattle.wire.specs.declared.selector.Selector.{Selector}
-use Rattle.wire.specs.Reading.{octets_at, octet_at, number_at, part_at, attribute_at, selector_at, Piece}
-use Rattle.wire.proofs.Options.{bind_some, guard_some, some_is, with_some, with_guard, with_test, pick}
+use Rattle.base.specs.declared.selector.Selector.{Selector}
+use Rattle.wire.specs.Reading.{octets_at, octet_at, number_at, part_at, attribute_at, range_of, in_order, selector_at, Piece}
+use Rattle.wire.proofs.Options.{bind_some, guard_some, some_is, with_some, with_guard, pick}
 
 -- so many octets, and what is behind them
 pub record Takes (count : ℕ) (xs front rest : List ℕ) : Type 0 where
@@ -70,8 +69,7 @@ selector_shrinks xs x e =
     with_some (part_at xs) _ x e (λ part e1 r1.
     with_some (number_at 2 part.0.inside) _ x r1 (λ start_port e2 r2.
     with_some (number_at 2 start_port.1) _ x r2 (λ end_port e3 r3.
-    with_some (number_at 4 end_port.1) _ x r3 (λ start_address e4 r4.
-    with_some (number_at 4 start_address.1) _ x r4 (λ end_address e5 r5.
-    with_test ((part.0.first == 7) && (length end_address.1 == 0) && leb start_port.0 end_port.0 && leb start_address.0 end_address.0) (Some (record { protocol = part.0.second; start_port = start_port.0; end_port = end_port.0; start_address = start_address.0; end_address = end_address.0 }, part.1)) x r5 (λ _ r6.
-    let left : part.1 ≡ x.1 = ap (λ (p : Selector × List ℕ). p.1) (some_is (record { protocol = part.0.second; start_port = start_port.0; end_port = end_port.0; start_address = start_address.0; end_address = end_address.0 }, part.1) x r6) in
-    rw (← left) (part_shrinks xs part e1)))))))
+    with_some (range_of part.0.first end_port.1) _ x r3 (λ addresses e4 r4.
+    with_some (in_order (record { protocol = part.0.second; start_port = start_port.0; end_port = end_port.0; addresses = addresses })) _ x r4 (λ selector e5 r5.
+    let left : part.1 ≡ x.1 = ap (λ (p : Selector × List ℕ). p.1) (some_is (selector, part.1) x r5) in
+    rw (← left) (part_shrinks xs part e1))))))

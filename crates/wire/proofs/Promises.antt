@@ -1,11 +1,10 @@
 -- From what the readers of the code give to what the public calls promise.
 use Rattle.std.proofs.Common.{◌≡◌, ◌≢◌, ℕ, ◌+◌, ◌-◌, ◌<◌, false, List, length, None, Result, Ok, Err, refl, sym, ap, subst, ◌∙◌, inl, inr, ◌⊎◌, arith}
 use Rattle.std.specs.Prelude.{IfOk, IfErr}
-use Rattle.std.specs.Global.{Vec}
-use Rattle.wire.specs.Parts.{AreOctets}
+use Rattle.base.specs.Octets.{AreOctets}
 use Rattle.wire.specs.Payloads.{SpellsChain}
 use Rattle.wire.specs.Messages.{Spells}
-use Rattle.wire.specs.Fault.{offset_of}
+use Rattle.wire.specs.Fault.{fault_offset}
 use Rattle.wire.specs.Refusals.{IsFaultAt, IsFaultOf, IsChainFault, IsUnlessMemory, HasVersion}
 use Rattle.wire.specs.Reading.{Answers, message_of, chain_at}
 use Rattle.wire.specs.declared.message.Message.{Message}
@@ -13,7 +12,7 @@ use Rattle.wire.specs.declared.payload.Payload.{Payload}
 use Rattle.wire.specs.declared.fault.WireFault.{WireFault}
 use Rattle.wire.specs.declared.fault.WireFault.TheVariants as faults
 use Rattle.std.proofs.lemmas.List.{length-append}
-use Rattle.wire.proofs.Links.{ok_is, err_is}
+use Rattle.wire.proofs.Links.{err_is}
 use Rattle.wire.proofs.ChainReading.{chain_takes, chain_again, chain_fault, fault_again}
 use Rattle.wire.proofs.MessageReading.{message_takes, message_fault, fault_message}
 
@@ -52,7 +51,7 @@ message_refused b (Ok m) fits a = tt
 message_refused b (Err f) fits a = λ other. message_fault b f fits (a other)
 
 -- a fault without an offset lies before the payloads
-before_payloads : (b : List ℕ) (f : WireFault) → IsFaultOf b f → offset_of f ≡ None → HasVersion b → ⊥
+before_payloads : (b : List ℕ) (f : WireFault) → IsFaultOf b f → fault_offset f ≡ None → HasVersion b → ⊥
 before_payloads b faults.Short h none v = omega (arith, h, v.0.0)
 before_payloads b faults.BadLength h none v = h.1 v.1
 before_payloads b faults.BadVersion h none v = h.2 v.2
@@ -64,7 +63,7 @@ before_payloads b (faults.BadField at) h none v = cc
 before_payloads b faults.TooLong h none v = omega (arith, h, v.0.1)
 before_payloads b faults.Memory h none v = h
 
-pub header_fault : (b : List ℕ) (r : Result Message WireFault) (f : WireFault) → AreOctets b → Answers (λ x. x) r (message_of b) → (r ≡ Err faults.Memory → HasVersion b) → IsFaultOf b f → offset_of f ≡ None → r ≡ Err f
+pub header_fault : (b : List ℕ) (r : Result Message WireFault) (f : WireFault) → AreOctets b → Answers (λ x. x) r (message_of b) → (r ≡ Err faults.Memory → HasVersion b) → IsFaultOf b f → fault_offset f ≡ None → r ≡ Err f
 header_fault b r f fits a reached h none =
     elim (fault_unless (λ x. x) r (message_of b) f a (fault_message b f fits h)) [ inl is ↦ is | inr memory ↦ absurd (before_payloads b f h none (reached memory)) ]
 
@@ -81,24 +80,21 @@ chain_spelled first b ps small fits e =
 chain_read : (first : ℕ) (b : List ℕ) (ps : List Payload) → SpellsChain first ps b → whole_chain first b ≡ Ok ps
 chain_read first b ps s = chain_again false (length b) (length b) first ps b (omega arith) s.clear s.payloads
 
-pub chain_found : (first : ℕ) (b : List ℕ) (r : Result (Vec Payload) WireFault) → first < 256 → AreOctets b → Answers (λ v. v.items) r (whole_chain first b) → IfOk r (λ v. SpellsChain first v.items b)
-chain_found first b (Ok v) small fits a = chain_spelled first b v.items small fits a
+pub chain_found : (first : ℕ) (b : List ℕ) (r : Result (List Payload) WireFault) → first < 256 → AreOctets b → Answers (λ x. x) r (whole_chain first b) → IfOk r (λ ps. SpellsChain first ps b)
+chain_found first b (Ok ps) small fits a = chain_spelled first b ps small fits a
 chain_found first b (Err f) small fits a = tt
 
-pub chain_only : (first : ℕ) (b : List ℕ) (r : Result (Vec Payload) WireFault) (ps : List Payload) → Answers (λ v. v.items) r (whole_chain first b) → SpellsChain first ps b → IfOk r (λ v. v.items ≡ ps) × IfErr r (λ f. f ≡ faults.Memory)
-chain_only first b (Ok v) ps a s = (ok_is v.items ps (sym a ∙ chain_read first b ps s), tt)
-chain_only first b (Err f) ps a s = (tt, elim (memory_or f) [ inl is ↦ is | inr other ↦ absurd (clash (sym (chain_read first b ps s) ∙ a other)) ]) where
-  clash : Ok ps ≡ Err f → ⊥
-  clash q = cc
+pub chain_only : (first : ℕ) (b : List ℕ) (r : Result (List Payload) WireFault) (ps : List Payload) → Answers (λ x. x) r (whole_chain first b) → SpellsChain first ps b → IsUnlessMemory r (Ok ps)
+chain_only first b r ps a s = only_unless r (whole_chain first b) ps a (chain_read first b ps s)
 
-pub chain_refused : (first : ℕ) (b : List ℕ) (r : Result (Vec Payload) WireFault) → first < 256 → AreOctets b → Answers (λ v. v.items) r (whole_chain first b) → IfErr r (λ f. f ≢ faults.Memory → IsChainFault false 0 first b f)
-chain_refused first b (Ok v) small fits a = tt
+pub chain_refused : (first : ℕ) (b : List ℕ) (r : Result (List Payload) WireFault) → first < 256 → AreOctets b → Answers (λ x. x) r (whole_chain first b) → IfErr r (λ f. f ≢ faults.Memory → IsChainFault false 0 first b f)
+chain_refused first b (Ok ps) small fits a = tt
 chain_refused first b (Err f) small fits a = λ other.
     let c = chain_fault false (length b) (length b) first b f (omega arith) small fits (a other) in
     let at : length b - length c.rest ≡ 0 + length c.front = omega (arith, ap length c.joined, length-append c.front c.rest) in
     record { payloads = c.payloads; kind = c.named; front = c.front; rest = c.rest; joined = c.joined; leads = c.leads; here = subst (λ (n : ℕ). IsFaultAt false c.named c.rest n f) at c.here }
 
-pub chain_first_fault : (first : ℕ) (b : List ℕ) (r : Result (Vec Payload) WireFault) (f : WireFault) → first < 256 → AreOctets b → Answers (λ v. v.items) r (whole_chain first b) → IsChainFault false 0 first b f → IsUnlessMemory r (Err f)
+pub chain_first_fault : (first : ℕ) (b : List ℕ) (r : Result (List Payload) WireFault) (f : WireFault) → first < 256 → AreOctets b → Answers (λ x. x) r (whole_chain first b) → IsChainFault false 0 first b f → IsUnlessMemory r (Err f)
 chain_first_fault first b r f small fits a c =
     let at : 0 + length c.front ≡ length b - length c.rest = omega (arith, ap length c.joined, length-append c.front c.rest) in
-    fault_unless (λ v. v.items) r (whole_chain first b) f a (fault_again false (length b) (length b) first c.payloads c.kind c.front c.rest b f (omega arith) small fits c.joined c.leads (subst (λ (n : ℕ). IsFaultAt false c.kind c.rest n f) at c.here))
+    fault_unless (λ x. x) r (whole_chain first b) f a (fault_again false (length b) (length b) first c.payloads c.kind c.front c.rest b f (omega arith) small fits c.joined c.leads (subst (λ (n : ℕ). IsFaultAt false c.kind c.rest n f) at c.here))

@@ -3,11 +3,13 @@ use Rattle.std.proofs.Common.{◌≡◌, ℕ, zero, suc, ◌+◌, ◌<◌, ◌�
 use Rattle.std.proofs.lemmas.Bool.{eqb-true}
 use Rattle.std.proofs.lemmas.List.{length-append, append-nil, nil_from_length}
 use Rattle.byteorder.specs.Endian.{big_bytes}
-use Rattle.wire.specs.Parts.{IsOctet, AreOctets, IsPart, SpellsEach, IsMarked, SpellsMarked}
+use Rattle.base.specs.Octets.{IsOctet, AreOctets}
+use Rattle.wire.specs.Parts.{IsPart, SpellsEach, IsMarked, SpellsMarked}
 use Rattle.wire.specs.Reading.{◌>>=◌, part_at, Piece, each_of, goes_on, marked_of}
 use Rattle.wire.proofs.Options.{some_is, with_some, with_test, pick}
 use Rattle.wire.proofs.Loops.{positive}
-use Rattle.wire.proofs.Takes.{octets_front, octets_back, part_takes, part_again, TakesPart}
+use Rattle.wire.proofs.OctetLemmas.{octets_front, octets_back}
+use Rattle.wire.proofs.Takes.{part_takes, part_again, TakesPart}
 
 -- ---- one item after the other
 

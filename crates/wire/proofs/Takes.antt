@@ -1,43 +1,16 @@
 -- What a step of reading takes from the front is spelled there, and what is spelled at the front is taken.
-use Rattle.std.proofs.Common.{◌≡◌, ℕ, zero, suc, ◌+◌, ◌-◌, ◌^◌, ◌<◌, ◌≤◌, false, cond, ltb, List, [], ◌∷◌, ◌++◌, length, get_or, drop, slice_index, Some, None, refl, sym, ap, subst, ◌∙◌, append_assoc, arith}
-use Rattle.std.specs.Int.{w16, w32, w64, from_be_bytes}
-use Rattle.std.proofs.lemmas.Bool.{ltb-false, le-ltb}
-use Rattle.std.proofs.lemmas.List.{take_at, drop_at, take-append-drop, length-append, length-take, append-nil}
-use Rattle.std.proofs.lemmas.Nat.{be_bytes_2, be_bytes_4, be_bytes_8}
+use Rattle.std.proofs.Common.{◌≡◌, ℕ, zero, suc, ◌+◌, ◌-◌, ◌*◌, ◌/◌, ◌^◌, ◌<◌, ◌≤◌, false, cond, ltb, List, [], ◌∷◌, ◌++◌, length, slice_index, Some, None, refl, sym, ap, subst, ◌∙◌, append_assoc, inl, inr, arith}
+use Rattle.std.proofs.lemmas.Bool.{ltb-false, le-ltb, cases_order}
+use Rattle.std.proofs.lemmas.List.{take_at, drop_at, take-append-drop, length-append, length-take, append-nil, nil_from_length}
+use Rattle.std.proofs.Math.Nat.{add-mul, mul-le-mul_right, mod-lt}
 use Rattle.byteorder.specs.Endian.{big_bytes, big_number}
-use Rattle.byteorder.specs.Numbers.{big_number-reads_back, length-bytes_high_first}
-use Rattle.wire.specs.Parts.{AreOctets, IsPart}
+use Rattle.byteorder.specs.Numbers.{big_number-reads_back, length-bytes_high_first, big_from-cons, big_from-lt}
+use Rattle.base.specs.Octets.{AreOctets}
+use Rattle.wire.specs.Parts.{IsPart}
 use Rattle.wire.specs.Reading.{◌>>=◌, octets_at, octet_at, number_at, part_at, Piece, piece_of}
+use Rattle.wire.proofs.OctetLemmas.{octets_front, octet_in}
 use Rattle.wire.proofs.Options.{some_is, with_some, with_guard}
 use Rattle.wire.proofs.Pieces.{octets_take}
-
--- ---- octets
-
-pub octets_front : (a b : List ℕ) → AreOctets (a ++ b) → AreOctets a
-octets_front [] b h = tt
-octets_front (x ∷ a) b h = (h.0, octets_front a b h.1)
-
-pub octets_back : (a b : List ℕ) → AreOctets (a ++ b) → AreOctets b
-octets_back [] b h = h
-octets_back (x ∷ a) b h = octets_back a b h.1
-
-pub octets_drop : (n : ℕ) (xs : List ℕ) → AreOctets xs → AreOctets (drop n xs)
-octets_drop zero xs h = h
-octets_drop (suc n) [] h = tt
-octets_drop (suc n) (x ∷ xs) h = octets_drop n xs h.1
-
-pub octets_from : (xs : List ℕ) → ((i : ℕ) → get_or xs i 0 < 256) → AreOctets xs
-octets_from [] h = tt
-octets_from (x ∷ xs) h = (h 0, octets_from xs (λ i. h (suc i)))
-
-pub octets_within : (xs : List ℕ) → ((i : ℕ) → i < length xs → get_or xs i 0 < 256) → AreOctets xs
-octets_within [] h = tt
-octets_within (x ∷ xs) h = (h 0 (omega arith), octets_within xs (λ i lt. h (suc i) (omega arith)))
-
-pub octet_in : (xs : List ℕ) (i : ℕ) → AreOctets xs → get_or xs i 0 < 256
-octet_in [] i h = omega arith
-octet_in (x ∷ xs) zero h = h.0
-octet_in (x ∷ xs) (suc i) h = octet_in xs i h.1
 
 -- ---- so many octets
 
@@ -76,26 +49,54 @@ pub record IsWide (count limit : ℕ) : Type 0 where
   pub below : (front : List ℕ) → AreOctets front → big_number count front < limit
   pub limit_is : limit ≡ 256 ^ count
 
-pub wide2 : IsWide 2 (2 ^ 16)
-wide2 = record {
-  back = λ front len fits. let same : big_number 2 front ≡ from_be_bytes w16 front = omega arith in rw same (be_bytes_2 front _ len (λ i. octet_in front i fits) refl);
-  below = λ front fits. omega (arith, octet_in front 0 fits, octet_in front 1 fits);
+parts_same : (a b p u v : ℕ) → u < p → v < p → a * p + u ≡ b * p + v → (a ≡ b) × (u ≡ v)
+parts_same a b p u v one other e = elim (cases_order a b) [
+  | inl same ↦ (same, omega (arith, e, ap (λ (n : ℕ). n * p) same))
+  | inr (inl less) ↦ absurd (omega (arith, e, one, other, add-mul a 1 p, mul-le-mul_right p (above a b less)))
+  | inr (inr more) ↦ absurd (omega (arith, e, one, other, add-mul b 1 p, mul-le-mul_right p (above b a more)))
+] where
+  above : (m n : ℕ) → m < n → m + 1 ≤ n
+  above m n less = omega (arith, less)
+
+-- so many octets spell different numbers
+one_number : (n : ℕ) (xs ys : List ℕ) → length xs ≡ n → length ys ≡ n → AreOctets xs → AreOctets ys → big_number n xs ≡ big_number n ys → xs ≡ ys
+one_number zero xs ys none nothing fits other e = nil_from_length xs none ∙ sym (nil_from_length ys nothing)
+one_number (suc n) [] ys long same fits other e = absurd (omega arith)
+one_number (suc n) (x ∷ xs) [] long same fits other e = absurd (omega arith)
+one_number (suc n) (x ∷ xs) (y ∷ ys) long same fits other e =
+    let moved : x * 256 ^ n + big_number n xs ≡ y * 256 ^ n + big_number n ys =
+    ap (λ (r : ℕ). x * 256 ^ n + r) (sym (big_from-cons 0 n x xs)) ∙ e ∙ ap (λ (r : ℕ). y * 256 ^ n + r) (big_from-cons 0 n y ys) in
+    let both = parts_same x y (256 ^ n) (big_number n xs) (big_number n ys) (big_from-lt 0 n xs (λ i. octet_in xs i fits.1)) (big_from-lt 0 n ys (λ i. octet_in ys i other.1)) moved in
+    let rest : xs ≡ ys = one_number n xs ys (omega (arith, long)) (omega (arith, same)) fits.1 other.1 both.1 in
+    ap (λ (z : ℕ). z ∷ xs) both.0 ∙ ap (λ (zs : List ℕ). y ∷ zs) rest
+
+pub number_octets : (count n : ℕ) → AreOctets (big_bytes count n)
+number_octets zero n = tt
+number_octets (suc zero) n = (omega arith, tt)
+number_octets (suc (suc count)) n = (mod-lt (n / 256 ^ suc count) (omega arith), number_octets (suc count) n)
+
+wide : (count : ℕ) → IsWide count (256 ^ count)
+wide count = record {
+  back = λ front len fits.
+      let small : big_number count front < 256 ^ count = big_from-lt 0 count front (λ i. octet_in front i fits) in
+      let again : big_number count (big_bytes count (big_number count front)) ≡ big_number count front =
+      ap (big_number count) (sym (append-nil (big_bytes count (big_number count front)))) ∙ big_number-reads_back count (big_number count front) [] small in
+      one_number count (big_bytes count (big_number count front)) front (length-bytes_high_first count (big_number count front)) len (number_octets count (big_number count front)) fits again;
+  below = λ front fits. big_from-lt 0 count front (λ i. octet_in front i fits);
   limit_is = refl;
 }
+
+pub wide2 : IsWide 2 (2 ^ 16)
+wide2 = wide 2
 
 pub wide4 : IsWide 4 (2 ^ 32)
-wide4 = record {
-  back = λ front len fits. let same : big_number 4 front ≡ from_be_bytes w32 front = omega arith in rw same (be_bytes_4 front _ len (λ i. octet_in front i fits) refl);
-  below = λ front fits. omega (arith, octet_in front 0 fits, octet_in front 1 fits, octet_in front 2 fits, octet_in front 3 fits);
-  limit_is = refl;
-}
+wide4 = wide 4
 
 pub wide8 : IsWide 8 (2 ^ 64)
-wide8 = record {
-  back = λ front len fits. let same : big_number 8 front ≡ from_be_bytes w64 front = omega arith in rw same (be_bytes_8 front _ len (λ i. octet_in front i fits) refl);
-  below = λ front fits. omega (arith, octet_in front 0 fits, octet_in front 1 fits, octet_in front 2 fits, octet_in front 3 fits, octet_in front 4 fits, octet_in front 5 fits, octet_in front 6 fits, octet_in front 7 fits);
-  limit_is = refl;
-}
+wide8 = wide 8
+
+pub wide16 : IsWide 16 (2 ^ 128)
+wide16 = wide 16
 
 pub number_takes : (count limit : ℕ) → IsWide count limit → (xs : List ℕ) (x : ℕ × List ℕ) → AreOctets xs → number_at count xs ≡ Some x → (xs ≡ big_bytes count x.0 ++ x.1) × (x.0 < limit)
 number_takes count limit wide xs x fits e =

@@ -3,7 +3,8 @@ use Rattle.std.proofs.Common.{◌≡◌, ℕ, zero, suc, ◌+◌, ◌-◌, ◌^�
 use Rattle.std.proofs.lemmas.Bool.{ltb-false, ltb-true}
 use Rattle.std.proofs.lemmas.List.{length-append, append-nil, take_at, drop_at}
 use Rattle.byteorder.specs.Endian.{big_bytes}
-use Rattle.wire.specs.Parts.{IsOctet, IsZero, IsPart, SpellsEach, IsMarked, SpellsMarked}
+use Rattle.base.specs.Octets.{IsOctet}
+use Rattle.wire.specs.Parts.{IsZero, IsPart, SpellsEach, IsMarked, SpellsMarked}
 use Rattle.wire.specs.Reading.{◌>>=◌}
 use Rattle.wire.specs.Writing.{number_onto, close_onto, part_onto, each_onto, marked_from}
 use Rattle.wire.proofs.Options.{some_is, with_some, with_test}

@@ -4,7 +4,8 @@ use Rattle.std.specs.Prelude.{◌&&◌}
 use Rattle.std.proofs.lemmas.Bool.{eqb-true, ltb-false, ltb-true, lt-ltb}
 use Rattle.std.proofs.lemmas.List.{length-append}
 use Rattle.byteorder.specs.Endian.{big_bytes}
-use Rattle.wire.specs.Parts.{IsOctet, IsZero, SpellsMarked}
+use Rattle.base.specs.Octets.{IsOctet}
+use Rattle.wire.specs.Parts.{IsZero, SpellsMarked}
 use Rattle.wire.specs.Proposals.{SpellsAttribute, SpellsTransform, SpellsProposal, SpellsProposals}
 use Rattle.wire.specs.Reading.{◌>>=◌, are_numbered}
 use Rattle.wire.specs.Writing.{octets_onto, number_onto, each_onto, marked_from, marked_onto, attribute_onto, transform_onto, proposal_onto, proposals_onto}

@@ -1,69 +1,122 @@
 -- The same of selectors, of the payloads of a few fields, of notifications and deletions.
-use Rattle.std.proofs.Common.{◌≡◌, ℕ, ◌≤◌, Bool, true, false, eqb, leb, ltb, List, [], ◌∷◌, ◌++◌, length, Some, None, refl, sym, ap, ◌∙◌, inl, inr, ◌⊎◌, arith}
+use Rattle.std.proofs.Common.{◌≡◌, ℕ, ◌^◌, ◌<◌, ◌≤◌, Bool, true, false, eqb, leb, ltb, List, [], ◌∷◌, ◌++◌, length, Some, None, refl, sym, ap, subst, ◌∙◌, inl, inr, ◌⊎◌, arith}
 use Rattle.std.specs.Prelude.{◌&&◌, ◌||◌}
 use Rattle.std.proofs.lemmas.Bool.{eqb-true, ne_eqb, ltb-false, le-ltb, ltb-true, leb-true, le-leb}
 use Rattle.std.proofs.lemmas.List.{nil_from_length}
 use Rattle.byteorder.specs.Endian.{big_bytes}
-use Rattle.wire.specs.Parts.{IsOctet, IsZero}
-use Rattle.wire.specs.Selectors.{SpellsSelector, SpellsSelectors}
+use Rattle.base.specs.Octets.{IsOctet}
+use Rattle.wire.specs.Parts.{IsZero, IsPart}
+use Rattle.base.specs.Addresses.{FitsRange}
+use Rattle.base.specs.declared.address.Range.{Range}
+use Rattle.base.specs.declared.address.Range.TheVariants as range
+use Rattle.wire.specs.Selectors.{SpellsSelector, SpellsSelectors, selector_type, ends_octets}
 use Rattle.wire.specs.Fields.{SpellsKe, SpellsTyped, SpellsNonce, SpellsNotify, SpellsDelete, SpellsSpi, HasSpiSize}
-use Rattle.wire.specs.Reading.{◌>>=◌}
-use Rattle.wire.specs.Writing.{number_onto, each_onto, selector_onto, selectors_onto, data_onto, ke_onto, typed_onto, nonce_onto, notify_onto, delete_onto, spi_size}
-use Rattle.wire.specs.declared.selector.Selector.{Selector}
+use Rattle.wire.specs.Reading.{◌>>=◌, is_ordered, is_in_order}
+use Rattle.wire.specs.Writing.{number_onto, part_onto, each_onto, range_onto, inside_onto, selector_onto, selectors_onto, data_onto, ke_onto, typed_onto, nonce_onto, notify_onto, delete_onto, spi_size}
+use Rattle.base.specs.declared.selector.Selector.{Selector}
 use Rattle.wire.proofs.Options.{some_is, with_some, with_test, with_guard, pick, both_true}
-use Rattle.wire.proofs.FieldBodies.{neither, not_empty}
-use Rattle.wire.proofs.Written.{AppendsAll, Refuses, SameLength, bind_none, none_some, test_none, number_appends, number_refused, each_appends, each_refuses, each_same, part_length}
+use Rattle.wire.proofs.FieldBodies.{neither, not_empty, ordered_true, ordered_again}
+use Rattle.wire.proofs.Written.{AppendsAll, Refuses, SameLength, bind_none, none_some, test_none, number_appends, number_refused, each_appends, each_refuses, each_same, part_length, part_appends, part_refuses}
 use Rattle.wire.proofs.WrittenBodies.{joins, both_of}
 
 -- ---- selectors
 
 abbrev inside_of : Selector → List ℕ
-inside_of a = big_bytes 2 a.start_port ++ big_bytes 2 a.end_port ++ big_bytes 4 a.start_address ++ big_bytes 4 a.end_address
+inside_of a = big_bytes 2 a.start_port ++ big_bytes 2 a.end_port ++ ends_octets a.addresses
+
+-- both ends of a range
+range_appends : (r : Range) (old new : List ℕ) → range_onto r old ≡ Some new → (new ≡ old ++ ends_octets r) × FitsRange r
+unfolding range_onto
+range_appends (range.V4 start end) old new e =
+    with_some (number_onto 4 start old) (λ mid. number_onto 4 end mid) new e (λ mid e1 r1.
+    let n1 = number_appends 4 start old mid e1 in
+    let n2 = number_appends 4 end mid new r1 in
+    (joins old (big_bytes 4 start) (big_bytes 4 end) mid new n1.0 n2.0, (n1.1, n2.1)))
+range_appends (range.V6 start end) old new e =
+    with_some (number_onto 16 start old) (λ mid. number_onto 16 end mid) new e (λ mid e1 r1.
+    let n1 = number_appends 16 start old mid e1 in
+    let n2 = number_appends 16 end mid new r1 in
+    (joins old (big_bytes 16 start) (big_bytes 16 end) mid new n1.0 n2.0, (n1.1, n2.1)))
+
+range_refused : (r : Range) (old : List ℕ) → range_onto r old ≡ None → FitsRange r → ⊥
+unfolding range_onto
+range_refused (range.V4 start end) old e fits = elim (bind_none (number_onto 4 start old) (λ mid. number_onto 4 end mid) e) [
+  | inl none ↦ number_refused 4 start old none fits.0
+  | inr mid ↦ number_refused 4 end mid.0 mid.2 fits.1
+]
+range_refused (range.V6 start end) old e fits = elim (bind_none (number_onto 16 start old) (λ mid. number_onto 16 end mid) e) [
+  | inl none ↦ number_refused 16 start old none fits.0
+  | inr mid ↦ number_refused 16 end mid.0 mid.2 fits.1
+]
+
+-- what stands behind a selector's header
+pub record IsInside (a : Selector) (x : List ℕ) : Type 0 where
+  spelled : x ≡ inside_of a
+  port : a.end_port < 2 ^ 16
+  fits : FitsRange a.addresses
+
+pub inside_appends : (a : Selector) → AppendsAll (inside_onto a) (IsInside a)
+unfolding inside_onto
+inside_appends a old new e =
+    with_some (number_onto 2 a.start_port old) (λ b. number_onto 2 a.end_port b >>= λ c. range_onto a.addresses c) new e (λ m2 e2 r2.
+    with_some (number_onto 2 a.end_port m2) (λ c. range_onto a.addresses c) new r2 (λ m3 e3 r3.
+    let n2 = number_appends 2 a.start_port old m2 e2 in
+    let n3 = number_appends 2 a.end_port m2 m3 e3 in
+    let n4 = range_appends a.addresses m3 new r3 in
+    let j3 = joins old (big_bytes 2 a.start_port) (big_bytes 2 a.end_port) m2 m3 n2.0 n3.0 in
+    record {
+      added = inside_of a;
+      appended = joins old (big_bytes 2 a.start_port ++ big_bytes 2 a.end_port) (ends_octets a.addresses) m3 new j3 n4.0;
+      spelled = record { spelled = refl; port = n3.1; fits = n4.1 };
+    }))
+
+-- the same of a selector that is in order
+record IsOrderedInside (a : Selector) (x : List ℕ) : Type 0 where
+  inside : IsInside a x
+  ports : a.start_port ≤ a.end_port
+
+inside_refuses : (a : Selector) → Refuses (inside_onto a) (IsOrderedInside a)
+unfolding inside_onto
+inside_refuses a old e x s = elim (bind_none (number_onto 2 a.start_port old) (λ b. number_onto 2 a.end_port b >>= λ c. range_onto a.addresses c) e) [
+  | inl none ↦ number_refused 2 a.start_port old none (omega (arith, s.ports, s.inside.port))
+  | inr m2 ↦ elim (bind_none (number_onto 2 a.end_port m2.0) (λ c. range_onto a.addresses c) m2.2) [
+    | inl none ↦ number_refused 2 a.end_port m2.0 none s.inside.port
+    | inr m3 ↦ range_refused a.addresses m3.0 m3.2 s.inside.fits
+  ]
+]
 
 selector_appends : (a : Selector) → AppendsAll (selector_onto a) (SpellsSelector a)
 unfolding selector_onto
 selector_appends a old new e =
-    let m1 : List ℕ = old ++ 7 ∷ a.protocol ∷ 0 ∷ 16 ∷ [] in
-    with_test (leb a.start_port a.end_port && leb a.start_address a.end_address) (number_onto 2 a.start_port m1 >>= λ b. number_onto 2 a.end_port b >>= λ c. number_onto 4 a.start_address c >>= λ d. number_onto 4 a.end_address d) new e (λ good r.
-    let g = both_true (leb a.start_port a.end_port) (leb a.start_address a.end_address) good in
-    with_some (number_onto 2 a.start_port m1) (λ b. number_onto 2 a.end_port b >>= λ c. number_onto 4 a.start_address c >>= λ d. number_onto 4 a.end_address d) new r (λ m2 e2 r2.
-    with_some (number_onto 2 a.end_port m2) (λ c. number_onto 4 a.start_address c >>= λ d. number_onto 4 a.end_address d) new r2 (λ m3 e3 r3.
-    with_some (number_onto 4 a.start_address m3) (λ d. number_onto 4 a.end_address d) new r3 (λ m4 e4 r4.
-    let n2 = number_appends 2 a.start_port m1 m2 e2 in
-    let n3 = number_appends 2 a.end_port m2 m3 e3 in
-    let n4 = number_appends 4 a.start_address m3 m4 e4 in
-    let n5 = number_appends 4 a.end_address m4 new r4 in
-    let head : List ℕ = 7 ∷ a.protocol ∷ 0 ∷ 16 ∷ [] in
-    let j2 = joins old head (big_bytes 2 a.start_port) m1 m2 refl n2.0 in
-    let j3 = joins old (head ++ big_bytes 2 a.start_port) (big_bytes 2 a.end_port) m2 m3 j2 n3.0 in
-    let j4 = joins old ((head ++ big_bytes 2 a.start_port) ++ big_bytes 2 a.end_port) (big_bytes 4 a.start_address) m3 m4 j3 n4.0 in
-    let j5 = joins old (((head ++ big_bytes 2 a.start_port) ++ big_bytes 2 a.end_port) ++ big_bytes 4 a.start_address) (big_bytes 4 a.end_address) m4 new j4 n5.0 in
+    with_test (is_in_order a) (part_onto (selector_type a.addresses) a.protocol (inside_onto a) old) new e (λ good r.
+    let g = both_true (leb a.start_port a.end_port) (is_ordered a.addresses) good in
+    let c = part_appends (selector_type a.addresses) a.protocol (inside_onto a) (IsInside a) (inside_appends a) old new r in
     record {
-      added = 7 ∷ a.protocol ∷ 0 ∷ 16 ∷ inside_of a;
-      appended = j5;
-      spelled = record { part = record { spelled = refl; fits = omega arith }; ports = leb-true _ _ g.0; addresses = leb-true _ _ g.1; port = n3.1; address = n5.1 };
-    }))))
+      added = c.added;
+      appended = c.appended;
+      spelled = record {
+        part = subst (λ (y : List ℕ). IsPart (selector_type a.addresses) a.protocol y c.added) c.spelled.content.spelled c.spelled.part;
+        ports = leb-true _ _ g.0;
+        port = c.spelled.content.port;
+        addresses = ordered_true a.addresses g.1;
+        fits = c.spelled.content.fits;
+      };
+    })
 
 selector_refuses : (a : Selector) → Refuses (selector_onto a) (SpellsSelector a)
 unfolding selector_onto
 selector_refuses a old e x s =
-    let m1 : List ℕ = old ++ 7 ∷ a.protocol ∷ 0 ∷ 16 ∷ [] in
-    elim (test_none (leb a.start_port a.end_port && leb a.start_address a.end_address) (number_onto 2 a.start_port m1 >>= λ b. number_onto 2 a.end_port b >>= λ c. number_onto 4 a.start_address c >>= λ d. number_onto 4 a.end_address d) e) [
-      | inl bad ↦ both_of (leb a.start_port a.end_port) (leb a.start_address a.end_address) bad (le-leb _ _ s.ports) (le-leb _ _ s.addresses)
-      | inr good ↦ elim (bind_none (number_onto 2 a.start_port m1) (λ b. number_onto 2 a.end_port b >>= λ c. number_onto 4 a.start_address c >>= λ d. number_onto 4 a.end_address d) good.1) [
-        | inl none ↦ number_refused 2 a.start_port m1 none (omega (arith, s.ports, s.port))
-        | inr m2 ↦ elim (bind_none (number_onto 2 a.end_port m2.0) (λ c. number_onto 4 a.start_address c >>= λ d. number_onto 4 a.end_address d) m2.2) [
-          | inl none ↦ number_refused 2 a.end_port m2.0 none s.port
-          | inr m3 ↦ elim (bind_none (number_onto 4 a.start_address m3.0) (λ d. number_onto 4 a.end_address d) m3.2) [
-            | inl none ↦ number_refused 4 a.start_address m3.0 none (omega (arith, s.addresses, s.address))
-            | inr m4 ↦ number_refused 4 a.end_address m4.0 m4.2 s.address
-          ]
-        ]
-      ]
-    ]
+    let kind : ℕ = selector_type a.addresses in
+    elim (test_none (is_in_order a) (part_onto kind a.protocol (inside_onto a) old) e) [
+      | inl bad ↦ none_true (sym bad ∙ ordered_again a s.ports s.addresses)
+      | inr good ↦ part_refuses kind a.protocol (inside_onto a) (IsInside a) (IsOrderedInside a) (inside_appends a) (inside_refuses a) (λ y z u v. ap length u.spelled ∙ sym (ap length v.inside.spelled)) old good.1 kind a.protocol (inside_of a) x s.part
+          (record { inside = record { spelled = refl; port = s.port; fits = s.fits }; ports = s.ports })
+    ] where
+      none_true : false ≡ true → ⊥
+      none_true q = cc
 
 selector_same : (a : Selector) → SameLength (SpellsSelector a) (SpellsSelector a)
-selector_same a x y s t = omega (arith, part_length 7 a.protocol (inside_of a) x s.part, part_length 7 a.protocol (inside_of a) y t.part)
+selector_same a x y s t = part_length (selector_type a.addresses) a.protocol (inside_of a) x s.part ∙ sym (part_length (selector_type a.addresses) a.protocol (inside_of a) y t.part)
 
 pub selectors_appends : (a : List Selector) → AppendsAll (selectors_onto a) (SpellsSelectors IsZero a)
 unfolding selectors_onto

@@ -1,9 +1,10 @@
 -- Payloads and chains of them: what is appended is spelled, and what is refused has no spelling.
-use Rattle.std.proofs.Common.{◌≡◌, ◌≢◌, ℕ, ◌+◌, Bool, true, false, cond, eqb, leb, ltb, List, [], ◌∷◌, ◌++◌, length, Option, Some, None, Result, Ok, Err, refl, sym, ap, subst, ◌∙◌, append_assoc, inl, inr, ◌⊎◌, arith}
+use Rattle.std.proofs.Common.{◌≡◌, ◌≢◌, ℕ, ◌+◌, Bool, true, false, cond, eqb, ltb, List, [], ◌∷◌, ◌++◌, length, Option, Some, None, Result, Ok, Err, refl, sym, ap, subst, ◌∙◌, append_assoc, inl, inr, ◌⊎◌, arith}
 use Rattle.std.specs.Prelude.{ok_or, not, ◌&&◌, ◌||◌}
-use Rattle.std.proofs.lemmas.Bool.{eqb-true, eqb-false, ltb-true, lt-ltb, leb-true, le-leb}
+use Rattle.std.proofs.lemmas.Bool.{eqb-true, eqb-false, ltb-true, lt-ltb}
 use Rattle.std.proofs.lemmas.List.{length-append, append-nil, nil_from_length}
-use Rattle.wire.specs.Parts.{IsOctet, IsZero, SpellsMarked}
+use Rattle.base.specs.Octets.{IsOctet}
+use Rattle.wire.specs.Parts.{IsZero, SpellsMarked}
 use Rattle.wire.specs.Proposals.{SpellsTransform, SpellsProposal, SpellsProposals}
 use Rattle.wire.specs.Selectors.{SpellsSelectors}
 use Rattle.wire.specs.Fields.{SpellsKe, SpellsTyped, SpellsNonce}
@@ -13,7 +14,7 @@ use Rattle.wire.specs.Reading.{◌>>>◌}
 use Rattle.wire.specs.Writing.{part_onto, body_onto, is_unknown, header_octets, payload_onto, first_type, link_onto, payloads_onto}
 use Rattle.wire.specs.declared.proposal.Transform.{Transform}
 use Rattle.wire.specs.declared.proposal.Proposal.{Proposal}
-use Rattle.wire.specs.declared.selector.Selector.{Selector}
+use Rattle.base.specs.declared.selector.Selector.{Selector}
 use Rattle.wire.specs.declared.payload.Payload.{Payload}
 use Rattle.wire.specs.declared.payload.Payload.TheVariants as payloads
 use Rattle.wire.specs.declared.fault.WireFault.{WireFault}
@@ -154,20 +155,20 @@ payloads_weaken t (p ∷ ps) x s =
 -- ---- one payload
 
 unknown_takes : (kind : ℕ) → is_unknown kind ≡ true → IsUnknownType kind
-unknown_takes kind e = elim (either (leb 1 kind && leb kind 32) (leb 49 kind && ltb kind 256) e) [
-  | inl low ↦ let b = both_true (leb 1 kind) (leb kind 32) low in inl (leb-true _ _ b.0, leb-true _ _ b.1)
-  | inr high ↦ let b = both_true (leb 49 kind) (ltb kind 256) high in inr (leb-true _ _ b.0, ltb-true _ _ b.1)
+unknown_takes kind e = elim (either (ltb 0 kind && ltb kind 33) (ltb 48 kind && ltb kind 256) e) [
+  | inl low ↦ let b = both_true (ltb 0 kind) (ltb kind 33) low in inl (ltb-true _ _ b.0, ltb-true _ _ b.1)
+  | inr high ↦ let b = both_true (ltb 48 kind) (ltb kind 256) high in inr (ltb-true _ _ b.0, ltb-true _ _ b.1)
 ] where
   either : (a b : Bool) → (a || b) ≡ true → (a ≡ true) ⊎ (b ≡ true)
   either true b q = inl refl
   either false b q = inr q
 
 unknown_again : (kind : ℕ) → IsUnknownType kind → is_unknown kind ≡ true
-unknown_again kind (inl low) = let a : leb 1 kind ≡ true = le-leb _ _ low.0 in let b : leb kind 32 ≡ true = le-leb _ _ low.1 in rw (a, b) refl
+unknown_again kind (inl low) = let a : ltb 0 kind ≡ true = lt-ltb _ _ low.0 in let b : ltb kind 33 ≡ true = lt-ltb _ _ low.1 in rw (a, b) refl
 unknown_again kind (inr high) =
-    let a : leb 49 kind ≡ true = le-leb _ _ high.0 in
+    let a : ltb 48 kind ≡ true = lt-ltb _ _ high.0 in
     let b : ltb kind 256 ≡ true = lt-ltb _ _ high.1 in
-    second (leb 1 kind && leb kind 32) (leb 49 kind) (ltb kind 256) a b where
+    second (ltb 0 kind && ltb kind 33) (ltb 48 kind) (ltb kind 256) a b where
       second : (t u v : Bool) → u ≡ true → v ≡ true → (t || (u && v)) ≡ true
       second true u v p q = refl
       second false u v p q = rw (p, q) refl

@@ -4,27 +4,27 @@ use Rattle.wire.specs.declared.fault.WireFault.{WireFault}
 use Rattle.wire.specs.declared.fault.WireFault.TheVariants.{Short, BadLength, BadVersion, BadChain, BadProposal, BadSelector, BadNonce, BadField, TooLong, Memory}
 
 -- the number that is printed behind an E
-abbrev pub code_of : WireFault → ℕ
-code_of Short = 1
-code_of BadLength = 2
-code_of BadVersion = 3
-code_of (BadChain offset) = 4
-code_of (BadProposal offset) = 5
-code_of (BadSelector offset) = 6
-code_of (BadNonce offset) = 7
-code_of (BadField offset) = 8
-code_of TooLong = 9
-code_of Memory = 10
+abbrev pub fault_number : WireFault → ℕ
+fault_number Short = 1
+fault_number BadLength = 2
+fault_number BadVersion = 3
+fault_number (BadChain offset) = 4
+fault_number (BadProposal offset) = 5
+fault_number (BadSelector offset) = 6
+fault_number (BadNonce offset) = 7
+fault_number (BadField offset) = 8
+fault_number TooLong = 9
+fault_number Memory = 10
 
 -- the offset of the payload at fault
-abbrev pub offset_of : WireFault → Option ℕ
-offset_of Short = None
-offset_of BadLength = None
-offset_of BadVersion = None
-offset_of (BadChain offset) = Some offset
-offset_of (BadProposal offset) = Some offset
-offset_of (BadSelector offset) = Some offset
-offset_of (BadNonce offset) = Some offset
-offset_of (BadField offset) = Some offset
-offset_of TooLong = None
-offset_of Memory = None
+abbrev pub fault_offset : WireFault → Option ℕ
+fault_offset Short = None
+fault_offset BadLength = None
+fault_offset BadVersion = None
+fault_offset (BadChain offset) = Some offset
+fault_offset (BadProposal offset) = Some offset
+fault_offset (BadSelector offset) = Some offset
+fault_offset (BadNonce offset) = Some offset
+fault_offset (BadField offset) = Some offset
+fault_offset TooLong = None
+fault_offset Memory = None

@@ -1,6 +1,7 @@
 -- The insides of the payloads of a few fields (RFC 7296 sections 3.4, 3.5, 3.8 to 3.11).
 use Rattle.std.specs.Prelude.{◌≡◌, ◌<◌, ◌≤◌, ◌^◌, ◌⊎◌, ℕ, List, [], ◌∷◌, ◌++◌, length}
 use Rattle.byteorder.specs.Endian.{big_bytes}
+use Rattle.wire.specs.Numbers.{IKE_PROTOCOL, AH_PROTOCOL, ESP_PROTOCOL, SPI_LENGTH, NONCE_LEAST, NONCE_LIMIT, KEY_EXCHANGE_LIMIT}
 use Rattle.wire.specs.Parts.{SpellsEach}
 
 -- Section 3.4: the Diffie-Hellman group, two reserved octets, 1 to 1024 octets of data. These limits are this
@@ -12,7 +13,7 @@ pub record SpellsKe (Free : ℕ → Type 0) (group : ℕ) (octets body : List �
   pub spelled : body ≡ big_bytes 2 group ++ (reserved_1 ∷ reserved_2 ∷ octets)
   pub group_fits : group < 2 ^ 16
   pub some : 1 ≤ length octets
-  pub few : length octets ≤ 1024
+  pub few : length octets ≤ KEY_EXCHANGE_LIMIT
 
 -- Sections 3.5 and 3.8: the identity's type or the method, three reserved octets, and data of 1 octet up to a limit of
 -- this implementation.
@@ -28,8 +29,8 @@ pub record SpellsTyped (Free : ℕ → Type 0) (limit : ℕ) (kind : ℕ) (octet
 -- Section 3.9: 16 to 256 octets.
 pub record SpellsNonce (octets body : List ℕ) : Type 0 where
   pub spelled : body ≡ octets
-  pub some : 16 ≤ length octets
-  pub few : length octets ≤ 256
+  pub some : NONCE_LEAST ≤ length octets
+  pub few : length octets ≤ NONCE_LIMIT
 
 -- Section 3.10: protocol, size of the SPI, the notice's type, the SPI, the data.
 pub record SpellsNotify (protocol : ℕ) (spi : List ℕ) (kind : ℕ) (octets body : List ℕ) : Type 0 where
@@ -40,7 +41,8 @@ pub record SpellsNotify (protocol : ℕ) (spi : List ℕ) (kind : ℕ) (octets b
 -- The size of each SPI of a deletion: there is none of the IKE association itself (protocol 1), and those of AH and ESP
 -- (2 and 3) have four octets.
 abbrev pub HasSpiSize : ℕ → ℕ → List ℕ → Type 0
-HasSpiSize protocol size spis = ((protocol ≡ 1) × (size ≡ 0) × (spis ≡ [])) ⊎ (((protocol ≡ 2) ⊎ (protocol ≡ 3)) × (size ≡ 4))
+HasSpiSize protocol size spis =
+    ((protocol ≡ IKE_PROTOCOL) × (size ≡ 0) × (spis ≡ [])) ⊎ (((protocol ≡ AH_PROTOCOL) ⊎ (protocol ≡ ESP_PROTOCOL)) × (size ≡ SPI_LENGTH))
 
 abbrev pub SpellsSpi : ℕ → List ℕ → Type 0
 SpellsSpi spi x = (x ≡ big_bytes 4 spi) × (spi < 2 ^ 32)

@@ -1,4 +1,5 @@
 pub mod Fault
+pub mod Numbers
 pub mod Parts
 pub mod Proposals
 pub mod Selectors
@@ -6,5 +7,6 @@ pub mod Fields
 pub mod Payloads
 pub mod Messages
 pub mod Refusals
+pub mod Sizes
 pub mod Reading
 pub mod Writing

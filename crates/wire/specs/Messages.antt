@@ -1,7 +1,9 @@
 -- Messages (RFC 7296 section 3.1).
 use Rattle.std.specs.Prelude.{◌≡◌, ◌<◌, ◌≤◌, ◌^◌, ◌+◌, ◌*◌, ℕ, Bool, List, ◌∷◌, ◌++◌, length, if◌then◌else◌}
 use Rattle.byteorder.specs.Endian.{big_bytes}
-use Rattle.wire.specs.Parts.{IsOctet, IsZero, AreOctets}
+use Rattle.base.specs.Octets.{IsOctet, AreOctets}
+use Rattle.wire.specs.Numbers.{MAJOR_VERSION, MESSAGE_LIMIT}
+use Rattle.wire.specs.Parts.{IsZero}
 use Rattle.wire.specs.Payloads.{SpellsPayloads}
 use Rattle.wire.specs.declared.message.Message.{Message}
 use Rattle.wire.specs.declared.message.Header.{Header}
@@ -24,7 +26,7 @@ pub record HasFlags (Free : ℕ → Type 0) (f : Flags) (octet : ℕ) : Type 0 w
 pub record SpellsHeader (Free : ℕ → Type 0) (h : Header) (first : ℕ) (x : List ℕ) : Type 0 where
   pub flags : ℕ
   pub has_flags : HasFlags Free h.flags flags
-  pub spelled : x ≡ big_bytes 8 h.spi_i ++ big_bytes 8 h.spi_r ++ (first ∷ (32 + h.minor) ∷ h.exchange ∷ flags ∷ big_bytes 4 h.id)
+  pub spelled : x ≡ big_bytes 8 h.spi_i ++ big_bytes 8 h.spi_r ++ (first ∷ (16 * MAJOR_VERSION + h.minor) ∷ h.exchange ∷ flags ∷ big_bytes 4 h.id)
   pub spi_i : h.spi_i < 2 ^ 64
   pub spi_r : h.spi_r < 2 ^ 64
   pub minor : h.minor < 16
@@ -38,7 +40,7 @@ pub record SpellsWith (Free : ℕ → Type 0) (m : Message) (b : List ℕ) : Typ
   pub whole : b ≡ header ++ big_bytes 4 (length b) ++ payloads
   pub head : SpellsHeader Free m.header first header
   pub chain : SpellsPayloads Free first m.payloads payloads
-  pub limit : length b ≤ 3000
+  pub limit : length b ≤ MESSAGE_LIMIT
   pub octets : AreOctets b
 
 -- the octets spell the message, with anything in reserved octets and bits

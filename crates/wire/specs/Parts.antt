@@ -1,13 +1,6 @@
 -- The pieces that the layouts of RFC 7296 section 3 are made of.
 use Rattle.std.specs.Prelude.{◌≡◌, ◌<◌, ◌^◌, ◌+◌, ℕ, List, [], ◌∷◌, ◌++◌, length}
-use Rattle.std.specs.List.{AllByRecursion}
 use Rattle.byteorder.specs.Endian.{big_bytes}
-
-abbrev pub IsOctet : ℕ → Type 0
-IsOctet o = o < 256
-
-abbrev pub AreOctets : List ℕ → Type 0
-AreOctets x = AllByRecursion IsOctet x
 
 -- what a sender writes where the layout says reserved (section 2.5, 3.2)
 abbrev pub IsZero : ℕ → Type 0

@@ -1,6 +1,7 @@
 -- The inside of a security association payload (RFC 7296 section 3.3).
 use Rattle.std.specs.Prelude.{◌≡◌, ◌<◌, ◌≤◌, ◌^◌, ◌+◌, ℕ, List, [], ◌∷◌, ◌++◌, length}
 use Rattle.byteorder.specs.Endian.{big_bytes}
+use Rattle.wire.specs.Numbers.{MORE_PROPOSALS, MORE_TRANSFORMS}
 use Rattle.wire.specs.Parts.{SpellsEach, SpellsMarked}
 use Rattle.wire.specs.declared.proposal.Proposal.{Proposal}
 use Rattle.wire.specs.declared.proposal.Transform.{Transform}
@@ -29,7 +30,7 @@ pub record SpellsProposal (Free : ℕ → Type 0) (p : Proposal) (inside : List 
   pub spelled : inside ≡ p.number ∷ p.protocol ∷ length p.spi ∷ length p.transforms ∷ p.spi ++ transforms
   pub spi : length p.spi < 2 ^ 8
   pub count : length p.transforms < 2 ^ 8
-  pub each : SpellsMarked Free 3 (SpellsTransform Free) p.transforms transforms
+  pub each : SpellsMarked Free MORE_TRANSFORMS (SpellsTransform Free) p.transforms transforms
 
 -- n, n + 1, n + 2, ..
 abbrev pub NumberedFrom : ℕ → List Proposal → Type 0
@@ -44,5 +45,5 @@ AreNumbered (p ∷ q ∷ ps) = NumberedFrom 1 (p ∷ q ∷ ps)
 
 -- the mark of a proposal with another behind it is 2
 pub record SpellsProposals (Free : ℕ → Type 0) (ps : List Proposal) (body : List ℕ) : Type 0 where
-  pub each : SpellsMarked Free 2 (SpellsProposal Free) ps body
+  pub each : SpellsMarked Free MORE_PROPOSALS (SpellsProposal Free) ps body
   pub numbered : AreNumbered ps

@@ -1,6 +1,11 @@
 -- What the readers of the code give, step by step: private contracts cite it, and lemmas lead from it to the grammar.
 use Rattle.std.specs.Prelude.{◌≡◌, ℕ, zero, suc, ◌+◌, ◌-◌, ◌*◌, ◌^◌, Bool, true, false, List, [], ◌∷◌, length, take, drop, Option, Some, None, Result, Ok, Err, nat_lt, nat_le, ◌==◌, ◌||◌, ◌&&◌, if◌then◌else◌, option_and_then, slice_index, ok_or, not, ◌≢◌, ◌/◌, ◌%◌}
 use Rattle.byteorder.specs.Endian.{big_number}
+use Rattle.base.specs.declared.address.Range.{Range}
+use Rattle.base.specs.declared.address.Range.TheVariants as range
+use Rattle.base.specs.declared.selector.Selector.{Selector}
+use Rattle.wire.specs.Numbers.{NO_PAYLOAD, SA_TYPE, KE_TYPE, ID_I_TYPE, ID_R_TYPE, CERTIFICATE_TYPE, CERTIFICATE_REQUEST_TYPE, AUTH_TYPE, NONCE_TYPE, NOTIFY_TYPE, DELETE_TYPE, VENDOR_ID_TYPE, TS_I_TYPE, TS_R_TYPE, SEALED_TYPE, CONFIGURATION_TYPE, EAP_TYPE, IKE_PROTOCOL, AH_PROTOCOL, ESP_PROTOCOL, IPV4_RANGE_TYPE, IPV6_RANGE_TYPE, MORE_PROPOSALS, MORE_TRANSFORMS, MAJOR_VERSION, HEADER_LENGTH, NONCE_LEAST, NONCE_LIMIT, SPI_LENGTH, IPV4_RANGE_LENGTH, IPV6_RANGE_LENGTH, MESSAGE_LIMIT, SELECTOR_LIMIT, KEY_EXCHANGE_LIMIT, IDENTITY_LIMIT, AUTHENTICATION_LIMIT}
+use Rattle.wire.specs.Refusals.{fault_of_type}
 use Rattle.wire.specs.declared.reader.Unread.{Unread}
 use Rattle.wire.specs.declared.reader.Unread.TheVariants.{Malformed, Memory}
 use Rattle.wire.specs.declared.payload.Payload.{Payload}
@@ -9,7 +14,6 @@ use Rattle.wire.specs.declared.proposal.Attribute.{Attribute}
 use Rattle.wire.specs.declared.proposal.Attribute.TheVariants.{Short, Long}
 use Rattle.wire.specs.declared.proposal.Transform.{Transform}
 use Rattle.wire.specs.declared.proposal.Proposal.{Proposal}
-use Rattle.wire.specs.declared.selector.Selector.{Selector}
 use Rattle.wire.specs.declared.payload.SkippedKind.TheVariants as skipped
 use Rattle.wire.specs.declared.form.Form.{Form}
 use Rattle.wire.specs.declared.form.Form.TheVariants as forms
@@ -101,7 +105,7 @@ proposal_of xs = do
   size ← octet_at protocol.1
   count ← octet_at size.1
   spi ← octets_at size.0 count.1
-  transforms ← marked_of 3 transform_of (length spi.1) true spi.1
+  transforms ← marked_of MORE_TRANSFORMS transform_of (length spi.1) true spi.1
   if length transforms == count.0 then Some (record { number = number.0; protocol = protocol.0; spi = spi.0; transforms = transforms }) else None
 
 abbrev pub numbered_from : ℕ → List Proposal → Bool
@@ -115,23 +119,49 @@ are_numbered (p ∷ q ∷ ps) = numbered_from 1 (p ∷ q ∷ ps)
 
 unfoldable pub proposals_of : List ℕ → Option (List Proposal)
 proposals_of xs = do
-  proposals ← marked_of 2 proposal_of (length xs) true xs
+  proposals ← marked_of MORE_PROPOSALS proposal_of (length xs) true xs
   if are_numbered proposals then Some proposals else None
+
+-- both ends of a range, in so many octets each, and nothing behind them
+unfoldable pub range_at : ℕ → (ℕ → ℕ → Range) → List ℕ → Option Range
+range_at width made xs = do
+  start ← number_at width xs
+  end ← number_at width start.1
+  if length end.1 == 0 then Some (made start.0 end.0) else None
+
+-- the range that a selector of this type has
+unfoldable pub range_of : ℕ → List ℕ → Option Range
+range_of kind xs = if kind == IPV4_RANGE_TYPE then range_at 4 range.V4 xs else if kind == IPV6_RANGE_TYPE then range_at 16 range.V6 xs else None
+
+abbrev pub is_ordered : Range → Bool
+is_ordered (range.V4 start end) = nat_le start end
+is_ordered (range.V6 start end) = nat_le start end
+
+abbrev pub is_in_order : Selector → Bool
+is_in_order s = nat_le s.start_port s.end_port && is_ordered s.addresses
+
+abbrev pub in_order : Selector → Option Selector
+in_order s = if is_in_order s then Some s else None
 
 unfoldable pub selector_at : List ℕ → Option (Selector × List ℕ)
 selector_at xs = do
   part ← part_at xs
   start_port ← number_at 2 part.0.inside
   end_port ← number_at 2 start_port.1
-  start_address ← number_at 4 end_port.1
-  end_address ← number_at 4 start_address.1
-  if (part.0.first == 7) && (length end_address.1 == 0) && nat_le start_port.0 end_port.0 && nat_le start_address.0 end_address.0 then Some (record { protocol = part.0.second; start_port = start_port.0; end_port = end_port.0; start_address = start_address.0; end_address = end_address.0 }, part.1) else None
+  addresses ← range_of part.0.first end_port.1
+  selector ← in_order (record { protocol = part.0.second; start_port = start_port.0; end_port = end_port.0; addresses = addresses })
+  Some (selector, part.1)
+
+-- whether so many selectors of either family can have so many octets
+abbrev pub is_counted : ℕ → ℕ → Bool
+is_counted count size = nat_le 1 count && nat_le count SELECTOR_LIMIT && nat_le (IPV4_RANGE_LENGTH * count) size && nat_le size (IPV6_RANGE_LENGTH * count)
 
 unfoldable pub selectors_of : List ℕ → Option (List Selector)
 selectors_of xs = do
   count ← octet_at xs
   reserved ← octets_at 3 count.1
-  if nat_le 1 count.0 && nat_le count.0 16 && (length reserved.1 == 16 * count.0) then each_of selector_at (length reserved.1) reserved.1 else None
+  selectors ← if is_counted count.0 (length reserved.1) then each_of selector_at (length reserved.1) reserved.1 else None
+  if length selectors == count.0 then Some selectors else None
 
 -- data from an octet to a limit
 abbrev pub data_of : ℕ → List ℕ → Option (List ℕ)
@@ -141,7 +171,7 @@ unfoldable pub ke_of : List ℕ → Option (ℕ × List ℕ)
 ke_of xs = do
   group ← number_at 2 xs
   reserved ← octets_at 2 group.1
-  octets ← data_of 1024 reserved.1
+  octets ← data_of KEY_EXCHANGE_LIMIT reserved.1
   Some (group.0, octets)
 
 unfoldable pub typed_of : ℕ → List ℕ → Option (ℕ × List ℕ)
@@ -152,13 +182,7 @@ typed_of limit xs = do
   Some (kind.0, octets)
 
 unfoldable pub nonce_of : List ℕ → Option (List ℕ)
-nonce_of xs = if nat_le 16 (length xs) && nat_le (length xs) 256 then Some xs else None
-
-pub record Notice : Type 0 where
-  pub protocol : ℕ
-  pub spi : List ℕ
-  pub kind : ℕ
-  pub octets : List ℕ
+nonce_of xs = if nat_le NONCE_LEAST (length xs) && nat_le (length xs) NONCE_LIMIT then Some xs else None
 
 unfoldable pub notify_of : List ℕ → Option Payload
 notify_of xs = do
@@ -170,14 +194,14 @@ notify_of xs = do
 
 -- whether SPIs of this protocol have this size and can be so many
 abbrev pub is_sized : ℕ → ℕ → ℕ → Bool
-is_sized protocol size count = if protocol == 1 then (size == 0) && (count == 0) else if (protocol == 2) || (protocol == 3) then size == 4 else false
+is_sized protocol size count = if protocol == IKE_PROTOCOL then (size == 0) && (count == 0) else if (protocol == AH_PROTOCOL) || (protocol == ESP_PROTOCOL) then size == SPI_LENGTH else false
 
 unfoldable pub delete_of : List ℕ → Option Payload
 delete_of xs = do
   protocol ← octet_at xs
   size ← octet_at protocol.1
   count ← number_at 2 size.1
-  if is_sized protocol.0 size.0 count.0 && (length count.1 == 4 * count.0) then (each_of (number_at 4) (length count.1) count.1 >>= λ spis. Some (payloads.Delete protocol.0 spis)) else None
+  if is_sized protocol.0 size.0 count.0 && (length count.1 == SPI_LENGTH * count.0) then (each_of (number_at 4) (length count.1) count.1 >>= λ spis. Some (payloads.Delete protocol.0 spis)) else None
 
 -- what is refused where octets have this fault unless they are read
 abbrev pub refusal_of : Unread → WireFault → WireFault
@@ -188,35 +212,20 @@ refusal_of Memory fault = faults.Memory
 
 abbrev pub form_of : ℕ → Form
 form_of kind =
-    if kind == 33 then forms.Sa else if kind == 34 then forms.Ke else if kind == 35 then forms.IdI else if kind == 36 then forms.IdR
-    else if kind == 37 then forms.Skipped skipped.Certificate else if kind == 38 then forms.Skipped skipped.CertificateRequest
-    else if kind == 39 then forms.Auth else if kind == 40 then forms.Nonce else if kind == 41 then forms.Notify else if kind == 42 then forms.Delete
-    else if kind == 43 then forms.Skipped skipped.VendorId else if kind == 44 then forms.TsI else if kind == 45 then forms.TsR
-    else if kind == 46 then forms.Sealed else if kind == 47 then forms.Skipped skipped.Configuration
-    else if kind == 48 then forms.Skipped skipped.Eap else forms.Unknown
-
-abbrev pub fault_of_form : Form → ℕ → WireFault
-fault_of_form forms.Sa offset = faults.BadProposal offset
-fault_of_form forms.Ke offset = faults.BadField offset
-fault_of_form forms.IdI offset = faults.BadField offset
-fault_of_form forms.IdR offset = faults.BadField offset
-fault_of_form forms.Auth offset = faults.BadField offset
-fault_of_form forms.Nonce offset = faults.BadNonce offset
-fault_of_form forms.Notify offset = faults.BadField offset
-fault_of_form forms.Delete offset = faults.BadField offset
-fault_of_form forms.TsI offset = faults.BadSelector offset
-fault_of_form forms.TsR offset = faults.BadSelector offset
-fault_of_form forms.Sealed offset = faults.BadChain offset
-fault_of_form (forms.Skipped kind) offset = faults.BadChain offset
-fault_of_form forms.Unknown offset = faults.BadChain offset
+    if kind == SA_TYPE then forms.Sa else if kind == KE_TYPE then forms.Ke else if kind == ID_I_TYPE then forms.IdI else if kind == ID_R_TYPE then forms.IdR
+    else if kind == CERTIFICATE_TYPE then forms.Skipped skipped.Certificate else if kind == CERTIFICATE_REQUEST_TYPE then forms.Skipped skipped.CertificateRequest
+    else if kind == AUTH_TYPE then forms.Auth else if kind == NONCE_TYPE then forms.Nonce else if kind == NOTIFY_TYPE then forms.Notify else if kind == DELETE_TYPE then forms.Delete
+    else if kind == VENDOR_ID_TYPE then forms.Skipped skipped.VendorId else if kind == TS_I_TYPE then forms.TsI else if kind == TS_R_TYPE then forms.TsR
+    else if kind == SEALED_TYPE then forms.Sealed else if kind == CONFIGURATION_TYPE then forms.Skipped skipped.Configuration
+    else if kind == EAP_TYPE then forms.Skipped skipped.Eap else forms.Unknown
 
 -- the payload of this form and type whose header has this second octet; an encrypted one is not made here
 unfoldable pub body_of : Form → ℕ → ℕ → List ℕ → Option Payload
 body_of forms.Sa kind second xs = proposals_of xs >>= λ proposals. Some (payloads.Sa proposals)
 body_of forms.Ke kind second xs = ke_of xs >>= λ x. Some (payloads.Ke x.0 x.1)
-body_of forms.IdI kind second xs = typed_of 256 xs >>= λ x. Some (payloads.IdI x.0 x.1)
-body_of forms.IdR kind second xs = typed_of 256 xs >>= λ x. Some (payloads.IdR x.0 x.1)
-body_of forms.Auth kind second xs = typed_of 1024 xs >>= λ x. Some (payloads.Auth x.0 x.1)
+body_of forms.IdI kind second xs = typed_of IDENTITY_LIMIT xs >>= λ x. Some (payloads.IdI x.0 x.1)
+body_of forms.IdR kind second xs = typed_of IDENTITY_LIMIT xs >>= λ x. Some (payloads.IdR x.0 x.1)
+body_of forms.Auth kind second xs = typed_of AUTHENTICATION_LIMIT xs >>= λ x. Some (payloads.Auth x.0 x.1)
 body_of forms.Nonce kind second xs = nonce_of xs >>= λ octets. Some (payloads.Nonce octets)
 body_of forms.Notify kind second xs = notify_of xs
 body_of forms.Delete kind second xs = delete_of xs
@@ -242,30 +251,20 @@ pub record Linked : Type 0 where
   pub next : ℕ
   pub left : List ℕ
 
-abbrev pub linked : Payload → ℕ → List ℕ → Linked
-linked payload next left = record { payload = payload; next = next; left = left }
+abbrev pub link_of : Payload → ℕ → List ℕ → Linked
+link_of payload next left = record { payload = payload; next = next; left = left }
 
 -- an encrypted payload has to be the last, where there may be one; nothing follows it
-abbrev pub sealed_of : Bool → ℕ → Piece → List ℕ → Result Linked WireFault
-sealed_of encrypted offset part left = if encrypted && (length left == 0) then Ok (linked (payloads.Sealed part.first part.inside) 0 left) else Err (faults.BadChain offset)
+abbrev pub sealed_of : Bool → ℕ → ℕ → Piece → List ℕ → Result Linked WireFault
+sealed_of encrypted kind offset part left =
+    if encrypted && (length left == 0) then Ok (link_of (payloads.Sealed part.first part.inside) NO_PAYLOAD left) else Err (fault_of_type kind offset)
 
 abbrev pub open_of : Form → ℕ → ℕ → Piece → List ℕ → Result Linked WireFault
-open_of form kind offset part left = ok_or (body_of form kind part.second part.inside) (fault_of_form form offset) >>> λ payload. Ok (linked payload part.first left)
+open_of form kind offset part left = ok_or (body_of form kind part.second part.inside) (fault_of_type kind offset) >>> λ payload. Ok (link_of payload part.first left)
 
 abbrev pub inside_of : Bool → Form → ℕ → ℕ → Piece → List ℕ → Result Linked WireFault
-inside_of encrypted forms.Sealed kind offset part left = sealed_of encrypted offset part left
-inside_of encrypted forms.Sa kind offset part left = open_of forms.Sa kind offset part left
-inside_of encrypted forms.Ke kind offset part left = open_of forms.Ke kind offset part left
-inside_of encrypted forms.IdI kind offset part left = open_of forms.IdI kind offset part left
-inside_of encrypted forms.IdR kind offset part left = open_of forms.IdR kind offset part left
-inside_of encrypted forms.Auth kind offset part left = open_of forms.Auth kind offset part left
-inside_of encrypted forms.Nonce kind offset part left = open_of forms.Nonce kind offset part left
-inside_of encrypted forms.Notify kind offset part left = open_of forms.Notify kind offset part left
-inside_of encrypted forms.Delete kind offset part left = open_of forms.Delete kind offset part left
-inside_of encrypted forms.TsI kind offset part left = open_of forms.TsI kind offset part left
-inside_of encrypted forms.TsR kind offset part left = open_of forms.TsR kind offset part left
-inside_of encrypted (forms.Skipped skipped) kind offset part left = open_of (forms.Skipped skipped) kind offset part left
-inside_of encrypted forms.Unknown kind offset part left = open_of forms.Unknown kind offset part left
+inside_of encrypted forms.Sealed kind offset part left = sealed_of encrypted kind offset part left
+inside_of encrypted form kind offset part left = open_of form kind offset part left
 
 -- the payload of this type that the octets begin with; end is the offset behind the last of them
 unfoldable pub payload_at : Bool → ℕ → ℕ → List ℕ → Result Linked WireFault
@@ -300,11 +299,11 @@ head_at xs = do
 unfoldable pub headed_of : List ℕ → Head → List ℕ → Result Message WireFault
 headed_of xs head left =
     if not (head.length == length xs) then Err faults.BadLength
-    else if not (head.major == 2) then Err faults.BadVersion
+    else if not (head.major == MAJOR_VERSION) then Err faults.BadVersion
     else chain_at true (length xs) (length left) head.first left >>> λ ps. Ok (record { header = head.header; payloads = ps })
 
 unfoldable pub message_of : List ℕ → Result Message WireFault
 message_of xs =
-    if nat_lt (length xs) 28 then Err faults.Short
-    else if nat_lt 3000 (length xs) then Err faults.TooLong
+    if nat_lt (length xs) HEADER_LENGTH then Err faults.Short
+    else if nat_lt MESSAGE_LIMIT (length xs) then Err faults.TooLong
     else ok_or (head_at xs) faults.Short >>> λ head. headed_of xs head.0 head.1

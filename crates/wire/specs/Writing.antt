@@ -2,10 +2,15 @@
 -- to the grammar.
 use Rattle.std.specs.Prelude.{◌≡◌, ◌≢◌, ℕ, ◌+◌, ◌-◌, ◌*◌, ◌^◌, ◌<◌, Bool, List, [], ◌∷◌, ◌++◌, length, take, drop, Option, Some, None, Result, Ok, Err, nat_lt, nat_le, ◌==◌, ◌||◌, ◌&&◌, not, if◌then◌else◌, ok_or}
 use Rattle.byteorder.specs.Endian.{big_bytes}
+use Rattle.base.specs.declared.address.Range.{Range}
+use Rattle.base.specs.declared.address.Range.TheVariants as range
+use Rattle.base.specs.declared.selector.Selector.{Selector}
+use Rattle.wire.specs.Numbers.{NO_PAYLOAD, SA_TYPE, SEALED_TYPE, EAP_TYPE, IKE_PROTOCOL, AH_PROTOCOL, ESP_PROTOCOL, MORE_PROPOSALS, MORE_TRANSFORMS, MAJOR_VERSION, HEADER_LENGTH, NONCE_LEAST, NONCE_LIMIT, SPI_LENGTH, MESSAGE_LIMIT, SELECTOR_LIMIT, KEY_EXCHANGE_LIMIT, IDENTITY_LIMIT, AUTHENTICATION_LIMIT}
 use Rattle.wire.specs.Messages.{bit}
+use Rattle.wire.specs.Selectors.{selector_type}
 use Rattle.wire.specs.Payloads.{type_of}
 use Rattle.wire.specs.Refusals.{fault_in}
-use Rattle.wire.specs.Reading.{◌>>=◌, ◌>>>◌, are_numbered}
+use Rattle.wire.specs.Reading.{◌>>=◌, ◌>>>◌, are_numbered, is_in_order}
 use Rattle.wire.specs.declared.writer.Unwritten.{Unwritten}
 use Rattle.wire.specs.declared.writer.Unwritten.TheVariants.{Unspelled, Memory}
 use Rattle.wire.specs.declared.payload.Payload.{Payload}
@@ -14,7 +19,6 @@ use Rattle.wire.specs.declared.proposal.Attribute.{Attribute}
 use Rattle.wire.specs.declared.proposal.Attribute.TheVariants.{Short, Long}
 use Rattle.wire.specs.declared.proposal.Transform.{Transform}
 use Rattle.wire.specs.declared.proposal.Proposal.{Proposal}
-use Rattle.wire.specs.declared.selector.Selector.{Selector}
 use Rattle.wire.specs.declared.message.Flags.{Flags}
 use Rattle.wire.specs.declared.message.Header.{Header}
 use Rattle.wire.specs.declared.message.Message.{Message}
@@ -71,33 +75,41 @@ transform_onto t old = octets_onto (t.kind ∷ 0 ∷ []) old >>= λ mid. number_
 unfoldable pub proposal_onto : Proposal → List ℕ → Option (List ℕ)
 proposal_onto p old =
     if nat_lt (length p.spi) 256 && nat_lt (length p.transforms) 256
-    then (octets_onto (p.number ∷ p.protocol ∷ length p.spi ∷ length p.transforms ∷ []) old >>= λ mid. octets_onto p.spi mid >>= λ next. marked_onto 3 transform_onto p.transforms next)
+    then (octets_onto (p.number ∷ p.protocol ∷ length p.spi ∷ length p.transforms ∷ []) old >>= λ mid. octets_onto p.spi mid >>= λ next. marked_onto MORE_TRANSFORMS transform_onto p.transforms next)
     else None
 
 unfoldable pub proposals_onto : List Proposal → List ℕ → Option (List ℕ)
-proposals_onto ps old = if are_numbered ps then marked_onto 2 proposal_onto ps old else None
+proposals_onto ps old = if are_numbered ps then marked_onto MORE_PROPOSALS proposal_onto ps old else None
+
+-- both ends, in so many octets each
+abbrev pub ends_onto : ℕ → ℕ → ℕ → List ℕ → Option (List ℕ)
+ends_onto width start end old = number_onto width start old >>= λ mid. number_onto width end mid
+
+unfoldable pub range_onto : Range → List ℕ → Option (List ℕ)
+range_onto (range.V4 start end) old = ends_onto 4 start end old
+range_onto (range.V6 start end) old = ends_onto 16 start end old
+
+unfoldable pub inside_onto : Selector → List ℕ → Option (List ℕ)
+inside_onto s old = number_onto 2 s.start_port old >>= λ a. number_onto 2 s.end_port a >>= λ b. range_onto s.addresses b
 
 unfoldable pub selector_onto : Selector → List ℕ → Option (List ℕ)
-selector_onto s old =
-    if nat_le s.start_port s.end_port && nat_le s.start_address s.end_address
-    then (octets_onto (7 ∷ s.protocol ∷ 0 ∷ 16 ∷ []) old >>= λ a. number_onto 2 s.start_port a >>= λ b. number_onto 2 s.end_port b >>= λ c. number_onto 4 s.start_address c >>= λ d. number_onto 4 s.end_address d)
-    else None
+selector_onto s old = if is_in_order s then part_onto (selector_type s.addresses) s.protocol (inside_onto s) old else None
 
 unfoldable pub selectors_onto : List Selector → List ℕ → Option (List ℕ)
-selectors_onto ss old = if nat_le 1 (length ss) && nat_le (length ss) 16 then (octets_onto (length ss ∷ 0 ∷ 0 ∷ 0 ∷ []) old >>= λ mid. each_onto selector_onto ss mid) else None
+selectors_onto ss old = if nat_le 1 (length ss) && nat_le (length ss) SELECTOR_LIMIT then (octets_onto (length ss ∷ 0 ∷ 0 ∷ 0 ∷ []) old >>= λ mid. each_onto selector_onto ss mid) else None
 
 -- data of at least one octet
 abbrev pub data_onto : ℕ → List ℕ → List ℕ → Option (List ℕ)
 data_onto limit xs old = if (length xs == 0) || nat_lt limit (length xs) then None else Some (old ++ xs)
 
 unfoldable pub ke_onto : ℕ → List ℕ → List ℕ → Option (List ℕ)
-ke_onto group xs old = number_onto 2 group old >>= λ mid. octets_onto (0 ∷ 0 ∷ []) mid >>= λ next. data_onto 1024 xs next
+ke_onto group xs old = number_onto 2 group old >>= λ mid. octets_onto (0 ∷ 0 ∷ []) mid >>= λ next. data_onto KEY_EXCHANGE_LIMIT xs next
 
 unfoldable pub typed_onto : ℕ → ℕ → List ℕ → List ℕ → Option (List ℕ)
 typed_onto limit kind xs old = octets_onto (kind ∷ 0 ∷ 0 ∷ 0 ∷ []) old >>= λ mid. data_onto limit xs mid
 
 unfoldable pub nonce_onto : List ℕ → List ℕ → Option (List ℕ)
-nonce_onto xs old = if nat_le 16 (length xs) && nat_le (length xs) 256 then Some (old ++ xs) else None
+nonce_onto xs old = if nat_le NONCE_LEAST (length xs) && nat_le (length xs) NONCE_LIMIT then Some (old ++ xs) else None
 
 unfoldable pub notify_onto : ℕ → List ℕ → ℕ → List ℕ → List ℕ → Option (List ℕ)
 notify_onto protocol spi kind xs old =
@@ -107,7 +119,8 @@ notify_onto protocol spi kind xs old =
 
 -- the size of each of so many SPIs of this protocol
 abbrev pub spi_size : ℕ → ℕ → Option ℕ
-spi_size protocol count = if protocol == 1 then (if count == 0 then Some 0 else None) else if (protocol == 2) || (protocol == 3) then Some 4 else None
+spi_size protocol count =
+    if protocol == IKE_PROTOCOL then (if count == 0 then Some 0 else None) else if (protocol == AH_PROTOCOL) || (protocol == ESP_PROTOCOL) then Some SPI_LENGTH else None
 
 unfoldable pub delete_onto : ℕ → List ℕ → List ℕ → Option (List ℕ)
 delete_onto protocol spis old = spi_size protocol (length spis) >>= λ size. octets_onto (protocol ∷ size ∷ []) old >>= λ mid. number_onto 2 (length spis) mid >>= λ next. each_onto (number_onto 4) spis next
@@ -115,9 +128,9 @@ delete_onto protocol spis old = spi_size protocol (length spis) >>= λ size. oct
 unfoldable pub body_onto : Payload → List ℕ → Option (List ℕ)
 body_onto (Sa proposals) old = proposals_onto proposals old
 body_onto (Ke group octets) old = ke_onto group octets old
-body_onto (IdI kind octets) old = typed_onto 256 kind octets old
-body_onto (IdR kind octets) old = typed_onto 256 kind octets old
-body_onto (Auth method octets) old = typed_onto 1024 method octets old
+body_onto (IdI kind octets) old = typed_onto IDENTITY_LIMIT kind octets old
+body_onto (IdR kind octets) old = typed_onto IDENTITY_LIMIT kind octets old
+body_onto (Auth method octets) old = typed_onto AUTHENTICATION_LIMIT method octets old
 body_onto (Nonce octets) old = nonce_onto octets old
 body_onto (Notify protocol spi kind octets) old = notify_onto protocol spi kind octets old
 body_onto (Delete protocol spis) old = delete_onto protocol spis old
@@ -128,31 +141,21 @@ body_onto (Skipped kind octets) old = Some (old ++ octets)
 body_onto (Unknown kind critical octets) old = Some (old ++ octets)
 
 abbrev pub is_unknown : ℕ → Bool
-is_unknown kind = (nat_le 1 kind && nat_le kind 32) || (nat_le 49 kind && nat_lt kind 256)
+is_unknown kind = (nat_lt NO_PAYLOAD kind && nat_lt kind SA_TYPE) || (nat_lt EAP_TYPE kind && nat_lt kind 256)
 
 -- The first two octets of a payload's header, where next is the type of the payload behind it: an encrypted one names the
 -- type of the first payload inside it, and an unknown one has its critical bit. An unknown type has no form of its own.
 abbrev pub header_octets : Payload → ℕ → Option (ℕ × ℕ)
-header_octets (Sa proposals) next = Some (next, 0)
-header_octets (Ke group octets) next = Some (next, 0)
-header_octets (IdI kind octets) next = Some (next, 0)
-header_octets (IdR kind octets) next = Some (next, 0)
-header_octets (Auth method octets) next = Some (next, 0)
-header_octets (Nonce octets) next = Some (next, 0)
-header_octets (Notify protocol spi kind octets) next = Some (next, 0)
-header_octets (Delete protocol spis) next = Some (next, 0)
-header_octets (TsI selectors) next = Some (next, 0)
-header_octets (TsR selectors) next = Some (next, 0)
 header_octets (Sealed first body) next = Some (first, 0)
-header_octets (Skipped kind octets) next = Some (next, 0)
 header_octets (Unknown kind critical octets) next = if is_unknown kind then Some (next, if critical then 128 else 0) else None
+header_octets p next = Some (next, 0)
 
 unfoldable pub payload_onto : Payload → ℕ → List ℕ → Option (List ℕ)
 payload_onto p next old = header_octets p next >>= λ octets. part_onto octets.0 octets.1 (body_onto p) old
 
 -- the type of the first payload, 0 for none
 abbrev pub first_type : List Payload → ℕ
-first_type [] = 0
+first_type [] = NO_PAYLOAD
 first_type (p ∷ ps) = type_of p
 
 -- what a function left in a vector, unless a growth was refused, is what is to be made
@@ -161,7 +164,7 @@ Makes new (Ok u) made = made ≡ Ok new
 Makes new (Err f) made = f ≢ faults.Memory → made ≡ Err f
 
 abbrev pub link_onto : Payload → List Payload → List ℕ → Result (List ℕ) WireFault
-link_onto p others old = if (type_of p == 46) && not (length others == 0) then Err (fault_in p (length old)) else ok_or (payload_onto p (first_type others) old) (fault_in p (length old))
+link_onto p others old = if (type_of p == SEALED_TYPE) && not (length others == 0) then Err (fault_in p (length old)) else ok_or (payload_onto p (first_type others) old) (fault_in p (length old))
 
 unfoldable pub payloads_onto : List Payload → List ℕ → Result (List ℕ) WireFault
 payloads_onto [] old = Ok old
@@ -177,13 +180,13 @@ pub record FitsHeader (h : Header) : Type 0 where
   pub id : h.id < 2 ^ 32
 
 unfoldable pub header_onto : Header → ℕ → List ℕ → Option (List ℕ)
-header_onto h first old = number_onto 8 h.spi_i old >>= λ a. number_onto 8 h.spi_r a >>= λ b. octets_onto (first ∷ (32 + h.minor) ∷ h.exchange ∷ flags_octet h.flags ∷ []) b >>= λ c. number_onto 4 h.id c >>= λ d. octets_onto (0 ∷ 0 ∷ 0 ∷ 0 ∷ []) d
+header_onto h first old = number_onto 8 h.spi_i old >>= λ a. number_onto 8 h.spi_r a >>= λ b. octets_onto (first ∷ (16 * MAJOR_VERSION + h.minor) ∷ h.exchange ∷ flags_octet h.flags ∷ []) b >>= λ c. number_onto 4 h.id c >>= λ d. octets_onto (0 ∷ 0 ∷ 0 ∷ 0 ∷ []) d
 
 -- with the length of the whole in its place
-abbrev pub sized : List ℕ → List ℕ
-sized whole = take 24 whole ++ big_bytes 4 (length whole) ++ drop 28 whole
+abbrev pub with_length : List ℕ → List ℕ
+with_length whole = take 24 whole ++ big_bytes 4 (length whole) ++ drop HEADER_LENGTH whole
 
-unfoldable pub encoded : Message → Result (List ℕ) WireFault
-encoded m =
+unfoldable pub encoding_of : Message → Result (List ℕ) WireFault
+encoding_of m =
     if nat_le 16 m.header.minor then Err faults.BadVersion
-    else ok_or (header_onto m.header (first_type m.payloads) []) faults.BadVersion >>> λ head. payloads_onto m.payloads head >>> λ whole. if nat_lt 3000 (length whole) then Err faults.TooLong else Ok (sized whole)
+    else ok_or (header_onto m.header (first_type m.payloads) []) faults.BadVersion >>> λ head. payloads_onto m.payloads head >>> λ whole. if nat_lt MESSAGE_LIMIT (length whole) then Err faults.TooLong else Ok (with_length whole)

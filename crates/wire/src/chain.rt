@@ -1,7 +1,7 @@
 //! Chains of payloads (RFC 7296 section 3.2).
-ghost use Rattle.std.specs.Prelude.{◌≡◌, ◌≢◌, List, IfOk, IfErr, false, length, Err};
+ghost use Rattle.std.specs.Prelude.{◌≡◌, ◌≢◌, List, IfOk, IfErr, false, length, Ok, Err};
+ghost use Rattle.wire.specs.Numbers.{NO_PAYLOAD};
 ghost use Rattle.wire.specs.Payloads.{SpellsChain};
-ghost use Rattle.wire.specs.Parts.{AreOctets};
 ghost use Rattle.wire.specs.Reading.{Answers, chain_at};
 ghost use Rattle.wire.specs.Writing.{Makes, first_type, link_onto, payloads_onto};
 ghost use Rattle.wire.specs.Refusals.{IsChainFault, IsUnlessMemory};
@@ -9,9 +9,10 @@ ghost use Rattle.wire.specs.declared.payload.Payload.{Payload};
 ghost use Rattle.wire.specs.declared.fault.WireFault.{WireFault};
 
 use crate::fault::WireFault;
-use crate::items::Items;
+use crate::numbers::{NO_PAYLOAD, SEALED_TYPE};
 use crate::payload::{Payload, read_payload, write_payload};
 use crate::reader::Reader;
+use base::Items;
 use std::alloc::Global;
 
 /// The payloads that are left to read, of which the first has the type `first`. An encrypted one may end them where
@@ -22,13 +23,14 @@ pub(crate) fn read_chain(
     encrypted: bool,
     mut reader: Reader,
 ) -> Result<Items<Payload>, WireFault>
-    ensures read { Answers (λ x. x) result (chain_at encrypted reader.entry.end (length reader.entry.rest.now) first reader.entry.rest.now) }
+    ensures read { Answers (λ x. x) result
+        (chain_at encrypted reader.entry.end (length reader.entry.rest.now) first reader.entry.rest.now) }
     // Memory is taken for payloads alone.
-    ensures reached { result ≡ Err WireFault.Memory → first ≢ 0 }
+    ensures reached { result ≡ Err WireFault.Memory → first ≢ NO_PAYLOAD }
 {
     let mut payloads = Items::new(alloc);
     let mut next = first;
-    while next != 0 {
+    while next != NO_PAYLOAD {
         let (payload, behind) = read_payload(alloc, next, encrypted, &mut reader)?;
         payloads.push(payload)?;
         next = behind;
@@ -42,12 +44,12 @@ pub(crate) fn read_chain(
     }
 }
 
-fn read_all(alloc: Global, first: u8, octets: &[u8]) -> Result<Vec<Payload>, WireFault>
-    ensures read { Answers (λ v. v.items) result (chain_at false (length octets.now) (length octets.now) first octets.now) }
-    ensures reached { result ≡ Err WireFault.Memory → first ≢ 0 }
+fn read_all(alloc: Global, first: u8, octets: &[u8]) -> Result<Items<Payload>, WireFault>
+    ensures read { Answers (λ x. x) result
+        (chain_at false (length octets.now) (length octets.now) first octets.now) }
+    ensures reached { result ≡ Err WireFault.Memory → first ≢ NO_PAYLOAD }
 {
-    let payloads = read_chain(alloc, first, false, Reader::new(octets))?;
-    Ok(payloads.into_vec())
+    read_chain(alloc, first, false, Reader::new(octets))
 }
 
 /// The payloads that the octets spell, all of them, of which the first has the type `first` (0 for none). There is no
@@ -55,24 +57,20 @@ fn read_all(alloc: Global, first: u8, octets: &[u8]) -> Result<Vec<Payload>, Wir
 ///
 /// The first payload that the grammar does not allow decides: [`WireFault::BadChain`] to [`WireFault::BadField`] with
 /// its offset from the first octet. An encrypted payload is [`WireFault::BadChain`] at its offset.
-pub fn decode_chain(alloc: Global, first: u8, octets: &[u8]) -> Result<Vec<Payload>, WireFault>
+pub fn decode_chain(alloc: Global, first: u8, octets: &[u8]) -> Result<Items<Payload>, WireFault>
     // What is read is spelled by the octets.
-    ensures found { IfOk result (λ payloads. SpellsChain first payloads.items octets.now) }
+    ensures found { IfOk result (λ ps. SpellsChain first ps octets.now) }
     // What they spell is read, and nothing else.
-    ensures only { (payloads : List Payload) → SpellsChain first payloads octets.now
-        → IfOk result (λ v. v.items ≡ payloads) × IfErr result (λ f. f ≡ WireFault.Memory) }
-    // What is refused is spelled by none, and the fault is that of the first payload that is not allowed.
+    ensures only { (ps : List Payload) → SpellsChain first ps octets.now → IsUnlessMemory result (Ok ps) }
+    // What is refused is spelled by none, and the fault is the first one.
     ensures refused { IfErr result (λ f. f ≢ WireFault.Memory → IsChainFault false 0 first octets.now f) }
     ensures first_fault { (f : WireFault) → IsChainFault false 0 first octets.now f
         → IsUnlessMemory result (Err f) }
     // Where no payload is named, no memory is taken.
-    ensures idle { first ≡ 0 → result ≢ Err WireFault.Memory }
+    ensures idle { first ≡ NO_PAYLOAD → result ≢ Err WireFault.Memory }
 {
     read_all(alloc, first, octets)
 }
-
-/// The type of an encrypted payload (section 3.14).
-const SEALED: u8 = 46;
 
 /// The type of the first payload, 0 for none.
 pub(crate) fn first_type(payloads: &[Payload]) -> u8
@@ -80,7 +78,7 @@ pub(crate) fn first_type(payloads: &[Payload]) -> u8
 {
     match payloads.first() {
         Some(payload) => payload.number(),
-        None => 0,
+        None => NO_PAYLOAD,
     }
 }
 
@@ -89,7 +87,7 @@ fn write_link(payload: &Payload, others: &[Payload], out: &mut Vec<u8>) -> Resul
     ensures { Makes out.new.items result (link_onto payload.now others.now out.old.items) }
 {
     let fault = payload.fault(out.len());
-    if payload.number() == SEALED && !others.is_empty() {
+    if payload.number() == SEALED_TYPE && !others.is_empty() {
         return Err(fault);
     }
     match write_payload(payload, first_type(others), out) {

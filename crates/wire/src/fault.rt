@@ -1,7 +1,12 @@
 //! Why a message is not read or not written.
 ghost use Rattle.std.specs.Prelude.{◌≡◌};
-ghost use Rattle.wire.specs.Fault.{code_of, offset_of};
+ghost use Rattle.wire.specs.Fault.{fault_number, fault_offset};
+ghost use Rattle.wire.specs.Refusals.{fault_of_type};
 
+use crate::numbers::{
+    AUTH_TYPE, DELETE_TYPE, ID_I_TYPE, ID_R_TYPE, KE_TYPE, NONCE_TYPE, NOTIFY_TYPE, SA_TYPE,
+    TS_I_TYPE, TS_R_TYPE,
+};
 use std::alloc::{AllocError, AllocFailed};
 use thiserror::Error;
 
@@ -48,7 +53,7 @@ pub enum WireFault {
 impl WireFault {
     /// The number of the refusal, 1 to 10.
     pub fn code(&self) -> u8
-        ensures { result ≡ code_of self.now }
+        ensures { result ≡ fault_number self.now }
     {
         match self {
             WireFault::Short => 1,
@@ -64,9 +69,24 @@ impl WireFault {
         }
     }
 
+    /// The refusal of a payload of this type, which begins at the offset, that the grammar does not allow.
+    pub(crate) fn of_type(kind: u8, offset: usize) -> Self
+        ensures { result ≡ fault_of_type kind offset }
+    {
+        match kind {
+            SA_TYPE => WireFault::BadProposal { offset },
+            TS_I_TYPE | TS_R_TYPE => WireFault::BadSelector { offset },
+            NONCE_TYPE => WireFault::BadNonce { offset },
+            KE_TYPE | ID_I_TYPE | ID_R_TYPE | AUTH_TYPE | NOTIFY_TYPE | DELETE_TYPE => {
+                WireFault::BadField { offset }
+            }
+            _ => WireFault::BadChain { offset },
+        }
+    }
+
     /// The offset of the payload at fault, where the fault lies in one.
     pub fn offset(&self) -> Option<usize>
-        ensures { result ≡ offset_of self.now }
+        ensures { result ≡ fault_offset self.now }
     {
         match self {
             WireFault::BadChain { offset }

@@ -4,22 +4,11 @@ ghost use Rattle.std.specs.Prelude.{◌≡◌};
 ghost use Rattle.wire.specs.Writing.{Writes, data_onto, ke_onto, typed_onto, nonce_onto};
 ghost use Rattle.wire.specs.Reading.{Gives, data_of, ke_of, typed_of, nonce_of};
 
-use crate::items::Items;
+use crate::numbers::{KEY_EXCHANGE_LIMIT, NONCE_LEAST, NONCE_LIMIT};
 use crate::reader::{Reader, Unread};
 use crate::writer::{Unwritten, push_octets, push_u16};
+use base::Items;
 use std::alloc::Global;
-
-/// The greatest lengths of the data, in octets: limits of this implementation.
-pub(crate) const KEY_EXCHANGE_LIMIT: usize = 1024;
-
-pub(crate) const IDENTITY_LIMIT: usize = 256;
-
-pub(crate) const AUTHENTICATION_LIMIT: usize = 1024;
-
-/// The lengths of a nonce, in octets.
-pub(crate) const NONCE_LEAST: usize = 16;
-
-pub(crate) const NONCE_LIMIT: usize = 256;
 
 fn read_data(alloc: Global, limit: usize, rest: Reader) -> Result<Items<u8>, Unread>
     ensures { Gives (λ x. x) result (data_of limit rest.entry.rest.now) }

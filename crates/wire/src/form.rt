@@ -1,8 +1,12 @@
 //! Forms of payloads, by their types (RFC 7296 section 3.2).
 ghost use Rattle.std.specs.Prelude.{◌≡◌};
-ghost use Rattle.wire.specs.Reading.{form_of, fault_of_form};
+ghost use Rattle.wire.specs.Reading.{form_of};
 
-use crate::fault::WireFault;
+use crate::numbers::{
+    AUTH_TYPE, CERTIFICATE_REQUEST_TYPE, CERTIFICATE_TYPE, CONFIGURATION_TYPE, DELETE_TYPE,
+    EAP_TYPE, ID_I_TYPE, ID_R_TYPE, KE_TYPE, NONCE_TYPE, NOTIFY_TYPE, SA_TYPE, SEALED_TYPE,
+    TS_I_TYPE, TS_R_TYPE, VENDOR_ID_TYPE,
+};
 use crate::payload::SkippedKind;
 
 /// How the inside of a payload is laid out.
@@ -29,37 +33,23 @@ impl Form {
         ensures { result ≡ form_of kind }
     {
         match kind {
-            33 => Form::Sa,
-            34 => Form::Ke,
-            35 => Form::IdI,
-            36 => Form::IdR,
-            37 => Form::Skipped(SkippedKind::Certificate),
-            38 => Form::Skipped(SkippedKind::CertificateRequest),
-            39 => Form::Auth,
-            40 => Form::Nonce,
-            41 => Form::Notify,
-            42 => Form::Delete,
-            43 => Form::Skipped(SkippedKind::VendorId),
-            44 => Form::TsI,
-            45 => Form::TsR,
-            46 => Form::Sealed,
-            47 => Form::Skipped(SkippedKind::Configuration),
-            48 => Form::Skipped(SkippedKind::Eap),
+            SA_TYPE => Form::Sa,
+            KE_TYPE => Form::Ke,
+            ID_I_TYPE => Form::IdI,
+            ID_R_TYPE => Form::IdR,
+            CERTIFICATE_TYPE => Form::Skipped(SkippedKind::Certificate),
+            CERTIFICATE_REQUEST_TYPE => Form::Skipped(SkippedKind::CertificateRequest),
+            AUTH_TYPE => Form::Auth,
+            NONCE_TYPE => Form::Nonce,
+            NOTIFY_TYPE => Form::Notify,
+            DELETE_TYPE => Form::Delete,
+            VENDOR_ID_TYPE => Form::Skipped(SkippedKind::VendorId),
+            TS_I_TYPE => Form::TsI,
+            TS_R_TYPE => Form::TsR,
+            SEALED_TYPE => Form::Sealed,
+            CONFIGURATION_TYPE => Form::Skipped(SkippedKind::Configuration),
+            EAP_TYPE => Form::Skipped(SkippedKind::Eap),
             _ => Form::Unknown,
-        }
-    }
-
-    /// The refusal of a payload of this form that the grammar does not allow, at its offset.
-    pub(crate) fn fault(self, offset: usize) -> WireFault
-        ensures { result ≡ fault_of_form self offset }
-    {
-        match self {
-            Form::Sa => WireFault::BadProposal { offset },
-            Form::Nonce => WireFault::BadNonce { offset },
-            Form::TsI | Form::TsR => WireFault::BadSelector { offset },
-            Form::Sealed | Form::Skipped(_) | Form::Unknown => WireFault::BadChain { offset },
-            Form::Ke | Form::IdI | Form::IdR | Form::Auth | Form::Notify | Form::Delete =>
-                WireFault::BadField { offset },
         }
     }
 }

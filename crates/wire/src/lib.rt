@@ -6,7 +6,8 @@
 //! payload at fault; none of the three changes anything when it refuses.
 //!
 //! The grammar stands in `specs/`, apart from reader and writer: `Messages` (section 3.1), `Payloads` (3.2, 3.14),
-//! `Proposals` (3.3), `Fields` (3.4, 3.5, 3.8 to 3.11), `Selectors` (3.13), and what is refused in `Refusals`.
+//! `Proposals` (3.3), `Fields` (3.4, 3.5, 3.8 to 3.11), `Selectors` (3.13), what is refused in `Refusals`, how long payloads are
+//! in `Sizes`, and the numbers that all of them cite in `Numbers`. What follows from these alone is in [`laws`].
 //!
 //! ```text
 //! let message = decode_message(alloc, &datagram)?;
@@ -19,25 +20,27 @@
 #![tactic(auto)]
 
 mod chain;
+mod deletions;
 mod fault;
 mod fields;
 mod form;
-mod items;
+pub mod laws;
 mod message;
 mod notices;
+pub mod numbers;
 mod payload;
 mod proposal;
 mod reader;
 mod selector;
+mod size;
 mod writer;
 
+pub use base::{Address, Family, Items, Range, Selector};
 pub use chain::decode_chain;
 pub use fault::WireFault;
-pub use items::Items;
 pub use message::{Flags, Header, Message, decode_message, encode_message};
 pub use payload::{Payload, SkippedKind};
 pub use proposal::{Attribute, Proposal, Transform};
-pub use selector::Selector;
 
 #[cfg(test)]
 mod tests;

@@ -1,19 +1,22 @@
 //! Messages and their header (RFC 7296 section 3.1).
 ghost use Rattle.std.specs.Prelude.{◌≡◌, ◌≢◌, ◌++◌, ◌<◌, ◌≤◌, List, length, slice_index, ℕ, IfOk, IfErr, OnOk, OnErr};
-ghost use Rattle.wire.specs.Fault.{offset_of};
+ghost use Rattle.base.specs.Octets.{Appends};
+ghost use Rattle.wire.specs.Fault.{fault_offset};
+ghost use Rattle.wire.specs.Numbers.{HEADER_LENGTH, MESSAGE_LIMIT, NO_PAYLOAD};
 ghost use Rattle.wire.specs.Messages.{Spells, SpellsPlainly};
 ghost use Rattle.wire.specs.Reading.{Answers, Reads, flags_of, head_at, message_of};
-ghost use Rattle.wire.specs.Writing.{Writes, FitsHeader, flags_octet, header_onto, sized, encoded};
+ghost use Rattle.wire.specs.Writing.{Writes, FitsHeader, flags_octet, header_onto, with_length, encoding_of};
 ghost use Rattle.wire.specs.Refusals.{HasVersion, IsFaultOf, IsEncodingFaultOf, IsUnlessMemory};
 ghost use Rattle.wire.specs.declared.message.Message.{Message};
 ghost use Rattle.wire.specs.declared.fault.WireFault.{WireFault};
 
 use crate::chain::{first_type, read_chain, write_payloads};
 use crate::fault::WireFault;
-use crate::items::Items;
+use crate::numbers::{HEADER_LENGTH, MAJOR_VERSION, MESSAGE_LIMIT};
 use crate::payload::Payload;
 use crate::reader::{Reader, Unread};
 use crate::writer::{Unwritten, push_octets, push_u32, push_u64, set_u32};
+use base::Items;
 use std::alloc::Global;
 
 /// An IKE message. The version's major number is 2, and the lengths and types that its octets name follow from the
@@ -62,16 +65,8 @@ struct Head {
     length: u32,
 }
 
-/// The length of a header, and the most that a message has, a limit of this implementation, in octets.
-const HEADER_LENGTH: usize = 28;
-
-const LENGTH_LIMIT: usize = 3000;
-
 /// Where the length stands in a header, which is its last field.
 const LENGTH_PLACE: usize = 24;
-
-/// The major version (section 2.5).
-const MAJOR_VERSION: u8 = 2;
 
 /// The bits of the flags (section 3.1).
 const INITIATOR: u8 = 0x08;
@@ -125,12 +120,12 @@ fn read_message(alloc: Global, octets: &[u8]) -> Result<Message, WireFault>
     ensures read { Answers (λ x. x) result (message_of octets.now) }
     // Memory is taken for payloads alone.
     ensures reached { result ≡ Err WireFault.Memory → HasVersion octets.now }
-    ensures idle { slice_index octets.now 16 ≡ 0 → result ≢ Err WireFault.Memory }
+    ensures idle { slice_index octets.now 16 ≡ NO_PAYLOAD → result ≢ Err WireFault.Memory }
 {
     if octets.len() < HEADER_LENGTH {
         return Err(WireFault::Short);
     }
-    if octets.len() > LENGTH_LIMIT {
+    if octets.len() > MESSAGE_LIMIT {
         return Err(WireFault::TooLong);
     }
     let mut reader = Reader::new(octets);
@@ -166,9 +161,9 @@ pub fn decode_message(alloc: Global, octets: &[u8]) -> Result<Message, WireFault
     ensures refused { IfErr result (λ f. f ≢ WireFault.Memory → IsFaultOf octets.now f) }
     ensures first_fault { (f : WireFault) → IsFaultOf octets.now f → IsUnlessMemory result (Err f) }
     // What is wrong before the payloads is found without memory.
-    ensures header_fault { (f : WireFault) → IsFaultOf octets.now f → offset_of f ≡ None → result ≡ Err f }
+    ensures header_fault { (f : WireFault) → IsFaultOf octets.now f → fault_offset f ≡ None → result ≡ Err f }
     // Where the header names no payload, no memory is taken.
-    ensures idle { slice_index octets.now 16 ≡ 0 → result ≢ Err WireFault.Memory }
+    ensures idle { slice_index octets.now 16 ≡ NO_PAYLOAD → result ≢ Err WireFault.Memory }
 {
     read_message(alloc, octets)
 }
@@ -200,9 +195,9 @@ fn write_header(header: Header, first: u8, out: &mut Vec<u8>) -> Result<(), Unwr
 
 /// Sets the length of a message that is whole.
 fn set_length(octets: &mut Vec<u8>)
-    requires header { 28 ≤ length octets.old.items }
-    requires short { length octets.old.items ≤ 3000 }
-    ensures { octets.new.items ≡ sized octets.old.items }
+    requires header { HEADER_LENGTH ≤ length octets.old.items }
+    requires short { length octets.old.items ≤ MESSAGE_LIMIT }
+    ensures { octets.new.items ≡ with_length octets.old.items }
 {
     let length = octets.len() as u32;
     set_u32(octets.as_mut_slice(), LENGTH_PLACE, length);
@@ -210,7 +205,7 @@ fn set_length(octets: &mut Vec<u8>)
 
 /// The octets of a message.
 fn octets_of(alloc: Global, message: &Message) -> Result<Vec<u8>, WireFault>
-    ensures read { Answers (λ v. v.items) result (encoded message.now) }
+    ensures read { Answers (λ v. v.items) result (encoding_of message.now) }
     ensures fits { message.now.header.minor < 16 → FitsHeader message.now.header }
     ensures version { 16 ≤ message.now.header.minor → result ≡ Err WireFault.BadVersion }
 {
@@ -224,7 +219,7 @@ fn octets_of(alloc: Global, message: &Message) -> Result<Vec<u8>, WireFault>
         Err(unwritten) => return Err(unwritten.or(WireFault::BadVersion)),
     }
     write_payloads(payloads, &mut octets)?;
-    if octets.len() > LENGTH_LIMIT {
+    if octets.len() > MESSAGE_LIMIT {
         return Err(WireFault::TooLong);
     }
     set_length(&mut octets);
@@ -238,8 +233,8 @@ fn octets_of(alloc: Global, message: &Message) -> Result<Vec<u8>, WireFault>
 /// ([`WireFault::BadChain`] to [`WireFault::BadField`] at the offset where it would begin), more than 3000 octets
 /// [`WireFault::TooLong`]. After a refusal, for want of memory too, `out` is as it was.
 pub fn encode_message(message: &Message, out: &mut Vec<u8>) -> Result<(), WireFault>
-    ensures ok { OnOk result ((b : List ℕ) × SpellsPlainly message.now b × Spells message.now b
-        × (out.new.items ≡ out.old.items ++ b)) }
+    ensures ok { OnOk result (Appends (λ b. SpellsPlainly message.now b × Spells message.now b)
+        out.old.items out.new.items) }
     // Only what has no spelling is refused, with its first fault.
     ensures refused { IfErr result (λ f. f ≢ WireFault.Memory → IsEncodingFaultOf message.now f) }
     ensures unspelled { IfErr result (λ f. f ≢ WireFault.Memory → (b : List ℕ) → Spells message.now b → ⊥) }

@@ -1,22 +1,28 @@
 //! The payloads of a message (RFC 7296 section 3.2), one variant for each form.
 ghost use Rattle.std.specs.Prelude.{◌≡◌};
-ghost use Rattle.wire.specs.Reading.{Gives, Answers, body_of, payload_at, linked};
+ghost use Rattle.wire.specs.Reading.{Gives, Answers, body_of, payload_at, link_of};
 ghost use Rattle.wire.specs.Payloads.{type_of, type_of_skipped};
 ghost use Rattle.wire.specs.Refusals.{fault_in};
 ghost use Rattle.wire.specs.Writing.{Writes, is_unknown, header_octets, body_onto, payload_onto};
 
+use crate::deletions::{read_delete, write_delete};
 use crate::fault::WireFault;
 use crate::fields::{
-    AUTHENTICATION_LIMIT, IDENTITY_LIMIT, read_key_exchange, read_nonce, read_typed,
-    write_key_exchange, write_nonce, write_typed,
+    read_key_exchange, read_nonce, read_typed, write_key_exchange, write_nonce, write_typed,
 };
 use crate::form::Form;
-use crate::items::Items;
-use crate::notices::{read_delete, read_notify, write_delete, write_notify};
+use crate::notices::{read_notify, write_notify};
+use crate::numbers::{
+    AUTH_TYPE, AUTHENTICATION_LIMIT, CERTIFICATE_REQUEST_TYPE, CERTIFICATE_TYPE,
+    CONFIGURATION_TYPE, DELETE_TYPE, EAP_TYPE, ID_I_TYPE, ID_R_TYPE, IDENTITY_LIMIT, KE_TYPE,
+    NO_PAYLOAD, NONCE_TYPE, NOTIFY_TYPE, SA_TYPE, SEALED_TYPE, TS_I_TYPE, TS_R_TYPE,
+    VENDOR_ID_TYPE,
+};
 use crate::proposal::{Proposal, read_proposals, write_proposals};
 use crate::reader::{Part, Reader, Unread};
-use crate::selector::{Selector, read_selectors, write_selectors};
+use crate::selector::{read_selectors, write_selectors};
 use crate::writer::{Unwritten, close_part, open_part, push_octets};
+use base::{Items, Selector};
 use std::alloc::Global;
 
 /// A payload without its header. Of a payload that is known by its type, only what the form itself fixes is kept:
@@ -161,7 +167,7 @@ pub(crate) fn read_payload(
     encrypted: bool,
     reader: &mut Reader,
 ) -> Result<(Payload, u8), WireFault>
-    ensures read { Answers (λ x. linked x.0 x.1 reader.new.rest.now) result
+    ensures read { Answers (λ x. link_of x.0 x.1 reader.new.rest.now) result
         (payload_at encrypted reader.old.end kind reader.old.rest.now) }
     ensures end { reader.new.end ≡ reader.old.end }
 {
@@ -170,18 +176,19 @@ pub(crate) fn read_payload(
         Ok(part) => part,
         Err(unread) => return Err(unread.or(WireFault::BadChain { offset })),
     };
+    let fault = WireFault::of_type(kind, offset);
     let form = Form::of(kind);
     if let Form::Sealed = form {
         if !encrypted || !reader.is_empty() {
-            return Err(form.fault(offset));
+            return Err(fault);
         }
         let body = Items::from_slice(alloc, part.inside.rest)?;
         let first = part.first;
-        return Ok((Payload::Sealed { first, body }, 0));
+        return Ok((Payload::Sealed { first, body }, NO_PAYLOAD));
     }
     match read_body(alloc, form, kind, part) {
         Ok(payload) => Ok((payload, part.first)),
-        Err(unread) => Err(unread.or(form.fault(offset))),
+        Err(unread) => Err(unread.or(fault)),
     }
 }
 
@@ -191,11 +198,11 @@ impl SkippedKind {
         ensures { result ≡ type_of_skipped self }
     {
         match self {
-            SkippedKind::Certificate => 37,
-            SkippedKind::CertificateRequest => 38,
-            SkippedKind::VendorId => 43,
-            SkippedKind::Configuration => 47,
-            SkippedKind::Eap => 48,
+            SkippedKind::Certificate => CERTIFICATE_TYPE,
+            SkippedKind::CertificateRequest => CERTIFICATE_REQUEST_TYPE,
+            SkippedKind::VendorId => VENDOR_ID_TYPE,
+            SkippedKind::Configuration => CONFIGURATION_TYPE,
+            SkippedKind::Eap => EAP_TYPE,
         }
     }
 }
@@ -206,17 +213,17 @@ impl Payload {
         ensures { result ≡ type_of self.now }
     {
         match self {
-            Payload::Sa(_) => 33,
-            Payload::Ke { .. } => 34,
-            Payload::IdI { .. } => 35,
-            Payload::IdR { .. } => 36,
-            Payload::Auth { .. } => 39,
-            Payload::Nonce(_) => 40,
-            Payload::Notify { .. } => 41,
-            Payload::Delete { .. } => 42,
-            Payload::TsI(_) => 44,
-            Payload::TsR(_) => 45,
-            Payload::Sealed { .. } => 46,
+            Payload::Sa(_) => SA_TYPE,
+            Payload::Ke { .. } => KE_TYPE,
+            Payload::IdI { .. } => ID_I_TYPE,
+            Payload::IdR { .. } => ID_R_TYPE,
+            Payload::Auth { .. } => AUTH_TYPE,
+            Payload::Nonce(_) => NONCE_TYPE,
+            Payload::Notify { .. } => NOTIFY_TYPE,
+            Payload::Delete { .. } => DELETE_TYPE,
+            Payload::TsI(_) => TS_I_TYPE,
+            Payload::TsR(_) => TS_R_TYPE,
+            Payload::Sealed { .. } => SEALED_TYPE,
             Payload::Skipped { kind, .. } => kind.number(),
             Payload::Unknown { kind, .. } => *kind,
         }
@@ -227,18 +234,8 @@ impl Payload {
         ensures { result ≡ fault_in self.now offset }
     {
         match self {
-            Payload::Sa(_) => WireFault::BadProposal { offset },
-            Payload::Nonce(_) => WireFault::BadNonce { offset },
-            Payload::TsI(_) | Payload::TsR(_) => WireFault::BadSelector { offset },
-            Payload::Sealed { .. } | Payload::Skipped { .. } | Payload::Unknown { .. } => {
-                WireFault::BadChain { offset }
-            }
-            Payload::Ke { .. }
-            | Payload::IdI { .. }
-            | Payload::IdR { .. }
-            | Payload::Auth { .. }
-            | Payload::Notify { .. }
-            | Payload::Delete { .. } => WireFault::BadField { offset },
+            Payload::Unknown { .. } => WireFault::BadChain { offset },
+            _ => WireFault::of_type(self.number(), offset),
         }
     }
 }
@@ -275,7 +272,7 @@ fn write_body(payload: &Payload, out: &mut Vec<u8>) -> Result<(), Unwritten>
 fn is_unknown(kind: u8) -> bool
     ensures { result ≡ is_unknown kind }
 {
-    kind >= 1 && kind <= 32 || kind >= 49
+    kind > NO_PAYLOAD && kind < SA_TYPE || kind > EAP_TYPE
 }
 
 /// The first two octets of the payload's header, where `next` is the type of the payload behind it: an encrypted payload

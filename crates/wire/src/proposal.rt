@@ -1,11 +1,13 @@
 //! Proposals of a security association payload (RFC 7296 section 3.3).
 ghost use Rattle.std.specs.Prelude.{◌≡◌, ◌==◌, length, true};
+ghost use Rattle.wire.specs.Numbers.{MORE_PROPOSALS, MORE_TRANSFORMS};
 ghost use Rattle.wire.specs.Reading.{Gives, Reads, each_of, marked_of, attribute_at, goes_on, transform_of, proposal_of, proposals_of, are_numbered, numbered_from};
 ghost use Rattle.wire.specs.Writing.{Writes, each_onto, marked_from, marked_onto, attribute_onto, transform_onto, proposal_onto, proposals_onto};
 
-use crate::items::Items;
+use crate::numbers::{MORE_PROPOSALS, MORE_TRANSFORMS};
 use crate::reader::{Reader, Unread};
 use crate::writer::{Unwritten, close_part, mark_at, open_part, push_octets, push_u16};
+use base::Items;
 use std::alloc::Global;
 
 /// A proposal (section 3.3.1): its number, the protocol, the sender's SPI of up to 255 octets, and 1 to 255 transforms.
@@ -33,11 +35,6 @@ pub enum Attribute {
     /// The long form: a value of up to 65,535 octets.
     Long { kind: u16, value: Items<u8> },
 }
-
-/// The mark of a proposal with another behind it, and of such a transform (sections 3.3.1 and 3.3.2); the last has 0.
-const MORE_PROPOSALS: u8 = 2;
-
-const MORE_TRANSFORMS: u8 = 3;
 
 /// The top bit of an attribute's type, which tells the short form (section 3.3.5).
 const SHORT_FORM: u16 = 0x8000;
@@ -98,7 +95,8 @@ fn goes_on(more: u8, mark: u8) -> Result<bool, Unread>
 }
 
 fn read_transforms(alloc: Global, mut list: Reader) -> Result<Items<Transform>, Unread>
-    ensures { Gives (λ x. x) result (marked_of 3 transform_of (length list.entry.rest.now) true list.entry.rest.now) }
+    ensures { Gives (λ x. x) result
+        (marked_of MORE_TRANSFORMS transform_of (length list.entry.rest.now) true list.entry.rest.now) }
 {
     let mut transforms = Items::new(alloc);
     let mut another = true;
@@ -137,7 +135,8 @@ fn read_proposal(alloc: Global, mut inside: Reader) -> Result<Proposal, Unread>
 }
 
 fn read_list(alloc: Global, mut list: Reader) -> Result<Items<Proposal>, Unread>
-    ensures { Gives (λ x. x) result (marked_of 2 proposal_of (length list.entry.rest.now) true list.entry.rest.now) }
+    ensures { Gives (λ x. x) result
+        (marked_of MORE_PROPOSALS proposal_of (length list.entry.rest.now) true list.entry.rest.now) }
 {
     let mut proposals = Items::new(alloc);
     let mut another = true;
@@ -231,7 +230,8 @@ fn write_transform(transform: &Transform, out: &mut Vec<u8>) -> Result<(), Unwri
 }
 
 fn write_transforms(transforms: &[Transform], out: &mut Vec<u8>) -> Result<(), Unwritten>
-    ensures { Writes out.new.items result (marked_from 3 transform_onto transforms.now out.old.items) }
+    ensures { Writes out.new.items result
+        (marked_from MORE_TRANSFORMS transform_onto transforms.now out.old.items) }
 {
     for (place, transform) in transforms.iter().enumerate() {
         let start = out.len();
@@ -266,7 +266,8 @@ fn write_proposal(proposal: &Proposal, out: &mut Vec<u8>) -> Result<(), Unwritte
 }
 
 fn write_list(proposals: &[Proposal], out: &mut Vec<u8>) -> Result<(), Unwritten>
-    ensures { Writes out.new.items result (marked_from 2 proposal_onto proposals.now out.old.items) }
+    ensures { Writes out.new.items result
+        (marked_from MORE_PROPOSALS proposal_onto proposals.now out.old.items) }
 {
     for (place, proposal) in proposals.iter().enumerate() {
         let start = out.len();

@@ -136,10 +136,20 @@ impl<'a> Reader<'a> {
         Ok(BigEndian::read_u64(octets))
     }
 
+    pub(crate) fn u128(&mut self) -> Result<u128, Unread>
+        ensures read { Reads (λ x. x) self.new.rest.now result (number_at 16 self.old.rest.now) }
+        ensures end { self.new.end ≡ self.old.end }
+        ensures free { IfErr result (λ e. e ≡ Unread.Malformed) }
+    {
+        let octets = self.octets(16)?;
+        Ok(BigEndian::read_u128(octets))
+    }
+
     /// The next part.
     #[tactic(auto, unfolding(crate::specs::Reading::part_at))]
     pub(crate) fn part(&mut self) -> Result<Part<'a>, Unread>
-        ensures read { Reads (λ p. piece_of p.first p.second p.inside.rest.now) self.new.rest.now result (part_at self.old.rest.now) }
+        ensures read { Reads (λ p. piece_of p.first p.second p.inside.rest.now) self.new.rest.now result
+            (part_at self.old.rest.now) }
         ensures end { self.new.end ≡ self.old.end }
         ensures free { IfErr result (λ e. e ≡ Unread.Malformed) }
     {

@@ -1,33 +1,41 @@
 //! Traffic selectors (RFC 7296 section 3.13.1).
 
 ghost use Rattle.std.specs.Prelude.{◌≡◌, length};
-ghost use Rattle.wire.specs.Reading.{Gives, Reads, each_of, selector_at, selectors_of};
-ghost use Rattle.wire.specs.Writing.{Writes, each_onto, selector_onto, selectors_onto};
+ghost use Rattle.wire.specs.Reading.{Gives, Reads, each_of, is_counted, is_in_order, range_of, selector_at, selectors_of};
+ghost use Rattle.wire.specs.Selectors.{selector_type};
+ghost use Rattle.wire.specs.Writing.{Writes, each_onto, inside_onto, range_onto, selector_onto, selectors_onto};
 
-use crate::items::Items;
+use crate::numbers::{
+    IPV4_RANGE_LENGTH, IPV4_RANGE_TYPE, IPV6_RANGE_LENGTH, IPV6_RANGE_TYPE, SELECTOR_LIMIT,
+};
 use crate::reader::{Reader, Unread};
-use crate::writer::{Unwritten, push_octets, push_u16, push_u32};
+use crate::writer::{Unwritten, close_part, open_part, push_octets, push_u16, push_u32, push_u128};
+use base::{Items, Range, Selector};
 use std::alloc::Global;
 
-/// An IPv4 traffic selector: an IP protocol (0 for any), and ranges of ports and of addresses, both ends included. No
-/// start is above its end.
-#[derive(Clone, Copy, Debug, PartialEq, Eq)]
-pub struct Selector {
-    pub protocol: u8,
-    pub start_port: u16,
-    pub end_port: u16,
-    pub start_address: u32,
-    pub end_address: u32,
+/// The range that a selector of this type has: both its ends, and nothing behind them.
+#[tactic(auto, unfolding(crate::specs::Reading::range_of, crate::specs::Reading::range_at))]
+fn read_range(kind: u8, mut ends: Reader) -> Result<Range, Unread>
+    ensures { Gives (λ x. x) result (range_of kind ends.entry.rest.now) }
+{
+    let range = match kind {
+        IPV4_RANGE_TYPE => Range::V4(ends.u32()?, ends.u32()?),
+        IPV6_RANGE_TYPE => Range::V6(ends.u128()?, ends.u128()?),
+        _ => return Err(Unread::Malformed),
+    };
+    if ends.is_empty() {
+        Ok(range)
+    } else {
+        Err(Unread::Malformed)
+    }
 }
 
-/// The type of a selector that is a range of IPv4 addresses.
-const IPV4_RANGE: u8 = 7;
-
-/// The length of such a selector, in octets.
-const IPV4_LENGTH: u8 = 16;
-
-/// The most selectors that a payload may have, a limit of this implementation.
-const SELECTOR_LIMIT: u8 = 16;
+/// Whether no start is above its end.
+fn is_in_order(selector: &Selector) -> bool
+    ensures { result ≡ is_in_order selector.now }
+{
+    selector.start_port <= selector.end_port && selector.addresses.is_ordered()
+}
 
 #[tactic(auto, unfolding(crate::specs::Reading::selector_at))]
 fn read_selector(list: &mut Reader) -> Result<Selector, Unread>
@@ -38,20 +46,15 @@ fn read_selector(list: &mut Reader) -> Result<Selector, Unread>
     let mut inside = part.inside;
     let start_port = inside.u16()?;
     let end_port = inside.u16()?;
-    let start_address = inside.u32()?;
-    let end_address = inside.u32()?;
-    if part.first == IPV4_RANGE
-        && inside.is_empty()
-        && start_port <= end_port
-        && start_address <= end_address
-    {
-        Ok(Selector {
-            protocol: part.second,
-            start_port,
-            end_port,
-            start_address,
-            end_address,
-        })
+    let addresses = read_range(part.first, inside)?;
+    let selector = Selector {
+        protocol: part.second,
+        start_port,
+        end_port,
+        addresses,
+    };
+    if is_in_order(&selector) {
+        Ok(selector)
     } else {
         Err(Unread::Malformed)
     }
@@ -67,33 +70,81 @@ fn read_list(alloc: Global, mut list: Reader) -> Result<Items<Selector>, Unread>
     Ok(selectors)
 }
 
-/// The inside of a payload of traffic selectors.
+/// Whether so many selectors of either family can have so many octets.
+fn is_counted(count: u8, length: usize) -> bool
+    ensures { result ≡ is_counted count length }
+{
+    let count = usize::from(count);
+    count >= 1
+        && count <= SELECTOR_LIMIT
+        && IPV4_RANGE_LENGTH * count <= length
+        && length <= IPV6_RANGE_LENGTH * count
+}
+
+/// The inside of a payload of traffic selectors. What its count rules out is refused before memory is taken.
 #[tactic(auto, unfolding(crate::specs::Reading::selectors_of))]
 pub(crate) fn read_selectors(alloc: Global, mut body: Reader) -> Result<Items<Selector>, Unread>
     ensures { Gives (λ x. x) result (selectors_of body.entry.rest.now) }
 {
     let count = body.u8()?;
     body.octets(3)?;
-    let length = usize::from(count) * usize::from(IPV4_LENGTH);
-    if count >= 1 && count <= SELECTOR_LIMIT && body.rest.len() == length {
-        read_list(alloc, body)
+    if !is_counted(count, body.rest.len()) {
+        return Err(Unread::Malformed);
+    }
+    let selectors = read_list(alloc, body)?;
+    if selectors.len() == usize::from(count) {
+        Ok(selectors)
     } else {
         Err(Unread::Malformed)
     }
+}
+
+/// The type of a selector with this range.
+fn selector_type(range: Range) -> u8
+    ensures { result ≡ selector_type range }
+{
+    match range {
+        Range::V4(_, _) => IPV4_RANGE_TYPE,
+        Range::V6(_, _) => IPV6_RANGE_TYPE,
+    }
+}
+
+#[tactic(auto, unfolding(crate::specs::Writing::range_onto))]
+fn write_range(range: Range, out: &mut Vec<u8>) -> Result<(), Unwritten>
+    ensures { Writes out.new.items result (range_onto range out.old.items) }
+{
+    match range {
+        Range::V4(start, end) => {
+            push_u32(out, start)?;
+            push_u32(out, end)
+        }
+        Range::V6(start, end) => {
+            push_u128(out, start)?;
+            push_u128(out, end)
+        }
+    }
+}
+
+#[tactic(auto, unfolding(crate::specs::Writing::inside_onto))]
+fn write_inside(selector: &Selector, out: &mut Vec<u8>) -> Result<(), Unwritten>
+    ensures { Writes out.new.items result (inside_onto selector.now out.old.items) }
+{
+    push_u16(out, selector.start_port)?;
+    push_u16(out, selector.end_port)?;
+    write_range(selector.addresses, out)
 }
 
 #[tactic(auto, unfolding(crate::specs::Writing::selector_onto))]
 fn write_selector(selector: &Selector, out: &mut Vec<u8>) -> Result<(), Unwritten>
     ensures { Writes out.new.items result (selector_onto selector.now out.old.items) }
 {
-    if selector.start_port > selector.end_port || selector.start_address > selector.end_address {
+    if !is_in_order(selector) {
         return Err(Unwritten::Unspelled);
     }
-    push_octets(out, &[IPV4_RANGE, selector.protocol, 0, IPV4_LENGTH])?;
-    push_u16(out, selector.start_port)?;
-    push_u16(out, selector.end_port)?;
-    push_u32(out, selector.start_address)?;
-    push_u32(out, selector.end_address)
+    let start = out.len();
+    open_part(out, selector_type(selector.addresses), selector.protocol)?;
+    write_inside(selector, out)?;
+    close_part(out, start)
 }
 
 fn write_list(selectors: &[Selector], out: &mut Vec<u8>) -> Result<(), Unwritten>
@@ -110,7 +161,7 @@ fn write_list(selectors: &[Selector], out: &mut Vec<u8>) -> Result<(), Unwritten
 pub(crate) fn write_selectors(selectors: &[Selector], out: &mut Vec<u8>) -> Result<(), Unwritten>
     ensures { Writes out.new.items result (selectors_onto selectors.now out.old.items) }
 {
-    if selectors.is_empty() || selectors.len() > usize::from(SELECTOR_LIMIT) {
+    if selectors.is_empty() || selectors.len() > SELECTOR_LIMIT {
         return Err(Unwritten::Unspelled);
     }
     push_octets(out, &[selectors.len() as u8, 0, 0, 0])?;

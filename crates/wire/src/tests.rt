@@ -1,9 +1,12 @@
 //! The worked rows, every payload type and every fault. The octets come from a program of another language.
 use super::*;
+use crate::numbers::{HEADER_LENGTH, VENDOR_ID_TYPE};
 use std::alloc::Global;
 use std::test::Fail;
 
 mod encoding;
+mod refusals;
+mod selectors;
 
 const COOKIE_ANSWER: [u8; 38] = [
     0x01, 0x02, 0x03, 0x04, 0x05, 0x06, 0x07, 0x08, 0x00, 0x00, 0x00, 0x00, 0x00, 0x00, 0x00, 0x00,
@@ -76,6 +79,15 @@ fn refusal<T: Drop>(answer: Result<T, WireFault>) -> (u8, Option<usize>) {
         Ok(_) => (0, None),
         Err(fault) => (fault.code(), fault.offset()),
     }
+}
+
+/// What is said of a body with the header of a payload of this type, behind an empty vendor ID of four octets.
+fn refusal_of_body(alloc: Global, kind: u8, body: &[u8]) -> Result<(u8, Option<usize>), Fail> {
+    let length = body.len() + 4;
+    let mut octets = [kind, 0, 0, 4, 0, 0].to_vec(alloc)?;
+    octets.extend_from_slice(&[(length / 256 % 256) as u8, (length % 256) as u8])?;
+    octets.extend_from_slice(body)?;
+    Ok(refusal(decode_chain(alloc, VENDOR_ID_TYPE, &octets)))
 }
 
 fn set(octets: &mut [u8], place: usize, value: u8) {
@@ -262,6 +274,11 @@ fn exact_pieces(rt: HostRuntime) -> Result<(), Fail> {
     }
     let plain = decode_message(alloc, &EVERY_TYPE).ok().ok_or("a message")?;
     assert_eq!(rt; plain.payloads.len(), 14);
+    let mut length = HEADER_LENGTH;
+    for payload in plain.payloads.as_slice() {
+        length = length.saturating_add(payload.size());
+    }
+    assert_eq!(rt; length, EVERY_TYPE.len());
     assert_eq!(rt; plain.header, header());
     let free = decode_message(alloc, &EVERY_TYPE_FREE)
         .ok()

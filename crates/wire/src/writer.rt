@@ -65,6 +65,13 @@ pub(crate) fn push_u64(out: &mut Vec<u8>, number: u64) -> Result<(), Unwritten>
     Ok(())
 }
 
+pub(crate) fn push_u128(out: &mut Vec<u8>, number: u128) -> Result<(), Unwritten>
+    ensures { Writes out.new.items result (number_onto 16 number out.old.items) }
+{
+    out.extend_from_slice(&number.to_be_bytes())?;
+    Ok(())
+}
+
 /// Sets the two octets at a place.
 fn set_u16(octets: &mut [u8], place: usize, number: u16)
     requires { place + 2 ≤ length octets.old }

@@ -1,20 +1,19 @@
 //! The lines that a message is shown by.
-use super::places::Places;
-use console::hex_text;
+use base::{Address, Range, Selector};
+use console::{address_text, hex_text};
 use std::alloc::{AllocError, Global};
-use std::net::Ipv4Addr;
-use wire::{Attribute, Flags, Header, Message, Payload, Proposal, Selector, Transform};
+use wire::numbers::HEADER_LENGTH;
+use wire::{Attribute, Flags, Header, Message, Payload, Proposal, Transform};
 
-/// All lines of a message, which these octets spell.
-pub fn of_message(alloc: Global, message: &Message, octets: &[u8]) -> Result<String, AllocError> {
-    let mut lines = header(alloc, &message.header, octets.len())?;
-    for (place, payload) in Places::of_message(octets).zip(message.payloads.as_slice()) {
-        writeln!(
-            lines,
-            "payload {} at {} length {}",
-            place.kind, place.offset, place.length
-        )?;
+/// All lines of a message of so many octets.
+pub fn of_message(alloc: Global, message: &Message, length: usize) -> Result<String, AllocError> {
+    let mut lines = header(alloc, &message.header, length)?;
+    let mut offset = HEADER_LENGTH;
+    for payload in message.payloads.as_slice() {
+        let (kind, size) = (payload.number(), payload.size());
+        writeln!(lines, "payload {kind} at {offset} length {size}")?;
         lines.push_str(of_payload(alloc, payload)?.as_str())?;
+        offset = offset.saturating_add(size);
     }
     Ok(lines)
 }
@@ -167,15 +166,23 @@ fn of_selectors(alloc: Global, selectors: &[Selector]) -> Result<String, AllocEr
             protocol,
             start_port,
             end_port,
-            start_address,
-            end_address,
+            addresses,
         } = *selector;
-        let start = Ipv4Addr::from(start_address);
-        let end = Ipv4Addr::from(end_address);
+        let (start, end) = ends(addresses);
+        let start = address_text(alloc, start)?;
+        let end = address_text(alloc, end)?;
         writeln!(
             lines,
             "  selector protocol {protocol} ports {start_port}-{end_port} addresses {start}-{end}"
         )?;
     }
     Ok(lines)
+}
+
+/// The first and the last address of a range.
+fn ends(addresses: Range) -> (Address, Address) {
+    match addresses {
+        Range::V4(start, end) => (Address::V4(start), Address::V4(end)),
+        Range::V6(start, end) => (Address::V6(start), Address::V6(end)),
+    }
 }

@@ -81,6 +81,19 @@ payload 46 at 28 length 21
 \x20 sealed first 0 octets 17
 ";
 
+/// A selector of each family.
+const BOTH_FAMILIES: &str =
+    "010203040506070800000000000000092c202408000000070000005c0000004002000000070000100000ffff0a0000000a0000ff\
+    0806002801bb01bb20010db8000000000000000000000a0020010db8000000000000000000000aff";
+
+const BOTH_FAMILIES_SHOWN: &str = "\
+ike 0102030405060708 0000000000000009
+exchange 36 flags I id 7 length 92
+payload 44 at 28 length 64
+\x20 selector protocol 0 ports 0-65535 addresses 10.0.0.0-10.0.0.255
+\x20 selector protocol 6 ports 443-443 addresses 2001:0db8:0000:0000:0000:0000:0000:0a00-2001:0db8:0000:0000:0000:0000:0000:0aff
+";
+
 /// A header alone.
 const BARE: &str = "0102030405060708 1112131415161718 00 20 ff c7 0000000a 0000001c";
 
@@ -107,6 +120,7 @@ fn messages(rt: HostRuntime) -> Result<(), Fail> {
     expect(&rt, EVERY_TYPE, EVERY_TYPE_SHOWN, 0)?;
     expect(&rt, COOKIE, COOKIE_SHOWN, 0)?;
     expect(&rt, SEALED, SEALED_SHOWN, 0)?;
+    expect(&rt, BOTH_FAMILIES, BOTH_FAMILIES_SHOWN, 0)?;
     expect(&rt, BARE, BARE_SHOWN, 0)
 }
 

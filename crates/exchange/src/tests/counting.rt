@@ -2,16 +2,16 @@ use crate::{
     deletes_association, esp_spis, has_ke, names_more_than, offers_ike, only, only_auth, only_id_i,
     only_id_r, only_ke, only_nonce, only_sa, only_ts_i, only_ts_r, unknown_critical,
 };
+use base::{Items, Range, Selector};
 use std::alloc::{AllocError, Global};
 use std::test::Fail;
-use wire::{Items, Payload, Proposal, Selector};
+use wire::{Payload, Proposal};
 
 const SIDE: Selector = Selector {
     protocol: 0,
     start_port: 0,
     end_port: 65535,
-    start_address: 1,
-    end_address: 2,
+    addresses: Range::V4(1, 2),
 };
 
 fn unknown(alloc: Global, kind: u8, critical: bool) -> Payload {

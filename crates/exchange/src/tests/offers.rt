@@ -1,5 +1,6 @@
 // The octets are those of RFC 7296, section 3.3, written out.
-use crate::{accept, answer, ends_agree, offer, offers_are_answered, offers_ike};
+use crate::laws::{ends_agree, offers_are_answered};
+use crate::{accept, answer, offer, offers_ike};
 use std::alloc::Global;
 use std::test::Fail;
 use suite::{Chosen, Wanted, choose};
@@ -87,12 +88,12 @@ fn offers(rt: HostRuntime) -> Result<(), Fail> {
 #[test]
 fn answers(rt: HostRuntime) -> Result<(), Fail> {
     let alloc = rt.alloc();
-    for (offered, wanted, extended) in [
+    for (offer_of, wanted, extended) in [
         (true, true, true),
         (true, false, false),
         (false, true, false),
     ] {
-        let ours = Wanted::Esp { extended: offered };
+        let ours = Wanted::Esp { extended: offer_of };
         let theirs = Wanted::Esp { extended: wanted };
         let sent = [offer(alloc, &ours, &[0, 0, 1, 0])?];
         let chosen = choose(&sent, &theirs).ok_or("not chosen")?;

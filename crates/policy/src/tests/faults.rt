@@ -9,8 +9,13 @@ fn names_each_fault(rt: HostRuntime) -> Result<(), Fail> {
     let printed = format!(in rt.alloc(); "{fault}")?;
     assert_eq!(rt; printed.as_str(), "E6: policy entry 12 is at fault");
     for (fault, code, text) in [
-        (InnerFault::BadInner, 21, "E21: not a whole IPv4 packet"),
+        (InnerFault::BadInner, 21, "E21: not a whole IP packet"),
         (InnerFault::Fragment, 22, "E22: a fragment of a packet"),
+        (
+            InnerFault::ExtensionHeader,
+            39,
+            "E39: a packet with an extension header",
+        ),
     ] {
         assert_eq!(rt; fault.code(), code);
         let printed = format!(in rt.alloc(); "{fault}")?;

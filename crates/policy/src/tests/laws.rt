@@ -1,13 +1,13 @@
-use crate::{
-    answers_can_be_sent, first_choices_are_kept, flows_are_determined, narrowing_is_determined,
-    policies_are_determined,
-};
+use crate::laws;
 
 #[test]
 fn laws_can_be_called() {
-    policies_are_determined();
-    flows_are_determined();
-    narrowing_is_determined();
-    answers_can_be_sent();
-    first_choices_are_kept();
+    laws::families_are_apart();
+    laws::policies_are_determined();
+    laws::flows_between_families_are_discarded();
+    laws::flows_are_determined();
+    laws::narrowing_is_determined();
+    laws::answers_can_be_sent();
+    laws::answers_lie_inside();
+    laws::first_choices_are_kept();
 }

@@ -1,8 +1,8 @@
 //! What a refused growth leaves: these pass at either answer.
 use super::policies::{HERE, PROTECT, THERE, policy};
 use crate::{NarrowFault, narrow};
+use base::{Range, Selector};
 use std::test::Fail;
-use wire::Selector;
 
 #[test]
 fn want_of_memory_is_the_only_refusal_of_what_is_acceptable(rt: HostRuntime) -> Result<(), Fail> {
@@ -11,20 +11,17 @@ fn want_of_memory_is_the_only_refusal_of_what_is_acceptable(rt: HostRuntime) -> 
         protocol: 0,
         start_port: 0,
         end_port: 65535,
-        start_address: 0,
-        end_address: 0xffff_ffff,
+        addresses: Range::V4(0, 0xffff_ffff),
     };
     for _ in 0..4 {
         match narrow(rt.alloc(), &[every, every], &[every], &policy) {
             Ok(narrowed) => {
                 let there = Selector {
-                    start_address: THERE.0,
-                    end_address: THERE.1,
+                    addresses: THERE,
                     ..every
                 };
                 let here = Selector {
-                    start_address: HERE.0,
-                    end_address: HERE.1,
+                    addresses: HERE,
                     ..every
                 };
                 assert_eq!(rt; narrowed.initiator.as_slice(), [there, there].as_slice());

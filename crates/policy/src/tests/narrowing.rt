@@ -1,33 +1,34 @@
 //! Offers and what they are narrowed to.
 use super::policies::{ALL_PORTS, HERE, PROTECT, THERE, policy};
 use crate::{Action, Entry, NarrowFault, narrow};
+use base::{Range, Selector};
 use std::test::Fail;
-use wire::Selector;
 
 /// All ports of every protocol between these addresses.
-fn every(addresses: (u32, u32)) -> Selector {
+fn every(addresses: Range) -> Selector {
     Selector {
         protocol: 0,
         start_port: 0,
         end_port: 65535,
-        start_address: addresses.0,
-        end_address: addresses.1,
+        addresses,
     }
 }
+
+/// 10.0.0.0 alone.
+const FIRST_HERE: Range = Range::V4(0x0a00_0000, 0x0a00_0000);
 
 /// 10.9.0.0 to 10.9.0.255, which is on no side of an entry here.
 const ELSEWHERE: Selector = Selector {
     protocol: 0,
     start_port: 0,
     end_port: 65535,
-    start_address: 0x0a09_0000,
-    end_address: 0x0a09_00ff,
+    addresses: Range::V4(0x0a09_0000, 0x0a09_00ff),
 };
 
 #[test]
 fn narrows_to_the_local_side(rt: HostRuntime) -> Result<(), Fail> {
     let entry = Entry {
-        local: (0x0a00_0080, 0x0a00_01ff),
+        local: Range::V4(0x0a00_0080, 0x0a00_01ff),
         ..PROTECT
     };
     let policy = policy(rt.alloc(), &[entry])?;
@@ -35,7 +36,7 @@ fn narrows_to_the_local_side(rt: HostRuntime) -> Result<(), Fail> {
     assert_eq!(rt; narrowed.initiator.as_slice(), [every(THERE)].as_slice());
     assert_eq!(rt;
         narrowed.responder.as_slice(),
-        [every((0x0a00_0080, 0x0a00_00ff))].as_slice()
+        [every(Range::V4(0x0a00_0080, 0x0a00_00ff))].as_slice()
     );
     Ok(())
 }
@@ -45,14 +46,14 @@ fn entries_that_do_not_protect_are_not_chosen(rt: HostRuntime) -> Result<(), Fai
     for action in [Action::Bypass, Action::Discard] {
         let other = Entry { action, ..PROTECT };
         let protect = Entry {
-            local: (HERE.0, HERE.0),
+            local: FIRST_HERE,
             ..PROTECT
         };
         let both = policy(rt.alloc(), &[other, protect])?;
         let narrowed = narrow(rt.alloc(), &[every(THERE)], &[every(HERE)], &both)?;
         assert_eq!(rt;
             narrowed.responder.as_slice(),
-            [every((HERE.0, HERE.0))].as_slice()
+            [every(FIRST_HERE)].as_slice()
         );
         let alone = policy(rt.alloc(), &[other])?;
         let refused = narrow(rt.alloc(), &[every(THERE)], &[every(HERE)], &alone);
@@ -64,11 +65,11 @@ fn entries_that_do_not_protect_are_not_chosen(rt: HostRuntime) -> Result<(), Fai
 #[test]
 fn the_entry_that_holds_the_first_selectors_comes_first(rt: HostRuntime) -> Result<(), Fail> {
     let half = Entry {
-        local: (0x0a00_0000, 0x0a00_007f),
+        local: Range::V4(0x0a00_0000, 0x0a00_007f),
         ..PROTECT
     };
     let whole = Entry {
-        local: (0x0a00_0000, 0x0a00_01ff),
+        local: Range::V4(0x0a00_0000, 0x0a00_01ff),
         ..PROTECT
     };
     let policy = policy(rt.alloc(), &[half, whole])?;
@@ -161,10 +162,10 @@ fn keeps_the_offered_order(rt: HostRuntime) -> Result<(), Fail> {
             ..PROTECT
         }],
     )?;
-    let last = every((0x0a00_00ff, 0x0a00_0100));
-    let first = every((0x0a00_0000, 0x0a00_0001));
+    let last = every(Range::V4(0x0a00_00ff, 0x0a00_0100));
+    let first = every(Range::V4(0x0a00_0000, 0x0a00_0001));
     let narrowed = narrow(rt.alloc(), &[every(THERE)], &[last, first, last], &policy)?;
-    let cut = every((0x0a00_00ff, 0x0a00_00ff));
+    let cut = every(Range::V4(0x0a00_00ff, 0x0a00_00ff));
     assert_eq!(rt; narrowed.responder.as_slice(), [cut, first, cut].as_slice());
     Ok(())
 }

@@ -1,5 +1,6 @@
 //! The flow of a packet, and each refusal at its edge.
 use crate::{Flow, InnerFault, Ports, inner};
+use base::Address;
 use std::process::Abort;
 use std::test::Fail;
 
@@ -11,8 +12,8 @@ pub const ICMP: [u8; 20] = [
 
 pub const ICMP_FLOW: Flow = Flow {
     protocol: 1,
-    source: 0x0a00_0001,
-    target: 0x0a01_0001,
+    source: Address::V4(0x0a00_0001),
+    target: Address::V4(0x0a01_0001),
     ports: None,
 };
 
@@ -54,8 +55,8 @@ fn wants_a_whole_header(rt: HostRuntime) {
 }
 
 #[test]
-fn wants_version_four(rt: HostRuntime) {
-    for octet in [0x05, 0x35, 0x55, 0x65, 0xf5] {
+fn wants_a_known_version(rt: HostRuntime) {
+    for octet in [0x05, 0x35, 0x55, 0x65, 0x75, 0xf5] {
         refuses(&rt, &with(0, octet), InnerFault::BadInner);
     }
 }
@@ -127,8 +128,8 @@ fn reads_ports_behind_options(rt: HostRuntime) {
     ];
     let flow = Flow {
         protocol: 17,
-        source: 0xc0a8_fffe,
-        target: 0,
+        source: Address::V4(0xc0a8_fffe),
+        target: Address::V4(0),
         ports: Some(Ports {
             source: 53,
             target: 65535,

@@ -1,14 +1,23 @@
-//! The sets of points once more, by plain search: tiny selectors, and all points that tell them apart.
+//! The sets of points once more, by plain search: tiny selectors of both families, and all points that tell them apart.
 use crate::Point;
-use wire::Selector;
+use base::{Address, Range, Selector};
 
-/// Ports and protocols that tell the tiny selectors apart, at addresses 0 to 2.
+/// Ports, protocols and addresses that tell the tiny selectors apart.
 pub const PORTS: [Option<u16>; 5] = [None, Some(0), Some(1), Some(2), Some(65535)];
 
 pub const PROTOCOLS: [u8; 4] = [0, 1, 6, 17];
 
+pub const ADDRESSES: [Address; 6] = [
+    Address::V4(0),
+    Address::V4(1),
+    Address::V4(2),
+    Address::V6(0),
+    Address::V6(1),
+    Address::V6(2),
+];
+
 /// How many tiny selectors there are.
-pub const SELECTORS: u32 = 252;
+pub const SELECTORS: u32 = 504;
 
 /// One of the tiny selectors, those without points among them; the wide ones come more than once.
 pub fn selector_of(number: u32) -> Selector {
@@ -25,7 +34,7 @@ pub fn selector_of(number: u32) -> Selector {
         3 => (1, 65535),
         _ => (0, 65535),
     };
-    let (start_address, end_address) = match number / 42 % 6 {
+    let (start, end) = match number / 42 % 6 {
         0 => (0, 2),
         1 => (0, 0),
         2 => (1, 2),
@@ -33,12 +42,16 @@ pub fn selector_of(number: u32) -> Selector {
         4 => (2, 1),
         _ => (1, 1),
     };
+    let addresses = if number / 252 % 2 == 0 {
+        Range::V4(start, end)
+    } else {
+        Range::V6(u128::from(start), u128::from(end))
+    };
     Selector {
         protocol,
         start_port,
         end_port,
-        start_address,
-        end_address,
+        addresses,
     }
 }
 
@@ -50,7 +63,15 @@ pub fn holds(selector: &Selector, point: &Point) -> bool {
         None => !has_ports && selector.start_port == 0 && selector.end_port == 65535,
     };
     fits && (selector.protocol == 0 || selector.protocol == point.protocol)
-        && (selector.start_address..=selector.end_address).contains(&point.address)
+        && contains(selector.addresses, point.address)
+}
+
+fn contains(range: Range, address: Address) -> bool {
+    match (range, address) {
+        (Range::V4(start, end), Address::V4(number)) => (start..=end).contains(&number),
+        (Range::V6(start, end), Address::V6(number)) => (start..=end).contains(&number),
+        _ => false,
+    }
 }
 
 /// Whether any of the selectors holds a point.
@@ -63,7 +84,7 @@ pub fn some_point<F: Fn(&Point) -> bool>(has: &F) -> bool
     requires { F.IsAlwaysCallable has.now }
 {
     for protocol in PROTOCOLS {
-        for address in 0..3 {
+        for address in ADDRESSES {
             for port in PORTS {
                 let point = Point {
                     protocol,

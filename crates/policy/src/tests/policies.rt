@@ -1,16 +1,16 @@
 //! Policies and their decisions.
 use super::packets::{ICMP, ICMP_FLOW};
 use crate::{Action, Decision, Direction, Entry, Flow, Policy, PolicyFault, Ports, covers, inner};
+use base::{Items, Range, Selector};
 use std::alloc::Global;
 use std::test::Fail;
-use wire::{Items, Selector};
 
 pub const ALL_PORTS: (u16, u16) = (0, 65535);
 
 /// 10.0.0.0 to 10.0.0.255 and 10.1.0.0 to 10.1.0.255.
-pub const HERE: (u32, u32) = (0x0a00_0000, 0x0a00_00ff);
+pub const HERE: Range = Range::V4(0x0a00_0000, 0x0a00_00ff);
 
-pub const THERE: (u32, u32) = (0x0a01_0000, 0x0a01_00ff);
+pub const THERE: Range = Range::V4(0x0a01_0000, 0x0a01_00ff);
 
 /// Protects everything between the two networks.
 pub const PROTECT: Entry = Entry {
@@ -135,8 +135,7 @@ fn a_flow_without_ports_wants_the_range_of_all_ports(rt: HostRuntime) {
         protocol: 0,
         start_port: 0,
         end_port: 65535,
-        start_address: 0,
-        end_address: 0xffff_ffff,
+        addresses: Range::V4(0, 0xffff_ffff),
     };
     assert!(rt; covers(&[all], &[all], &ICMP_FLOW));
     for (start_port, end_port) in [(1, 65535), (0, 65534), (0, 0), (65535, 0)] {
@@ -178,11 +177,11 @@ fn a_policy_has_256_entries_at_most(rt: HostRuntime) -> Result<(), Fail> {
 fn names_the_first_entry_at_fault(rt: HostRuntime) -> Result<(), Fail> {
     let reversed = [
         Entry {
-            local: (2, 1),
+            local: Range::V4(2, 1),
             ..PROTECT
         },
         Entry {
-            remote: (2, 1),
+            remote: Range::V4(2, 1),
             ..PROTECT
         },
         Entry {
@@ -205,7 +204,7 @@ fn names_the_first_entry_at_fault(rt: HostRuntime) -> Result<(), Fail> {
         }
     }
     let narrow = Entry {
-        local: (1, 1),
+        local: Range::V4(1, 1),
         remote_ports: (7, 7),
         ..PROTECT
     };

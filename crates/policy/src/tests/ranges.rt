@@ -1,25 +1,31 @@
 //! `covers` and `narrow` against a plain search over points.
-use super::plain::{PORTS, PROTOCOLS, SELECTORS, any_holds, holds, selector_of, some_point};
+use super::plain::{
+    ADDRESSES, PORTS, PROTOCOLS, SELECTORS, any_holds, holds, selector_of, some_point,
+};
 use super::policies::policy;
 use crate::{Action, Entry, Flow, NarrowFault, Point, Ports, covers, narrow};
+use base::{Address, Range, Selector};
 use std::process::Abort;
 use std::test::Fail;
-use wire::Selector;
 
-/// All points.
-const ALL: Selector = Selector {
-    protocol: 0,
-    start_port: 0,
-    end_port: 65535,
-    start_address: 0,
-    end_address: 0xffff_ffff,
-};
+/// All points of the family of an address.
+fn all(address: Address) -> Selector {
+    Selector {
+        protocol: 0,
+        start_port: 0,
+        end_port: 65535,
+        addresses: match address {
+            Address::V4(_) => Range::V4(0, u32::MAX),
+            Address::V6(_) => Range::V6(0, u128::MAX),
+        },
+    }
+}
 
 #[test]
 fn covers_what_the_points_say(rt: HostRuntime) {
     for number in 0..SELECTORS {
         for protocol in PROTOCOLS {
-            for address in 0..3 {
+            for address in ADDRESSES {
                 for port in PORTS {
                     let point = Point {
                         protocol,
@@ -46,54 +52,45 @@ fn covers_a_point(rt: &impl Abort, selector: &Selector, point: Point) {
     };
     let held = holds(selector, &point);
     assert_eq!(rt;
-        covers(&[*selector], &[ALL], &flow),
+        covers(&[*selector], &[all(point.address)], &flow),
         held,
         "{selector:?} {point:?}"
     );
     assert_eq!(rt;
-        covers(&[ALL], &[*selector], &flow),
+        covers(&[all(point.address)], &[*selector], &flow),
         held,
         "{selector:?} {point:?}"
     );
 }
 
-/// One side of an entry.
-fn side(entry: &Entry, addresses: (u32, u32), ports: (u16, u16)) -> Selector {
-    Selector {
-        protocol: entry.protocol,
-        start_port: ports.0,
-        end_port: ports.1,
-        start_address: addresses.0,
-        end_address: addresses.1,
-    }
-}
-
-/// An entry between two of the tiny selectors, with the first one's protocol and each range in order.
+/// An entry between two of the tiny selectors, with the first one's protocol and family, and each range in order.
 fn entry_of(local: &Selector, remote: &Selector, action: Action) -> Entry {
     Entry {
         protocol: local.protocol,
-        local: in_order(local.start_address, local.end_address),
-        remote: in_order(remote.start_address, remote.end_address),
-        local_ports: in_order(local.start_port, local.end_port),
-        remote_ports: in_order(remote.start_port, remote.end_port),
+        local: in_order(local.addresses, local.addresses),
+        remote: in_order(remote.addresses, local.addresses),
+        local_ports: ports_in_order(local),
+        remote_ports: ports_in_order(remote),
         action,
     }
 }
 
-fn in_order<T: Ord + Copy>(one: T, other: T) -> (T, T) {
-    if one <= other {
-        (one, other)
-    } else {
-        (other, one)
+/// The range with its ends in order, as one of the other's family.
+fn in_order(range: Range, other: Range) -> Range {
+    let (start, end) = match range {
+        Range::V4(start, end) => (u128::from(start), u128::from(end)),
+        Range::V6(start, end) => (start, end),
+    };
+    let (least, greatest) = (start.min(end), start.max(end));
+    match (other, u32::try_from(least), u32::try_from(greatest)) {
+        (Range::V4(_, _), Ok(least), Ok(greatest)) => Range::V4(least, greatest),
+        _ => Range::V6(least, greatest),
     }
 }
 
-fn local_of(entry: &Entry) -> Selector {
-    side(entry, entry.local, entry.local_ports)
-}
-
-fn remote_of(entry: &Entry) -> Selector {
-    side(entry, entry.remote, entry.remote_ports)
+fn ports_in_order(selector: &Selector) -> (u16, u16) {
+    let (one, other) = (selector.start_port, selector.end_port);
+    (one.min(other), one.max(other))
 }
 
 /// Whether the first of the selectors has a point and each of its points lies in the side.
@@ -119,16 +116,16 @@ fn chosen<'a>(
 ) -> Option<&'a Entry> {
     for entry in entries {
         if entry.action == Action::Protect
-            && holds_first(&remote_of(entry), initiator)
-            && holds_first(&local_of(entry), responder)
+            && holds_first(&entry.remote_side(), initiator)
+            && holds_first(&entry.local_side(), responder)
         {
             return Some(entry);
         }
     }
     for entry in entries {
         if entry.action == Action::Protect
-            && meets(&remote_of(entry), initiator)
-            && meets(&local_of(entry), responder)
+            && meets(&entry.remote_side(), initiator)
+            && meets(&entry.local_side(), responder)
         {
             return Some(entry);
         }
@@ -186,13 +183,13 @@ fn narrows_to_what_the_points_say(rt: HostRuntime) -> Result<(), Fail> {
             (Ok(narrowed), Some(entry)) => {
                 is_narrowed(
                     &rt,
-                    &remote_of(entry),
+                    &entry.remote_side(),
                     &initiator,
                     narrowed.initiator.as_slice(),
                 );
                 is_narrowed(
                     &rt,
-                    &local_of(entry),
+                    &entry.local_side(),
                     &responder,
                     narrowed.responder.as_slice(),
                 );

@@ -3,11 +3,11 @@ ghost use Rattle.std.specs.Prelude.{◌≡◌, ◌≢◌, ℕ, Some, IsTrue, IfO
 ghost use Rattle.sadb.specs.Database.{IsReserved, pair_at, IsThere, IsLive, IsFor};
 
 use crate::{Pair, Spi, State, Table, TableFault};
+use base::{Address, Items, Range, Selector};
 use esp::{Inbound, Outbound};
 use policy::{Flow, Ports};
 use replay::BlockWindow;
 use std::alloc::Global;
-use wire::{Items, Selector};
 
 /// The first SPI of most tables here.
 pub const START: u32 = 4096;
@@ -46,13 +46,12 @@ pub fn here() -> Selector {
 }
 
 /// A selector of every protocol and all ports.
-fn addresses(start_address: u32, end_address: u32) -> Selector {
+fn addresses(start: u32, end: u32) -> Selector {
     Selector {
         protocol: 0,
         start_port: 0,
         end_port: 65535,
-        start_address,
-        end_address,
+        addresses: Range::V4(start, end),
     }
 }
 
@@ -60,8 +59,8 @@ fn addresses(start_address: u32, end_address: u32) -> Selector {
 pub fn flow_to(third: u8) -> Flow {
     Flow {
         protocol: 17,
-        source: 0x0a00_0001,
-        target: u32::from_be_bytes([10, 1, third, 7]),
+        source: Address::V4(0x0a00_0001),
+        target: Address::V4(u32::from_be_bytes([10, 1, third, 7])),
         ports: Some(Ports {
             source: 500,
             target: 4500,

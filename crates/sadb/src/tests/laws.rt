@@ -1,10 +1,11 @@
 ghost use Rattle.std.specs.Prelude.{◌≡◌, ◌≢◌, IfOk};
 
 use super::fixture::START;
-use crate::{
-    Table, TableFault, an_spi_names_one_pair, answers_are_determined, later_tables_follow,
-    mirroring_is_symmetric, mirrors_exist, no_spi_is_given_twice,
+use crate::laws::{
+    an_spi_names_one_pair, answers_are_determined, later_tables_follow, mirroring_is_symmetric,
+    mirrors_exist, no_spi_is_given_twice, room_stays,
 };
+use crate::{Table, TableFault};
 use std::test::Fail;
 
 // Nothing runs here: each law can be called.
@@ -12,6 +13,7 @@ use std::test::Fail;
 fn laws_can_be_called(rt: HostRuntime) {
     later_tables_follow();
     no_spi_is_given_twice();
+    room_stays();
     an_spi_names_one_pair();
     answers_are_determined();
     mirroring_is_symmetric();

@@ -71,8 +71,7 @@ fn limits(rt: HostRuntime) -> Result<(), Fail> {
             protocol: 0,
             start_port: 0,
             end_port: 65535,
-            start_address: 1,
-            end_address: 1,
+            addresses: Range::V4(1, 1),
         };
         let selectors = Items::from_vec(vec![in alloc; selector; count]?);
         assert_eq!(rt; trip(alloc, Payload::TsR(selectors))?.0, code, "{count}");
@@ -228,6 +227,34 @@ fn limits_of_proposals(rt: HostRuntime) -> Result<(), Fail> {
         let long = Attribute::Long { kind, value };
         assert_eq!(rt; trip(alloc, attributed(alloc, long)?)?, wanted, "{kind}");
     }
+    Ok(())
+}
+
+#[test]
+fn misnumbered_proposals(rt: HostRuntime) -> Result<(), Fail> {
+    let alloc = rt.alloc();
+    for (one, other, wanted) in [
+        (1, 2, (0, None)),
+        (0, 1, (5, Some(28))),
+        (1, 1, (5, Some(28))),
+        (2, 3, (5, Some(28))),
+    ] {
+        let mut proposals = Items::new(alloc);
+        for number in [one, other] {
+            proposals.push(Proposal {
+                number,
+                protocol: 3,
+                spi: octets(alloc, 5, 4)?,
+                transforms: transforms(alloc, 20)?,
+            })?;
+        }
+        assert_eq!(rt;
+            trip(alloc, Payload::Sa(proposals))?,
+            wanted,
+            "{one}, {other}"
+        );
+    }
+    assert_eq!(rt; trip(alloc, Payload::Sa(Items::new(alloc)))?, (5, Some(28)));
     Ok(())
 }
 

@@ -1,3 +1,4 @@
+use Rattle.std.proofs.Common.{sym}
 use Rattle.exchange.proofs.LawLemmas.{answer_agreed, answer_taken, numbers_agreed}
 use Rattle.exchange.proofs.laws.ends_agree.Goals as goal
 
@@ -8,4 +9,10 @@ pub returns-clause-numbers : goal.returns-clause-numbers
 returns-clause-numbers c = λ ours theirs spi answer chosen found. numbers_agreed ours theirs spi answer chosen found
 
 pub returns-clause-taken : goal.returns-clause-taken
-returns-clause-taken c = λ wanted proposals chosen spi found. (found.proposal, found.here, found.number, found.acceptable.protocol, answer_taken wanted proposals chosen spi found)
+returns-clause-taken c = λ wanted proposals chosen spi found. record {
+  proposal = found.proposal;
+  there = found.here;
+  number = found.number;
+  protocol = sym found.acceptable.protocol;
+  transforms = answer_taken wanted proposals chosen spi found;
+}

@@ -1,5 +1,8 @@
-use Rattle.policy.proofs.LawLemmas.{lie_inside}
+use Rattle.policy.proofs.LawLemmas.{answer_offers, lie_inside_policy}
 use Rattle.policy.proofs.laws.answers_lie_inside.Goals as goal
 
-pub returns : goal.returns
-returns c = lie_inside
+pub returns-clause-offer : goal.returns-clause-offer
+returns-clause-offer c = answer_offers
+
+pub returns-clause-policy : goal.returns-clause-policy
+returns-clause-policy c = lie_inside_policy

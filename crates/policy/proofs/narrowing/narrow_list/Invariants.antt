@@ -1,5 +1,5 @@
 use Rattle.std.proofs.Common.{List, ◌++◌, drop}
-use Rattle.wire.specs.declared.selector.Selector.{Selector}
+use Rattle.base.specs.declared.selector.Selector.{Selector}
 use Rattle.policy.specs.Narrowing.{IsNarrowed}
 use Rattle.policy.proofs.narrowing.narrow_list.Given as goal
 

@@ -1,4 +1,4 @@
-use Rattle.sadb.proofs.FollowingLemmas.{follows_again, as_before, after_reserving, after_releasing, after_installing, after_removing, after_marking, after_opening, after_refusing, after_sealing}
+use Rattle.sadb.proofs.FollowingLemmas.{follows_again, as_before, after_reserving, after_releasing, after_installing, after_removing, after_emptying, after_marking, after_opening, after_refusing, after_sealing}
 use Rattle.sadb.proofs.laws.later_tables_follow.Goals as goal
 
 pub returns-clause-transitive : goal.returns-clause-transitive
@@ -30,3 +30,6 @@ returns-clause-refusing c = after_refusing
 
 pub returns-clause-sealing : goal.returns-clause-sealing
 returns-clause-sealing c = after_sealing
+
+pub returns-clause-emptying : goal.returns-clause-emptying
+returns-clause-emptying c = after_emptying

@@ -2,7 +2,7 @@ use Rattle.std.proofs.Common.{List, All, Any, refl, sym, subst}
 use Rattle.std.proofs.lemmas.Option.{get_or_from_slice_get, slice_get_read}
 use Rattle.wire.specs.declared.proposal.Proposal.{Proposal}
 use Rattle.wire.specs.declared.proposal.Transform.{Transform}
-use Rattle.suite.specs.Choice.{ChoosesNumbers, IsAcceptable, IsAcceptableTransform, kinds}
+use Rattle.suite.specs.Choice.{ChoosesNumbers, IsAcceptableProposal, IsAcceptableTransform, kinds}
 use Rattle.suite.proofs.choice.choose.Goals as goal
 
 pub takes_extension-requires : goal.takes_extension-requires
@@ -15,7 +15,7 @@ pub returns-then-is_acceptable : goal.returns-then-is_acceptable
 returns-then-is_acceptable c =
     let w = c.args.wanted.now in
     let all = c.args.proposals.now in
-    let P : Proposal → Type 0 = λ p. IsAcceptable w p in
+    let P : Proposal → Type 0 = λ p. IsAcceptableProposal w p in
     let N : List Transform → Type 0 = λ ts. ChoosesNumbers w ts c.takes_extension.result in
     record {
       proposal = c.index-proposals-place.result;

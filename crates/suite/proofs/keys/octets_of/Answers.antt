@@ -1,5 +1,5 @@
-use Rattle.suite.proofs.OctetLemmas.{octets_from_items}
+use Rattle.base.proofs.OctetLemmas.{octets_from}
 use Rattle.suite.proofs.keys.octets_of.Goals as goal
 
 pub returns-clause-octets : goal.returns-clause-octets
-returns-clause-octets c = octets_from_items c.args.key.now c.fits-key
+returns-clause-octets c = octets_from c.args.key.now c.fits-key

@@ -1,7 +1,7 @@
 use Rattle.std.proofs.Common.{◌≡◌, ◌≢◌, ℕ, ◌-◌, length, Ok, Err, subst, sym, ap, ◌∙◌}
 use Rattle.std.proofs.lemmas.Result.{err_from_is_err_and}
 use Rattle.wire.specs.declared.fault.WireFault.TheVariants.{BadChain, Memory}
-use Rattle.wire.specs.Reading.{payload_at, chain_at, linked, Linked}
+use Rattle.wire.specs.Reading.{payload_at, chain_at, link_of, Linked}
 use Rattle.wire.proofs.Links.{ChainSoFar, chain_goes_on, chain_exits, chain_ends, chain_trails, payload_shrinks}
 use Rattle.wire.proofs.chain.read_chain.Goals as goal
 
@@ -12,11 +12,11 @@ returns-in_err-payload-clause-read c =
     rw (p.1, p.2) (chain_exits c.in_err-payload.field-0.0 (λ (x : Linked). x) (λ x. x) c.args.encrypted c.args.reader.end c.loop-next.payloads c.loop-next.next c.loop-next.reader.rest.now (chain_at c.args.encrypted c.args.reader.end (length c.args.reader.rest.now) c.args.first c.args.reader.rest.now) c.loop-next-test.true at_end c.loop-next.invariant.2)
 
 pub loop-next-smaller : goal.loop-next-smaller
-loop-next-smaller c = payload_shrinks c.args.encrypted c.loop-next.reader.end c.loop-next.next c.loop-next.reader.rest.now (linked c.in_ok-payload.payload c.in_ok-payload.behind c.read_payload.new.reader.rest.now) c.in_ok-payload.ensures.read
+loop-next-smaller c = payload_shrinks c.args.encrypted c.loop-next.reader.end c.loop-next.next c.loop-next.reader.rest.now (link_of c.in_ok-payload.payload c.in_ok-payload.behind c.read_payload.new.reader.rest.now) c.in_ok-payload.ensures.read
 
 pub loop-next-preserved : goal.loop-next-preserved
 loop-next-preserved c =
-    let at_end = subst (λ (e : ℕ). payload_at c.args.encrypted e c.loop-next.next c.loop-next.reader.rest.now ≡ Ok (linked c.in_ok-payload.payload c.in_ok-payload.behind c.read_payload.new.reader.rest.now)) c.loop-next.invariant.0 c.in_ok-payload.ensures.read in (
+    let at_end = subst (λ (e : ℕ). payload_at c.args.encrypted e c.loop-next.next c.loop-next.reader.rest.now ≡ Ok (link_of c.in_ok-payload.payload c.in_ok-payload.behind c.read_payload.new.reader.rest.now)) c.loop-next.invariant.0 c.in_ok-payload.ensures.read in (
       c.read_payload.ensures.end ∙ c.loop-next.invariant.0,
       λ none. absurd (c.loop-next-test.true (c.loop-next.invariant.1 none)),
       rw c.in_ok-push.ensures.ok (chain_goes_on c.args.encrypted c.args.reader.end c.loop-next.payloads c.loop-next.next c.loop-next.reader.rest.now (chain_at c.args.encrypted c.args.reader.end (length c.args.reader.rest.now) c.args.first c.args.reader.rest.now) c.in_ok-payload.payload c.in_ok-payload.behind c.read_payload.new.reader.rest.now c.loop-next-test.true at_end c.loop-next.invariant.2),

@@ -1,6 +1,6 @@
 use Rattle.std.proofs.Common.{◌≡◌, ℕ, List, ◌++◌, ap, subst, ◌∙◌, arith}
-use Rattle.wire.specs.Parts.{AreOctets}
-use Rattle.wire.proofs.Takes.{octets_within, octets_back}
+use Rattle.base.specs.Octets.{AreOctets}
+use Rattle.wire.proofs.OctetLemmas.{octets_within, octets_back}
 use Rattle.std.proofs.lemmas.Result.{err_from_is_err_and}
 use Rattle.wire.proofs.Encoding.{encoded_fault, encoded_unspelled, refused_unless, encoded_no_fault, encoded_plain, plain_is_spelled}
 use Rattle.wire.proofs.message.encode_message.Goals as goal
@@ -30,7 +30,7 @@ returns-clause-ok c =
     let all : AreOctets new = octets_within new (λ i lt. omega (arith, c.type_inv.out i 0 lt)) in
     let octets : AreOctets b = octets_back old b (subst AreOctets whole all) in
     let plain = encoded_plain m b c.octets_of.ensures.fits c.in_ok-octets.ensures.read octets in
-    (b, plain, plain_is_spelled m b plain, whole)
+    record { octets = b; appended = whole; content = (plain, plain_is_spelled m b plain) }
 
 pub returns-clause-first_fault : goal.returns-clause-first_fault
 returns-clause-first_fault c = λ f h. absurd (encoded_no_fault c.args.message.now c.in_ok-octets.octets.items f c.octets_of.ensures.fits c.in_ok-octets.ensures.read h)

@@ -26,8 +26,8 @@ returns-in_err-write_payloads-clause-read c =
     let refused = subst (λ (ps : List Payload). f ≢ Memory → payloads_onto ps c.write_header.new.out.items ≡ Err f) c.as_slice-payloads.ensures c.in_err-write_payloads.ensures in
     rw (p.1, p.2) (payloads_exit m c.write_header.new.out.items f c.if-message-ge16.false made refused)
 
-pub returns-then-len-gt-LENGTH_LIMIT-clause-read : goal.returns-then-len-gt-LENGTH_LIMIT-clause-read
-returns-then-len-gt-LENGTH_LIMIT-clause-read c = λ _.
+pub returns-then-len-gt-MESSAGE_LIMIT-clause-read : goal.returns-then-len-gt-MESSAGE_LIMIT-clause-read
+returns-then-len-gt-MESSAGE_LIMIT-clause-read c = λ _.
     let m = c.args.message.now in
     let first_is : c.first_type.result ≡ first_type m.payloads = c.first_type.ensures ∙ ap first_type c.as_slice-payloads.ensures in
     let made = subst (λ (xs : List ℕ). header_onto m.header (first_type m.payloads) xs ≡ Some c.write_header.new.out.items) c.new-octets.ensures.items (subst (λ (n : ℕ). header_onto m.header n c.new-octets.result.items ≡ Some c.write_header.new.out.items) first_is c.in-Ok.ensures.write) in

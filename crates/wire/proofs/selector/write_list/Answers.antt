@@ -1,12 +1,13 @@
 use Rattle.std.proofs.Common.{get_or}
 use Rattle.std.proofs.lemmas.Result.{err_from_is_err_and}
-use Rattle.wire.specs.declared.selector.Selector.{Selector}
+use Rattle.base.specs.declared.address.Range.TheVariants.{V4}
+use Rattle.base.specs.declared.selector.Selector.{Selector}
 use Rattle.wire.specs.Writing.{each_onto, selector_onto}
 use Rattle.wire.proofs.WritingLoops.{each_next, each_stops, each_done, any_default}
 use Rattle.wire.proofs.selector.write_list.Goals as goal
 
 abbrev nothing : Selector
-nothing = record { protocol = 0; start_port = 0; end_port = 0; start_address = 0; end_address = 0 }
+nothing = record { protocol = 0; start_port = 0; end_port = 0; addresses = V4 0 0 }
 
 pub returns-in_err-write_selector : goal.returns-in_err-write_selector
 returns-in_err-write_selector c =

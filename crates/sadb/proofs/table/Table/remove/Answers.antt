@@ -15,10 +15,10 @@ pub invariant_of-self : goal.invariant_of-self
 invariant_of-self c =
     let spi = c.spi.ensures in
     let held : GivenSpis = c.self.inside.places in
-    (removed_in c.args.self.now c.self.inside.places c.retire.new.self c.self.inside.pairs c.remove-pair.new.self c.args.serial c.remove-pair.result c.self.view_is c.self.invariant c.remove-pair.ensures.there c.remove-pair.ensures.content c.remove-pair.ensures.room (c.retire.ensures ∙ ap (λ q. record held { serials = map.remove held.serials q }) spi)).sound
+    (removed_in c.args.self.now c.self.inside.places c.retire.new.self c.self.inside.pairs c.remove-pair.new.self c.args.serial c.remove-pair.result c.self.view_is c.self.invariant c.remove-pair.ensures.there c.remove-pair.ensures.content c.remove-pair.ensures.room c.remove-pair.ensures.no_more (c.retire.ensures ∙ ap (λ q. record held { serials = map.remove held.serials q }) spi)).sound
 
 pub returns : goal.returns
 returns c =
     let spi = c.spi.ensures in
     let held : GivenSpis = c.self.inside.places in
-    (removed_in c.args.self.now c.self.inside.places c.retire.new.self c.self.inside.pairs c.remove-pair.new.self c.args.serial c.remove-pair.result c.self.view_is c.self.invariant c.remove-pair.ensures.there c.remove-pair.ensures.content c.remove-pair.ensures.room (c.retire.ensures ∙ ap (λ q. record held { serials = map.remove held.serials q }) spi)).removes
+    (removed_in c.args.self.now c.self.inside.places c.retire.new.self c.self.inside.pairs c.remove-pair.new.self c.args.serial c.remove-pair.result c.self.view_is c.self.invariant c.remove-pair.ensures.there c.remove-pair.ensures.content c.remove-pair.ensures.room c.remove-pair.ensures.no_more (c.retire.ensures ∙ ap (λ q. record held { serials = map.remove held.serials q }) spi)).removes

@@ -1,0 +1,101 @@
+//! Addresses as text: four decimal numbers with dots, or eight groups of four hexadecimal digits with colons, none left out.
+ghost use Rattle.std.specs.Prelude.{◌≡◌};
+
+use base::Address;
+use std::alloc::{AllocError, Global};
+use std::net::{Ipv4Addr, Ipv6Addr};
+
+/// The groups of an IPv6 address, of 16 bits each.
+const GROUPS: usize = 8;
+
+/// The digits of a group.
+const GROUP_DIGITS: usize = 4;
+
+/// An address as text, its hexadecimal digits in lower case.
+pub fn address_text(alloc: Global, address: Address) -> Result<String, AllocError> {
+    match address {
+        Address::V4(number) => {
+            let dotted = Ipv4Addr::from(number);
+            format!(in alloc; "{dotted}")
+        }
+        Address::V6(number) => {
+            let [a, b, c, d, e, f, g, h] = Ipv6Addr::from(number).segments();
+            format!(in alloc; "{a:04x}:{b:04x}:{c:04x}:{d:04x}:{e:04x}:{f:04x}:{g:04x}:{h:04x}")
+        }
+    }
+}
+
+/// The address that a text spells in one of the two forms, hexadecimal digits in either case; `None` where it spells none.
+pub fn read_address(text: &str) -> Option<Address> {
+    match text.parse::<Ipv4Addr>() {
+        Ok(dotted) => Some(Address::V4(u32::from(dotted))),
+        Err(_) => Some(Address::V6(read_groups(text)?)),
+    }
+}
+
+fn read_groups(text: &str) -> Option<u128> {
+    let mut number: u128 = 0;
+    let mut count = 0;
+    for group in text.split(':') {
+        if count >= GROUPS {
+            return None;
+        }
+        number = (number << 16) | u128::from(read_group(group)?);
+        count += 1;
+    }
+    (count == GROUPS).then_some(number)
+}
+
+/// A group has four digits and no sign.
+fn read_group(group: &str) -> Option<u16> {
+    let digits = group.as_bytes();
+    if digits.len() != GROUP_DIGITS || !digits.iter().all(|digit| digit.is_ascii_hexdigit()) {
+        return None;
+    }
+    u16::from_str_radix(group, 16).ok()
+}
+
+#[cfg(test)]
+mod tests {
+    use super::{address_text, read_address};
+    use base::Address;
+    use std::test::Fail;
+
+    #[test]
+    fn addresses_of_both_families(rt: HostRuntime) -> Result<(), Fail> {
+        let rows = [
+            ("10.0.0.255", Address::V4(0x0a00_00ff)),
+            (
+                "2001:0db8:0000:0000:0000:0000:0000:0a01",
+                Address::V6(0x2001_0db8_0000_0000_0000_0000_0000_0a01),
+            ),
+            (
+                "ffff:ffff:ffff:ffff:ffff:ffff:ffff:ffff",
+                Address::V6(u128::MAX),
+            ),
+        ];
+        for (text, address) in rows {
+            assert_eq!(rt; read_address(text), Some(address), "{text}");
+            assert_eq!(rt; address_text(rt.alloc(), address)?.as_str(), text);
+        }
+        let upper = "2001:0DB8:0000:0000:0000:0000:0000:0A01";
+        assert_eq!(rt;
+            read_address(upper),
+            Some(Address::V6(0x2001_0db8_0000_0000_0000_0000_0000_0a01))
+        );
+        let none = [
+            "",
+            "10.0.0",
+            "10.0.0.256",
+            "2001:db8::a01",
+            "2001:0db8:0000:0000:0000:0000:0a01",
+            "2001:0db8:0000:0000:0000:0000:0000:0000:0a01",
+            "2001:0db8:0000:0000:0000:0000:0000:+a01",
+            "2001:0db8:0000:0000:0000:0000:0000:0a0g",
+        ];
+        for text in none {
+            assert_eq!(rt; read_address(text), None, "{text}");
+        }
+        Ok(())
+    }
+}

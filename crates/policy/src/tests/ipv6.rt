@@ -1,0 +1,234 @@
+//! Packets of IPv6, policies over their addresses, and offers that have both families.
+use super::policies::{ALL_PORTS, HERE, PROTECT, THERE, policy};
+use crate::{
+    Action, Decision, Direction, Entry, Flow, InnerFault, NarrowFault, Policy, PolicyFault, Ports,
+    covers, inner, narrow,
+};
+use base::{Address, Family, Items, Range, Selector};
+use std::process::Abort;
+use std::test::Fail;
+
+/// 2001:db8::a01 and 2001:db8::b01, and the networks 2001:db8::a00 to ::aff and 2001:db8::b00 to ::bff that they lie in.
+const SOURCE: u128 = 0x2001_0db8_0000_0000_0000_0000_0000_0a01;
+
+const TARGET: u128 = 0x2001_0db8_0000_0000_0000_0000_0000_0b01;
+
+const HERE_6: Range = Range::V6(
+    0x2001_0db8_0000_0000_0000_0000_0000_0a00,
+    0x2001_0db8_0000_0000_0000_0000_0000_0aff,
+);
+
+const THERE_6: Range = Range::V6(
+    0x2001_0db8_0000_0000_0000_0000_0000_0b00,
+    0x2001_0db8_0000_0000_0000_0000_0000_0bff,
+);
+
+const PROTECT_6: Entry = Entry {
+    protocol: 0,
+    local: HERE_6,
+    remote: THERE_6,
+    local_ports: ALL_PORTS,
+    remote_ports: ALL_PORTS,
+    action: Action::Protect,
+};
+
+/// The header of a packet from the one address to the other, with this next header and this payload length.
+fn header(next_header: u8, payload: u8) -> [u8; 40] {
+    let mut octets = [
+        0x60, 0x00, 0x00, 0x00, 0x00, 0x00, 0x3b, 0x40, 0x20, 0x01, 0x0d, 0xb8, 0x00, 0x00, 0x00,
+        0x00, 0x00, 0x00, 0x00, 0x00, 0x00, 0x00, 0x0a, 0x01, 0x20, 0x01, 0x0d, 0xb8, 0x00, 0x00,
+        0x00, 0x00, 0x00, 0x00, 0x00, 0x00, 0x00, 0x00, 0x0b, 0x01,
+    ];
+    octets[5] = payload;
+    octets[6] = next_header;
+    octets
+}
+
+/// The flow of a packet without ports.
+fn flow(protocol: u8) -> Flow {
+    Flow {
+        protocol,
+        source: Address::V6(SOURCE),
+        target: Address::V6(TARGET),
+        ports: None,
+    }
+}
+
+fn refuses(rt: &impl Abort, octets: &[u8], fault: InnerFault) {
+    assert_eq!(rt; inner(octets), Err(fault));
+}
+
+#[test]
+fn has_the_flow_of_an_ipv6_packet(rt: HostRuntime) {
+    assert_eq!(rt; inner(&header(59, 0)), Ok(flow(59)));
+    assert_eq!(rt; flow(59).family(), Family::V6);
+    // The traffic class and the flow label, behind the version, are not looked at.
+    let mut marked = header(59, 0);
+    marked[0] = 0x6f;
+    marked[1] = 0xff;
+    assert_eq!(rt; inner(&marked), Ok(flow(59)));
+}
+
+#[test]
+fn refuses_extension_headers(rt: HostRuntime) {
+    for number in 0..=255 {
+        let octets = header(number, 0);
+        match number {
+            0 | 43 | 44 | 51 | 60 => refuses(&rt, &octets, InnerFault::ExtensionHeader),
+            6 | 17 => refuses(&rt, &octets, InnerFault::BadInner),
+            _ => assert_eq!(rt; inner(&octets), Ok(flow(number))),
+        }
+    }
+}
+
+#[test]
+fn wants_a_whole_ipv6_header(rt: HostRuntime) -> Result<(), Fail> {
+    let mut packet = Vec::new(rt.alloc());
+    packet.extend_from_slice(&header(59, 0))?;
+    for length in [39, 20, 1] {
+        packet.truncate(length);
+        refuses(&rt, packet.as_slice(), InnerFault::BadInner);
+    }
+    Ok(())
+}
+
+#[test]
+fn wants_the_payload_length_of_an_ipv6_packet(rt: HostRuntime) {
+    refuses(&rt, &header(59, 1), InnerFault::BadInner);
+    refuses(&rt, &header(44, 1), InnerFault::BadInner);
+    let mut long = header(59, 0);
+    long[4] = 1;
+    refuses(&rt, &long, InnerFault::BadInner);
+}
+
+#[test]
+fn reads_ports_behind_the_ipv6_header(rt: HostRuntime) -> Result<(), Fail> {
+    let ports = Some(Ports {
+        source: 0x1234,
+        target: 443,
+    });
+    for protocol in [6, 17] {
+        let mut packet = Vec::new(rt.alloc());
+        packet.extend_from_slice(&header(protocol, 4))?;
+        packet.extend_from_slice(&[0x12, 0x34, 0x01, 0xbb])?;
+        let wanted = Flow {
+            ports,
+            ..flow(protocol)
+        };
+        assert_eq!(rt; inner(packet.as_slice()), Ok(wanted));
+        packet.truncate(43);
+        let short = packet.as_mut_slice();
+        short[5] = 3;
+        refuses(&rt, short, InnerFault::BadInner);
+    }
+    Ok(())
+}
+
+#[test]
+fn reads_ipv6_packets_of_up_to_16384_octets(rt: HostRuntime) -> Result<(), Fail> {
+    for (length, payload, answer) in [
+        (16_384, [0x3f, 0xd8], Ok(flow(59))),
+        (16_385, [0x3f, 0xd9], Err(InnerFault::BadInner)),
+    ] {
+        let mut octets = header(59, 0);
+        octets[4] = payload[0];
+        octets[5] = payload[1];
+        let mut packet = Vec::new(rt.alloc());
+        packet.extend_from_slice(&octets)?;
+        packet.resize(length, 0)?;
+        assert_eq!(rt; inner(packet.as_slice()), answer);
+    }
+    Ok(())
+}
+
+#[test]
+fn an_entry_between_families_is_at_fault(rt: HostRuntime) -> Result<(), Fail> {
+    let mixed = Entry {
+        remote: THERE_6,
+        ..PROTECT
+    };
+    let exchanged = Entry {
+        local: HERE_6,
+        ..PROTECT
+    };
+    for (entries, index) in [
+        ([mixed, PROTECT, PROTECT], 0),
+        ([PROTECT, PROTECT_6, mixed], 2),
+        ([PROTECT_6, exchanged, mixed], 1),
+    ] {
+        let refused = Policy::new(Items::from_slice(rt.alloc(), &entries)?);
+        assert_eq!(rt; refused.err(), Some(PolicyFault::BadEntry { index }));
+    }
+    Ok(())
+}
+
+#[test]
+fn decides_by_the_entry_of_the_family(rt: HostRuntime) -> Result<(), Fail> {
+    let everything = Entry {
+        local: Range::V4(0, u32::MAX),
+        remote: Range::V4(0, u32::MAX),
+        action: Action::Bypass,
+        ..PROTECT
+    };
+    let policy = policy(rt.alloc(), &[everything, PROTECT_6])?;
+    let answer = Flow {
+        source: Address::V6(TARGET),
+        target: Address::V6(SOURCE),
+        ..flow(58)
+    };
+    assert_eq!(rt;
+        policy.decide(&flow(58), Direction::Outward),
+        Decision::Protect
+    );
+    assert_eq!(rt;
+        policy.decide(&flow(58), Direction::Inward),
+        Decision::Discard
+    );
+    assert_eq!(rt;
+        policy.decide(&answer, Direction::Inward),
+        Decision::Protect
+    );
+    Ok(())
+}
+
+/// A selector of every protocol and all ports.
+fn every(addresses: Range) -> Selector {
+    Selector {
+        protocol: 0,
+        start_port: 0,
+        end_port: 65535,
+        addresses,
+    }
+}
+
+#[test]
+fn covers_by_the_selectors_of_the_family(rt: HostRuntime) {
+    let low = Flow {
+        source: Address::V6(0x0a00_0001),
+        target: Address::V6(0x0a01_0001),
+        ..flow(58)
+    };
+    let four = [every(Range::V4(0, u32::MAX))];
+    let both = [four[0], every(Range::V6(0, u128::MAX))];
+    assert!(rt; !covers(&four, &four, &low));
+    assert!(rt; !covers(&both, &four, &low));
+    assert!(rt; covers(&both, &both, &low));
+}
+
+#[test]
+fn narrows_an_offer_of_both_families_to_the_family_of_the_entry(
+    rt: HostRuntime,
+) -> Result<(), Fail> {
+    let initiator = [every(THERE), every(THERE_6)];
+    let responder = [every(HERE_6), every(HERE)];
+    for (entry, there, here) in [(PROTECT, THERE, HERE), (PROTECT_6, THERE_6, HERE_6)] {
+        let policy = policy(rt.alloc(), &[entry])?;
+        let narrowed = narrow(rt.alloc(), &initiator, &responder, &policy)?;
+        assert_eq!(rt; narrowed.initiator.as_slice(), [every(there)].as_slice());
+        assert_eq!(rt; narrowed.responder.as_slice(), [every(here)].as_slice());
+        // Sides of one family each, and not the same.
+        let refused = narrow(rt.alloc(), &initiator[..1], &responder[..1], &policy);
+        assert_eq!(rt; refused.err(), Some(NarrowFault::Unacceptable));
+    }
+    Ok(())
+}

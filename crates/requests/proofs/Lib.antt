@@ -1,0 +1,6 @@
+mod SetLemmas
+mod EntryLemmas
+mod CountLemmas
+mod IncomingLemmas
+mod OutgoingLemmas
+mod FollowingLemmas

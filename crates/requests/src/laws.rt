@@ -1,0 +1,84 @@
+//! Facts about the definitions, each the contract of a function that does nothing: what becomes of the numbers over many calls, that
+//! answers are determined, and how often a request is sent.
+ghost use Rattle.std.specs.Prelude.{◌≡◌, ◌≢◌, ◌+◌, ◌≤◌, ℕ, Option};
+ghost use Rattle.base.specs.Octets.{Octets};
+ghost use Rattle.requests.specs.Following.{FollowsIncoming, FollowsOutgoing};
+ghost use Rattle.requests.specs.Incoming.{PeerRequests, IsJudgement, IsSameJudgement, HasSameRequests, TakesRequest};
+ghost use Rattle.requests.specs.Numbers.{NumberSet, IsGap};
+ghost use Rattle.requests.specs.Outgoing.{OwnRequests, IsRequestRefusal, HasSameOwnRequests, IssuesRequest, CountsAnswer, ReplacesRequest, GivesUpRequests, IsNextOutstanding};
+ghost use Rattle.requests.specs.Timers.{IsDue};
+ghost use Rattle.requests.specs.declared.fault.RequestFault.{RequestFault};
+ghost use Rattle.requests.specs.declared.incoming.Judgement.{Judgement};
+ghost use Rattle.requests.specs.declared.timer.Due.{Due};
+ghost use Rattle.requests.specs.declared.timer.Timer.{Timer};
+
+/// Each call leads from the peer's requests to ones that follow them: a number in effect stays in effect, and no reply but the
+/// first is kept for it. Following is transitive, so this holds of any number of calls.
+pub fn later_incoming_follow()
+    ensures reflexive { (a : PeerRequests) → FollowsIncoming a a }
+    ensures transitive { (a b c : PeerRequests)
+        → FollowsIncoming a b → FollowsIncoming b c → FollowsIncoming a c }
+    ensures preparing { (old new : PeerRequests) → HasSameRequests old new → FollowsIncoming old new }
+    ensures taking { (old new : PeerRequests) (number : ℕ) (reply : Octets)
+        → TakesRequest old number reply new → FollowsIncoming old new }
+    ensures sizing { (old new : PeerRequests) (size : ℕ)
+        → old.size ≤ size → new ≡ record old { size = size } → FollowsIncoming old new }
+{}
+
+/// A number takes effect once, whatever is done between.
+pub fn no_number_takes_effect_twice()
+    ensures { (a b c d : PeerRequests) (first second : ℕ) (reply other : Octets)
+        → TakesRequest a first reply b → FollowsIncoming b c → TakesRequest c second other d
+        → first ≢ second }
+{}
+
+/// Each call leads from this end's requests to ones that follow them: an answered number stays answered, and what was given up
+/// stays unanswered. Following is transitive, so this holds of any number of calls.
+pub fn later_outgoing_follow<T>()
+    ensures reflexive { (a : OwnRequests T) → FollowsOutgoing a a }
+    ensures transitive { (a b c : OwnRequests T)
+        → FollowsOutgoing a b → FollowsOutgoing b c → FollowsOutgoing a c }
+    ensures preparing { (old new : OwnRequests T) → HasSameOwnRequests old new → FollowsOutgoing old new }
+    ensures widening { (old new : OwnRequests T) (window : ℕ)
+        → old.window ≤ window → new ≡ record old { window = window } → FollowsOutgoing old new }
+    ensures issuing { (old new : OwnRequests T) (request : T) (number : ℕ)
+        → IssuesRequest old request number new → FollowsOutgoing old new }
+    ensures counting { (old new : OwnRequests T) (request : T) (number : ℕ)
+        → CountsAnswer old number request new → FollowsOutgoing old new }
+    ensures replacing { (old new : OwnRequests T) (was is : T) (number : ℕ)
+        → ReplacesRequest old number was is new → FollowsOutgoing old new }
+    ensures giving_up { (old new : OwnRequests T) → GivesUpRequests old new → FollowsOutgoing old new }
+{}
+
+/// A number is issued once, whatever is done between.
+pub fn no_number_is_issued_twice<T>()
+    ensures { (a b c d : OwnRequests T) (first second : ℕ) (one other : T)
+        → IssuesRequest a one first b → FollowsOutgoing b c → IssuesRequest c other second d
+        → first ≢ second }
+{}
+
+/// A set has one gap. What [`Incoming::judge`](crate::Incoming::judge) answers is determined, and so is what the requests are after
+/// [`take`](crate::Incoming::take), but for room.
+pub fn judgements_are_determined()
+    ensures gap { (numbers : NumberSet) (a b : ℕ) → IsGap numbers a → IsGap numbers b → a ≡ b }
+    ensures judgement { (r : PeerRequests) (n : ℕ) (a b : Judgement)
+        → IsJudgement r n a → IsJudgement r n b → IsSameJudgement a b }
+    ensures taken { (old a b : PeerRequests) (n : ℕ) (reply : Octets)
+        → TakesRequest old n reply a → TakesRequest old n reply b → a ≡ record b { room = a.room } }
+{}
+
+/// Of the refusals of a request one applies at most, and what [`Outgoing::after`](crate::Outgoing::after) and
+/// [`Timer::due`](crate::Timer::due) answer is determined.
+pub fn answers_are_determined<T>()
+    ensures refusal { (r : OwnRequests T) (a b : RequestFault)
+        → IsRequestRefusal r a → IsRequestRefusal r b → a ≡ b }
+    ensures after { (r : OwnRequests T) (low : Option ℕ) (m n : ℕ) (one other : T)
+        → IsNextOutstanding r low m one → IsNextOutstanding r low n other → m ≡ n }
+    ensures due { (timer : Timer) (now : ℕ) (a b : Due) → IsDue timer now a → IsDue timer now b → a ≡ b }
+{}
+
+/// At one moment a request goes out again once at most: right after a sending nothing is due.
+pub fn a_moment_sends_once()
+    ensures { (timer : Timer) (now : ℕ) → IsDue timer now Due.Again
+        → IsDue (record { sent = now; repeats = timer.repeats + 1 }) now Due.Nothing }
+{}

@@ -1,0 +1,105 @@
+//! Each limit and each rule of a payload's inside, where it is read.
+use super::*;
+use crate::laws;
+use crate::numbers::{
+    AUTH_TYPE, DELETE_TYPE, ID_I_TYPE, ID_R_TYPE, KE_TYPE, NONCE_TYPE, NOTIFY_TYPE, SA_TYPE,
+};
+
+#[test]
+fn lengths_of_data(rt: HostRuntime) -> Result<(), Fail> {
+    let alloc = rt.alloc();
+    let field = (8, Some(4));
+    // octets before the data are part of the body
+    for (kind, count, wanted) in [
+        (NONCE_TYPE, 15, (7, Some(4))),
+        (NONCE_TYPE, 16, (0, None)),
+        (NONCE_TYPE, 256, (0, None)),
+        (NONCE_TYPE, 257, (7, Some(4))),
+        (KE_TYPE, 3, field),
+        (KE_TYPE, 4, field),
+        (KE_TYPE, 5, (0, None)),
+        (KE_TYPE, 1028, (0, None)),
+        (KE_TYPE, 1029, field),
+        (ID_I_TYPE, 4, field),
+        (ID_I_TYPE, 260, (0, None)),
+        (ID_I_TYPE, 261, field),
+        (ID_R_TYPE, 4, field),
+        (ID_R_TYPE, 260, (0, None)),
+        (ID_R_TYPE, 261, field),
+        (AUTH_TYPE, 4, field),
+        (AUTH_TYPE, 1028, (0, None)),
+        (AUTH_TYPE, 1029, field),
+        (NOTIFY_TYPE, 3, field),
+        (NOTIFY_TYPE, 4, field),
+    ] {
+        let body = vec![in alloc; 1u8; count]?;
+        assert_eq!(rt;
+            refusal_of_body(alloc, kind, &body)?,
+            wanted,
+            "{count} octets of type {kind}"
+        );
+    }
+    Ok(())
+}
+
+#[test]
+fn sizes_of_deleted_spis(rt: HostRuntime) -> Result<(), Fail> {
+    let alloc = rt.alloc();
+    // protocol, size, count, octets behind them
+    for (protocol, size, count, octets, code) in [
+        (1, 0, 0, 0, 0),
+        (1, 0, 1, 0, 8),
+        (1, 4, 0, 0, 8),
+        (2, 4, 2, 8, 0),
+        (3, 4, 0, 0, 0),
+        (3, 0, 0, 0, 8),
+        (3, 8, 1, 8, 8),
+        (3, 4, 1, 8, 8),
+        (3, 4, 2, 4, 8),
+        (0, 0, 0, 0, 8),
+        (4, 4, 1, 4, 8),
+    ] {
+        let mut body = [protocol, size, 0, count].to_vec(alloc)?;
+        for _ in 0..octets {
+            body.push(7)?;
+        }
+        let answer = refusal_of_body(alloc, DELETE_TYPE, &body)?;
+        assert_eq!(rt; answer.0, code, "{protocol}, {size}, {count}, {octets}");
+    }
+    Ok(())
+}
+
+#[test]
+fn numbers_of_proposals(rt: HostRuntime) -> Result<(), Fail> {
+    let alloc = rt.alloc();
+    for (one, other, wanted) in [
+        (1, 2, (0, None)),
+        (0, 1, (5, Some(4))),
+        (1, 1, (5, Some(4))),
+        (1, 3, (5, Some(4))),
+        (2, 1, (5, Some(4))),
+        (2, 3, (5, Some(4))),
+    ] {
+        let mut body = ESP_PROPOSAL[4..].to_vec(alloc)?;
+        body.extend_from_slice(&ESP_PROPOSAL[4..])?;
+        set(&mut body, 0, 2);
+        set(&mut body, 4, one);
+        set(&mut body, 40, other);
+        assert_eq!(rt;
+            refusal_of_body(alloc, SA_TYPE, &body)?,
+            wanted,
+            "{one}, {other}"
+        );
+    }
+    assert_eq!(rt; refusal_of_body(alloc, SA_TYPE, &[])?, (5, Some(4)));
+    Ok(())
+}
+
+#[test]
+fn laws_can_be_called() {
+    laws::octets_spell_one_message();
+    laws::first_faults_are_determined();
+    laws::plain_spellings_are_spellings();
+    laws::spellings_have_their_size();
+    laws::messages_that_fit_are_spelled();
+}

@@ -1,0 +1,172 @@
+//! Traffic selectors of both families, read and written. The octets come from a program of another language.
+use super::*;
+use crate::numbers::{SELECTOR_LIMIT, TS_I_TYPE, TS_R_TYPE};
+
+const BOTH_FAMILIES: [u8; 104] = [
+    0x00, 0x00, 0x00, 0x68, 0x03, 0x00, 0x00, 0x00, 0x07, 0x06, 0x00, 0x10, 0x01, 0xbb, 0x01, 0xbc,
+    0x0a, 0x00, 0x00, 0x00, 0x0a, 0x00, 0x00, 0xff, 0x08, 0x11, 0x00, 0x28, 0x00, 0x35, 0x00, 0x35,
+    0x20, 0x01, 0x0d, 0xb8, 0x00, 0x00, 0x00, 0x00, 0x00, 0x00, 0x00, 0x00, 0x00, 0x00, 0x0a, 0x00,
+    0x20, 0x01, 0x0d, 0xb8, 0x00, 0x00, 0x00, 0x00, 0x00, 0x00, 0x00, 0x00, 0x00, 0x00, 0x0a, 0xff,
+    0x08, 0x00, 0x00, 0x28, 0x00, 0x00, 0xff, 0xff, 0x00, 0x00, 0x00, 0x00, 0x00, 0x00, 0x00, 0x00,
+    0x00, 0x00, 0x00, 0x00, 0x00, 0x00, 0x00, 0x00, 0xff, 0xff, 0xff, 0xff, 0xff, 0xff, 0xff, 0xff,
+    0xff, 0xff, 0xff, 0xff, 0xff, 0xff, 0xff, 0xff,
+];
+
+const IPV4_RANGE: [u8; 20] = [
+    0x01, 0x00, 0x00, 0x00, 0x07, 0x00, 0x00, 0x10, 0x00, 0x0a, 0x00, 0x14, 0x0a, 0x00, 0x00, 0x00,
+    0x0a, 0x00, 0x00, 0xff,
+];
+
+const IPV6_RANGE: [u8; 44] = [
+    0x01, 0x00, 0x00, 0x00, 0x08, 0x00, 0x00, 0x28, 0x00, 0x0a, 0x00, 0x14, 0x20, 0x01, 0x0d, 0xb8,
+    0x00, 0x00, 0x00, 0x00, 0x00, 0x00, 0x00, 0x00, 0x00, 0x00, 0x0a, 0x00, 0x20, 0x01, 0x0d, 0xb8,
+    0x00, 0x00, 0x00, 0x00, 0x00, 0x00, 0x00, 0x00, 0x00, 0x00, 0x0a, 0xff,
+];
+
+fn selector(protocol: u8, start_port: u16, end_port: u16, addresses: Range) -> Selector {
+    Selector {
+        protocol,
+        start_port,
+        end_port,
+        addresses,
+    }
+}
+
+fn both_families() -> [Selector; 3] {
+    let documentation = 0x2001_0db8_0000_0000_0000_0000_0000_0000;
+    [
+        selector(6, 443, 444, Range::V4(0x0a00_0000, 0x0a00_00ff)),
+        selector(
+            17,
+            53,
+            53,
+            Range::V6(documentation + 0xa00, documentation + 0xaff),
+        ),
+        selector(
+            0,
+            0,
+            65535,
+            Range::V6(0, 0xffff_ffff_ffff_ffff_ffff_ffff_ffff_ffff),
+        ),
+    ]
+}
+
+#[test]
+fn families_are_read(rt: HostRuntime) -> Result<(), Fail> {
+    let read = decode_chain(rt.alloc(), TS_R_TYPE, &BOTH_FAMILIES)
+        .ok()
+        .ok_or("selectors")?;
+    let [Payload::TsR(selectors)] = read.as_slice() else {
+        return Err(Fail::from("another payload is read"));
+    };
+    assert_eq!(rt; selectors.as_slice(), both_families().as_slice());
+    Ok(())
+}
+
+#[test]
+fn families_are_written(rt: HostRuntime) -> Result<(), Fail> {
+    let alloc = rt.alloc();
+    let mut payloads = Items::new(alloc);
+    payloads.push(Payload::TsI(Items::from_slice(alloc, &both_families())?))?;
+    let message = Message {
+        header: header(),
+        payloads,
+    };
+    let mut out = Vec::new(alloc);
+    assert_eq!(rt; refusal(encode_message(&message, &mut out)), (0, None));
+    assert_eq!(rt; out.len(), 132);
+    assert!(rt; out.as_slice().ends_with(&BOTH_FAMILIES));
+    Ok(())
+}
+
+#[test]
+fn malformed_selectors(rt: HostRuntime) -> Result<(), Fail> {
+    let alloc = rt.alloc();
+    let refused = (6, Some(4));
+    for (place, value, wanted) in [
+        (1, 255, (0, None)),
+        // no selector, too many of them, another count than there are
+        (0, 0, refused),
+        (0, 2, refused),
+        (0, 17, refused),
+        // another type, and the type and the length of the other family
+        (4, 9, refused),
+        (4, 8, refused),
+        (7, 40, refused),
+        (7, 15, refused),
+        // a start above its end
+        (9, 21, refused),
+        (12, 11, refused),
+    ] {
+        let mut body = IPV4_RANGE;
+        set(&mut body, place, value);
+        assert_eq!(rt;
+            refusal_of_body(alloc, TS_I_TYPE, &body)?,
+            wanted,
+            "{value} at {place}"
+        );
+    }
+    for (place, value, wanted) in [
+        (1, 255, (0, None)),
+        (0, 2, refused),
+        (4, 7, refused),
+        (7, 16, refused),
+        (9, 21, refused),
+        (12, 0x21, refused),
+        (27, 1, (0, None)),
+    ] {
+        let mut body = IPV6_RANGE;
+        set(&mut body, place, value);
+        assert_eq!(rt;
+            refusal_of_body(alloc, TS_R_TYPE, &body)?,
+            wanted,
+            "{value} at {place}"
+        );
+    }
+    Ok(())
+}
+
+#[test]
+fn numbers_of_selectors(rt: HostRuntime) -> Result<(), Fail> {
+    let alloc = rt.alloc();
+    for (count, wanted) in [
+        (0u8, (6, Some(4))),
+        (1, (0, None)),
+        (16, (0, None)),
+        (17, (6, Some(4))),
+    ] {
+        let mut body = [count, 0, 0, 0].to_vec(alloc)?;
+        for _ in 0..count {
+            body.extend_from_slice(&IPV4_RANGE[4..])?;
+        }
+        assert_eq!(rt;
+            refusal_of_body(alloc, TS_I_TYPE, &body)?,
+            wanted,
+            "{count}"
+        );
+    }
+    assert_eq!(rt; SELECTOR_LIMIT, 16);
+    Ok(())
+}
+
+#[test]
+fn starts_above_ends_are_not_written(rt: HostRuntime) -> Result<(), Fail> {
+    let alloc = rt.alloc();
+    for (unordered, wanted) in [
+        (selector(0, 10, 10, Range::V4(5, 5)), (0, None)),
+        (selector(0, 11, 10, Range::V4(5, 5)), (6, Some(28))),
+        (selector(0, 10, 10, Range::V4(6, 5)), (6, Some(28))),
+        (selector(0, 10, 10, Range::V6(5, 5)), (0, None)),
+        (selector(0, 10, 10, Range::V6(6, 5)), (6, Some(28))),
+    ] {
+        let mut payloads = Items::new(alloc);
+        payloads.push(Payload::TsI(Items::from_slice(alloc, &[unordered])?))?;
+        let message = Message {
+            header: header(),
+            payloads,
+        };
+        let mut out = Vec::new(alloc);
+        assert_eq!(rt; refusal(encode_message(&message, &mut out)), wanted);
+    }
+    Ok(())
+}
