@@ -1,5 +1,5 @@
 -- Ranges of addresses (RFC 4301 section 4.4.1.1). No address of one family is in a range of the other.
-use Rattle.std.specs.Prelude.{◌≡◌, ◌<◌, ◌≤◌, ◌^◌, ◌↔◌}
+use Rattle.std.specs.Prelude.{◌<◌, ◌≤◌, ◌^◌, ◌↔◌}
 use Rattle.base.specs.declared.address.Address.{Address}
 use Rattle.base.specs.declared.address.Address.TheVariants as address
 use Rattle.base.specs.declared.address.Family.{Family}

@@ -18,4 +18,3 @@ mod selector;
 pub use address::{Address, Family, Range};
 pub use items::Items;
 pub use selector::Selector;
-

@@ -1,8 +1,8 @@
 //! The caller's key agreement (RFC 7296, sections 2.14 and 3.4).
 ghost use Rattle.std.specs.Prelude.{◌≡◌, IfOk};
 
-use std::alloc::{AllocError, Global};
 use base::Items;
+use std::alloc::{AllocError, Global};
 
 /// The agreement by which two ends come to a shared secret (RFC 7296, sections 2.14 and 3.4).
 ///

@@ -26,8 +26,8 @@ mod key_record;
 mod keys;
 mod nonce;
 mod proof;
-mod signed_octets;
 mod sealer;
+mod signed_octets;
 #[cfg(test)]
 mod tests;
 pub mod transforms;
@@ -40,5 +40,5 @@ pub use key_record::{KeyRecord, child_keys, ike_keys};
 pub use keys::Keys;
 pub use nonce::Nonce;
 pub use proof::Proof;
-pub use signed_octets::proof_octets;
 pub use sealer::{Cipher, Sealer};
+pub use signed_octets::proof_octets;

@@ -1,8 +1,8 @@
 //! The caller's proof of identity (RFC 7296, section 2.15).
 ghost use Rattle.std.specs.Prelude.{◌≡◌, IfOk};
 
-use std::alloc::{AllocError, Global};
 use base::Items;
+use std::alloc::{AllocError, Global};
 
 /// How an end proves its identity and checks its peer's (RFC 7296, sections 2.15 and 3.8).
 ///
