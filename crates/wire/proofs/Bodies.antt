@@ -10,7 +10,7 @@ use Rattle.wire.specs.declared.proposal.Attribute.TheVariants.{Short, Long}
 use Rattle.wire.specs.declared.proposal.Transform.{Transform}
 use Rattle.wire.specs.declared.proposal.Proposal.{Proposal}
 use Rattle.wire.proofs.Options.{some_is, with_some, with_test, pick, both_true}
-use Rattle.wire.proofs.OctetLemmas.{octets_back}
+use Rattle.base.proofs.OctetLemmas.{octets_back}
 use Rattle.wire.proofs.Takes.{octets_takes, octets_again, octet_takes, octet_again, wide2, number_takes, number_again}
 use Rattle.wire.proofs.Sequences.{TakesItem, ItemTakes, ItemAgain, InsideTakes, InsideAgain, each_takes, each_again, marked_takes, marked_again}
 

@@ -13,7 +13,7 @@ use Rattle.wire.specs.declared.fault.WireFault.{WireFault}
 use Rattle.wire.specs.declared.fault.WireFault.TheVariants as faults
 use Rattle.wire.proofs.Options.{pick}
 use Rattle.wire.proofs.Links.{with_ok, ok_is, err_is, test_ok, payload_shrinks, none_left}
-use Rattle.wire.proofs.OctetLemmas.{octets_back, octets_front}
+use Rattle.base.proofs.OctetLemmas.{octets_back, octets_front}
 use Rattle.wire.proofs.Sequences.{part_long}
 use Rattle.wire.proofs.PayloadReading.{payload_takes, payload_again, payload_fault, fault_payload, clear_follows, type_some, sealed_ends}
 

@@ -16,7 +16,7 @@ use Rattle.base.specs.declared.selector.Selector.{Selector}
 use Rattle.wire.specs.declared.payload.Payload.{Payload}
 use Rattle.wire.specs.declared.payload.Payload.TheVariants.{Notify, Delete}
 use Rattle.wire.proofs.Options.{some_is, with_some, with_test, with_guard, pick, both_true}
-use Rattle.wire.proofs.OctetLemmas.{octets_front, octets_back}
+use Rattle.base.proofs.OctetLemmas.{octets_front, octets_back}
 use Rattle.wire.proofs.Takes.{octets_takes, octets_again, octet_takes, octet_again, IsWide, wide2, wide4, wide16, number_takes, number_again, part_takes, part_again}
 use Rattle.wire.proofs.Sequences.{TakesItem, ItemTakes, ItemAgain, each_takes, each_again, part_long}
 use Rattle.wire.proofs.Bodies.{same_numbers}

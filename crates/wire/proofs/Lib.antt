@@ -1,4 +1,3 @@
-pub mod OctetLemmas
 mod Options
 mod FaultLemmas
 mod Pieces

@@ -19,7 +19,7 @@ use Rattle.wire.specs.declared.fault.WireFault.TheVariants as faults
 use Rattle.wire.proofs.FaultLemmas.{chain_in_payload}
 use Rattle.wire.proofs.Options.{some_is, with_some, pick}
 use Rattle.wire.proofs.Links.{with_ok, with_value, ok_is, err_is}
-use Rattle.wire.proofs.OctetLemmas.{octets_back, octets_drop, octet_in}
+use Rattle.base.proofs.OctetLemmas.{octets_back, octets_drop, octet_in}
 use Rattle.wire.proofs.Takes.{octet_takes, octet_again, wide4, wide8, number_takes, number_again}
 use Rattle.wire.proofs.Bodies.{same_numbers}
 use Rattle.wire.proofs.ChainReading.{chain_takes, chain_again, chain_fault, fault_again, FaultyChain}

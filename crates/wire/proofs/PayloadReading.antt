@@ -19,7 +19,7 @@ use Rattle.wire.specs.declared.fault.WireFault.{WireFault}
 use Rattle.wire.specs.declared.fault.WireFault.TheVariants as faults
 use Rattle.wire.proofs.Options.{some_is, with_some, both_true}
 use Rattle.wire.proofs.Links.{with_value, ok_is, err_is, test_ok}
-use Rattle.wire.proofs.OctetLemmas.{octets_front, octets_back}
+use Rattle.base.proofs.OctetLemmas.{octets_front, octets_back}
 use Rattle.wire.proofs.Takes.{part_takes, part_again}
 use Rattle.wire.proofs.Bodies.{proposals_takes, proposals_again}
 use Rattle.wire.proofs.FieldBodies.{selectors_takes, selectors_again, ke_takes, ke_again, typed_takes, typed_again, nonce_takes, nonce_again, notify_takes, notify_again, delete_takes, delete_again}

@@ -8,7 +8,7 @@ use Rattle.wire.specs.Parts.{IsPart, SpellsEach, IsMarked, SpellsMarked}
 use Rattle.wire.specs.Reading.{◌>>=◌, part_at, Piece, each_of, goes_on, marked_of}
 use Rattle.wire.proofs.Options.{some_is, with_some, with_test, pick}
 use Rattle.wire.proofs.Loops.{positive}
-use Rattle.wire.proofs.OctetLemmas.{octets_front, octets_back}
+use Rattle.base.proofs.OctetLemmas.{octets_front, octets_back}
 use Rattle.wire.proofs.Takes.{part_takes, part_again, TakesPart}
 
 -- ---- one item after the other

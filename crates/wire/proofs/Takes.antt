@@ -8,7 +8,7 @@ use Rattle.byteorder.specs.Numbers.{big_number-reads_back, length-bytes_high_fir
 use Rattle.base.specs.Octets.{AreOctets}
 use Rattle.wire.specs.Parts.{IsPart}
 use Rattle.wire.specs.Reading.{◌>>=◌, octets_at, octet_at, number_at, part_at, Piece, piece_of}
-use Rattle.wire.proofs.OctetLemmas.{octets_front, octet_in}
+use Rattle.base.proofs.OctetLemmas.{octets_front, octet_in}
 use Rattle.wire.proofs.Options.{some_is, with_some, with_guard}
 use Rattle.wire.proofs.Pieces.{octets_take}
 

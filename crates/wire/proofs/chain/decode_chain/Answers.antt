@@ -1,5 +1,5 @@
 use Rattle.std.proofs.Common.{arith}
-use Rattle.wire.proofs.OctetLemmas.{octets_from}
+use Rattle.base.proofs.OctetLemmas.{octets_from}
 use Rattle.wire.proofs.Promises.{chain_found, chain_only, chain_refused, chain_first_fault}
 use Rattle.wire.proofs.chain.decode_chain.Goals as goal
 

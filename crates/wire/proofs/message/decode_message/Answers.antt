@@ -1,6 +1,6 @@
 use Rattle.std.proofs.Common.{arith}
 use Rattle.wire.specs.Reading.{message_of}
-use Rattle.wire.proofs.OctetLemmas.{octets_from}
+use Rattle.base.proofs.OctetLemmas.{octets_from}
 use Rattle.wire.proofs.MessageReading.{message_again, fault_message}
 use Rattle.wire.proofs.Promises.{message_found, message_refused, only_unless, fault_unless, header_fault}
 use Rattle.wire.proofs.message.decode_message.Goals as goal

@@ -1,6 +1,6 @@
 use Rattle.std.proofs.Common.{◌≡◌, ℕ, List, ◌++◌, ap, subst, ◌∙◌, arith}
 use Rattle.base.specs.Octets.{AreOctets}
-use Rattle.wire.proofs.OctetLemmas.{octets_within, octets_back}
+use Rattle.base.proofs.OctetLemmas.{octets_within, octets_back}
 use Rattle.std.proofs.lemmas.Result.{err_from_is_err_and}
 use Rattle.wire.proofs.Encoding.{encoded_fault, encoded_unspelled, refused_unless, encoded_no_fault, encoded_plain, plain_is_spelled}
 use Rattle.wire.proofs.message.encode_message.Goals as goal
