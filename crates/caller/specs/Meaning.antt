@@ -1,10 +1,30 @@
 -- What the caller of scripts means: a cipher that hides nothing, the exclusive or as key agreement, and a keyed hash
 -- under one shared secret as the proof.
-use Rattle.std.specs.Prelude.{ℕ, ◌-◌, Bool, ◌&&◌, nat_eq, nat_le, Option, Some, None, List, [], ◌∷◌, ◌++◌, length, map, take, drop, slice_index, bit_xor, codes, if◌then◌else◌}
+use Rattle.std.specs.Prelude.{ℕ, ◌+◌, ◌-◌, Bool, ◌&&◌, nat_eq, nat_le, Option, Some, None, List, [], ◌∷◌, ◌++◌, length, map, take, drop, slice_index, bit_xor, codes, if◌then◌else◌}
 use Rattle.std.specs.List.{range_with_len}
 use Rattle.std.specs.Cmp.Lexicographic.{pointwise}
 use Rattle.mac.specs.Hmac.{hmac_sha256, icv_sha256}
 use Rattle.suite.specs.declared.keys.Keys.{Keys}
+use Rattle.suite.specs.declared.sealer.Cipher.{Cipher}
+
+-- its cipher's and its group's numbers, of those for private use (RFC 7296 section 3.3.2); the cipher has no key length
+abbrev pub script_cipher : Cipher
+script_cipher = record { id = 65001; key_length = None }
+
+abbrev pub script_group : ℕ
+script_group = 65002
+
+-- a shared secret proves (section 3.8)
+abbrev pub script_method : ℕ
+script_method = 2
+
+-- a public value is the secret itself
+abbrev pub script_public : List ℕ → List ℕ
+script_public secret = secret
+
+-- the octets of a body, by those of its plain text
+abbrev pub script_size : ℕ → ℕ
+script_size plain = plain + 17
 
 -- what follows the plain text: an octet 00, and the check value over head, plain text and that octet
 abbrev pub tail_of : Keys → List ℕ → List ℕ → List ℕ

@@ -12,11 +12,11 @@ use suite::Agreement;
 const GROUP: u16 = 65002;
 
 impl Agreement for ScriptCaller {
-    ghost use Rattle.caller.specs.Meaning.{common_secret};
+    ghost use Rattle.caller.specs.Meaning.{common_secret, script_group, script_public};
 
-    ghost group_number = { 65002 };
+    ghost group_number = { script_group };
 
-    ghost public_value = { λ secret. secret };
+    ghost public_value = { script_public };
 
     ghost shared_secret = { common_secret };
 

@@ -15,12 +15,11 @@ const CIPHER: u16 = 65001;
 const TAIL: usize = 17;
 
 impl Sealer for ScriptCaller {
-    ghost use Rattle.std.specs.Prelude.{◌+◌, None};
-    ghost use Rattle.caller.specs.Meaning.{script_body, script_plain};
+    ghost use Rattle.caller.specs.Meaning.{script_body, script_cipher, script_plain, script_size};
 
-    ghost cipher = { record { id = 65001; key_length = None } };
+    ghost cipher = { script_cipher };
 
-    ghost sealed_size = { λ n. n + 17 };
+    ghost sealed_size = { script_size };
 
     ghost body_of = { script_body };
 

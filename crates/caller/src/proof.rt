@@ -13,9 +13,9 @@ use suite::Proof;
 const SHARED_KEY_METHOD: u8 = 2;
 
 impl Proof for ScriptCaller {
-    ghost use Rattle.caller.specs.Meaning.{is_proof, keyed_proof};
+    ghost use Rattle.caller.specs.Meaning.{is_proof, keyed_proof, script_method};
 
-    ghost own_method = { λ _. 2 };
+    ghost own_method = { λ _. script_method };
 
     ghost proof_of = { λ _. keyed_proof };
 

@@ -13,7 +13,7 @@ use Rattle.esp.specs.Packet.{PassesIntegrity}
 use Rattle.esp.specs.Judging.{low_half, IsNumber, Judges}
 use Rattle.esp.specs.Views.{Receiving}
 use Rattle.esp.specs.Opening.{IsOpeningRefusal, Step, Run, TakesNumber}
-use Rattle.esp.specs.Delivery.{greatest, all_taken, taken_after, History, taken_at, IsJudged, IsAnswerDue, AreAnswers, delivered_packets, delivered_answers, WantsWhereJudged, Shows, history, Deliveries, AnswersFirst, answers_since, JudgesAtMostOnce, JudgesExactlyAtFirst, AtMostOnce, ExactlyAtFirst, Unforged, IsStop}
+use Rattle.esp.specs.Delivery.{greatest, all_taken, taken_after, History, taken_at, IsJudged, IsAnswerDue, AreAnswers, delivered_packets, delivered_answers, WantsWhereJudged, Shows, history, Deliveries, AnswersFirst, answers_since, AnswersGiven, JudgesAtMostOnce, JudgesExactlyAtFirst, AtMostOnce, ExactlyAtFirst, Unforged, IsStop}
 use Rattle.std.specs.Prelude.{OnOk, IfErr, Err}
 use Rattle.esp.specs.declared.fault.ListFault.{ListFault}
 use Rattle.esp.specs.declared.fault.ListFault.TheVariants.{NoRoom}
@@ -435,13 +435,24 @@ counted k packets before after answers appended count =
     ∙ counted_front packets answers
     ∙ ap (λ (xs : List Answer). delivered_packets packets xs) (sym since)
 
+abbrev given : {want : Type 0} {k : ℕ} {old : Receiving} {packets : List (List ℕ)} {before : List Answer} {new : Receiving} {after : List Answer}
+    → AnswersFirst want k old packets before new after → AnswersGiven old packets (answers_since before after)
+given {want} {k} {old} {packets} {before} {new} {after} a =
+    let same = counted k packets before after a.answers a.appended a.count in
+    let since : answers_since before after ≡ a.answers = ap (λ (xs : List Answer). drop (length before) xs) a.appended ∙ drop-append_seam before a.answers in
+    record {
+      numbers = a.deliveries.numbers;
+      judged = subst (λ (ps : List (List ℕ)). IsJudged (history old ps a.deliveries.numbers)) same a.deliveries.judged;
+      answers_due = subst (λ (xs : List Answer). AreAnswers (history old (delivered_packets packets (answers_since before after)) a.deliveries.numbers) (delivered_answers xs)) (sym since)
+          (subst (λ (ps : List (List ℕ)). AreAnswers (history old ps a.deliveries.numbers) (delivered_answers a.answers)) same a.deliveries.answers_due);
+    }
+
 pub once : {want : Type 0} {k : ℕ} {old : Receiving} {packets : List (List ℕ)} {before : List Answer} {new : Receiving} {after : List Answer}
     → AnswersFirst want k old packets before new after → JudgesAtMostOnce old packets (answers_since before after)
 once {want} {k} {old} {packets} {before} {new} {after} a =
     let same = counted k packets before after a.answers a.appended a.count in
     record {
-      numbers = a.deliveries.numbers;
-      judged = subst (λ (ps : List (List ℕ)). IsJudged (history old ps a.deliveries.numbers)) same a.deliveries.judged;
+      given = given a;
       at_most_once = subst (λ (ps : List (List ℕ)). AtMostOnce (history old ps a.deliveries.numbers)) same a.deliveries.at_most_once;
     }
 
@@ -450,8 +461,7 @@ pub at_first : {want : Type 0} {k : ℕ} {old : Receiving} {packets : List (List
 at_first {want} {k} {old} {packets} {before} {new} {after} a =
     let same = counted k packets before after a.answers a.appended a.count in
     record {
-      numbers = a.deliveries.numbers;
-      judged = subst (λ (ps : List (List ℕ)). IsJudged (history old ps a.deliveries.numbers)) same a.deliveries.judged;
+      given = given a;
       exactly_at_first = λ sent. subst (λ (ps : List (List ℕ)). Unforged (history old ps a.deliveries.numbers) sent → ExactlyAtFirst (history old ps a.deliveries.numbers) sent) same (a.deliveries.exactly_at_first sent);
     }
 

@@ -175,20 +175,24 @@ pub record AnswersFirst (want : Type 0) (k : ℕ) (old : Receiving) (packets : L
 abbrev pub answers_since : List Answer → List Answer → List Answer
 answers_since before after = drop (length before) after
 
--- However the packets that have an answer were judged, which is determined, no number was judged twice, nor one that was taken
--- before them.
-pub record JudgesAtMostOnce (old : Receiving) (packets : List (List ℕ)) (answers : List Answer) : Type 0 where
+-- These answers were given to these packets, or to the first of them: the packets that count as delivered were judged as these
+-- numbers, one list of which there is, and each of them has the answer that is due.
+pub record AnswersGiven (old : Receiving) (packets : List (List ℕ)) (answers : List Answer) : Type 0 where
   pub numbers : List (Option ℕ)
   pub judged : IsJudged (history old (delivered_packets packets answers) numbers)
-  pub at_most_once : AtMostOnce (history old (delivered_packets packets answers) numbers)
+  pub answers_due : AreAnswers (history old (delivered_packets packets answers) numbers) (delivered_answers answers)
 
--- Where no check value was forged, each of them was judged exactly if it was the first delivery, of those in reach of the
--- window, of what was sent.
+-- so answered, no number was judged twice, nor one that was taken before the list
+pub record JudgesAtMostOnce (old : Receiving) (packets : List (List ℕ)) (answers : List Answer) : Type 0 where
+  pub given : AnswersGiven old packets answers
+  pub at_most_once : AtMostOnce (history old (delivered_packets packets answers) given.numbers)
+
+-- so answered, each sent packet was judged exactly at its first delivery in reach of the window, where no check value was forged
 pub record JudgesExactlyAtFirst (old : Receiving) (packets : List (List ℕ)) (answers : List Answer) : Type 0 where
-  pub numbers : List (Option ℕ)
-  pub judged : IsJudged (history old (delivered_packets packets answers) numbers)
-  pub exactly_at_first : (sent : finite_map.FinMap nat_cmp (List ℕ)) → Unforged (history old (delivered_packets packets answers) numbers) sent
-      → ExactlyAtFirst (history old (delivered_packets packets answers) numbers) sent
+  pub given : AnswersGiven old packets answers
+  pub exactly_at_first : (sent : finite_map.FinMap nat_cmp (List ℕ))
+      → Unforged (history old (delivered_packets packets answers) given.numbers) sent
+      → ExactlyAtFirst (history old (delivered_packets packets answers) given.numbers) sent
 
 -- There was no room for one more answer: the list was left after some of its packets, and not at its end.
 abbrev pub IsStop : Type 0 → Receiving → List (List ℕ) → List Answer → ListFault → Receiving → List Answer → Type 0

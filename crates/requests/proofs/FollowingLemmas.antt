@@ -1,5 +1,5 @@
 -- What each call makes of the numbers, and what follows over many calls.
-use Rattle.std.proofs.Common.{◌≡◌, ◌≢◌, ◌+◌, ℕ, Option, Some, None, is_some, arith, sym, ap, ◌∙◌, refl, inl, inr}
+use Rattle.std.proofs.Common.{◌≡◌, ◌≢◌, ◌+◌, ◌≤◌, ℕ, Option, Some, None, is_some, arith, sym, ap, ◌∙◌, refl, inl, inr}
 use Rattle.std.proofs.lemmas.Bool.{true≢false}
 use Rattle.std.proofs.lemmas.Bool.Decides.{eqb_tells}
 use Rattle.std.proofs.lemmas.Option.{none-some}
@@ -8,7 +8,7 @@ use Rattle.std.specs.FinMap as map
 use Rattle.std.specs.FinSet as set
 use Rattle.base.specs.Octets.{Octets}
 use Rattle.requests.specs.Following.{FollowsIncoming, FollowsOutgoing}
-use Rattle.requests.specs.Incoming.{PeerRequests, TakesRequest, IsLeftBehind}
+use Rattle.requests.specs.Incoming.{PeerRequests, HasSameRequests, TakesRequest, IsLeftBehind}
 use Rattle.requests.specs.Numbers.{NumberSet, HasNumber}
 use Rattle.requests.specs.Outgoing.{OwnRequests, IssuesRequest, CountsAnswer, ReplacesRequest, GivesUpRequests}
 use Rattle.requests.proofs.EntryLemmas.{inserted_apart, removed_apart, same_map}
@@ -21,7 +21,48 @@ after_taking old new number reply is = record {
   kept = λ n octets has kept.
       (let apart : n ≢ number = (λ same. not_both old.in_effect number (ap (set.contains old.in_effect) (sym same) ∙ has) is.fresh.not_in_effect) in
       sym (inserted_apart old.kept number n reply apart) ∙ ((is.kept n octets).0 kept).0);
+  remembered = λ n octets has kept near.
+      (let apart : n ≢ number = (λ same. not_both old.in_effect number (ap (set.contains old.in_effect) (sym same) ∙ has) is.fresh.not_in_effect) in
+      (is.kept n octets).1 (inserted_apart old.kept number n reply apart ∙ kept, λ behind. near (record { later = behind.later; in_effect = behind.in_effect; far = omega (arith, behind.far, is.size) })));
 }
+
+pub follows_itself : (a : PeerRequests) → FollowsIncoming a a
+follows_itself a = record {
+  size = omega arith;
+  in_effect = λ n has. has;
+  kept = λ n octets has kept. kept;
+  remembered = λ n octets has kept near. kept;
+}
+
+pub follows_again : (a b c : PeerRequests) → FollowsIncoming a b → FollowsIncoming b c → FollowsIncoming a c
+follows_again a b c one two = record {
+  size = omega (arith, one.size, two.size);
+  in_effect = λ n has. two.in_effect n (one.in_effect n has);
+  kept = λ n octets has kept. one.kept n octets has (two.kept n octets (one.in_effect n has) kept);
+  remembered = λ n octets has kept near.
+      two.remembered n octets (one.in_effect n has)
+      (one.remembered n octets has kept (λ passed. near (record { later = passed.later; in_effect = two.in_effect passed.later passed.in_effect; far = passed.far })))
+      (λ passed. near (record { later = passed.later; in_effect = passed.in_effect; far = omega (arith, passed.far, one.size) }));
+}
+
+-- where neither numbers nor replies changed
+follows_unchanged : (old new : PeerRequests) → old.size ≤ new.size → new.in_effect ≡ old.in_effect → new.kept ≡ old.kept → FollowsIncoming old new
+follows_unchanged old new size numbers replies = record {
+  size = size;
+  in_effect = λ n has. ap (λ (s : NumberSet). set.contains s n) numbers ∙ has;
+  kept = λ n octets has kept. ap (λ (m : map.FinMap nat_cmp Octets). map.get m n) (sym replies) ∙ kept;
+  remembered = λ n octets has kept near. ap (λ (m : map.FinMap nat_cmp Octets). map.get m n) replies ∙ kept;
+}
+
+pub after_preparing : (old new : PeerRequests) → HasSameRequests old new → FollowsIncoming old new
+after_preparing old new is =
+    let size : new.size ≡ old.size = ap (λ r. r.size) is.content in
+    follows_unchanged old new (omega (arith, size)) (ap (λ r. r.in_effect) is.content) (ap (λ r. r.kept) is.content)
+
+pub after_sizing : (old new : PeerRequests) (size : ℕ) → old.size ≤ size → new ≡ record old { size = size } → FollowsIncoming old new
+after_sizing old new size more is =
+    let same : new.size ≡ size = ap (λ r. r.size) is in
+    follows_unchanged old new (omega (arith, more, same)) (ap (λ r. r.in_effect) is) (ap (λ r. r.kept) is)
 
 pub taken_once : (a b c d : PeerRequests) (first second : ℕ) (reply other : Octets)
     → TakesRequest a first reply b → FollowsIncoming b c → TakesRequest c second other d → first ≢ second

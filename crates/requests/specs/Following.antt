@@ -4,7 +4,7 @@ use Rattle.std.specs.FinMap as map
 use Rattle.std.specs.FinSet as set
 use Rattle.base.specs.Octets.{Octets}
 use Rattle.requests.specs.Numbers.{HasNumber}
-use Rattle.requests.specs.Incoming.{PeerRequests}
+use Rattle.requests.specs.Incoming.{PeerRequests, IsPassed}
 use Rattle.requests.specs.Outgoing.{OwnRequests, IsOutstanding}
 
 -- The peer's requests old may have become new, by any number of calls.
@@ -14,6 +14,9 @@ pub record FollowsIncoming (old new : PeerRequests) : Type 0 where
   pub in_effect : (n : ℕ) → HasNumber old.in_effect n → HasNumber new.in_effect n
   -- what is kept of a number that was in effect is the reply that was kept then
   pub kept : (n : ℕ) (octets : Octets) → HasNumber old.in_effect n → map.get new.kept n ≡ Some octets → map.get old.kept n ≡ Some octets
+  -- and a reply that was kept is kept still, unless a request took effect that lies a window above it
+  pub remembered : (n : ℕ) (octets : Octets) → HasNumber old.in_effect n → map.get old.kept n ≡ Some octets
+      → ¬ IsPassed new.in_effect old.size n → map.get new.kept n ≡ Some octets
 
 -- This end's requests old may have become new, by any number of calls.
 pub record FollowsOutgoing {T : Type 0} (old new : OwnRequests T) : Type 0 where

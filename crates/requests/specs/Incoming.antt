@@ -37,12 +37,16 @@ no_requests = record { in_effect = set.empty; size = 1; kept = map.empty; room =
 abbrev pub after_number_0 : PeerRequests
 after_number_0 = record { in_effect = set.insert set.empty 0; size = 1; kept = map.empty; room = 0 }
 
--- some request that took effect lies at least a window above this number: the peer had the answer to it, or it would not
--- have sent that one (RFC 7296 section 2.3)
-pub record IsLeftBehind (r : PeerRequests) (n : ℕ) : Type 0 where
+-- some number of the set lies at least a window of this size above this number
+pub record IsPassed (numbers : NumberSet) (size n : ℕ) : Type 0 where
   pub later : ℕ
-  pub in_effect : HasNumber r.in_effect later
-  pub far : n + r.size ≤ later
+  pub in_effect : HasNumber numbers later
+  pub far : n + size ≤ later
+
+-- Some request that took effect lies at least a window above this number: the peer had the answer to it, or it would not have sent
+-- that one (RFC 7296 section 2.3).
+abbrev pub IsLeftBehind : PeerRequests → ℕ → Type 0
+IsLeftBehind r n = IsPassed r.in_effect r.size n
 
 -- a request of this number takes effect if it comes: it did not yet, and lies in the window, which begins at the gap
 pub record IsFreshRequest (r : PeerRequests) (n : ℕ) : Type 0 where

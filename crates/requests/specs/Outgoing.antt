@@ -79,7 +79,7 @@ pub record IssuesRequest {T : Type 0} (old : OwnRequests T) (request : T) (numbe
   }
   pub room : old.room ≤ new.room + 1
 
--- an answer came to an outstanding request, which is answered from then on and outstanding no more
+-- an answer came to an outstanding request, which is answered from then on and outstanding no more; its room is free again
 pub record CountsAnswer {T : Type 0} (old : OwnRequests T) (number : ℕ) (request : T) (new : OwnRequests T) : Type 0 where
   pub there : map.get old.outstanding number ≡ Some request
   pub content : new ≡ record old {
@@ -87,7 +87,7 @@ pub record CountsAnswer {T : Type 0} (old : OwnRequests T) (number : ℕ) (reque
     outstanding = map.remove old.outstanding number;
     room = new.room;
   }
-  pub room : old.room ≤ new.room
+  pub room : old.room + 1 ≤ new.room
 
 -- another value stands for an outstanding request
 pub record ReplacesRequest {T : Type 0} (old : OwnRequests T) (number : ℕ) (was is : T) (new : OwnRequests T) : Type 0 where

@@ -12,8 +12,9 @@ ghost use Rattle.requests.specs.declared.incoming.Judgement.{Judgement};
 ghost use Rattle.requests.specs.declared.timer.Due.{Due};
 ghost use Rattle.requests.specs.declared.timer.Timer.{Timer};
 
-/// Each call leads from the peer's requests to ones that follow them: a number in effect stays in effect, and no reply but the
-/// first is kept for it. Following is transitive, so this holds of any number of calls.
+/// Each call leads from the peer's requests to ones that follow them: a number in effect stays in effect, no reply but the first
+/// is kept for it, and that one as long as no request a window above it took effect. Following is transitive, so this holds of
+/// any number of calls.
 pub fn later_incoming_follow()
     ensures reflexive { (a : PeerRequests) → FollowsIncoming a a }
     ensures transitive { (a b c : PeerRequests)
