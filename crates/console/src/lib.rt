@@ -1,8 +1,8 @@
 //! What a program reads and prints, whole or not at all: files and hexadecimal digits in, text and an exit status out.
 //!
 //! [`read_whole`] reads all that a reader has, [`write_whole`] writes a text to its end or a beginning of it, [`read_hex`] and
-//! [`hex_text`] go between octets and their digits, [`read_address`] and [`address_text`] between addresses and their text. A program that stops early says why ([`Stop`]) and ends with a
-//! [`Status`]: [`end`] does both.
+//! [`hex_text`] go between octets and their digits, [`read_address`] and
+//! [`address_text`] between addresses and their text. A program ends with a [`Status`].
 //!
 //! ```text
 //! let text = read_whole(alloc, reader)?;
@@ -17,11 +17,9 @@ mod digits;
 mod input;
 mod output;
 mod status;
-mod stop;
 
 pub use address::{address_text, read_address};
 pub use digits::{HexFault, hex_text, read_hex};
-pub use input::{MOST_OCTETS, read_whole};
-pub use output::{end, write_whole};
+pub use input::{InputFault, MOST_OCTETS, read_whole};
+pub use output::{Unwritten, write_whole};
 pub use status::Status;
-pub use stop::Stop;

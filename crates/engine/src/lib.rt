@@ -15,12 +15,14 @@
 //!
 //! [`show`] prints an IKE message (RFC 7296 section 3) whose octets the file has as hexadecimal digits.
 //!
-//! Each answers the exit status, and prints why it stopped.
+//! Each answers the exit status, and prints why it stopped ([`Stop`]).
 #![tactic(auto)]
 
 mod playing;
 mod script;
 mod showing;
+mod stop;
 
 pub use playing::play;
 pub use showing::show;
+pub use stop::{Stop, end};

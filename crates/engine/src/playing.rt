@@ -2,7 +2,8 @@
 ghost use Rattle.std.specs.Prelude.{◌≤◌};
 
 use crate::script::{Kind, One, Player, first_line, is_directive, is_line_end};
-use console::{Stop, end, read_whole, write_whole};
+use crate::stop::{Stop, end};
+use console::{read_whole, write_whole};
 use std::alloc::Global;
 use std::io::{Read, Write};
 

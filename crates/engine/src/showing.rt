@@ -5,7 +5,8 @@ mod lines;
 #[cfg(test)]
 mod tests;
 
-use console::{Stop, end, read_hex, read_whole, write_whole};
+use crate::stop::{Stop, end};
+use console::{read_hex, read_whole, write_whole};
 use std::alloc::Global;
 use std::io::{Read, Write};
 use wire::{WireFault, decode_message};
@@ -34,7 +35,8 @@ fn show_message<R: Read, W: Write>(
     read_hex(&text, &mut octets)?;
     let message = decode_message(alloc, &octets).map_err(refused)?;
     let lines = lines::of_message(alloc, &message, octets.len())?;
-    write_whole(writer, lines.as_bytes())
+    write_whole(writer, lines.as_bytes())?;
+    Ok(())
 }
 
 /// Why octets that are no message stop the program.

@@ -18,6 +18,7 @@
 #![tactic(auto)]
 
 mod deletions;
+mod headers;
 pub mod laws;
 mod notices;
 mod offers;
@@ -25,6 +26,7 @@ mod payloads;
 mod sealed;
 
 pub use deletions::{deletes_association, esp_spis, names_more_than};
+pub use headers::{Role, sent_header};
 pub use notices::{Notice, asked_cookie, has_invalid_syntax, leading_cookie, returned_cookie};
 pub use offers::{accept, answer, offer};
 pub use payloads::{

@@ -7,22 +7,13 @@ use std::{env, io};
 #[cfg(test)]
 mod tests;
 
-/// What the program is asked to do.
+/// What the program is asked to do, with what that needs.
 #[derive(Clone, Copy, Debug, PartialEq, Eq)]
-pub struct Command<'a> {
-    /// What is done with the file.
-    pub action: Action,
-    /// The file's path.
-    pub file: &'a str,
-}
-
-/// What is done with a file.
-#[derive(Clone, Copy, Debug, PartialEq, Eq)]
-pub enum Action {
-    /// `play`: it is played as a script.
-    Play,
-    /// `show`: it is shown as an IKE message.
-    Show,
+pub enum Command<'a> {
+    /// `play`: the file at this path is played as a script.
+    Play { file: &'a str },
+    /// `show`: the file at this path is shown as an IKE message.
+    Show { file: &'a str },
 }
 
 /// Why the command line was not read.
@@ -71,18 +62,20 @@ pub fn read<'a>(alloc: Global, words: &'a [String]) -> Result<Command<'a>, Comma
         .subcommand(with_file(alloc, "show")?)?;
     let matches = gw.try_get_matches_from(words)?;
     let (name, found) = matches.subcommand().ok_or(CommandFault::Words)?;
-    let file = found.get_str("file").ok_or(CommandFault::Words)?;
     match name {
-        "play" => Ok(Command {
-            action: Action::Play,
-            file,
+        "play" => Ok(Command::Play {
+            file: file_of(found)?,
         }),
-        "show" => Ok(Command {
-            action: Action::Show,
-            file,
+        "show" => Ok(Command::Show {
+            file: file_of(found)?,
         }),
         _ => Err(CommandFault::Words),
     }
+}
+
+/// The path of the one file that a command takes.
+fn file_of<'a>(found: &clap::ArgMatches<'a>) -> Result<&'a str, CommandFault> {
+    found.get_str("file").ok_or(CommandFault::Words)
 }
 
 /// A command that takes one file.

@@ -25,9 +25,9 @@
 
 mod command;
 
-use command::{Action, Command, CommandFault};
-use console::{Status, Stop, end};
-use engine::{play, show};
+use command::{Command, CommandFault};
+use console::Status;
+use engine::{Stop, end, play, show};
 use std::alloc::Global;
 use std::fs::File;
 use std::io;
@@ -62,20 +62,21 @@ fn refuse(rt: &HostRuntime, fault: CommandFault) -> u8 {
 }
 
 fn follow(rt: &HostRuntime, command: Command) -> u8 {
-    let Command { action, file } = command;
+    let (Command::Play { file } | Command::Show { file }) = command;
     let mut writer = io::writer(rt);
     if file == STANDARD_INPUT {
-        return act(rt.alloc(), action, &mut rt.reader(), &mut writer);
+        return act(rt.alloc(), command, &mut rt.reader(), &mut writer);
     }
     match File::open(rt, file) {
-        Ok(mut reader) => act(rt.alloc(), action, &mut reader, &mut writer),
+        Ok(mut reader) => act(rt.alloc(), command, &mut reader, &mut writer),
         Err(_) => end(Err(Stop::File), &mut writer).code(),
     }
 }
 
-fn act<R: Read, W: Write>(alloc: Global, action: Action, reader: &mut R, writer: &mut W) -> u8 {
-    match action {
-        Action::Play => play(alloc, reader, writer),
-        Action::Show => show(alloc, reader, writer),
+/// Does what the command asks for with what its file holds.
+fn act<R: Read, W: Write>(alloc: Global, command: Command, reader: &mut R, writer: &mut W) -> u8 {
+    match command {
+        Command::Play { .. } => play(alloc, reader, writer),
+        Command::Show { .. } => show(alloc, reader, writer),
     }
 }

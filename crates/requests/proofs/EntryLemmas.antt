@@ -73,6 +73,27 @@ module _ {X : Type 0} where
   pub get_is : (es : List (ℕ × X)) (q : ℕ) → map.get (map.from_entries {R = nat_cmp} es) q ≡ find q es
   get_is es q = map.get-from_entries nat_cmp_total es q
 
+  cons_map : (e : ℕ × X) (es : List (ℕ × X)) → map.from_entries {R = nat_cmp} (e ∷ es) ≡ map.insert (map.from_entries es) e.0 e.1
+  cons_map e es =
+      same_map _ _ (λ q. elim (eqb_tells q e.0) [
+        | inl (_, same) ↦ get_is (e ∷ es) q ∙ found_here q e es (sym same) ∙ sym (inserted_here (map.from_entries es) e.0 q e.1 same)
+        | inr (_, apart) ↦
+            get_is (e ∷ es) q ∙ found_further q e es (λ same. apart (sym same)) ∙ sym (get_is es q)
+            ∙ sym (inserted_apart (map.from_entries es) e.0 q e.1 apart)
+      ])
+
+  pub one_item_more : (m : map.FinMap nat_cmp X) (k : ℕ) (v : X) → map.get m k ≡ None → map.len (map.insert m k v) ≡ map.len m + 1
+  one_item_more m k v none =
+      let new_one : map.contains_key m k ≡ false = ap is_some none in
+      map.len-insert nat_cmp_total m k v ∙ ap (λ b. cond b (map.len m) (map.len m + 1)) new_one
+
+  -- entries of which each number stands once are as many as the items
+  pub as_many : (es : List (ℕ × X)) → StandOnce es → map.len (map.from_entries {R = nat_cmp} es) ≡ length es
+  as_many [] once = map.len-empty nat_cmp X
+  as_many (e ∷ es) once =
+      ap map.len (cons_map e es) ∙ one_item_more (map.from_entries es) e.0 e.1 (get_is es e.0 ∙ once.0) ∙ ap (λ (n : ℕ). n + 1) (as_many es once.1)
+      ∙ omega arith
+
   -- after an entry whose number is new
   pub pushed : (es : List (ℕ × X)) (n : ℕ) (v : X) → find n es ≡ None → map.from_entries {R = nat_cmp} (es ++ (n, v) ∷ []) ≡ map.insert (map.from_entries es) n v
   pushed es n v none = map.from_entries_push nat_cmp_total map.nat_cmp-IsAntisymmetric es n v none

@@ -10,7 +10,7 @@ use Rattle.base.specs.Octets.{Octets}
 use Rattle.requests.specs.Following.{FollowsIncoming, FollowsOutgoing}
 use Rattle.requests.specs.Incoming.{PeerRequests, HasSameRequests, TakesRequest, IsLeftBehind}
 use Rattle.requests.specs.Numbers.{NumberSet, HasNumber}
-use Rattle.requests.specs.Outgoing.{OwnRequests, IssuesRequest, CountsAnswer, ReplacesRequest, GivesUpRequests}
+use Rattle.requests.specs.Outgoing.{OwnRequests, IssuesRequest, CountsAnswer, ReplacesRequest, GivesUpRequests, WithdrawsRequest}
 use Rattle.requests.proofs.EntryLemmas.{inserted_apart, removed_apart, same_map}
 use Rattle.requests.proofs.SetLemmas.{member_here, member_apart, still_member, not_both}
 
@@ -88,14 +88,15 @@ kept_too old a b n q reply octets one two numbers size is =
     let was = (one.kept q octets).0 is in
     (two.kept q octets).1 (was.0, λ behind. was.1 (behind_too b a q (sym numbers) (sym size) behind))
 
-pub one_after_taking : (old a b : PeerRequests) (n : ℕ) (reply : Octets) → TakesRequest old n reply a → TakesRequest old n reply b → a ≡ record b { room = a.room }
+pub one_after_taking : (old a b : PeerRequests) (n : ℕ) (reply : Octets) → TakesRequest old n reply a → TakesRequest old n reply b → a ≡ b
 one_after_taking old a b n reply one two =
     let numbers : a.in_effect ≡ b.in_effect = one.in_effect ∙ sym two.in_effect in
     let size : a.size ≡ b.size = one.size ∙ sym two.size in
     let kept : a.kept ≡ b.kept = same_map a.kept b.kept (λ q. same_option (map.get a.kept q) (map.get b.kept q)
     (λ octets is. kept_too old a b n q reply octets one two numbers size is)
     (λ octets is. kept_too old b a n q reply octets two one (sym numbers) (sym size) is)) in
-    λ i. record { in_effect = numbers i; size = size i; kept = kept i; room = a.room }
+    let room : a.room ≡ b.room = (let left = one.room in let right = two.room in let same = ap map.len kept in omega arith) in
+    λ i. record { in_effect = numbers i; size = size i; kept = kept i; room = room i }
 
 module _ {T : Type 0} where
   pub after_issuing : (old new : OwnRequests T) (request : T) (number : ℕ) → IssuesRequest old request number new → FollowsOutgoing old new
@@ -121,6 +122,18 @@ module _ {T : Type 0} where
     given_up = λ n below none.
         (let apart : n ≢ number = (λ same. none-some request (sym none ∙ ap (map.get old.outstanding) same ∙ is.there)) in
         ap (λ r. set.contains r.answered n) is.content ∙ member_apart old.answered number n apart);
+  }
+
+  pub after_withdrawing : (old new : OwnRequests T) (request : T) (number : ℕ) → WithdrawsRequest old number request new → FollowsOutgoing old new
+  after_withdrawing old new request number is = record {
+    next = let same : new.next ≡ old.next = ap (λ r. r.next) is.content in omega arith;
+    window = let same : new.window ≡ old.window = ap (λ r. r.window) is.content in omega arith;
+    answered = λ n has. ap (λ r. set.contains r.answered n) is.content ∙ has;
+    outstanding = λ n below there. elim (eqb_tells n number) [
+      | inl (_, same) ↦ ap is_some (ap (map.get old.outstanding) same ∙ is.there)
+      | inr (_, apart) ↦ ap is_some (sym (ap (λ r. map.get r.outstanding n) is.content ∙ removed_apart old.outstanding number n apart)) ∙ there
+    ];
+    given_up = λ n below none. ap (λ r. set.contains r.answered n) is.content;
   }
 
   pub after_replacing : (old new : OwnRequests T) (was is : T) (number : ℕ) → ReplacesRequest old number was is new → FollowsOutgoing old new

@@ -127,8 +127,8 @@ module _ (s : NumberSet) (size room number first : ℕ) (kept : Replies) (reply 
         | inr (_, below) ↦ absurd (near (record { later = number; in_effect = member_here s number number refl; far = omega arith }))
       ]
 
-  pub takes : (left : ℕ) → room ≤ left + 1 → TakesRequest (record { in_effect = s; size = size; kept = kept; room = room }) number reply (after_all left)
-  takes left more = record {
+  pub takes : (left : ℕ) → left + map.len after_kept ≡ room + map.len kept → TakesRequest (record { in_effect = s; size = size; kept = kept; room = room }) number reply (after_all left)
+  takes left whole = record {
     fresh = fresh;
     in_effect = refl;
     size = refl;
@@ -142,7 +142,7 @@ module _ (s : NumberSet) (size room number first : ℕ) (kept : Replies) (reply 
         (let some = are.some in
         let from : nat_le first number ≡ true = (let is : first ≤ number = omega arith in grind (arith, nat_tests)) in
         kept_after number ∙ ap (λ b. cond b (map.get (map.insert kept number reply) number) None) from ∙ inserted_here kept number number reply refl);
-    room = more;
+    room = whole;
   }
 
 pub incoming_sound : (s : NumberSet) (size room gap : ℕ) (kept : Replies) → AreIncoming s size kept → IsGap s gap → ((n : ℕ) → HasNumber s n → n < 2 ^ 32)

@@ -106,6 +106,19 @@ module _ {X : Type 0} where
       ];
     }
 
+    pub withdraws : (number : ℕ) → AreOutgoing {T = X} next window s (map.remove m number)
+    withdraws number = record {
+      some = are.some;
+      most = are.most;
+      next_fits = are.next_fits;
+      issued = are.issued;
+      few = are.few;
+      waits = λ n left. elim (eqb_tells n number) [
+        | inl (_, same) ↦ absurd (true≢false (sym left ∙ ap is_some (removed_here m number n same)))
+        | inr (_, apart) ↦ are.waits n (ap is_some (sym (removed_apart m number n apart)) ∙ left)
+      ];
+    }
+
     pub gives_up : AreOutgoing {T = X} next window s map.empty
     gives_up = record {
       some = are.some;

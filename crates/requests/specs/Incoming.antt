@@ -91,7 +91,8 @@ pub record TakesRequest (old : PeerRequests) (number : ℕ) (reply : Octets) (ne
   pub kept : (n : ℕ) (octets : Octets) → (map.get new.kept n ≡ Some octets)
       ↔ ((map.get (map.insert old.kept number reply) n ≡ Some octets) × (¬ IsLeftBehind new n))
   pub own_reply : map.get new.kept number ≡ Some reply
-  pub room : old.room ≤ new.room + 1
+  -- room is for as many replies as before, those that are kept counted
+  pub room : new.room + map.len new.kept ≡ old.room + map.len old.kept
 
 -- What holds of the peer's requests, always.
 pub record IsSoundIncoming (r : PeerRequests) : Type 0 where

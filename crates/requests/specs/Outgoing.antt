@@ -68,7 +68,7 @@ pub record HasSameOwnRequests {T : Type 0} (old new : OwnRequests T) : Type 0 wh
   pub content : new ≡ record old { room = new.room }
   pub room : old.room ≤ new.room
 
--- the request has the least number never issued, and waits for its answer; room falls by one at most
+-- the request has the least number never issued, and waits for its answer; room falls by one
 pub record IssuesRequest {T : Type 0} (old : OwnRequests T) (request : T) (number : ℕ) (new : OwnRequests T) : Type 0 where
   pub allowed : MayIssue old
   pub least : number ≡ old.next
@@ -77,7 +77,7 @@ pub record IssuesRequest {T : Type 0} (old : OwnRequests T) (request : T) (numbe
     outstanding = map.insert old.outstanding number request;
     room = new.room;
   }
-  pub room : old.room ≤ new.room + 1
+  pub room : old.room ≡ new.room + 1
 
 -- an answer came to an outstanding request, which is answered from then on and outstanding no more; its room is free again
 pub record CountsAnswer {T : Type 0} (old : OwnRequests T) (number : ℕ) (request : T) (new : OwnRequests T) : Type 0 where
@@ -85,19 +85,22 @@ pub record CountsAnswer {T : Type 0} (old : OwnRequests T) (number : ℕ) (reque
   pub content : new ≡ record old {
     answered = set.insert old.answered number;
     outstanding = map.remove old.outstanding number;
-    room = new.room;
+    room = old.room + 1;
   }
-  pub room : old.room + 1 ≤ new.room
 
 -- another value stands for an outstanding request
 pub record ReplacesRequest {T : Type 0} (old : OwnRequests T) (number : ℕ) (was is : T) (new : OwnRequests T) : Type 0 where
   pub there : map.get old.outstanding number ≡ Some was
   pub content : new ≡ record old { outstanding = map.insert old.outstanding number is }
 
--- nothing is outstanding any more, and no number more is answered
+-- an outstanding request is given back unanswered, so its number is never answered; its room is free again
+pub record WithdrawsRequest {T : Type 0} (old : OwnRequests T) (number : ℕ) (request : T) (new : OwnRequests T) : Type 0 where
+  pub there : map.get old.outstanding number ≡ Some request
+  pub content : new ≡ record old { outstanding = map.remove old.outstanding number; room = old.room + 1 }
+
+-- nothing is outstanding any more, no number more is answered, and the room of what was outstanding is free
 pub record GivesUpRequests {T : Type 0} (old new : OwnRequests T) : Type 0 where
-  pub content : new ≡ record old { outstanding = map.empty; room = new.room }
-  pub room : old.room ≤ new.room
+  pub content : new ≡ record old { outstanding = map.empty; room = old.room + map.len old.outstanding }
 
 -- a number lies above another one, or above none
 abbrev pub IsAbove : Option ℕ → ℕ → Type 0

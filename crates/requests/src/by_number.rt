@@ -102,6 +102,7 @@ impl<T> ByNumber<T> {
           room = self.new.room;
         } }
         ensures room { self.old.room ≡ self.new.room + 1 }
+        ensures len { map.len self.new.items ≡ map.len self.old.items + 1 }
     {
         self.entries.push_reserved((number, item));
     }
@@ -161,15 +162,17 @@ impl<T: Drop> ByNumber<T> {
           items = map.retain_keys self.old.items (λ number. nat_le first number);
           room = self.new.room;
         } }
-        ensures room { self.old.room ≤ self.new.room }
+        ensures room { self.new.room + map.len self.new.items ≡ self.old.room + map.len self.old.items }
     {
         self.entries.retain(|entry| first <= u64::from(entry.0));
     }
 
     /// Gives all items up.
     pub fn clear(&mut self)
-        ensures content { self.new ≡ record { items = map.empty; room = self.new.room } }
-        ensures room { self.old.room ≤ self.new.room }
+        ensures { self.new ≡ record {
+          items = map.empty;
+          room = self.old.room + map.len self.old.items;
+        } }
     {
         self.entries.clear();
     }

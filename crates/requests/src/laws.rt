@@ -5,7 +5,7 @@ ghost use Rattle.base.specs.Octets.{Octets};
 ghost use Rattle.requests.specs.Following.{FollowsIncoming, FollowsOutgoing};
 ghost use Rattle.requests.specs.Incoming.{PeerRequests, IsJudgement, IsSameJudgement, HasSameRequests, TakesRequest};
 ghost use Rattle.requests.specs.Numbers.{NumberSet, IsGap};
-ghost use Rattle.requests.specs.Outgoing.{OwnRequests, IsRequestRefusal, HasSameOwnRequests, IssuesRequest, CountsAnswer, ReplacesRequest, GivesUpRequests, IsNextOutstanding};
+ghost use Rattle.requests.specs.Outgoing.{OwnRequests, IsRequestRefusal, HasSameOwnRequests, IssuesRequest, CountsAnswer, ReplacesRequest, WithdrawsRequest, GivesUpRequests, IsNextOutstanding};
 ghost use Rattle.requests.specs.Timers.{IsDue};
 ghost use Rattle.requests.specs.declared.fault.RequestFault.{RequestFault};
 ghost use Rattle.requests.specs.declared.incoming.Judgement.{Judgement};
@@ -48,6 +48,8 @@ pub fn later_outgoing_follow<T>()
         → CountsAnswer old number request new → FollowsOutgoing old new }
     ensures replacing { (old new : OwnRequests T) (was is : T) (number : ℕ)
         → ReplacesRequest old number was is new → FollowsOutgoing old new }
+    ensures withdrawing { (old new : OwnRequests T) (request : T) (number : ℕ)
+        → WithdrawsRequest old number request new → FollowsOutgoing old new }
     ensures giving_up { (old new : OwnRequests T) → GivesUpRequests old new → FollowsOutgoing old new }
 {}
 
@@ -59,13 +61,13 @@ pub fn no_number_is_issued_twice<T>()
 {}
 
 /// A set has one gap. What [`Incoming::judge`](crate::Incoming::judge) answers is determined, and so is what the requests are after
-/// [`take`](crate::Incoming::take), but for room.
+/// [`take`](crate::Incoming::take).
 pub fn judgements_are_determined()
     ensures gap { (numbers : NumberSet) (a b : ℕ) → IsGap numbers a → IsGap numbers b → a ≡ b }
     ensures judgement { (r : PeerRequests) (n : ℕ) (a b : Judgement)
         → IsJudgement r n a → IsJudgement r n b → IsSameJudgement a b }
     ensures taken { (old a b : PeerRequests) (n : ℕ) (reply : Octets)
-        → TakesRequest old n reply a → TakesRequest old n reply b → a ≡ record b { room = a.room } }
+        → TakesRequest old n reply a → TakesRequest old n reply b → a ≡ b }
 {}
 
 /// Of the refusals of a request one applies at most, and what [`Outgoing::after`](crate::Outgoing::after) and

@@ -6,7 +6,7 @@
 //! What a request says, and by what key it is sealed, is nothing to this crate. Making room may take memory; nothing else does.
 //!
 //! Contracts see the numbers as finite sets and what is kept as finite maps (`specs/Incoming`, `specs/Outgoing`); how they are
-//! kept (`specs/Storage`) is in no public clause.
+//! kept (`specs/Storage`) is in no public clause. [`laws`] has facts about any number of calls.
 //!
 //! ```text
 //! let mut incoming = Incoming::after_initial(alloc);   // number 0, that of IKE_SA_INIT, is in effect
@@ -25,17 +25,13 @@
 mod by_number;
 mod fault;
 mod incoming;
-mod laws;
+pub mod laws;
 mod numbers;
 mod outgoing;
 mod timer;
 
 pub use fault::RequestFault;
 pub use incoming::{Incoming, Judgement};
-pub use laws::{
-    a_moment_sends_once, answers_are_determined, judgements_are_determined, later_incoming_follow,
-    later_outgoing_follow, no_number_is_issued_twice, no_number_takes_effect_twice,
-};
 pub use outgoing::Outgoing;
 pub use timer::{Due, Timer};
 

@@ -4,7 +4,7 @@ ghost use Rattle.std.specs.Bool.{MatchBool};
 ghost use Rattle.std.specs.Fn.{FnReturnsAt};
 ghost use Rattle.std.specs.FinMap as map;
 ghost use Rattle.std.specs.Option.{option_copied};
-ghost use Rattle.requests.specs.Outgoing.{IsRequestRefusal, MayIssue, IsSoundOutgoing, HasSameOwnRequests, IssuesRequest, CountsAnswer, ReplacesRequest, GivesUpRequests};
+ghost use Rattle.requests.specs.Outgoing.{IsRequestRefusal, MayIssue, IsSoundOutgoing, HasSameOwnRequests, IssuesRequest, CountsAnswer, ReplacesRequest, WithdrawsRequest, GivesUpRequests};
 ghost use Rattle.requests.specs.Outgoing.{IsOutstanding, IsNextOutstanding, IsAbove, SomeOutstanding, NoneOutstanding, none_issued, number_0_answered};
 
 use crate::RequestFault;
@@ -147,6 +147,15 @@ impl<T> Outgoing<T> {
     {
         self.answered.insert(number);
         self.outstanding.remove(number)
+    }
+
+    /// Takes an outstanding request back unanswered, and what was kept of it with it: its number stays unanswered and is never issued
+    /// again. The caller asks only for an outstanding number. Takes no memory.
+    pub fn withdraw(&mut self, issued: u32) -> T
+        requires { IsOutstanding self.old issued }
+        ensures { WithdrawsRequest self.old issued result self.new }
+    {
+        self.outstanding.remove(issued)
     }
 
     /// What is kept of an outstanding request. Takes no memory.

@@ -1,5 +1,5 @@
 //! Why a line of a script stops the program.
-use console::Stop;
+use crate::stop::Stop;
 use replay::ReplayFault;
 use std::alloc::AllocError;
 

@@ -17,19 +17,15 @@ fn words_of(alloc: Global, line: &str) -> Result<Vec<String>, AllocError> {
 #[test]
 fn commands(rt: HostRuntime) -> Result<(), Fail> {
     let lines = [
-        ("play a", Action::Play, "a"),
-        ("show a/b", Action::Show, "a/b"),
-        ("play -- -x", Action::Play, "-x"),
-        ("show show", Action::Show, "show"),
-        ("play -", Action::Play, "-"),
+        ("play a", Command::Play { file: "a" }),
+        ("show a/b", Command::Show { file: "a/b" }),
+        ("play -- -x", Command::Play { file: "-x" }),
+        ("show show", Command::Show { file: "show" }),
+        ("play -", Command::Play { file: "-" }),
     ];
-    for (line, action, file) in lines {
+    for (line, command) in lines {
         let words = words_of(rt.alloc(), line)?;
-        assert_eq!(rt;
-            read(rt.alloc(), words.as_slice()),
-            Ok(Command { action, file }),
-            "{line:?}"
-        );
+        assert_eq!(rt; read(rt.alloc(), words.as_slice()), Ok(command), "{line:?}");
     }
     Ok(())
 }

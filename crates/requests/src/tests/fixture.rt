@@ -57,6 +57,14 @@ pub fn count(outgoing: &mut Outgoing<u32>, number: u32) -> Option<u32> {
     Some(outgoing.count(number))
 }
 
+/// Takes a request back, if it is outstanding.
+pub fn withdraw(outgoing: &mut Outgoing<u32>, number: u32) -> Option<u32> {
+    if outgoing.get(number).is_none() {
+        return None;
+    }
+    Some(outgoing.withdraw(number))
+}
+
 /// Puts something else in the place of a request, if it is outstanding.
 pub fn replace(outgoing: &mut Outgoing<u32>, number: u32, request: u32) -> Option<u32> {
     if outgoing.get(number).is_none() {

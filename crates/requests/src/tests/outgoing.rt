@@ -1,6 +1,6 @@
 //! The own requests beside a plain set and a plain map.
 use super::draws::Draws;
-use super::fixture::{count, issue, replace};
+use super::fixture::{count, issue, replace, withdraw};
 use super::plain::PlainOutgoing;
 use crate::outgoing::tests::after_all_below;
 use crate::{Outgoing, RequestFault};
@@ -119,6 +119,21 @@ fn what_is_given_up_stays_unanswered(rt: HostRuntime) -> Result<(), Fail> {
     outgoing.give_up();
     assert!(rt; outgoing.after(None).is_none());
     assert_eq!(rt; count(&mut outgoing, 0), None);
+    assert_eq!(rt; outgoing.may_issue(), Err(RequestFault::Busy));
+    Ok(())
+}
+
+#[test]
+fn one_of_two_is_withdrawn(rt: HostRuntime) -> Result<(), Fail> {
+    let mut outgoing: Outgoing<u32> = Outgoing::new(rt.alloc());
+    outgoing.set_window(2);
+    assert_eq!(rt; issue(&mut outgoing, 10), Ok(0));
+    assert_eq!(rt; issue(&mut outgoing, 20), Ok(1));
+    assert_eq!(rt; withdraw(&mut outgoing, 0), Some(10));
+    assert_eq!(rt; withdraw(&mut outgoing, 0), None);
+    assert_eq!(rt; count(&mut outgoing, 0), None);
+    assert_eq!(rt; count(&mut outgoing, 1), Some(20));
+    // Number 0 was never answered, so the window doesn't move.
     assert_eq!(rt; outgoing.may_issue(), Err(RequestFault::Busy));
     Ok(())
 }

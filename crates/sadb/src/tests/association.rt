@@ -4,6 +4,7 @@ use crate::{Pair, Table};
 use base::Items;
 use esp::Outbound;
 use std::alloc::Global;
+use std::process::Abort;
 use std::test::Fail;
 
 /// Adds a pair of an IKE association that sends under an SPI.
@@ -17,26 +18,47 @@ fn add(alloc: Global, table: &mut Table, ike: u32, outbound: u32) -> Result<u32,
     Ok(install(table, spi, pair))
 }
 
-#[test]
-fn pairs_of_an_association(rt: HostRuntime) -> Result<(), Fail> {
-    let alloc = rt.alloc();
+/// A table with four pairs of two IKE associations, and what each sends under.
+fn filled(alloc: Global) -> Result<Table, Fail> {
     let mut table = Table::new(alloc, START);
-    assert_eq!(rt; table.next_of(7, 0), None);
     for (ike, outbound) in [(7, 1000), (8, 1000), (7, 2000), (7, 1000)] {
         add(alloc, &mut table, ike, outbound)?;
     }
-    assert_eq!(rt; table.next_of(7, 0), Some(1));
-    assert_eq!(rt; table.next_of(7, 1), Some(3));
-    assert_eq!(rt; table.next_of(7, 3), Some(4));
-    assert_eq!(rt; table.next_of(7, 4), None);
-    assert_eq!(rt; table.next_of(8, u32::MAX), None);
-    assert_eq!(rt; table.sender_under(7, 1000), Some(1));
-    assert_eq!(rt; table.sender_under(7, 2000), Some(3));
-    assert_eq!(rt; table.sender_under(8, 2000), None);
+    Ok(table)
+}
+
+/// Compares the next pair of an IKE association.
+fn has_next(rt: &impl Abort, table: &Table, ike: u32, serial: u32, next: Option<u32>) {
+    assert_eq!(rt; table.next_of(ike, serial), next);
+}
+
+/// Compares the pair that sends under an SPI.
+fn has_sender(rt: &impl Abort, table: &Table, ike: u32, spi: u32, sender: Option<u32>) {
+    assert_eq!(rt; table.sender_under(ike, spi), sender);
+}
+
+#[test]
+fn pairs_of_an_association(rt: HostRuntime) -> Result<(), Fail> {
+    let table = filled(rt.alloc())?;
+    has_next(&rt, &table, 7, 0, Some(1));
+    has_next(&rt, &table, 7, 1, Some(3));
+    has_next(&rt, &table, 7, 3, Some(4));
+    has_next(&rt, &table, 7, 4, None);
+    has_next(&rt, &table, 9, 0, None);
+    has_next(&rt, &table, 8, u32::MAX, None);
+    has_sender(&rt, &table, 7, 1000, Some(1));
+    has_sender(&rt, &table, 7, 2000, Some(3));
+    has_sender(&rt, &table, 8, 2000, None);
+    Ok(())
+}
+
+#[test]
+fn pairs_removed_together(rt: HostRuntime) -> Result<(), Fail> {
+    let mut table = filled(rt.alloc())?;
     table.remove_all_of(7);
-    assert_eq!(rt; table.next_of(7, 0), None);
-    assert_eq!(rt; table.next_of(8, 0), Some(2));
-    assert_eq!(rt; table.sender_under(8, 1000), Some(2));
+    has_next(&rt, &table, 7, 0, None);
+    has_next(&rt, &table, 8, 0, Some(2));
+    has_sender(&rt, &table, 8, 1000, Some(2));
     assert_eq!(rt; table.after(2).map(|pair| pair.serial), None);
     Ok(())
 }

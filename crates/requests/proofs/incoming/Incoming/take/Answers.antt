@@ -1,4 +1,4 @@
-use Rattle.std.proofs.Common.{◌≡◌, ◌+◌, ◌-◌, ◌≤◌, ◌∙◌, sym, ap, subst, arith, nat_le}
+use Rattle.std.proofs.Common.{◌≡◌, ◌+◌, ◌-◌, ◌∙◌, sym, ap, subst, arith, nat_le}
 use Rattle.std.specs.FinMap as map
 use Rattle.std.specs.FinSet as set
 use Rattle.requests.specs.Incoming.{IsFreshRequest, TakesRequest}
@@ -23,7 +23,8 @@ returns c =
     let kept : c.keep_from.new.self.items ≡ map.retain_keys (map.insert c.self.inside.kept.items c.args.number c.args.reply) (nat_le c.saturating_sub-first.result) =
     ap (λ (h : Held _). h.items) c.keep_from.ensures.content ∙ ap (λ (h : Held _). map.retain_keys h.items (nat_le c.saturating_sub-first.result)) c.add.ensures.content in
     let fresh = subst (λ r. IsFreshRequest r c.args.number) (sym c.self.view_is) c.requires.fresh in
-    let room : c.self.inside.kept.room ≤ c.keep_from.new.self.room + 1 = (let added = c.add.ensures.room in let left = c.keep_from.ensures.room in omega arith) in
+    let room : c.keep_from.new.self.room + map.len (map.retain_keys (map.insert c.self.inside.kept.items c.args.number c.args.reply) (nat_le c.saturating_sub-first.result)) ≡ c.self.inside.kept.room + map.len c.self.inside.kept.items =
+    (let added = c.add.ensures.room in let more = c.add.ensures.len in let left = c.keep_from.ensures.room in let same = ap map.len kept in omega arith) in
     let is =
     takes c.self.inside.in_effect c.self.inside.size c.self.inside.kept.room c.args.number c.saturating_sub-first.result c.self.inside.kept.items c.args.reply c.self.invariant fresh from c.keep_from.new.self.room room in
     subst (λ r. TakesRequest r c.args.number c.args.reply (record { in_effect = c.insert.new.self; size = c.self.inside.size; kept = c.keep_from.new.self.items; room = c.keep_from.new.self.room })) c.self.view_is

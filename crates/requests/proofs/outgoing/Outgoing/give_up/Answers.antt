@@ -5,5 +5,5 @@ use Rattle.requests.proofs.outgoing.Outgoing.give_up.Goals as goal
 
 pub invariant_of-self : goal.invariant_of-self
 invariant_of-self g c =
-    subst (λ m. AreOutgoing c.self.inside.next c.self.inside.window c.self.inside.answered m) (sym (ap (λ (h : Held _). h.items) c.clear.ensures.content))
+    subst (λ m. AreOutgoing c.self.inside.next c.self.inside.window c.self.inside.answered m) (sym (ap (λ (h : Held _). h.items) c.clear.ensures))
     (gives_up c.self.inside.next c.self.inside.window c.self.inside.outstanding.room c.self.inside.answered c.self.inside.outstanding.items c.self.invariant)

@@ -1,0 +1,25 @@
+-- How a command ends.
+use Rattle.std.specs.Prelude.{Result, Ok, Err}
+use Rattle.console.specs.declared.digits.HexFault.{HexFault}
+use Rattle.console.specs.declared.digits.HexFault.TheVariants as hex
+use Rattle.console.specs.declared.input.InputFault.{InputFault}
+use Rattle.console.specs.declared.input.InputFault.TheVariants as input
+use Rattle.console.specs.declared.status.Status.{Status}
+use Rattle.console.specs.declared.status.Status.TheVariants.{Done, Refused}
+use Rattle.engine.specs.declared.stop.Stop.{Stop}
+use Rattle.engine.specs.declared.stop.Stop.TheVariants as stop
+
+-- the status of a command that did its work, or stopped
+abbrev pub status_of : Result Unit Stop → Status
+status_of (Ok _) = Done
+status_of (Err _) = Refused
+
+-- why a command stops whose file was not read
+abbrev pub stop_of_input : InputFault → Stop
+stop_of_input input.File = stop.File
+stop_of_input input.Memory = stop.Memory
+
+-- why a command stops whose digits were not read
+abbrev pub stop_of_digits : HexFault → Stop
+stop_of_digits hex.NotHex = stop.Hex
+stop_of_digits hex.Memory = stop.Memory

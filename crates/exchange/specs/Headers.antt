@@ -1,0 +1,25 @@
+-- The headers of messages that are sent (RFC 7296 section 3.1).
+use Rattle.std.specs.Prelude.{ℕ, Bool, true, false}
+use Rattle.wire.specs.declared.message.Header.{Header}
+use Rattle.exchange.specs.declared.headers.Role.{Role}
+use Rattle.exchange.specs.declared.headers.Role.TheVariants.{Initiator, Responder}
+
+abbrev pub is_initiator : Role → Bool
+is_initiator Initiator = true
+is_initiator Responder = false
+
+abbrev pub other_role : Role → Role
+other_role Initiator = Responder
+other_role Responder = Initiator
+
+-- Version 2.0. The flag I tells the association's original initiator, the flag R a response; the flag V is sent clear.
+abbrev pub sent_header : ℕ → ℕ → ℕ → Role → Bool → ℕ → Header
+sent_header spi_i spi_r exchange sender response id =
+    record {
+      spi_i = spi_i;
+      spi_r = spi_r;
+      minor = 0;
+      exchange = exchange;
+      flags = record { initiator = is_initiator sender; version = false; response = response };
+      id = id;
+    }
