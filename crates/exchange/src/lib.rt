@@ -34,6 +34,3 @@ pub use payloads::{
     only_ts_i, only_ts_r, unknown_critical,
 };
 pub use sealed::{Plain, open_message, seal_message, sealed_messages_open};
-
-#[cfg(test)]
-mod tests;

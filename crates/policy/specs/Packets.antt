@@ -1,9 +1,11 @@
 -- The flow of an IP packet: IPv4 by RFC 791 section 3.1, IPv6 by RFC 8200 section 3; ports by RFC 9293 section 3.1 and RFC 768.
 -- Packets have at most 16,384 octets, a limit of this implementation.
-use Rattle.std.specs.Prelude.{◌≡◌, ◌≢◌, ◌<◌, ◌≤◌, ◌^◌, ◌+◌, ◌*◌, ◌/◌, ◌%◌, ◌⊎◌, ℕ, Option, Some, None, length, drop, slice_index}
+use Rattle.std.specs.Prelude.{◌≡◌, ◌≢◌, ◌<◌, ◌≤◌, ◌^◌, ◌+◌, ◌*◌, ◌/◌, ◌%◌, ◌⊎◌, ◌==◌, ◌∷◌, [], ℕ, Option, Some, None, if◌then◌else◌, length, drop, slice_index}
 use Rattle.byteorder.specs.Endian.{big_number}
 use Rattle.base.specs.Octets.{Octets}
 use Rattle.base.specs.declared.address.Address.TheVariants.{V4, V6}
+use Rattle.base.specs.declared.address.Family.{Family}
+use Rattle.base.specs.declared.address.Family.TheVariants as family
 use Rattle.policy.specs.declared.flow.Flow.{Flow}
 use Rattle.policy.specs.declared.flow.Ports.{Ports}
 use Rattle.policy.specs.declared.fault.InnerFault.{InnerFault}
@@ -13,6 +15,15 @@ use Rattle.policy.specs.Points.{HasPorts}
 -- the version of IP, in the high half of the first octet
 abbrev pub version_of : Octets → ℕ
 version_of b = slice_index b 0 / 16
+
+-- the family of a version
+abbrev pub family_of_version : ℕ → Option Family
+family_of_version version = if version == 4 then Some family.V4 else if version == 6 then Some family.V6 else None
+
+-- the family that a packet's version names, whatever else the packet has
+abbrev pub family_of_packet : Octets → Option Family
+family_of_packet [] = None
+family_of_packet (first ∷ others) = family_of_version (first / 16)
 
 -- TCP and UDP begin with the source's and the target's port, in two octets each; of other protocols no ports are read
 abbrev pub ArePorts : ℕ → Octets → Option Ports → Type 0

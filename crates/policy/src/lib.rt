@@ -6,7 +6,7 @@
 //! are not understood, a limit of this implementation. A list of selectors is the union of its members. A point of one family
 //! is in no set of the other.
 //!
-//! [`inner`] finds the [`Flow`] of an IP packet, [`Policy::decide`] what is done with a flow, [`covers`] whether selectors hold
+//! [`inner`] finds the [`Flow`] of an IP packet, [`family_of_packet`] the family that its version names, [`Policy::decide`] what is done with a flow, [`covers`] whether selectors hold
 //! it, [`narrow`] what an offer becomes under a policy, and [`are_inside`] whether an answer keeps to its offer. Only [`narrow`]
 //! takes memory. [`laws`] has facts about these answers.
 //!
@@ -43,10 +43,7 @@ pub use fault::{InnerFault, NarrowFault, PolicyFault};
 pub use flow::{Flow, Ports};
 pub use narrowing::{Narrowed, narrow};
 pub use offer::are_inside;
-pub use packet::inner;
+pub use packet::{family_of_packet, inner};
 pub use point::Point;
 pub use policy::{Decision, Direction, Policy};
 pub use selectors::covers;
-
-#[cfg(test)]
-mod tests;

@@ -2,12 +2,13 @@
 ghost use Rattle.std.specs.Prelude.{◌≡◌, ◌≤◌, IfOk, IfErr, length};
 ghost use Rattle.base.specs.Addresses.{family_of};
 ghost use Rattle.policy.specs.declared.fault.InnerFault.TheVariants.{BadInner};
-ghost use Rattle.policy.specs.Packets.{ArePorts, IsFlowOf, IsInnerRefusal, LacksPorts};
+ghost use Rattle.policy.specs.Packets.{family_of_packet, ArePorts, IsFlowOf, IsInnerRefusal, LacksPorts};
 
 use crate::fault::InnerFault;
 use crate::flow::{Flow, Ports};
 use crate::point::has_ports;
 use crate::{ipv4, ipv6};
+use base::Family;
 use byteorder::{BigEndian, ByteOrder};
 
 /// The longest packet, in octets, a limit of this implementation.
@@ -35,6 +36,19 @@ pub fn inner(octets: &[u8]) -> Result<Flow, InnerFault>
         ipv4::VERSION => ipv4::flow_of(octets),
         ipv6::VERSION => ipv6::flow_of(octets),
         _ => Err(InnerFault::BadInner),
+    }
+}
+
+/// The family that a packet's version names, `None` where it is neither 4 nor 6 or there is no octet. Nothing else of the packet is
+/// looked at: so the next header of ESP is compared with the packet that it came with before anything else of it is judged
+/// (RFC 4303 section 2.6). Takes no memory.
+pub fn family_of_packet(packet: &[u8]) -> Option<Family>
+    ensures { result ≡ family_of_packet packet.now }
+{
+    match packet.first()? / 16 {
+        ipv4::VERSION => Some(Family::V4),
+        ipv6::VERSION => Some(Family::V6),
+        _ => None,
     }
 }
 

@@ -28,8 +28,6 @@ mod nonce;
 mod proof;
 mod sealer;
 mod signed_octets;
-#[cfg(test)]
-mod tests;
 pub mod transforms;
 
 pub use agreement::Agreement;

@@ -1,1 +1,7 @@
+mod flows;
+mod keying;
+mod long;
+mod messages;
+mod payloads;
 mod sealing;
+mod texts;

@@ -41,6 +41,3 @@ pub use fault::WireFault;
 pub use message::{Flags, Header, Message, decode_message, encode_message};
 pub use payload::{Payload, SkippedKind};
 pub use proposal::{Attribute, Proposal, Transform};
-
-#[cfg(test)]
-mod tests;

@@ -1,3 +1,4 @@
+//! Policies, flows and narrowing: rows, tables, and plain models beside the library.
 mod faults;
 mod ipv6;
 mod large;

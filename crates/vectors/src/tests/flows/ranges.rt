@@ -3,8 +3,8 @@ use super::plain::{
     ADDRESSES, PORTS, PROTOCOLS, SELECTORS, any_holds, holds, selector_of, some_point,
 };
 use super::policies::policy;
-use crate::{Action, Entry, Flow, NarrowFault, Point, Ports, covers, narrow};
 use base::{Address, Range, Selector};
+use policy::{Action, Entry, Flow, NarrowFault, Point, Ports, covers, narrow};
 use std::process::Abort;
 use std::test::Fail;
 

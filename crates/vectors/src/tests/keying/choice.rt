@@ -1,6 +1,6 @@
-use crate::{Chosen, Wanted, choose};
 use std::alloc::{AllocError, Global};
 use std::test::Fail;
+use suite::{Chosen, Wanted, choose};
 use wire::{Attribute, Items, Payload, Proposal, Transform, decode_chain};
 
 // A payload that offers SPI 256 without extension.

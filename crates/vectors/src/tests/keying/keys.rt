@@ -1,6 +1,6 @@
 // Expected values are those of Python's modules `hmac` and `hashlib`.
 use super::counted;
-use crate::{KeyRecord, Keys, Nonce, child_keys, ike_keys};
+use suite::{KeyRecord, Keys, Nonce, child_keys, ike_keys};
 
 const SPI_I: u64 = 0x0102_0304_0506_0708;
 

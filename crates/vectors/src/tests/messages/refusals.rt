@@ -1,7 +1,7 @@
 //! Each limit and each rule of a payload's inside, where it is read.
 use super::*;
-use crate::laws;
-use crate::numbers::{
+use wire::laws;
+use wire::numbers::{
     AUTH_TYPE, DELETE_TYPE, ID_I_TYPE, ID_R_TYPE, KE_TYPE, NONCE_TYPE, NOTIFY_TYPE, SA_TYPE,
 };
 

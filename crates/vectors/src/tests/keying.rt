@@ -1,3 +1,4 @@
+//! Keys, choices and signed octets: values of another program.
 mod choice;
 mod keys;
 mod signed_octets;

@@ -1,10 +1,10 @@
 //! Packets of IPv6, policies over their addresses, and offers that have both families.
 use super::policies::{ALL_PORTS, HERE, PROTECT, THERE, policy};
-use crate::{
+use base::{Address, Family, Items, Range, Selector};
+use policy::{
     Action, Decision, Direction, Entry, Flow, InnerFault, NarrowFault, Policy, PolicyFault, Ports,
     covers, inner, narrow,
 };
-use base::{Address, Family, Items, Range, Selector};
 use std::process::Abort;
 use std::test::Fail;
 

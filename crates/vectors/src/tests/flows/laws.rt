@@ -1,4 +1,4 @@
-use crate::laws;
+use policy::laws;
 
 #[test]
 fn laws_can_be_called() {

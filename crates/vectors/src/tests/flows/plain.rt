@@ -1,6 +1,6 @@
 //! The sets of points once more, by plain search: tiny selectors of both families, and all points that tell them apart.
-use crate::Point;
 use base::{Address, Range, Selector};
+use policy::Point;
 
 /// Ports, protocols and addresses that tell the tiny selectors apart.
 pub const PORTS: [Option<u16>; 5] = [None, Some(0), Some(1), Some(2), Some(65535)];

@@ -1,7 +1,7 @@
 // The expected octets are those of Python's module `hmac`.
 use super::counted;
-use crate::{SuiteFault, proof_octets};
 use std::test::Fail;
+use suite::{SuiteFault, proof_octets};
 
 const APPENDED: [u8; 77] = [
     0x66, 0x69, 0x72, 0x73, 0x74, 0x20, 0x6d, 0x65, 0x73, 0x73, 0x61, 0x67, 0x65, 0x22, 0x22, 0x22,

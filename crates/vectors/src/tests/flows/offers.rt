@@ -1,7 +1,7 @@
 //! What an initiator asks of an answer to its offer.
 use super::policies::PROTECT;
-use crate::{Entry, are_inside};
 use base::{Range, Selector};
+use policy::{Entry, are_inside};
 
 /// The web server of the local network.
 const WEB: Entry = Entry {

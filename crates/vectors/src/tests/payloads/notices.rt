@@ -1,4 +1,4 @@
-use crate::{Notice, asked_cookie, has_invalid_syntax, leading_cookie, returned_cookie};
+use exchange::{Notice, asked_cookie, has_invalid_syntax, leading_cookie, returned_cookie};
 use std::alloc::{AllocError, Global};
 use std::test::Fail;
 use wire::{Items, Payload};

@@ -1,7 +1,7 @@
 //! Offers and what they are narrowed to.
 use super::policies::{ALL_PORTS, HERE, PROTECT, THERE, policy};
-use crate::{Action, Entry, NarrowFault, narrow};
 use base::{Range, Selector};
+use policy::{Action, Entry, NarrowFault, narrow};
 use std::test::Fail;
 
 /// All ports of every protocol between these addresses.

@@ -1,7 +1,7 @@
 //! What a refused growth leaves: these pass at either answer.
 use super::policies::{HERE, PROTECT, THERE, policy};
-use crate::{NarrowFault, narrow};
 use base::{Range, Selector};
+use policy::{NarrowFault, narrow};
 use std::test::Fail;
 
 #[test]

@@ -1,8 +1,8 @@
-use crate::{
+use base::{Items, Range, Selector};
+use exchange::{
     deletes_association, esp_spis, has_ke, names_more_than, offers_ike, only, only_auth, only_id_i,
     only_id_r, only_ke, only_nonce, only_sa, only_ts_i, only_ts_r, unknown_critical,
 };
-use base::{Items, Range, Selector};
 use std::alloc::{AllocError, Global};
 use std::test::Fail;
 use wire::{Payload, Proposal};

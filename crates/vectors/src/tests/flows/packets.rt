@@ -1,6 +1,6 @@
 //! The flow of a packet, and each refusal at its edge.
-use crate::{Flow, InnerFault, Ports, inner};
 use base::Address;
+use policy::{Flow, InnerFault, Ports, inner};
 use std::process::Abort;
 use std::test::Fail;
 

@@ -1,7 +1,7 @@
 //! Large policies and offers: with ample memory every answer is wanted.
 use super::policies::{HERE, PROTECT, THERE};
-use crate::{Entry, Policy, narrow};
 use base::{Items, Range, Selector};
+use policy::{Entry, Policy, narrow};
 use std::alloc::Global;
 use std::process::Abort;
 use std::test::Fail;

@@ -1,6 +1,6 @@
 //! Traffic selectors of both families, read and written. The octets come from a program of another language.
 use super::*;
-use crate::numbers::{SELECTOR_LIMIT, TS_I_TYPE, TS_R_TYPE};
+use wire::numbers::{SELECTOR_LIMIT, TS_I_TYPE, TS_R_TYPE};
 
 const BOTH_FAMILIES: [u8; 104] = [
     0x00, 0x00, 0x00, 0x68, 0x03, 0x00, 0x00, 0x00, 0x07, 0x06, 0x00, 0x10, 0x01, 0xbb, 0x01, 0xbc,

@@ -1,7 +1,7 @@
 //! Policies and their decisions.
 use super::packets::{ICMP, ICMP_FLOW};
-use crate::{Action, Decision, Direction, Entry, Flow, Policy, PolicyFault, Ports, covers, inner};
 use base::{Items, Range, Selector};
+use policy::{Action, Decision, Direction, Entry, Flow, Policy, PolicyFault, Ports, covers, inner};
 use std::alloc::Global;
 use std::test::Fail;
 

@@ -1,8 +1,12 @@
 //! The worked rows, every payload type and every fault. The octets come from a program of another language.
-use super::*;
-use crate::numbers::{HEADER_LENGTH, VENDOR_ID_TYPE};
+use base::{Items, Range, Selector};
 use std::alloc::Global;
 use std::test::Fail;
+use wire::numbers::{HEADER_LENGTH, VENDOR_ID_TYPE};
+use wire::{
+    Attribute, Flags, Header, Message, Payload, Proposal, SkippedKind, Transform, WireFault,
+    decode_chain, decode_message, encode_message,
+};
 
 mod encoding;
 mod refusals;

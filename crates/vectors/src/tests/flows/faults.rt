@@ -1,4 +1,4 @@
-use crate::{InnerFault, NarrowFault, PolicyFault};
+use policy::{InnerFault, NarrowFault, PolicyFault};
 use std::test::Fail;
 
 #[test]

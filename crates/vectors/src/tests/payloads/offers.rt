@@ -1,6 +1,6 @@
 // The octets are those of RFC 7296, section 3.3, written out.
-use crate::laws::{ends_agree, offers_are_answered};
-use crate::{accept, answer, offer, offers_ike};
+use exchange::laws::{ends_agree, offers_are_answered};
+use exchange::{accept, answer, offer, offers_ike};
 use std::alloc::Global;
 use std::test::Fail;
 use suite::{Chosen, Wanted, choose};

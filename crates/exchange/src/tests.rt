@@ -1,3 +1,0 @@
-mod counting;
-mod notices;
-mod offers;

@@ -1,0 +1,4 @@
+//! What payloads mean: counting, notices, offers.
+mod counting;
+mod notices;
+mod offers;
