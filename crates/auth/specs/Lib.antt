@@ -1,0 +1,5 @@
+pub mod Answers
+pub mod Fitting
+pub mod Proofs
+pub mod Requests
+pub mod Windows

@@ -1,0 +1,40 @@
+-- How many requests an end takes at once (RFC 7296 section 2.3).
+use Rattle.std.specs.Prelude.{◌==◌, ◌&&◌, ℕ, Option, Some, None, List, [], ◌∷◌, length, max, min, nat_lt, unwrap_or, if◌then◌else◌}
+use Rattle.std.specs.Int.{from_be_bytes, to_be_bytes, w32}
+use Rattle.base.specs.Octets.{Octets}
+use Rattle.wire.specs.Numbers.{SET_WINDOW_SIZE}
+use Rattle.wire.specs.declared.payload.Payload.{Payload}
+use Rattle.wire.specs.declared.payload.Payload.TheVariants.{Notify}
+use Rattle.exchange.specs.Counting.{first_some}
+
+-- the window of an end that tells none
+abbrev pub LEAST_WINDOW : ℕ
+LEAST_WINDOW = 1
+
+-- the widest window that counts, a limit of this implementation
+abbrev pub WIDEST_WINDOW : ℕ
+WIDEST_WINDOW = 16
+
+-- an end tells its window by a notice with no protocol and no SPI (section 3.10), and a number of four octets
+abbrev pub window_payload : ℕ → Payload
+window_payload window = Notify 0 [] SET_WINDOW_SIZE (to_be_bytes w32 window)
+
+-- where its window is not the one that it has untold
+abbrev pub window_notices : ℕ → List Payload
+window_notices window = if nat_lt LEAST_WINDOW window then window_payload window ∷ [] else []
+
+-- 0 counts as 1, and more than 16 as 16
+abbrev pub window_within : ℕ → ℕ
+window_within number = min (max number LEAST_WINDOW) WIDEST_WINDOW
+
+-- the window that a notice tells: of this type, with four octets
+abbrev pub told_window : ℕ → Octets → Option ℕ
+told_window kind octets = if kind == SET_WINDOW_SIZE && length octets == 4 then Some (window_within (from_be_bytes w32 octets)) else None
+
+abbrev pub window_in : Payload → Option ℕ
+window_in (Notify protocol spi kind octets) = told_window kind octets
+window_in _ = None
+
+-- the first notice that tells a window counts
+abbrev pub peer_window : List Payload → ℕ
+peer_window payloads = unwrap_or (first_some window_in payloads) LEAST_WINDOW

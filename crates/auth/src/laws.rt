@@ -1,0 +1,96 @@
+//! What follows from the definitions alone. No function here does anything.
+ghost use Rattle.std.specs.Prelude.{◌≡◌, ◌+◌, ℕ, true, List, IsTrue};
+ghost use Rattle.std.specs.List.{AllByRecursion, sum_by};
+ghost use Rattle.base.specs.Octets.{Octets};
+ghost use Rattle.base.specs.declared.selector.Selector.{Selector};
+ghost use Rattle.wire.specs.Sizes.{size_of, FitsFields};
+ghost use Rattle.wire.specs.declared.payload.Payload.{Payload};
+ghost use Rattle.wire.specs.declared.payload.Payload.TheVariants.{Notify, Sa, TsI, TsR};
+ghost use Rattle.wire.specs.declared.proposal.Proposal.{Proposal};
+ghost use Rattle.exchange.specs.Counting.{only_auth, only_id_i, only_id_r};
+ghost use Rattle.auth.specs.Answers.{answering_payloads, auth_answer, is_accepted};
+ghost use Rattle.auth.specs.Fitting.{FitWithin, IsWindow, OWN_LIMIT};
+ghost use Rattle.auth.specs.Proofs.{auth_payload, octets_to_prove, Accepts, IsIdentity, ProvesItself, ProvingView};
+ghost use Rattle.auth.specs.Requests.{auth_request, child_payloads, Accepted, AskedView, IsJudgement, JudgementView};
+ghost use Rattle.auth.specs.Windows.{peer_window, window_notices};
+ghost use Rattle.auth.specs.declared.child.ChildAnswer.{ChildAnswer};
+ghost use Rattle.auth.specs.declared.child.ChildAnswer.TheVariants as answered;
+ghost use Rattle.auth.specs.declared.child.ChildPayloads.{ChildPayloads};
+ghost use Rattle.auth.specs.declared.identity.Identity.{Identity};
+
+/// A request is judged in one way.
+pub fn judgements_are_determined()
+    ensures { (accepts : Accepts) (peer : Identity) (what : ProvingView) (payloads : List Payload)
+        (one other : JudgementView) → IsJudgement accepts peer what payloads one
+        → IsJudgement accepts peer what payloads other → one ≡ other }
+{}
+
+/// Who is accepted named the peer's identity in the only ID payload, and the caller accepted of that identity the method and the
+/// proof in the only AUTH payload, over what the peer has to prove.
+pub fn who_is_accepted_proved_itself()
+    ensures request { (accepts : Accepts) (peer : Identity) (what : ProvingView) (payloads : List Payload)
+        (asked : AskedView) → IsJudgement accepts peer what payloads (Accepted asked)
+        → ProvesItself accepts peer what (only_id_i payloads) (only_auth payloads) }
+    ensures answer { (accepts : Accepts) (peer : Identity) (what : ProvingView) (payloads : List Payload)
+        → is_accepted accepts peer what payloads ≡ true
+        → ProvesItself accepts peer what (only_id_r payloads) (only_auth payloads) }
+{}
+
+/// Where the identity is one, and the proof and the payloads of the child fit, all payloads that are sent have what their fields
+/// allow, with at most 1308 octets beside those of the child.
+pub fn what_is_sent_fits()
+    ensures request { (own_method : ℕ) (proof_of : Octets → Octets) (own : Identity)
+        (what : ProvingView) (child : ChildPayloads) (window : ℕ)
+        → IsIdentity own → FitsFields (auth_payload own_method proof_of own what)
+        → AllByRecursion FitsFields (child_payloads child)
+        → FitWithin (OWN_LIMIT + sum_by size_of (child_payloads child))
+        (auth_request own_method proof_of own what child window) }
+    ensures answer { (own_method : ℕ) (proof_of : Octets → Octets) (own : Identity)
+        (what : ProvingView) (child : ChildAnswer) (window : ℕ)
+        → IsIdentity own → FitsFields (auth_payload own_method proof_of own what)
+        → AllByRecursion FitsFields (answering_payloads child)
+        → FitWithin (OWN_LIMIT + sum_by size_of (answering_payloads child))
+        (auth_answer own_method proof_of own what child window) }
+{}
+
+/// A request of the peer whose proof is accepted is judged so, with the proposals, the selectors and the window that it was made
+/// of.
+pub fn requests_are_accepted()
+    ensures { (accepts : Accepts) (own_method : ℕ) (proof_of : Octets → Octets) (own : Identity)
+        (what : ProvingView) (proposals : List Proposal) (ts_i ts_r : List Selector) (window : ℕ)
+        → IsWindow window
+        → IsTrue (accepts own.kind own.data own_method (octets_to_prove what own)
+        (proof_of (octets_to_prove what own)))
+        → IsJudgement accepts own what
+        (auth_request own_method proof_of own what
+        (record { sa = Sa proposals; ts_i = TsI ts_i; ts_r = TsR ts_r }) window)
+        (Accepted (record { proposals = proposals; ts_i = ts_i; ts_r = ts_r; window = window })) }
+{}
+
+/// An answer of the peer whose proof is accepted is accepted, whether its child is made or not.
+pub fn answers_are_accepted()
+    ensures made { (accepts : Accepts) (own_method : ℕ) (proof_of : Octets → Octets) (own : Identity)
+        (what : ProvingView) (proposals : List Proposal) (ts_i ts_r : List Selector) (window : ℕ)
+        → IsTrue (accepts own.kind own.data own_method (octets_to_prove what own)
+        (proof_of (octets_to_prove what own)))
+        → is_accepted accepts own what (auth_answer own_method proof_of own what
+        (answered.Payloads (record { sa = Sa proposals; ts_i = TsI ts_i; ts_r = TsR ts_r })) window) ≡ true }
+    ensures refused { (accepts : Accepts) (own_method : ℕ) (proof_of : Octets → Octets) (own : Identity)
+        (what : ProvingView) (protocol : ℕ) (spi : Octets) (kind : ℕ) (octets : Octets) (window : ℕ)
+        → IsTrue (accepts own.kind own.data own_method (octets_to_prove what own)
+        (proof_of (octets_to_prove what own)))
+        → is_accepted accepts own what (auth_answer own_method proof_of own what
+        (answered.Notice (Notify protocol spi kind octets)) window) ≡ true }
+{}
+
+/// A window of 1 to 16 that is told is read again, and no other is ever read.
+pub fn windows_are_read_again()
+    ensures told { (window : ℕ) → IsWindow window → peer_window (window_notices window) ≡ window }
+    ensures answer { (own_method : ℕ) (proof_of : Octets → Octets) (own : Identity)
+        (what : ProvingView) (proposals : List Proposal) (ts_i ts_r : List Selector) (window : ℕ)
+        → IsWindow window
+        → peer_window (auth_answer own_method proof_of own what
+        (answered.Payloads (record { sa = Sa proposals; ts_i = TsI ts_i; ts_r = TsR ts_r })) window)
+        ≡ window }
+    ensures bounds { (payloads : List Payload) → IsWindow (peer_window payloads) }
+{}

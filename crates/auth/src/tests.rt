@@ -1,0 +1,4 @@
+mod answering;
+mod judging;
+mod parts;
+mod windows;

@@ -1,0 +1,5 @@
+mod ListLemmas
+mod TermLemmas
+mod ChildLemmas
+mod SameLemmas
+mod FitLemmas

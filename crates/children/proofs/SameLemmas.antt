@@ -1,0 +1,163 @@
+-- Answers are determined.
+use Rattle.std.proofs.Common.{◌≡◌, ◌<◌, ℕ, Bool, true, false, List, [], ◌∷◌, get_or, slice_get, Some, All, inl, inr, refl, sym, ap, subst, ◌∙◌, arith}
+use Rattle.std.proofs.lemmas.Bool.Decides.{leb_tells}
+use Rattle.std.proofs.lemmas.Option.{slice_get_within, get_or_from_slice_get}
+use Rattle.byteorder.specs.Endian.{big_number}
+use Rattle.base.specs.declared.selector.Selector.{Selector}
+use Rattle.wire.specs.declared.payload.Payload.{Payload}
+use Rattle.wire.specs.declared.proposal.Proposal.{Proposal}
+use Rattle.wire.specs.declared.proposal.Transform.{Transform}
+use Rattle.suite.specs.Choice.{sequence_numbers, IsAcceptableProposal, IsChosenProposal, IsFirstAcceptable}
+use Rattle.suite.specs.declared.choice.Chosen.{Chosen}
+use Rattle.suite.specs.declared.choice.Wanted.{Wanted}
+use Rattle.suite.specs.declared.choice.Wanted.TheVariants.{Esp}
+use Rattle.exchange.specs.declared.headers.Role.TheVariants.{Initiator}
+use Rattle.exchange.specs.declared.notices.Notice.{Notice}
+use Rattle.exchange.specs.declared.notices.Notice.TheVariants.{UnsupportedCriticalPayload, InvalidSyntax, NoProposalChosen, AuthenticationFailed, NoAdditionalSas, TsUnacceptable, Cookie}
+use Rattle.policy.specs.Narrowing.{IsNarrowing}
+use Rattle.policy.specs.declared.entry.Entry.{Entry}
+use Rattle.sadb.specs.Database.{Database}
+use Rattle.sadb.specs.declared.pair.Pair.{Pair}
+use Rattle.children.specs.Accepting.{AreAcceptedTerms, IsAccepted}
+use Rattle.children.specs.Pairs.{new_pair}
+use Rattle.children.specs.Responding.{made_of, CanBeNarrowed, IsMade, IsRefusal, IsResponse, Offered, OffersNone, OffersSome}
+use Rattle.children.specs.Terms.{Terms}
+use Rattle.children.specs.declared.accepting.Asked.{Asked}
+use Rattle.children.specs.declared.responding.Made.{Made}
+use Rattle.children.specs.declared.responding.Response.{Response}
+use Rattle.children.specs.declared.responding.Response.TheVariants as response
+use Rattle.children.specs.declared.setting.Setting.{Setting}
+use Rattle.children.proofs.TermLemmas.{same_numbers, same_terms}
+
+-- two numbers of which neither is below the other
+one_number : (a b : ℕ) → ¬ (a < b) → ¬ (b < a) → a ≡ b
+one_number a b one two =
+    elim (leb_tells a b) [
+      | inl (_, upward) ↦ elim (leb_tells b a) [
+        | inl (_, downward) ↦ omega arith
+        | inr (_, below) ↦ absurd (one (omega arith))
+      ]
+      | inr (_, above) ↦ absurd (two (omega arith))
+    ]
+
+same_item : {X : Type 0} (xs : List X) (k l : ℕ) (x y : X) → slice_get xs k ≡ Some x → slice_get xs l ≡ Some y → k ≡ l → x ≡ y
+same_item xs k l x y here there same = cc
+
+one_first : (w : Wanted) (kind : ℕ) (ts : List Transform) (s t : Transform) → IsFirstAcceptable w kind ts s → IsFirstAcceptable w kind ts t → s ≡ t
+one_first w kind ts s t x y =
+    same_item ts x.place y.place s t x.here y.here
+    (one_number x.place y.place (λ below. y.first x.place s below x.here x.acceptable) (λ below. x.first y.place t below y.here y.acceptable))
+
+one_place : (w : Wanted) (ps : List Proposal) (a b : Chosen) → IsChosenProposal w ps a → IsChosenProposal w ps b → a.place ≡ b.place
+one_place w ps a b x y =
+    one_number a.place b.place (λ below. y.first a.place x.proposal below x.here x.acceptable) (λ below. x.first b.place y.proposal below y.here y.acceptable)
+
+one_proposal : (w : Wanted) (ps : List Proposal) (a b : Chosen) (x : IsChosenProposal w ps a) (y : IsChosenProposal w ps b) → x.proposal ≡ y.proposal
+one_proposal w ps a b x y = same_item ps a.place b.place x.proposal y.proposal x.here y.here (one_place w ps a b x y)
+
+abbrev choice : ℕ → ℕ → Bool → Chosen
+choice p n e = record { place = p; number = n; extended = e }
+
+same_choice : (a b : Chosen) → a.place ≡ b.place → a.number ≡ b.number → a.extended ≡ b.extended → a ≡ b
+same_choice a b p n e =
+    ap (λ (x : ℕ). choice x a.number a.extended) p ∙ ap (λ (x : ℕ). choice b.place x a.extended) n ∙ ap (λ (x : Bool). choice b.place b.number x) e
+
+one_choice : (allowed : Bool) (ps : List Proposal) (a b : Chosen) → IsChosenProposal (Esp allowed) ps a → IsChosenProposal (Esp allowed) ps b → a ≡ b
+one_choice allowed ps a b x y =
+    let same : x.proposal ≡ y.proposal = one_proposal (Esp allowed) ps a b x y in
+    let numbers = subst (λ (p : Proposal). IsFirstAcceptable (Esp allowed) 5 p.transforms (sequence_numbers b.extended)) (sym same) y.numbers in
+    same_choice a b (one_place (Esp allowed) ps a b x y)
+    (x.number ∙ ap (λ (p : Proposal). p.number) same ∙ sym y.number)
+    (same_numbers a.extended b.extended (one_first (Esp allowed) 5 x.proposal.transforms (sequence_numbers a.extended) (sequence_numbers b.extended) x.numbers numbers))
+
+abbrev pub OneNarrowing : Type 0
+OneNarrowing = (entries : List Entry) (i r answer_i answer_r other_i other_r : List Selector) → IsNarrowing entries i r answer_i answer_r → IsNarrowing entries i r other_i other_r
+    → (answer_i ≡ other_i) × (answer_r ≡ other_r)
+
+pub one_made : OneNarrowing → (setting : Setting) (entries : List Entry) (table : Database) (offer : Offered) (a b : Made) → IsMade setting entries table offer a → IsMade setting entries table offer b → a ≡ b
+one_made narrow setting entries table offer a b x y =
+    let chosen : x.chosen ≡ y.chosen = one_choice setting.extended offer.proposals x.chosen y.chosen x.due.choice y.due.choice in
+    let proposal = one_proposal (Esp setting.extended) offer.proposals x.chosen y.chosen x.due.choice y.due.choice in
+    let lists = narrow entries offer.ts_i offer.ts_r x.terms.ts_i x.terms.ts_r y.terms.ts_i y.terms.ts_r x.due.narrowed y.due.narrowed in
+    let terms : x.terms ≡ y.terms =
+    same_terms x.terms y.terms
+    (x.due.peer ∙ ap (λ (p : Proposal). big_number 4 p.spi) proposal ∙ sym y.due.peer)
+    (x.due.own ∙ sym y.due.own)
+    (x.due.extension ∙ ap (λ (c : Chosen). c.extended) chosen ∙ sym y.due.extension)
+    lists.0 lists.1 in
+    x.whole ∙ ap (λ (c : Chosen). made_of setting c x.terms) chosen ∙ ap (λ (t : Terms). made_of setting y.chosen t) terms ∙ sym y.whole
+
+-- where one is chosen, not none is acceptable
+some_chosen : (e : Bool) (o : Offered) → OffersNone e o → OffersSome e o → ⊥
+some_chosen e o none some =
+    let c = some.choice in
+    let p = c.proposal in
+    none some.chosen.place c.proposal (slice_get_within o.proposals some.chosen.place c.proposal c.here)
+    (subst (λ (q : Proposal). IsAcceptableProposal (Esp e) q) (sym (get_or_from_slice_get o.proposals some.chosen.place c.proposal c.proposal c.here)) c.acceptable)
+
+one_refusal : (e : Bool) (entries : List Entry) (t : Database) (o : Offered) (m n : Notice) → IsRefusal e entries t o m → IsRefusal e entries t o n → m ≡ n
+one_refusal e entries t o NoProposalChosen NoProposalChosen x y = refl
+one_refusal e entries t o NoProposalChosen TsUnacceptable x y = absurd (some_chosen e o x y.0)
+one_refusal e entries t o NoProposalChosen NoAdditionalSas x y = absurd (some_chosen e o x y.0)
+one_refusal e entries t o NoProposalChosen (UnsupportedCriticalPayload other) x y = absurd y
+one_refusal e entries t o NoProposalChosen InvalidSyntax x y = absurd y
+one_refusal e entries t o NoProposalChosen AuthenticationFailed x y = absurd y
+one_refusal e entries t o NoProposalChosen (Cookie others) x y = absurd y
+one_refusal e entries t o TsUnacceptable NoProposalChosen x y = absurd (some_chosen e o y x.0)
+one_refusal e entries t o TsUnacceptable TsUnacceptable x y = refl
+one_refusal e entries t o TsUnacceptable NoAdditionalSas x y = absurd (x.1 y.1)
+one_refusal e entries t o TsUnacceptable (UnsupportedCriticalPayload other) x y = absurd y
+one_refusal e entries t o TsUnacceptable InvalidSyntax x y = absurd y
+one_refusal e entries t o TsUnacceptable AuthenticationFailed x y = absurd y
+one_refusal e entries t o TsUnacceptable (Cookie others) x y = absurd y
+one_refusal e entries t o NoAdditionalSas NoProposalChosen x y = absurd (some_chosen e o y x.0)
+one_refusal e entries t o NoAdditionalSas TsUnacceptable x y = absurd (y.1 x.1)
+one_refusal e entries t o NoAdditionalSas NoAdditionalSas x y = refl
+one_refusal e entries t o NoAdditionalSas (UnsupportedCriticalPayload other) x y = absurd y
+one_refusal e entries t o NoAdditionalSas InvalidSyntax x y = absurd y
+one_refusal e entries t o NoAdditionalSas AuthenticationFailed x y = absurd y
+one_refusal e entries t o NoAdditionalSas (Cookie others) x y = absurd y
+one_refusal e entries t o (UnsupportedCriticalPayload kind) n x y = absurd x
+one_refusal e entries t o InvalidSyntax n x y = absurd x
+one_refusal e entries t o AuthenticationFailed n x y = absurd x
+one_refusal e entries t o (Cookie octets) n x y = absurd x
+
+not_refused : (setting : Setting) (entries : List Entry) (t : Database) (o : Offered) (made : Made) (n : Notice) → IsMade setting entries t o made → IsRefusal setting.extended entries t o n → ⊥
+not_refused setting entries t o made NoProposalChosen m x = some_chosen setting.extended o x (record { chosen = m.chosen; choice = m.due.choice })
+not_refused setting entries t o made TsUnacceptable m x = x.1 (record { place = m.due.narrowed.place; entry = m.due.narrowed.entry; chosen = m.due.narrowed.chosen })
+not_refused setting entries t o made NoAdditionalSas m x = elim (x.2) [
+  | inl full ↦ m.due.not_full full
+  | inr spent ↦ m.due.not_spent spent
+]
+not_refused setting entries t o made (UnsupportedCriticalPayload kind) m x = x
+not_refused setting entries t o made InvalidSyntax m x = x
+not_refused setting entries t o made AuthenticationFailed m x = x
+not_refused setting entries t o made (Cookie octets) m x = x
+
+pub one_response : OneNarrowing → (setting : Setting) (entries : List Entry) (table : Database) (offer : Offered) (a b : Response) → IsResponse setting entries table offer a → IsResponse setting entries table offer b → a ≡ b
+one_response narrow setting entries table offer (response.Made a) (response.Made b) x y = ap (λ (m : Made). response.Made m) (one_made narrow setting entries table offer a b x y)
+one_response narrow setting entries table offer (response.Made a) (response.Refused n) x y = absurd (not_refused setting entries table offer a n x y)
+one_response narrow setting entries table offer (response.Refused m) (response.Made b) x y = absurd (not_refused setting entries table offer b m y x)
+one_response narrow setting entries table offer (response.Refused m) (response.Refused n) x y = ap (λ (k : Notice). response.Refused k) (one_refusal setting.extended entries table offer m n x y)
+
+same_first : (a b : Proposal) → Some (a ∷ []) ≡ Some (b ∷ []) → a ≡ b
+same_first a b is = cc
+
+same_list : {X : Type 0} (a b : List X) → Some a ≡ Some b → a ≡ b
+same_list a b is = cc
+
+pub one_accepted : (setting : Setting) (asked : Asked) (answer : List Payload) (a b : Pair) → IsAccepted setting asked answer a → IsAccepted setting asked answer b → a ≡ b
+one_accepted setting asked answer a b x y =
+    let d = x.due in
+    let f = y.due in
+    let proposal : x.due.proposal ≡ y.due.proposal = same_first x.due.proposal y.due.proposal (sym x.due.sa ∙ y.due.sa) in
+    let other = subst (λ (p : Proposal). IsChosenProposal (Esp setting.extended) (p ∷ []) y.due.chosen) (sym proposal) y.due.accepted.choice in
+    let chosen : x.due.chosen ≡ y.due.chosen = one_choice setting.extended (x.due.proposal ∷ []) x.due.chosen y.due.chosen x.due.accepted.choice other in
+    let terms : x.terms ≡ y.terms =
+    same_terms x.terms y.terms
+    (x.due.own ∙ sym y.due.own)
+    (x.due.peer ∙ ap (λ (p : Proposal). big_number 4 p.spi) proposal ∙ sym y.due.peer)
+    (x.due.extension ∙ ap (λ (c : Chosen). c.extended) chosen ∙ sym y.due.extension)
+    (same_list x.terms.ts_i y.terms.ts_i (sym x.due.ts_i ∙ y.due.ts_i))
+    (same_list x.terms.ts_r y.terms.ts_r (sym x.due.ts_r ∙ y.due.ts_r)) in
+    x.made ∙ ap (λ (t : Terms). new_pair Initiator setting t) terms ∙ sym y.made

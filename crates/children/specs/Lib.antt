@@ -1,0 +1,7 @@
+pub mod Terms
+pub mod Pairs
+pub mod Making
+pub mod Asking
+pub mod Responding
+pub mod Accepting
+pub mod Faults

@@ -1,0 +1,36 @@
+//! The refusals of this crate, each for want of memory alone.
+ghost use Rattle.std.specs.Prelude.{◌≡◌};
+ghost use Rattle.children.specs.Faults.{code_of_child_fault};
+
+use thiserror::Error;
+
+/// For what there was no memory.
+#[derive(Clone, Copy, Debug, PartialEq, Eq, Error)]
+pub enum ChildFault {
+    /// There was no memory for the payloads.
+    #[error("E10: no memory")]
+    Message,
+    /// There was no memory for the replay window.
+    #[error("E20: no memory for the replay window")]
+    Window,
+    /// There was no memory for selectors, narrowed or kept with the pair.
+    #[error("E24: no memory for the selectors")]
+    Narrowing,
+    /// There was no memory for one more pair in the table.
+    #[error("E27: no memory for the table")]
+    Table,
+}
+
+impl ChildFault {
+    /// The refusal's number, as programs print it behind `E`.
+    pub fn code(self) -> u8
+        ensures { result ≡ code_of_child_fault self }
+    {
+        match self {
+            ChildFault::Message => 10,
+            ChildFault::Window => 20,
+            ChildFault::Narrowing => 24,
+            ChildFault::Table => 27,
+        }
+    }
+}

@@ -1,0 +1,73 @@
+//! The pair of associations, made of what the two ends agree on.
+ghost use Rattle.std.specs.Prelude.{◌≡◌, ◌≤◌, IfOk, length};
+ghost use Rattle.byteorder.specs.Endian.{big_number};
+ghost use Rattle.replay.specs.Window.{IsBlockCount};
+ghost use Rattle.children.specs.Making.{terms_of};
+ghost use Rattle.children.specs.Pairs.{new_pair};
+
+use crate::{ChildFault, Setting};
+use base::{Items, Selector};
+use byteorder::{BigEndian, ByteOrder};
+use esp::{Inbound, Outbound};
+use exchange::Role;
+use replay::BlockWindow;
+use sadb::Pair;
+use std::alloc::Global;
+use wire::Proposal;
+
+/// What the two ends agree on, by parts of the payloads.
+#[derive(Clone, Copy)]
+pub struct Agreed<'a> {
+    pub spi_i: u32,
+    pub spi_r: u32,
+    pub extended: bool,
+    pub ts_i: &'a [Selector],
+    pub ts_r: &'a [Selector],
+}
+
+/// The pair of the end of this role.
+pub fn make_pair(
+    alloc: Global,
+    role: Role,
+    setting: &Setting,
+    agreed: &Agreed<'_>,
+) -> Result<Pair, ChildFault>
+    requires { IsBlockCount setting.now.blocks }
+    ensures { IfOk result (λ pair. pair ≡ new_pair role setting.now (terms_of agreed.now)) }
+{
+    let Ok(window) = BlockWindow::new(alloc, setting.blocks) else {
+        return Err(ChildFault::Window);
+    };
+    let Ok(ts_i) = Items::from_slice(alloc, agreed.ts_i) else {
+        return Err(ChildFault::Narrowing);
+    };
+    let Ok(ts_r) = Items::from_slice(alloc, agreed.ts_r) else {
+        return Err(ChildFault::Narrowing);
+    };
+    let [key_i, key_r] = &setting.keys;
+    let extended = agreed.extended;
+    Ok(match role {
+        Role::Initiator => Pair::new(
+            setting.ike,
+            Inbound::new(agreed.spi_i, key_r, extended, window),
+            Outbound::new(agreed.spi_r, key_i, extended, 0),
+            ts_i,
+            ts_r,
+        ),
+        Role::Responder => Pair::new(
+            setting.ike,
+            Inbound::new(agreed.spi_r, key_i, extended, window),
+            Outbound::new(agreed.spi_i, key_r, extended, 0),
+            ts_r,
+            ts_i,
+        ),
+    })
+}
+
+/// The SPI that a proposal for ESP names (RFC 7296, section 3.3.1).
+pub fn spi_of(proposal: &Proposal) -> u32
+    requires { 4 ≤ length proposal.now.spi }
+    ensures { result ≡ big_number 4 proposal.now.spi }
+{
+    BigEndian::read_u32(proposal.spi.as_slice())
+}

@@ -1,0 +1,4 @@
+mod FittingLemmas
+mod PartLemmas
+mod JudgementLemmas
+mod AgreementLemmas

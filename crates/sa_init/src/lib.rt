@@ -1,0 +1,37 @@
+//! The exchange IKE_SA_INIT: what its two messages say and do (RFC 7296, sections 1.2, 2.6, 2.7, 2.10 and 2.14). No list of
+//! associations, no message ID and no timer is known here.
+//!
+//! An initiator sends what [`request`] makes, and [`read`] tells what the response to it means: keys, a cookie that is to be
+//! brought back, or nothing. A responder lets [`judge`] look at a request, and sends what [`answer`] makes of an [`Offer`] that
+//! is accepted, or the notice of a [`Judgement`] by [`refuse`]. While many associations are half open it asks for a cookie
+//! under its [`Cookies`], so that it keeps nothing for a sender that can't be reached.
+//!
+//! ```text
+//! match judge(&caller, payloads, &sender, &cookies, half_open, held) {
+//!     Judgement::Accepted(offer) => answer(alloc, &caller, &offer, sender.spi_i, &fresh)?,
+//!     Judgement::Answered(notice) => refuse(alloc, sender.spi_i, &notice)?,
+//!     Judgement::Incomplete | Judgement::Full => ..,
+//! }
+//! ```
+#![tactic(auto)]
+
+mod agreeing;
+mod answers;
+mod cookies;
+mod encoding;
+mod judging;
+pub mod laws;
+mod parts;
+mod requests;
+mod response;
+
+pub use answers::{Agreed, answer, refuse};
+pub use cookies::{Cookies, SecretsSpent};
+pub use judging::{
+    ASSOCIATION_LIMIT, COOKIE_THRESHOLD, HALF_OPEN_LIMIT, Judgement, Offer, Sender, judge,
+};
+pub use requests::request;
+pub use response::{COOKIE_LIMIT, Response, Waiting, read};
+
+#[cfg(test)]
+mod tests;

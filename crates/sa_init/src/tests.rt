@@ -1,0 +1,4 @@
+mod answering;
+mod fixture;
+mod judging;
+mod messages;
