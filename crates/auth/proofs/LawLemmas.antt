@@ -1,28 +1,34 @@
 -- What follows from the definitions: who is accepted, what fits, what is read again.
-use Rattle.std.proofs.Common.{◌≡◌, ◌==◌, ◌&&◌, ◌+◌, ◌<◌, ◌≤◌, ◌^◌, ℕ, Bool, true, false, Option, Some, None, List, [], ◌∷◌, ◌++◌, IsTrue, is_some, nat_lt, nat_eq, unwrap_or, if◌then◌else◌, max, min, length, refl, sym, ap, subst, ◌∙◌, arith}
+use Rattle.std.proofs.Common.{◌≡◌, ◌==◌, ◌&&◌, ◌+◌, ◌<◌, ◌≤◌, ◌^◌, ℕ, Bool, true, false, Option, Some, None, List, [], ◌∷◌, ◌++◌, IsTrue, is_some, nat_lt, nat_eq, unwrap_or, if◌then◌else◌, length, refl, sym, ap, subst, ◌∙◌, arith}
 use Rattle.std.proofs.lemmas.Bool.{eq-eqb, eqb-true}
 use Rattle.std.proofs.lemmas.Bool.Decides.{nat_tests}
 use Rattle.std.proofs.lemmas.List.Sums.{sum_by-cons, sum_by-append}
 use Rattle.std.proofs.lemmas.Nat.{from_be_bytes-to_be_bytes_4}
 use Rattle.std.proofs.lemmas.Option.{same_Some}
 use Rattle.std.specs.Cmp.Lexicographic.{pointwise, same_text}
-use Rattle.std.specs.Int.{from_be_bytes, to_be_bytes, w32}
+use Rattle.std.specs.Int.{from_be_bytes, w32}
 use Rattle.std.specs.List.{AllByRecursion, sum_by}
 use Rattle.std.specs.Option.{option_or}
 use Rattle.base.specs.Octets.{Octets}
-use Rattle.base.specs.declared.selector.Selector.{Selector}
 use Rattle.wire.specs.Numbers.{SET_WINDOW_SIZE}
 use Rattle.wire.specs.Sizes.{size_of, FitsFields}
 use Rattle.wire.specs.declared.payload.Payload.{Payload}
-use Rattle.wire.specs.declared.payload.Payload.TheVariants.{Auth, IdI, IdR, Notify, Sa, TsI, TsR}
-use Rattle.wire.specs.declared.proposal.Proposal.{Proposal}
+use Rattle.wire.specs.declared.payload.Payload.TheVariants.{Auth, IdI, IdR, Notify}
+use Rattle.exchange.specs.Children.{child_payloads}
 use Rattle.exchange.specs.Counting.{first_some, only_auth, only_id_i, only_sa, only_ts_i, only_ts_r, unknown_critical}
+use Rattle.exchange.specs.Notices.{payload_of_notice}
+use Rattle.exchange.specs.declared.child.ChildPayloads.{ChildPayloads}
+use Rattle.exchange.specs.declared.headers.Role.{Role}
+use Rattle.exchange.specs.declared.headers.Role.TheVariants.{Initiator, Responder}
+use Rattle.exchange.specs.declared.notices.Notice.{Notice}
 use Rattle.exchange.specs.declared.notices.Notice.TheVariants.{UnsupportedCriticalPayload, InvalidSyntax, NoProposalChosen, AuthenticationFailed, NoAdditionalSas, TsUnacceptable, Cookie}
 use Rattle.auth.specs.Answers.{answering_payloads, auth_answer, is_accepted}
-use Rattle.auth.specs.Fitting.{FitWithin, IsWindow, OWN_LIMIT}
-use Rattle.auth.specs.Proofs.{auth_payload, is_identity, is_peer, is_proved, octets_to_prove, Accepts, IsIdentity, ProvesItself, ProvingView}
-use Rattle.auth.specs.Requests.{auth_request, child_payloads, is_complete, Accepted, AskedView, IsAccepted, IsJudgement, JudgementView, Refused}
-use Rattle.auth.specs.Windows.{peer_window, window_in, window_notices, window_payload, window_within}
+use Rattle.auth.specs.Fitting.{FitWithin, OWN_LIMIT}
+use Rattle.auth.specs.Proofs.{auth_payload, id_payload, is_identity, is_peer, is_proved, octets_to_prove, proved_identity, Accepts, IsIdentity, ProvesItself, ProvingView}
+use Rattle.auth.specs.Requests.{auth_request, is_complete, Accepted, AskedView, AuthJudgement, IsAcceptedRequest, IsAuthJudgement, Refused}
+use Rattle.auth.specs.Windows.{peer_window, window_in, window_notices, window_payload, window_within, IsWindow}
+use Rattle.auth.specs.declared.child.ChildAnswer.{ChildAnswer}
+use Rattle.auth.specs.declared.child.ChildAnswer.TheVariants as answered
 use Rattle.auth.specs.declared.identity.Identity.{Identity}
 
 and_left : (a b : Bool) → (a && b) ≡ true → a ≡ true
@@ -72,28 +78,28 @@ peer_proves accepts peer what None auth is = cc
 
 -- Judgements are determined.
 
-judged : Option ℕ → Bool → Bool → AskedView → JudgementView
+judged : Option ℕ → Bool → Bool → AskedView → AuthJudgement
 judged (Some kind) complete proved asked = Refused (UnsupportedCriticalPayload kind)
 judged None false proved asked = Refused InvalidSyntax
 judged None true false asked = Refused AuthenticationFailed
 judged None true true asked = Accepted asked
 
 asked_in : List Payload → AskedView
-asked_in ps = record { proposals = unwrap_or (only_sa ps) []; ts_i = unwrap_or (only_ts_i ps) []; ts_r = unwrap_or (only_ts_r ps) []; window = peer_window ps }
+asked_in ps = record { child = record { proposals = unwrap_or (only_sa ps) []; ts_i = unwrap_or (only_ts_i ps) []; ts_r = unwrap_or (only_ts_r ps) [] }; window = peer_window ps }
 
-judgement_of : Accepts → Identity → ProvingView → List Payload → JudgementView
+judgement_of : Accepts → Identity → ProvingView → List Payload → AuthJudgement
 judgement_of accepts peer what ps = judged (unknown_critical ps) (is_complete ps) (is_peer accepts peer what (only_id_i ps) (only_auth ps)) (asked_in ps)
 
-accepted_alone : (accepts : Accepts) (peer : Identity) (what : ProvingView) (ps : List Payload) (asked : AskedView) → IsAccepted accepts peer what ps asked → judgement_of accepts peer what ps ≡ Accepted asked
+accepted_alone : (accepts : Accepts) (peer : Identity) (what : ProvingView) (ps : List Payload) (asked : AskedView) → IsAcceptedRequest accepts peer what ps asked → judgement_of accepts peer what ps ≡ Accepted asked
 unfolding judgement_of judged asked_in
 accepted_alone accepts peer what ps asked is =
     let there = peer_there accepts peer what (only_id_i ps) (only_auth ps) is.proved in
     let complete : is_complete ps ≡ true = all_there _ _ _ _ _ there.0 there.1 (λ i. is_some (is.sa i)) (λ i. is_some (is.ts_i i)) (λ i. is_some (is.ts_r i)) in
     let judgement : judgement_of accepts peer what ps ≡ Accepted (asked_in ps) = λ i. judged (is.known i) (complete i) (is.proved i) (asked_in ps) in
-    let content : asked_in ps ≡ asked = λ i. record { proposals = unwrap_or (is.sa i) []; ts_i = unwrap_or (is.ts_i i) []; ts_r = unwrap_or (is.ts_r i) []; window = sym is.told i } in
+    let content : asked_in ps ≡ asked = λ i. record { child = record { proposals = unwrap_or (is.sa i) []; ts_i = unwrap_or (is.ts_i i) []; ts_r = unwrap_or (is.ts_r i) [] }; window = sym is.told i } in
     judgement ∙ ap (λ (a : AskedView). Accepted a) content
 
-alone : (accepts : Accepts) (peer : Identity) (what : ProvingView) (ps : List Payload) (one : JudgementView) → IsJudgement accepts peer what ps one → judgement_of accepts peer what ps ≡ one
+alone : (accepts : Accepts) (peer : Identity) (what : ProvingView) (ps : List Payload) (one : AuthJudgement) → IsAuthJudgement accepts peer what ps one → judgement_of accepts peer what ps ≡ one
 unfolding judgement_of judged asked_in
 alone accepts peer what ps (Refused (UnsupportedCriticalPayload kind)) is = λ i. judged (is i) (is_complete ps) (is_peer accepts peer what (only_id_i ps) (only_auth ps)) (asked_in ps)
 alone accepts peer what ps (Refused InvalidSyntax) is = λ i. judged (is.known i) (is.missing i) (is_peer accepts peer what (only_id_i ps) (only_auth ps)) (asked_in ps)
@@ -104,8 +110,8 @@ alone accepts peer what ps (Refused TsUnacceptable) is = absurd is
 alone accepts peer what ps (Refused (Cookie octets)) is = absurd is
 alone accepts peer what ps (Accepted asked) is = accepted_alone accepts peer what ps asked is
 
-pub judged_once : (accepts : Accepts) (peer : Identity) (what : ProvingView) (ps : List Payload) (one other : JudgementView)
-    → IsJudgement accepts peer what ps one → IsJudgement accepts peer what ps other → one ≡ other
+pub judged_once : (accepts : Accepts) (peer : Identity) (what : ProvingView) (ps : List Payload) (one other : AuthJudgement)
+    → IsAuthJudgement accepts peer what ps one → IsAuthJudgement accepts peer what ps other → one ≡ other
 judged_once accepts peer what ps one other is too = sym (alone accepts peer what ps one is) ∙ alone accepts peer what ps other too
 
 -- What is sent fits.
@@ -135,21 +141,17 @@ sent_fits id auth child notices id_fits auth_fits id_short auth_short fit within
     let last = within.short in
     record { fields = (id_fits, (auth_fits, fields_append child notices fit within.fields)); short = omega arith }
 
-pub request_fits : (own_method : ℕ) (proof_of : Octets → Octets) (own : Identity) (what : ProvingView) (child : List Payload) (window : ℕ)
-    → IsIdentity own → FitsFields (auth_payload own_method proof_of own what) → AllByRecursion FitsFields child
-    → FitWithin (OWN_LIMIT + sum_by size_of child) (IdI own.kind own.data ∷ auth_payload own_method proof_of own what ∷ child ++ window_notices window)
-request_fits own_method proof_of own what child window is auth fit =
-    let few = is.octets.few in
-    let proof_few = auth.1.few in
-    sent_fits _ _ child (window_notices window) (is.kind, is.octets) auth (omega arith) (omega arith) fit (notices_if (nat_lt 1 window) window)
+id_fits : (role : Role) (own : Identity) → IsIdentity own → FitsFields (id_payload role own) × (size_of (id_payload role own) ≤ 264)
+id_fits Initiator own is = let few = is.octets.few in ((is.kind, is.octets), omega arith)
+id_fits Responder own is = let few = is.octets.few in ((is.kind, is.octets), omega arith)
 
-pub answer_fits : (own_method : ℕ) (proof_of : Octets → Octets) (own : Identity) (what : ProvingView) (child : List Payload) (window : ℕ)
+pub message_fits : (role : Role) (own_method : ℕ) (proof_of : Octets → Octets) (own : Identity) (what : ProvingView) (child : List Payload) (window : ℕ)
     → IsIdentity own → FitsFields (auth_payload own_method proof_of own what) → AllByRecursion FitsFields child
-    → FitWithin (OWN_LIMIT + sum_by size_of child) (IdR own.kind own.data ∷ auth_payload own_method proof_of own what ∷ child ++ window_notices window)
-answer_fits own_method proof_of own what child window is auth fit =
-    let few = is.octets.few in
+    → FitWithin (OWN_LIMIT + sum_by size_of child) (proved_identity role own_method proof_of own what ++ child ++ window_notices window)
+message_fits role own_method proof_of own what child window is auth fit =
+    let id = id_fits role own is in
     let proof_few = auth.1.few in
-    sent_fits _ _ child (window_notices window) (is.kind, is.octets) auth (omega arith) (omega arith) fit (notices_if (nat_lt 1 window) window)
+    sent_fits _ _ child (window_notices window) id.0 auth id.1 (omega arith) fit (notices_if (nat_lt 1 window) window)
 
 -- Windows are read again.
 
@@ -164,6 +166,22 @@ read_if false window wide is = let least = is.least in grind (arith, nat_tests)
 
 pub read_again : (window : ℕ) → IsWindow window → peer_window (window_notices window) ≡ window
 read_again window is = read_if (nat_lt 1 window) window refl is
+
+-- no notice that refuses a child tells a window
+tells_none : (notice : Notice) → window_in (payload_of_notice notice) ≡ None
+tells_none (UnsupportedCriticalPayload kind) = refl
+tells_none InvalidSyntax = refl
+tells_none NoProposalChosen = refl
+tells_none AuthenticationFailed = refl
+tells_none NoAdditionalSas = refl
+tells_none TsUnacceptable = refl
+tells_none (Cookie octets) = refl
+
+pub read_in_answer : (own_method : ℕ) (proof_of : Octets → Octets) (own : Identity) (what : ProvingView) (answer : ChildAnswer) (window : ℕ)
+    → IsWindow window → peer_window (auth_answer own_method proof_of own what answer window) ≡ window
+read_in_answer own_method proof_of own what (answered.Payloads child) window is = read_again window is
+read_in_answer own_method proof_of own what (answered.Notice notice) window is =
+    ap (λ (told : Option ℕ). unwrap_or (option_or told (first_some window_in (window_notices window))) 1) (tells_none notice) ∙ read_again window is
 
 counted : (number : ℕ) → IsWindow (window_within number)
 counted number = record { least = omega arith; widest = omega arith }
@@ -198,40 +216,32 @@ proved_by : (accepts : Accepts) (own : Identity) (what : ProvingView) (method : 
 proved_by accepts own what method proof accepted =
     both (is_identity own own.kind own.data) _ (both (own.kind == own.kind) _ (eq-eqb own.kind own.kind refl) (pointwise_itself own.data)) accepted
 
-accepted_if : (told : Bool) (accepts : Accepts) (own : Identity) (what : ProvingView) (method : ℕ) (proof : Octets) (proposals : List Proposal) (ts_i ts_r : List Selector) (window : ℕ)
+accepted_if : (told : Bool) (accepts : Accepts) (own : Identity) (what : ProvingView) (method : ℕ) (proof : Octets) (child : ChildPayloads) (window : ℕ)
     → is_proved accepts own what own.kind own.data method proof ≡ true → peer_window (if told then window_payload window ∷ [] else []) ≡ window
-    → IsAccepted accepts own what (IdI own.kind own.data ∷ Auth method proof ∷ Sa proposals ∷ TsI ts_i ∷ TsR ts_r ∷ (if told then window_payload window ∷ [] else []))
-    (record { proposals = proposals; ts_i = ts_i; ts_r = ts_r; window = window })
-accepted_if true accepts own what method proof proposals ts_i ts_r window proved read = record { known = refl; proved = proved; sa = refl; ts_i = refl; ts_r = refl; told = sym read }
-accepted_if false accepts own what method proof proposals ts_i ts_r window proved read = record { known = refl; proved = proved; sa = refl; ts_i = refl; ts_r = refl; told = sym read }
+    → IsAcceptedRequest accepts own what (IdI own.kind own.data ∷ Auth method proof ∷ child_payloads child ++ (if told then window_payload window ∷ [] else []))
+    (record { child = child; window = window })
+accepted_if true accepts own what method proof child window proved read = record { known = refl; proved = proved; sa = refl; ts_i = refl; ts_r = refl; told = sym read }
+accepted_if false accepts own what method proof child window proved read = record { known = refl; proved = proved; sa = refl; ts_i = refl; ts_r = refl; told = sym read }
 
-pub request_accepted : (accepts : Accepts) (own : Identity) (what : ProvingView) (method : ℕ) (proof : Octets) (proposals : List Proposal) (ts_i ts_r : List Selector) (window : ℕ)
-    → IsWindow window → IsTrue (accepts own.kind own.data method (octets_to_prove what own) proof)
-    → IsAccepted accepts own what (IdI own.kind own.data ∷ Auth method proof ∷ Sa proposals ∷ TsI ts_i ∷ TsR ts_r ∷ window_notices window)
-    (record { proposals = proposals; ts_i = ts_i; ts_r = ts_r; window = window })
-request_accepted accepts own what method proof proposals ts_i ts_r window is accepted =
-    accepted_if (nat_lt 1 window) accepts own what method proof proposals ts_i ts_r window (proved_by accepts own what method proof accepted) (read_again window is)
+pub request_accepted : (accepts : Accepts) (own_method : ℕ) (proof_of : Octets → Octets) (own : Identity) (what : ProvingView) (child : ChildPayloads) (window : ℕ)
+    → IsWindow window → IsTrue (accepts own.kind own.data own_method (octets_to_prove what own) (proof_of (octets_to_prove what own)))
+    → IsAcceptedRequest accepts own what (auth_request own_method proof_of own what child window) (record { child = child; window = window })
+request_accepted accepts own_method proof_of own what child window is accepted =
+    let proof = proof_of (octets_to_prove what own) in
+    accepted_if (nat_lt 1 window) accepts own what own_method proof child window (proved_by accepts own what own_method proof accepted) (read_again window is)
 
-made_if : (told : Bool) (accepts : Accepts) (own : Identity) (what : ProvingView) (method : ℕ) (proof : Octets) (proposals : List Proposal) (ts_i ts_r : List Selector) (window : ℕ)
+-- by what a message says beside its identity and its proof, and by whether it tells a window
+answer_if : (told : Bool) (accepts : Accepts) (own : Identity) (what : ProvingView) (method : ℕ) (proof : Octets) (answer : ChildAnswer) (window : ℕ)
     → is_proved accepts own what own.kind own.data method proof ≡ true
-    → is_accepted accepts own what (IdR own.kind own.data ∷ Auth method proof ∷ Sa proposals ∷ TsI ts_i ∷ TsR ts_r ∷ (if told then window_payload window ∷ [] else [])) ≡ true
-made_if true accepts own what method proof proposals ts_i ts_r window proved = proved
-made_if false accepts own what method proof proposals ts_i ts_r window proved = proved
+    → is_accepted accepts own what (IdR own.kind own.data ∷ Auth method proof ∷ answering_payloads answer ++ (if told then window_payload window ∷ [] else [])) ≡ true
+answer_if true accepts own what method proof (answered.Payloads child) window proved = proved
+answer_if false accepts own what method proof (answered.Payloads child) window proved = proved
+answer_if true accepts own what method proof (answered.Notice notice) window proved = proved
+answer_if false accepts own what method proof (answered.Notice notice) window proved = proved
 
-pub made_accepted : (accepts : Accepts) (own : Identity) (what : ProvingView) (method : ℕ) (proof : Octets) (proposals : List Proposal) (ts_i ts_r : List Selector) (window : ℕ)
-    → IsTrue (accepts own.kind own.data method (octets_to_prove what own) proof)
-    → is_accepted accepts own what (IdR own.kind own.data ∷ Auth method proof ∷ Sa proposals ∷ TsI ts_i ∷ TsR ts_r ∷ window_notices window) ≡ true
-made_accepted accepts own what method proof proposals ts_i ts_r window accepted =
-    made_if (nat_lt 1 window) accepts own what method proof proposals ts_i ts_r window (proved_by accepts own what method proof accepted)
-
-refused_if : (told : Bool) (accepts : Accepts) (own : Identity) (what : ProvingView) (method : ℕ) (proof : Octets) (protocol : ℕ) (spi : Octets) (kind : ℕ) (octets : Octets) (window : ℕ)
-    → is_proved accepts own what own.kind own.data method proof ≡ true
-    → is_accepted accepts own what (IdR own.kind own.data ∷ Auth method proof ∷ Notify protocol spi kind octets ∷ (if told then window_payload window ∷ [] else [])) ≡ true
-refused_if true accepts own what method proof protocol spi kind octets window proved = proved
-refused_if false accepts own what method proof protocol spi kind octets window proved = proved
-
-pub refused_accepted : (accepts : Accepts) (own : Identity) (what : ProvingView) (method : ℕ) (proof : Octets) (protocol : ℕ) (spi : Octets) (kind : ℕ) (octets : Octets) (window : ℕ)
-    → IsTrue (accepts own.kind own.data method (octets_to_prove what own) proof)
-    → is_accepted accepts own what (IdR own.kind own.data ∷ Auth method proof ∷ Notify protocol spi kind octets ∷ window_notices window) ≡ true
-refused_accepted accepts own what method proof protocol spi kind octets window accepted =
-    refused_if (nat_lt 1 window) accepts own what method proof protocol spi kind octets window (proved_by accepts own what method proof accepted)
+pub answer_accepted : (accepts : Accepts) (own_method : ℕ) (proof_of : Octets → Octets) (own : Identity) (what : ProvingView) (answer : ChildAnswer) (window : ℕ)
+    → IsTrue (accepts own.kind own.data own_method (octets_to_prove what own) (proof_of (octets_to_prove what own)))
+    → is_accepted accepts own what (auth_answer own_method proof_of own what answer window) ≡ true
+answer_accepted accepts own_method proof_of own what answer window accepted =
+    let proof = proof_of (octets_to_prove what own) in
+    answer_if (nat_lt 1 window) accepts own what own_method proof answer window (proved_by accepts own what own_method proof accepted)

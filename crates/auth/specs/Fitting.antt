@@ -3,7 +3,6 @@ use Rattle.std.specs.Prelude.{◌+◌, ◌≤◌, ℕ, List}
 use Rattle.std.specs.List.{AllByRecursion, sum_by}
 use Rattle.wire.specs.Sizes.{size_of, FitsFields}
 use Rattle.wire.specs.declared.payload.Payload.{Payload}
-use Rattle.auth.specs.Windows.{LEAST_WINDOW, WIDEST_WINDOW}
 
 -- octets of an ID payload, an AUTH payload and the notice of a window, at most
 abbrev pub OWN_LIMIT : ℕ
@@ -13,8 +12,3 @@ OWN_LIMIT = 264 + 1032 + 12
 pub record FitWithin (most : ℕ) (payloads : List Payload) : Type 0 where
   pub fields : AllByRecursion FitsFields payloads
   pub short : sum_by size_of payloads ≤ most
-
--- a window that counts as it is
-pub record IsWindow (window : ℕ) : Type 0 where
-  pub least : LEAST_WINDOW ≤ window
-  pub widest : window ≤ WIDEST_WINDOW

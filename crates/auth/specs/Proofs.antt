@@ -1,13 +1,16 @@
 -- Identities and their proofs (RFC 7296 sections 2.15, 3.5 and 3.8). The caller enters by what its traits mean: its method, what it
 -- proves octets with, and what it accepts of an identity by type and data, a method, octets and a proof.
-use Rattle.std.specs.Prelude.{◌≡◌, ◌<◌, ◌==◌, ◌&&◌, ℕ, Bool, false, IsTrue, Option, Some, None, nat_eq}
+use Rattle.std.specs.Prelude.{◌≡◌, ◌<◌, ◌==◌, ◌&&◌, ℕ, Bool, false, IsTrue, List, [], ◌∷◌, Option, Some, None, nat_eq}
 use Rattle.std.specs.Cmp.Lexicographic.{pointwise}
 use Rattle.base.specs.Octets.{Octets}
 use Rattle.suite.specs.SignedOctets.{proved_octets}
+use Rattle.suite.specs.declared.key_record.KeyRecord.{KeyRecord}
 use Rattle.wire.specs.Numbers.{IDENTITY_LIMIT}
 use Rattle.wire.specs.Sizes.{FitsData}
 use Rattle.wire.specs.declared.payload.Payload.{Payload}
-use Rattle.wire.specs.declared.payload.Payload.TheVariants.{Auth}
+use Rattle.wire.specs.declared.payload.Payload.TheVariants.{Auth, IdI, IdR}
+use Rattle.exchange.specs.declared.headers.Role.{Role}
+use Rattle.exchange.specs.declared.headers.Role.TheVariants.{Initiator, Responder}
 use Rattle.auth.specs.declared.identity.Identity.{Identity}
 use Rattle.auth.specs.declared.proving.Proving.{Proving}
 
@@ -28,6 +31,12 @@ pub record ProvingView : Type 0 where
 abbrev pub proving_view : Proving → ProvingView
 proving_view what = record { first = what.first.now; nonce = what.nonce.now; sk_p = what.sk_p.now }
 
+-- What the end of this role proves over, with the keys of its association and the first message that it sent: an initiator proves
+-- over the responder's nonce with SK_pi, a responder over the initiator's with SK_pr (section 2.15).
+abbrev pub proving_of : Role → KeyRecord → Octets → ProvingView
+proving_of Initiator keys first = record { first = first; nonce = keys.nonce_r; sk_p = keys.sk_pi }
+proving_of Responder keys first = record { first = first; nonce = keys.nonce_i; sk_p = keys.sk_pr }
+
 -- what an end of this identity proves (section 2.15)
 abbrev pub octets_to_prove : ProvingView → Identity → Octets
 octets_to_prove what identity = proved_octets what.first what.nonce what.sk_p identity.kind identity.data
@@ -35,6 +44,15 @@ octets_to_prove what identity = proved_octets what.first what.nonce what.sk_p id
 -- the AUTH payload of an end (section 3.8)
 abbrev pub auth_payload : ℕ → (Octets → Octets) → Identity → ProvingView → Payload
 auth_payload own_method proof_of own what = Auth own_method (proof_of (octets_to_prove what own))
+
+-- the ID payload of the end of this role (section 3.5)
+abbrev pub id_payload : Role → Identity → Payload
+id_payload Initiator own = IdI own.kind own.data
+id_payload Responder own = IdR own.kind own.data
+
+-- the identity and its proof, with which the messages of both ends begin (section 1.2)
+abbrev pub proved_identity : Role → ℕ → (Octets → Octets) → Identity → ProvingView → List Payload
+proved_identity role own_method proof_of own what = id_payload role own ∷ auth_payload own_method proof_of own what ∷ []
 
 -- what a caller accepts: the type and the data of an identity, a method, the octets to be proved, and the proof
 abbrev pub Accepts : Type 0

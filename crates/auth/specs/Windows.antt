@@ -1,5 +1,5 @@
 -- How many requests an end takes at once (RFC 7296 section 2.3).
-use Rattle.std.specs.Prelude.{◌==◌, ◌&&◌, ℕ, Option, Some, None, List, [], ◌∷◌, length, max, min, nat_lt, unwrap_or, if◌then◌else◌}
+use Rattle.std.specs.Prelude.{◌≤◌, ◌==◌, ◌&&◌, ℕ, Option, Some, None, List, [], ◌∷◌, length, max, min, nat_lt, unwrap_or, if◌then◌else◌}
 use Rattle.std.specs.Int.{from_be_bytes, to_be_bytes, w32}
 use Rattle.base.specs.Octets.{Octets}
 use Rattle.wire.specs.Numbers.{SET_WINDOW_SIZE}
@@ -14,6 +14,11 @@ LEAST_WINDOW = 1
 -- the widest window that counts, a limit of this implementation
 abbrev pub WIDEST_WINDOW : ℕ
 WIDEST_WINDOW = 16
+
+-- a window that counts as it is
+pub record IsWindow (window : ℕ) : Type 0 where
+  pub least : LEAST_WINDOW ≤ window
+  pub widest : window ≤ WIDEST_WINDOW
 
 -- an end tells its window by a notice with no protocol and no SPI (section 3.10), and a number of four octets
 abbrev pub window_payload : ℕ → Payload

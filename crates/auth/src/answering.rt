@@ -1,23 +1,23 @@
 //! The answer of IKE_AUTH where the peer is accepted (RFC 7296, section 1.2), and what an initiator makes of an answer.
-ghost use Rattle.std.specs.Prelude.{◌≡◌, ◌∷◌, [], Ok, false, IfOk, OnOk};
+ghost use Rattle.std.specs.Prelude.{◌≡◌, Ok, false, IfOk, OnOk};
 ghost use Rattle.exchange.specs.Counting.{only_auth, only_id_r};
 ghost use Rattle.auth.specs.Answers.{auth_answer, is_accepted};
 ghost use Rattle.wire.specs.Sizes.{FitsFields};
-ghost use Rattle.auth.specs.Proofs.{auth_payload, names, proving_view};
-ghost use Rattle.wire.specs.declared.payload.Payload.TheVariants.{IdR};
+ghost use Rattle.auth.specs.Proofs.{auth_payload, names, proving_view, IsIdentity};
+ghost use Rattle.auth.specs.Windows.{IsWindow};
 
-use crate::child::push_child_answer;
+use crate::proving::proved_identity;
 use crate::window::push_window;
-use crate::{ChildAnswer, Identity, Proving, is_proved, prove};
+use crate::{ChildAnswer, Identity, Proving, is_proved};
 use base::Items;
-use exchange::{only_auth, only_id_r};
+use exchange::{Role, only_auth, only_id_r};
 use std::alloc::{AllocError, Global};
 use suite::Proof;
 use wire::Payload;
 
 /// The payloads of the answer to a request that was accepted (RFC 7296, section 1.2): IDr and AUTH of this end, what answers the
-/// child, and, where its window is above 1, the notice that tells it. An error is for want of memory alone.
-/// The proof in it fits its payload.
+/// child, and, where its window (1 to 16 requests) is above 1, the notice that tells it. The proof in it fits its payload. An error
+/// is for want of memory alone.
 pub fn answer<C: Proof>(
     alloc: Global,
     caller: &C,
@@ -26,41 +26,22 @@ pub fn answer<C: Proof>(
     child: ChildAnswer,
     window: u8,
 ) -> Result<Items<Payload>, AllocError>
+    requires own { IsIdentity own.now }
+    requires window { IsWindow window }
     ensures made { IfOk result (λ payloads. payloads ≡ auth_answer
         (C.own_method caller.now) (C.proof_of caller.now) own.now (proving_view what.now) child window) }
     ensures fits { OnOk result (FitsFields
         (auth_payload (C.own_method caller.now) (C.proof_of caller.now) own.now (proving_view what.now))) }
 {
-    let mut payloads = proved_identity(alloc, caller, own, what)?;
-    push_child_answer(&mut payloads, child)?;
+    let mut payloads = proved_identity(alloc, caller, Role::Responder, own, what)?;
+    child.append_to(alloc, &mut payloads)?;
     push_window(alloc, &mut payloads, window)?;
     Ok(payloads)
 }
 
-// IDr and AUTH.
-fn proved_identity<C: Proof>(
-    alloc: Global,
-    caller: &C,
-    own: &Identity,
-    what: &Proving<'_>,
-) -> Result<Items<Payload>, AllocError>
-    ensures made { IfOk result (λ payloads. payloads ≡ IdR own.now.kind own.now.data
-        ∷ auth_payload (C.own_method caller.now) (C.proof_of caller.now)
-        own.now (proving_view what.now) ∷ []) }
-    ensures fits { OnOk result (FitsFields
-        (auth_payload (C.own_method caller.now) (C.proof_of caller.now) own.now (proving_view what.now))) }
-{
-    let mut payloads = Items::new(alloc);
-    payloads.push(Payload::IdR {
-        kind: own.kind,
-        data: Items::from_slice(alloc, own.data.as_slice())?,
-    })?;
-    payloads.push(prove(alloc, caller, own, what)?)?;
-    Ok(payloads)
-}
-
 /// Whether the sender of an answer with these payloads is the peer, and proved it (RFC 7296, section 2.15): there is exactly one
-/// IDr, which is the peer's, and exactly one AUTH, by which it is proved ([`is_proved`]). All else is passed over, critical or not.
+/// IDr, which is the peer's, and exactly one AUTH, by which it is proved ([`is_proved`]). All else is passed over. That
+/// a critical payload is, too, is a rule of this implementation against section 2.5, which has the initiator ignore such an answer.
 ///
 /// An error is for want of memory alone, and none comes where an IDr or an AUTH is missing or there twice, or another identity is
 /// named.

@@ -1,13 +1,15 @@
 //! Proofs of identity (RFC 7296, sections 2.15 and 3.8).
-ghost use Rattle.std.specs.Prelude.{◌≡◌, Ok, false, IfOk};
+ghost use Rattle.std.specs.Prelude.{◌≡◌, Ok, false, IfOk, OnOk};
 ghost use Rattle.base.specs.Octets.{AreOctets};
 ghost use Rattle.wire.specs.Sizes.{FitsFields};
 ghost use Rattle.wire.specs.declared.payload.Payload.TheVariants.{Auth};
-ghost use Rattle.auth.specs.Proofs.{auth_payload, is_identity, is_proved, octets_to_prove, proving_view};
+ghost use Rattle.auth.specs.Proofs.{auth_payload, id_payload, is_identity, is_proved, octets_to_prove, proved_identity, proving_of, proving_view};
 
 use crate::Identity;
+use base::Items;
+use exchange::Role;
 use std::alloc::{AllocError, Global};
-use suite::{Proof, proof_octets};
+use suite::{KeyRecord, Proof, proof_octets};
 use wire::Payload;
 
 /// What goes into an end's proof beside its identity (RFC 7296, section 2.15).
@@ -19,6 +21,58 @@ pub struct Proving<'a> {
     pub nonce: &'a [u8],
     /// The end's key SK_p (section 2.14).
     pub sk_p: &'a [u8; 32],
+}
+
+impl<'a> Proving<'a> {
+    /// What the end of this role in IKE_SA_INIT proves over (RFC 7296, section 2.15), with the keys of the association and the first
+    /// message that this end sent: an initiator over the responder's nonce, with SK_pi, a responder over the initiator's, with
+    /// SK_pr.
+    pub fn of(role: Role, keys: &'a KeyRecord, first: &'a [u8]) -> Proving<'a>
+        ensures { proving_view result ≡ proving_of role keys.now first.now }
+    {
+        match role {
+            Role::Initiator => Proving {
+                first,
+                nonce: keys.nonce_r.as_slice(),
+                sk_p: &keys.sk_pi,
+            },
+            Role::Responder => Proving {
+                first,
+                nonce: keys.nonce_i.as_slice(),
+                sk_p: &keys.sk_pr,
+            },
+        }
+    }
+}
+
+// The ID and AUTH payloads, with which the message of an end of this role begins.
+pub(crate) fn proved_identity<C: Proof>(
+    alloc: Global,
+    caller: &C,
+    role: Role,
+    own: &Identity,
+    what: &Proving<'_>,
+) -> Result<Items<Payload>, AllocError>
+    ensures made { IfOk result (λ payloads. payloads ≡ proved_identity role
+        (C.own_method caller.now) (C.proof_of caller.now) own.now (proving_view what.now)) }
+    ensures fits { OnOk result (FitsFields
+        (auth_payload (C.own_method caller.now) (C.proof_of caller.now) own.now (proving_view what.now))) }
+{
+    let mut payloads = Items::new(alloc);
+    payloads.push(id_payload(alloc, role, own)?)?;
+    payloads.push(prove(alloc, caller, own, what)?)?;
+    Ok(payloads)
+}
+
+fn id_payload(alloc: Global, role: Role, own: &Identity) -> Result<Payload, AllocError>
+    ensures { IfOk result (λ payload. payload ≡ id_payload role own.now) }
+{
+    let kind = own.kind;
+    let data = Items::from_slice(alloc, own.data.as_slice())?;
+    Ok(match role {
+        Role::Initiator => Payload::IdI { kind, data },
+        Role::Responder => Payload::IdR { kind, data },
+    })
 }
 
 /// The AUTH payload by which an end of this identity proves itself (RFC 7296, section 3.8). An error is for want of memory alone.
@@ -53,7 +107,7 @@ fn auth_over<C: Proof>(alloc: Global, caller: &C, octets: &[u8]) -> Result<Paylo
 }
 
 // Tells of the items of a slice what their type does. Does nothing.
-fn are_octets(octets: &[u8])
+pub(crate) fn are_octets(octets: &[u8])
     ensures { AreOctets octets.now }
 {
     let _ = octets;

@@ -1,4 +1,5 @@
 mod answering;
 mod judging;
 mod parts;
+mod proving;
 mod windows;

@@ -1,7 +1,7 @@
 //! Windows: how many requests an end takes at once (RFC 7296, section 2.3).
 ghost use Rattle.std.specs.Prelude.{◌≡◌, ◌++◌, IfOk, OnOk};
 ghost use Rattle.wire.specs.Numbers.{SET_WINDOW_SIZE};
-ghost use Rattle.auth.specs.Windows.{peer_window, told_window, window_in, window_notices, window_payload, window_within};
+ghost use Rattle.auth.specs.Windows.{peer_window, told_window, window_in, window_notices, window_payload, window_within, IsWindow};
 
 use base::Items;
 use std::alloc::{AllocError, Global};
@@ -14,9 +14,10 @@ const LEAST_WINDOW: u8 = 1;
 // The widest window that counts, a limit of this implementation.
 const WIDEST_WINDOW: u8 = 16;
 
-/// The notice SET_WINDOW_SIZE by which an end tells its window (RFC 7296, section 2.3), with protocol 0 and no SPI. An error is for
-/// want of memory alone.
+/// The notice SET_WINDOW_SIZE by which an end tells its window, 1 to 16 requests (RFC 7296, section 2.3), with protocol 0 and no
+/// SPI. An error is for want of memory alone.
 pub fn window_notice(alloc: Global, window: u8) -> Result<Payload, AllocError>
+    requires { IsWindow window }
     ensures { IfOk result (λ payload. payload ≡ window_payload window) }
 {
     Ok(Payload::Notify {
@@ -33,6 +34,7 @@ pub(crate) fn push_window(
     payloads: &mut Items<Payload>,
     window: u8,
 ) -> Result<(), AllocError>
+    requires { IsWindow window }
     ensures { OnOk result (payloads.new ≡ payloads.old ++ window_notices window) }
 {
     if window > LEAST_WINDOW {

@@ -15,13 +15,15 @@ use Rattle.wire.specs.declared.proposal.Proposal.{Proposal}
 use Rattle.wire.specs.declared.proposal.Transform.{Transform}
 use Rattle.suite.specs.Choice.{sequence_numbers, without_attributes}
 use Rattle.suite.specs.declared.choice.Wanted.TheVariants.{Esp}
+use Rattle.exchange.specs.Children.{child_payloads}
 use Rattle.exchange.specs.Offers.{answered_transforms, offered_transforms}
+use Rattle.exchange.specs.declared.child.ChildPayloads.{ChildPayloads}
 use Rattle.policy.specs.Narrowing.{AreSendable, IsNarrowing, IsSendableSelector}
 use Rattle.policy.specs.declared.entry.Entry.{Entry}
 use Rattle.sadb.specs.Database.{Database}
-use Rattle.children.specs.Asking.{child_request, payload_list, FitMessages}
-use Rattle.children.specs.Responding.{made_of, IsMade, Offered}
-use Rattle.children.specs.declared.asking.ChildPayloads.{ChildPayloads}
+use Rattle.children.specs.Asking.{child_request, FitMessages}
+use Rattle.children.specs.Responding.{made_of, IsMadeChild}
+use Rattle.children.specs.declared.asking.Asked.{Asked}
 use Rattle.children.specs.declared.responding.Made.{Made}
 use Rattle.children.specs.declared.setting.Setting.{Setting}
 use Rattle.children.proofs.ListLemmas.{octets_of, one_item}
@@ -110,7 +112,7 @@ proposal_short : (number spi : ℕ) (ts : List Transform) → AreFew ts → prop
 proposal_short number spi ts x = omega (arith, x.short, length-bytes_high_first 4 spi)
 
 payloads_fit : (number spi : ℕ) (ts : List Transform) (i r : List Selector) → 1 ≤ number → number < 256 → AreFew ts → AreSendable i → AreSendable r
-    → FitMessages (record { sa = Sa (esp_proposal number spi ts ∷ []); ts_i = TsI i; ts_r = TsR r })
+    → FitMessages (record { proposals = esp_proposal number spi ts ∷ []; ts_i = i; ts_r = r })
 payloads_fit number spi ts i r one small x sends_i sends_r =
     let sa = proposal_short number spi ts x in
     let size_i = selectors_short i in
@@ -129,9 +131,10 @@ lone_sendable s sends = record {
   each = λ k t is. subst (λ (x : Selector). IsSendableSelector x) (one_item s k t is) sends;
 }
 
-pub request_fits : (extended : Bool) (spi : ℕ) (local remote : Selector) → IsSendableSelector local → IsSendableSelector remote → FitMessages (child_request extended spi local remote)
-request_fits extended spi local remote sends_i sends_r =
-    payloads_fit 1 spi (offered_transforms (Esp extended)) (local ∷ []) (remote ∷ []) (omega arith) (omega arith) (offered_few extended) (lone_sendable local sends_i) (lone_sendable remote sends_r)
+pub request_fits : (asked : Asked) → IsSendableSelector asked.local → IsSendableSelector asked.remote → FitMessages (child_request asked)
+request_fits asked sends_i sends_r =
+    payloads_fit 1 asked.spi (offered_transforms (Esp asked.extended)) (asked.local ∷ []) (asked.remote ∷ []) (omega arith) (omega arith) (offered_few asked.extended)
+    (lone_sendable asked.local sends_i) (lone_sendable asked.remote sends_r)
 
 numbered_from : (n : ℕ) (ps : List Proposal) (place : ℕ) (p : Proposal) → NumberedFrom n ps → slice_get ps place ≡ Some p → n ≤ p.number
 numbered_from n [] zero p numbered is = cc
@@ -161,11 +164,11 @@ abbrev pub AnswersAreSendable : Type 0
 AnswersAreSendable = (entries : List Entry) (i r answer_i answer_r : List Selector) → length i ≤ 16 → length r ≤ 16 → IsNarrowing entries i r answer_i answer_r
     → AreSendable answer_i × AreSendable answer_r
 
-pub response_fits : AnswersAreSendable → (setting : Setting) (entries : List Entry) (table : Database) (offer : Offered) (made : Made)
-    → FitsFields (Sa offer.proposals) → length offer.ts_i ≤ 16 → length offer.ts_r ≤ 16 → IsMade setting entries table offer made → FitMessages made.payloads
-response_fits sendable setting entries table offer made proposals few_i few_r m =
+pub response_fits : AnswersAreSendable → (setting : Setting) (extended : Bool) (entries : List Entry) (table : Database) (offer : ChildPayloads) (made : Made)
+    → FitsFields (Sa offer.proposals) → length offer.ts_i ≤ 16 → length offer.ts_r ≤ 16 → IsMadeChild setting extended entries table offer made → FitMessages made.payloads
+response_fits sendable setting extended entries table offer made proposals few_i few_r m =
     let sends = sendable entries offer.ts_i offer.ts_r m.terms.ts_i m.terms.ts_r few_i few_r m.due.narrowed in
     let one : 1 ≤ m.chosen.number = subst (λ (n : ℕ). 1 ≤ n) (sym m.due.choice.number) (numbered_at offer.proposals m.chosen.place m.due.choice.proposal proposals.0 m.due.choice.here) in
     let small : m.chosen.number < 256 = subst (λ (n : ℕ). n < 256) (sym m.due.choice.number) (fits_at offer.proposals m.chosen.place m.due.choice.proposal proposals.1 m.due.choice.here).number in
     subst (λ (x : Made). FitMessages x.payloads) (sym m.whole)
-    (payloads_fit m.chosen.number m.terms.spi_r (answered_transforms (Esp setting.extended) m.chosen.extended) m.terms.ts_i m.terms.ts_r one small (answered_few setting.extended m.chosen.extended) sends.0 sends.1)
+    (payloads_fit m.chosen.number m.terms.spi_r (answered_transforms (Esp extended) m.chosen.extended) m.terms.ts_i m.terms.ts_r one small (answered_few extended m.chosen.extended) sends.0 sends.1)

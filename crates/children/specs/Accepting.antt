@@ -1,5 +1,5 @@
 -- What an initiator accepts of the answer to what it asked (RFC 7296 sections 2.7 and 2.9).
-use Rattle.std.specs.Prelude.{◌≡◌, Bool, List, [], ◌∷◌, Some}
+use Rattle.std.specs.Prelude.{◌≡◌, List, [], ◌∷◌, Some}
 use Rattle.byteorder.specs.Endian.{big_number}
 use Rattle.wire.specs.declared.payload.Payload.{Payload}
 use Rattle.wire.specs.declared.proposal.Proposal.{Proposal}
@@ -12,16 +12,16 @@ use Rattle.policy.specs.Narrowing.{AnswersOffer}
 use Rattle.sadb.specs.declared.pair.Pair.{Pair}
 use Rattle.children.specs.Pairs.{new_pair}
 use Rattle.children.specs.Terms.{Terms}
-use Rattle.children.specs.declared.accepting.Asked.{Asked}
+use Rattle.children.specs.declared.asking.Asked.{Asked}
 use Rattle.children.specs.declared.setting.Setting.{Setting}
 
 -- The terms of an acceptable answer: one proposal that is due to the offer, and selectors inside those offered, which are not
 -- empty.
-pub record AreAcceptedTerms (extended : Bool) (asked : Asked) (answer : List Payload) (terms : Terms) : Type 0 where
+pub record AreAcceptedTerms (asked : Asked) (answer : List Payload) (terms : Terms) : Type 0 where
   pub proposal : Proposal
   pub chosen : Chosen
   pub sa : only_sa answer ≡ Some (proposal ∷ [])
-  pub accepted : AcceptsAnswer (Esp extended) (proposal ∷ []) chosen
+  pub accepted : AcceptsAnswer (Esp asked.extended) (proposal ∷ []) chosen
   pub own : terms.spi_i ≡ asked.spi
   pub peer : terms.spi_r ≡ big_number 4 proposal.spi
   pub extension : terms.extended ≡ chosen.extended
@@ -31,11 +31,11 @@ pub record AreAcceptedTerms (extended : Bool) (asked : Asked) (answer : List Pay
   pub inside_r : AnswersOffer terms.ts_r (asked.remote ∷ [])
 
 -- the pair that an initiator has by an acceptable answer
-pub record IsAccepted (setting : Setting) (asked : Asked) (answer : List Payload) (pair : Pair) : Type 0 where
+pub record IsAcceptedChild (setting : Setting) (asked : Asked) (answer : List Payload) (pair : Pair) : Type 0 where
   pub terms : Terms
-  pub due : AreAcceptedTerms setting.extended asked answer terms
+  pub due : AreAcceptedTerms asked answer terms
   pub made : pair ≡ new_pair Initiator setting terms
 
 -- no terms are acceptable
-abbrev pub IsUnacceptable : Bool → Asked → List Payload → Type 0
-IsUnacceptable extended asked answer = (terms : Terms) → ¬ AreAcceptedTerms extended asked answer terms
+abbrev pub IsUnacceptable : Asked → List Payload → Type 0
+IsUnacceptable asked answer = (terms : Terms) → ¬ AreAcceptedTerms asked answer terms

@@ -1,14 +1,13 @@
 -- What a responder answers (RFC 7296 sections 1.3, 2.7 and 2.9).
 use Rattle.std.specs.Prelude.{◌≡◌, ◌+◌, ◌<◌, ◌≤◌, ◌^◌, ◌⊎◌, ℕ, Bool, List, [], ◌∷◌, All}
 use Rattle.byteorder.specs.Endian.{big_bytes, big_number}
-use Rattle.base.specs.declared.selector.Selector.{Selector}
-use Rattle.wire.specs.declared.payload.Payload.{Payload}
-use Rattle.wire.specs.declared.payload.Payload.TheVariants.{Sa, TsI, TsR}
 use Rattle.wire.specs.declared.proposal.Proposal.{Proposal}
 use Rattle.suite.specs.Choice.{IsAcceptableProposal, IsChosenProposal}
 use Rattle.suite.specs.declared.choice.Chosen.{Chosen}
+use Rattle.suite.specs.declared.choice.Wanted.{Wanted}
 use Rattle.suite.specs.declared.choice.Wanted.TheVariants.{Esp}
 use Rattle.exchange.specs.Offers.{answer_of, IsTakenFrom}
+use Rattle.exchange.specs.declared.child.ChildPayloads.{ChildPayloads}
 use Rattle.exchange.specs.declared.headers.Role.TheVariants.{Responder}
 use Rattle.exchange.specs.declared.notices.Notice.{Notice}
 use Rattle.exchange.specs.declared.notices.Notice.TheVariants.{UnsupportedCriticalPayload, InvalidSyntax, NoProposalChosen, AuthenticationFailed, NoAdditionalSas, TsUnacceptable, Cookie}
@@ -16,45 +15,24 @@ use Rattle.policy.specs.Narrowing.{IsAcceptableOffer, IsNarrowing}
 use Rattle.policy.specs.declared.entry.Entry.{Entry}
 use Rattle.sadb.specs.Database.{Database, Installs, IsFull, IsReady, IsSpent, Reserves}
 use Rattle.sadb.specs.declared.pair.Pair.{Pair}
-use Rattle.children.specs.Asking.{asked_proposal}
 use Rattle.children.specs.Pairs.{new_pair}
 use Rattle.children.specs.Terms.{Terms}
-use Rattle.children.specs.declared.accepting.Asked.{Asked}
-use Rattle.children.specs.declared.asking.ChildPayloads.{ChildPayloads}
 use Rattle.children.specs.declared.responding.Made.{Made}
-use Rattle.children.specs.declared.responding.Offer.{Offer}
 use Rattle.children.specs.declared.responding.Response.{Response}
 use Rattle.children.specs.declared.responding.Response.TheVariants as response
 use Rattle.children.specs.declared.setting.Setting.{Setting}
 
--- what is offered, as plain data
-pub record Offered : Type 0 where
-  pub proposals : List Proposal
-  pub ts_i : List Selector
-  pub ts_r : List Selector
-
-abbrev pub offered : Offer → Offered
-offered offer = record { proposals = offer.proposals.now; ts_i = offer.ts_i.now; ts_r = offer.ts_r.now }
-
--- what an initiator asked, as an offer
-abbrev pub asked_offer : Bool → Asked → Offered
-asked_offer extended asked = record {
-  proposals = asked_proposal extended asked.spi ∷ [];
-  ts_i = asked.local ∷ [];
-  ts_r = asked.remote ∷ [];
-}
-
 -- no proposal is acceptable to an end that allows extended sequence numbers, or doesn't
-abbrev pub OffersNone : Bool → Offered → Type 0
+abbrev pub OffersNone : Bool → ChildPayloads → Type 0
 OffersNone extended offer = All (λ proposal. ¬ IsAcceptableProposal (Esp extended) proposal) offer.proposals
 
 -- one is chosen
-pub record OffersSome (extended : Bool) (offer : Offered) : Type 0 where
+pub record OffersSome (extended : Bool) (offer : ChildPayloads) : Type 0 where
   pub chosen : Chosen
   pub choice : IsChosenProposal (Esp extended) offer.proposals chosen
 
 -- some entry of the policy is chosen for the selectors
-abbrev pub CanBeNarrowed : List Entry → Offered → Type 0
+abbrev pub CanBeNarrowed : List Entry → ChildPayloads → Type 0
 CanBeNarrowed entries offer = IsAcceptableOffer entries offer.ts_i offer.ts_r
 
 -- the table has no place for another pair, or no SPI
@@ -66,24 +44,24 @@ abbrev pub next_spi : Database → ℕ
 next_spi table = table.start + table.given
 
 -- the answer's only proposal, with this end's SPI
-abbrev pub answered_sa : Bool → Chosen → ℕ → Payload
-answered_sa extended chosen own = Sa (answer_of (Esp extended) chosen (big_bytes 4 own) ∷ [])
+abbrev pub answered_proposals : Wanted → Chosen → ℕ → List Proposal
+answered_proposals wanted chosen own = answer_of wanted chosen (big_bytes 4 own) ∷ []
 
--- the payloads of the answer
-abbrev pub child_response : Bool → Chosen → Terms → ChildPayloads
-child_response extended chosen terms = record {
-  sa = answered_sa extended chosen terms.spi_r;
-  ts_i = TsI terms.ts_i;
-  ts_r = TsR terms.ts_r;
+-- what the answer says
+abbrev pub child_response : Wanted → Chosen → Terms → ChildPayloads
+child_response wanted chosen terms = record {
+  proposals = answered_proposals wanted chosen terms.spi_r;
+  ts_i = terms.ts_i;
+  ts_r = terms.ts_r;
 }
 
--- these, and the responder's pair
-abbrev pub made_of : Setting → Chosen → Terms → Made
-made_of setting chosen terms = record { payloads = child_response setting.extended chosen terms; pair = new_pair Responder setting terms }
+-- that, and the responder's pair
+abbrev pub made_of : Setting → Wanted → Chosen → Terms → Made
+made_of setting wanted chosen terms = record { payloads = child_response wanted chosen terms; pair = new_pair Responder setting terms }
 
 -- The terms on which a child is made: the peer's SPI is that of the chosen proposal, this end's the next that the table gives,
 -- and the selectors are narrowed to the policy.
-pub record AreMadeTerms (extended : Bool) (entries : List Entry) (table : Database) (offer : Offered) (chosen : Chosen) (terms : Terms) : Type 0 where
+pub record AreMadeTerms (extended : Bool) (entries : List Entry) (table : Database) (offer : ChildPayloads) (chosen : Chosen) (terms : Terms) : Type 0 where
   pub choice : IsChosenProposal (Esp extended) offer.proposals chosen
   pub peer : terms.spi_i ≡ big_number 4 choice.proposal.spi
   pub own : terms.spi_r ≡ next_spi table
@@ -95,28 +73,29 @@ pub record AreMadeTerms (extended : Bool) (entries : List Entry) (table : Databa
   pub not_full : ¬ IsFull table
   pub not_spent : ¬ IsSpent table
 
--- what is made of an offer: the answer's payloads, and the responder's pair
-pub record IsMade (setting : Setting) (entries : List Entry) (table : Database) (offer : Offered) (made : Made) : Type 0 where
+-- What is made of an offer, by an end that allows extended sequence numbers or doesn't: the answer's payloads, and the
+-- responder's pair.
+pub record IsMadeChild (setting : Setting) (extended : Bool) (entries : List Entry) (table : Database) (offer : ChildPayloads) (made : Made) : Type 0 where
   pub chosen : Chosen
   pub terms : Terms
-  pub due : AreMadeTerms setting.extended entries table offer chosen terms
-  pub whole : made ≡ made_of setting chosen terms
+  pub due : AreMadeTerms extended entries table offer chosen terms
+  pub whole : made ≡ made_of setting (Esp extended) chosen terms
 
 -- why no child is made, each where those before it don't apply
-abbrev pub IsRefusal : Bool → List Entry → Database → Offered → Notice → Type 0
-IsRefusal extended entries table offer NoProposalChosen = OffersNone extended offer
-IsRefusal extended entries table offer TsUnacceptable = OffersSome extended offer × (¬ CanBeNarrowed entries offer)
-IsRefusal extended entries table offer NoAdditionalSas =
+abbrev pub IsChildRefusal : Bool → List Entry → Database → ChildPayloads → Notice → Type 0
+IsChildRefusal extended entries table offer NoProposalChosen = OffersNone extended offer
+IsChildRefusal extended entries table offer TsUnacceptable = OffersSome extended offer × (¬ CanBeNarrowed entries offer)
+IsChildRefusal extended entries table offer NoAdditionalSas =
     OffersSome extended offer × CanBeNarrowed entries offer × TakesNoMore table
-IsRefusal extended entries table offer (UnsupportedCriticalPayload kind) = ⊥
-IsRefusal extended entries table offer InvalidSyntax = ⊥
-IsRefusal extended entries table offer AuthenticationFailed = ⊥
-IsRefusal extended entries table offer (Cookie octets) = ⊥
+IsChildRefusal extended entries table offer (UnsupportedCriticalPayload kind) = ⊥
+IsChildRefusal extended entries table offer InvalidSyntax = ⊥
+IsChildRefusal extended entries table offer AuthenticationFailed = ⊥
+IsChildRefusal extended entries table offer (Cookie octets) = ⊥
 
 -- the answer to an offer
-abbrev pub IsResponse : Setting → List Entry → Database → Offered → Response → Type 0
-IsResponse setting entries table offer (response.Made made) = IsMade setting entries table offer made
-IsResponse setting entries table offer (response.Refused notice) = IsRefusal setting.extended entries table offer notice
+abbrev pub IsChildResponse : Setting → Bool → List Entry → Database → ChildPayloads → Response → Type 0
+IsChildResponse setting extended entries table offer (response.Made made) = IsMadeChild setting extended entries table offer made
+IsChildResponse setting extended entries table offer (response.Refused notice) = IsChildRefusal extended entries table offer notice
 
 -- the table can take the pair: it has room, and gives the pair's inbound SPI next
 pub record CanTake (table : Database) (pair : Pair) : Type 0 where
@@ -129,15 +108,15 @@ LeavesRoom (response.Made made) table = CanTake table made.pair
 LeavesRoom (response.Refused notice) table = Unit
 
 -- the offer is refused whatever the table holds
-abbrev pub IsRefusedAtOnce : Bool → List Entry → Offered → Type 0
+abbrev pub IsRefusedAtOnce : Bool → List Entry → ChildPayloads → Type 0
 IsRefusedAtOnce extended entries offer = OffersNone extended offer ⊎ (¬ CanBeNarrowed entries offer)
 
--- the SA payload has one proposal, which answers one of those offered
-pub record TakesProposal (proposals : List Proposal) (sa : Payload) : Type 0 where
+-- there is one proposal, which answers one of those offered
+pub record TakesProposal (offered answered : List Proposal) : Type 0 where
   pub place : ℕ
   pub answer : Proposal
-  pub lone : sa ≡ Sa (answer ∷ [])
-  pub taken : IsTakenFrom proposals place answer
+  pub lone : answered ≡ answer ∷ []
+  pub taken : IsTakenFrom offered place answer
 
 -- the next SPI is given, and the pair comes for it
 pub record AddsNext (old : Database) (pair : Pair) (serial : ℕ) (new : Database) : Type 0 where

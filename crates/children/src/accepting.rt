@@ -1,29 +1,17 @@
 //! What an initiator accepts of the answer to what it asked.
-ghost use Rattle.std.specs.Prelude.{◌≡◌, ◌∷◌, [], None, Ok, Some, IfOk, MatchOption, IsTrue, ◌↔◌};
+ghost use Rattle.std.specs.Prelude.{◌≡◌, None, Ok, IfOk, MatchOption};
 ghost use Rattle.replay.specs.Window.{IsBlockCount};
-ghost use Rattle.children.specs.Accepting.{AreAcceptedTerms, IsAccepted, IsUnacceptable};
+ghost use Rattle.children.specs.Accepting.{AreAcceptedTerms, IsAcceptedChild, IsUnacceptable};
 ghost use Rattle.children.specs.Making.{terms_of};
 
 use crate::making::{Agreed, make_pair, spi_of};
-use crate::{ChildFault, Setting};
-use base::Selector;
+use crate::{Asked, ChildFault, Setting};
 use exchange::{Role, only_sa, only_ts_i, only_ts_r};
 use policy::are_inside;
 use sadb::Pair;
 use std::alloc::Global;
 use suite::Wanted;
 use wire::Payload;
-
-/// What an initiator asked for, by [`ask`](crate::ask).
-#[derive(Clone, Copy, Debug, PartialEq, Eq)]
-pub struct Asked {
-    /// The SPI of its inbound association.
-    pub spi: u32,
-    /// The selector of its own side.
-    pub local: Selector,
-    /// The selector of the peer's side.
-    pub remote: Selector,
-}
 
 /// The initiator's pair by an answer (RFC 7296, sections 2.7 and 2.9), `None` where the answer is not acceptable: it has one SA
 /// payload that [`exchange::accept`] accepts, and one payload of selectors for each side, which are not empty and lie inside those
@@ -38,11 +26,11 @@ pub fn accept(
 ) -> Result<Option<Pair>, ChildFault>
     requires { IsBlockCount setting.now.blocks }
     ensures accepted { IfOk result (λ pair. MatchOption pair
-        (IsUnacceptable setting.now.extended asked.now answer.now)
-        (IsAccepted setting.now asked.now answer.now)) }
-    ensures early { IsUnacceptable setting.now.extended asked.now answer.now → result ≡ Ok None }
+        (IsUnacceptable asked.now answer.now)
+        (IsAcceptedChild setting.now asked.now answer.now)) }
+    ensures early { IsUnacceptable asked.now answer.now → result ≡ Ok None }
 {
-    let Some(agreed) = accepted_terms(answer, asked, setting.extended) else {
+    let Some(agreed) = accepted_terms(answer, asked) else {
         return Ok(None);
     };
     let pair = make_pair(alloc, Role::Initiator, setting, &agreed)?;
@@ -50,12 +38,15 @@ pub fn accept(
 }
 
 /// The terms of an acceptable answer.
-fn accepted_terms<'a>(answer: &'a [Payload], asked: &Asked, extended: bool) -> Option<Agreed<'a>>
-    ensures { MatchOption result (IsUnacceptable extended asked.now answer.now)
-        (λ agreed. AreAcceptedTerms extended asked.now answer.now (terms_of agreed)) }
+fn accepted_terms<'a>(answer: &'a [Payload], asked: &Asked) -> Option<Agreed<'a>>
+    ensures { MatchOption result (IsUnacceptable asked.now answer.now)
+        (λ agreed. AreAcceptedTerms asked.now answer.now (terms_of agreed)) }
 {
+    let wanted = Wanted::Esp {
+        extended: asked.extended,
+    };
     let proposals = only_sa(answer)?;
-    let chosen = exchange::accept(proposals, &Wanted::Esp { extended })?;
+    let chosen = exchange::accept(proposals, &wanted)?;
     let ts_i = only_ts_i(answer)?;
     let ts_r = only_ts_r(answer)?;
     if !are_inside(ts_i, &[asked.local]) || !are_inside(ts_r, &[asked.remote]) {

@@ -2,6 +2,7 @@
 ghost use Rattle.std.specs.Prelude.{◌≡◌};
 ghost use Rattle.children.specs.Faults.{code_of_child_fault};
 
+use std::alloc::AllocError;
 use thiserror::Error;
 
 /// For what there was no memory.
@@ -32,5 +33,16 @@ impl ChildFault {
             ChildFault::Narrowing => 24,
             ChildFault::Table => 27,
         }
+    }
+}
+
+impl From<AllocError> for ChildFault {
+    ghost use Rattle.std.specs.Prelude.{◌≡◌};
+    ghost use Rattle.children.specs.declared.fault.ChildFault.TheVariants.{Message};
+
+    ghost from_gives = { λ _ e. e ≡ Message };
+
+    fn from(_refused: AllocError) -> ChildFault {
+        ChildFault::Message
     }
 }

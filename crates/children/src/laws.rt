@@ -7,17 +7,18 @@ ghost use Rattle.wire.specs.declared.payload.Payload.{Payload};
 ghost use Rattle.wire.specs.declared.payload.Payload.TheVariants.{Sa};
 ghost use Rattle.wire.specs.declared.proposal.Proposal.{Proposal};
 ghost use Rattle.exchange.specs.Counting.{only_sa};
+ghost use Rattle.exchange.specs.declared.child.ChildPayloads.{ChildPayloads};
 ghost use Rattle.exchange.specs.declared.headers.Role.TheVariants.{Initiator, Responder};
 ghost use Rattle.policy.specs.Narrowing.{AnswersOffer, IsSendableSelector, LieInsidePolicy};
 ghost use Rattle.policy.specs.declared.entry.Entry.{Entry};
 ghost use Rattle.sadb.specs.Database.{Database};
 ghost use Rattle.sadb.specs.Mirrors.{Mirrors};
 ghost use Rattle.sadb.specs.declared.pair.Pair.{Pair};
-ghost use Rattle.children.specs.Accepting.{AreAcceptedTerms, IsAccepted};
+ghost use Rattle.children.specs.Accepting.{AreAcceptedTerms, IsAcceptedChild};
 ghost use Rattle.children.specs.Asking.{asked_proposal, child_request, FitMessages, HasChildPayloads};
 ghost use Rattle.children.specs.Pairs.{IsChild};
-ghost use Rattle.children.specs.Responding.{asked_offer, IsMade, IsResponse, Offered, TakesProposal};
-ghost use Rattle.children.specs.declared.accepting.Asked.{Asked};
+ghost use Rattle.children.specs.Responding.{IsChildResponse, IsMadeChild, TakesProposal};
+ghost use Rattle.children.specs.declared.asking.Asked.{Asked};
 ghost use Rattle.children.specs.declared.responding.Made.{Made};
 ghost use Rattle.children.specs.declared.responding.Response.{Response};
 ghost use Rattle.children.specs.declared.setting.Setting.{Setting};
@@ -36,26 +37,25 @@ pub fn children_mirror()
 /// The pair that a responder makes is its pair of the child of the request and of any reply that has the payloads which were made;
 /// the pair of an accepted answer is the initiator's, where the request has its offer. Does nothing.
 pub fn pairs_are_children()
-    ensures made { (setting : Setting) (entries : List Entry) (table : Database) (offer : Offered)
-        (made : Made)
-        (request reply : List Payload) → IsMade setting entries table offer made
+    ensures made { (setting : Setting) (extended : Bool) (entries : List Entry) (table : Database)
+        (offer : ChildPayloads) (made : Made) (request reply : List Payload)
+        → IsMadeChild setting extended entries table offer made
         → only_sa request ≡ Some offer.proposals → HasChildPayloads reply made.payloads
         → IsChild Responder setting.keys request reply made.pair }
     ensures accepted { (setting : Setting) (asked : Asked) (request answer : List Payload) (pair : Pair)
-        → IsAccepted setting asked answer pair → asked.spi < 2 ^ 32
-        → only_sa request ≡ Some (asked_proposal setting.extended asked.spi ∷ [])
+        → IsAcceptedChild setting asked answer pair → asked.spi < 2 ^ 32
+        → only_sa request ≡ Some (asked_proposal asked ∷ [])
         → IsChild Initiator setting.keys request answer pair }
 {}
 
 /// What a responder makes of what an initiator asked is acceptable to that initiator, on the same terms, also where the responder
 /// doesn't allow extended sequence numbers and the initiator does, or the other way round. Does nothing.
 pub fn responses_are_acceptable()
-    ensures { (extended : Bool) (asked : Asked) (setting : Setting) (entries : List Entry)
-        (table : Database) (made : Made)
-        (reply : List Payload) → asked.spi < 2 ^ 32
-        → (m : IsMade setting entries table (asked_offer extended asked) made)
+    ensures { (asked : Asked) (setting : Setting) (extended : Bool) (entries : List Entry)
+        (table : Database) (made : Made) (reply : List Payload) → asked.spi < 2 ^ 32
+        → (m : IsMadeChild setting extended entries table (child_request asked) made)
         → HasChildPayloads reply made.payloads
-        → AreAcceptedTerms extended asked reply m.terms }
+        → AreAcceptedTerms asked reply m.terms }
 {
     ends_agree();
     answers_lie_inside();
@@ -65,20 +65,22 @@ pub fn responses_are_acceptable()
 /// inside one entry that protects; numbers are extended only where that is allowed; the answer's proposal has number and protocol of
 /// one that was offered, and takes its transforms from it. Does nothing.
 pub fn responses_keep_to_their_offers()
-    ensures offer { (setting : Setting) (entries : List Entry) (table : Database) (offer : Offered)
-        (made : Made)
-        → IsMade setting entries table offer made
+    ensures offer { (setting : Setting) (extended : Bool) (entries : List Entry) (table : Database)
+        (offer : ChildPayloads) (made : Made)
+        → IsMadeChild setting extended entries table offer made
         → AnswersOffer made.pair.remote offer.ts_i × AnswersOffer made.pair.local offer.ts_r }
-    ensures policy { (setting : Setting) (entries : List Entry) (table : Database) (offer : Offered)
-        (made : Made)
-        → IsMade setting entries table offer made → LieInsidePolicy entries made.pair.remote made.pair.local }
-    ensures extension { (setting : Setting) (entries : List Entry) (table : Database) (offer : Offered)
-        (made : Made)
-        → IsMade setting entries table offer made
-        → made.pair.inbound.association.extended ≡ true → setting.extended ≡ true }
-    ensures proposal { (setting : Setting) (entries : List Entry) (table : Database) (offer : Offered)
-        (made : Made)
-        → IsMade setting entries table offer made → TakesProposal offer.proposals made.payloads.sa }
+    ensures policy { (setting : Setting) (extended : Bool) (entries : List Entry) (table : Database)
+        (offer : ChildPayloads) (made : Made)
+        → IsMadeChild setting extended entries table offer made
+        → LieInsidePolicy entries made.pair.remote made.pair.local }
+    ensures extension { (setting : Setting) (extended : Bool) (entries : List Entry) (table : Database)
+        (offer : ChildPayloads) (made : Made)
+        → IsMadeChild setting extended entries table offer made
+        → made.pair.inbound.association.extended ≡ true → extended ≡ true }
+    ensures proposal { (setting : Setting) (extended : Bool) (entries : List Entry) (table : Database)
+        (offer : ChildPayloads) (made : Made)
+        → IsMadeChild setting extended entries table offer made
+        → TakesProposal offer.proposals made.payloads.proposals }
 {
     ends_agree();
     answers_lie_inside();
@@ -86,24 +88,24 @@ pub fn responses_keep_to_their_offers()
 
 /// What [`respond`](crate::respond) and [`accept`](crate::accept) answer is determined. Does nothing.
 pub fn answers_are_determined()
-    ensures response { (setting : Setting) (entries : List Entry) (table : Database) (offer : Offered)
-        (a b : Response)
-        → IsResponse setting entries table offer a → IsResponse setting entries table offer b → a ≡ b }
+    ensures response { (setting : Setting) (extended : Bool) (entries : List Entry) (table : Database)
+        (offer : ChildPayloads) (a b : Response)
+        → IsChildResponse setting extended entries table offer a
+        → IsChildResponse setting extended entries table offer b → a ≡ b }
     ensures accepted { (setting : Setting) (asked : Asked) (answer : List Payload) (a b : Pair)
-        → IsAccepted setting asked answer a → IsAccepted setting asked answer b → a ≡ b }
+        → IsAcceptedChild setting asked answer a → IsAcceptedChild setting asked answer b → a ≡ b }
 {
     narrowing_is_determined();
 }
 
 /// The payloads that are asked and answered have what their fields allow, and at most 1400 octets together. Does nothing.
 pub fn payloads_fit()
-    ensures asked { (extended : Bool) (spi : ℕ) (local remote : Selector) → IsSendableSelector local
-        → IsSendableSelector remote
-        → FitMessages (child_request extended spi local remote) }
-    ensures answered { (setting : Setting) (entries : List Entry) (table : Database) (offer : Offered)
-        (made : Made)
+    ensures asked { (asked : Asked) → IsSendableSelector asked.local → IsSendableSelector asked.remote
+        → FitMessages (child_request asked) }
+    ensures answered { (setting : Setting) (extended : Bool) (entries : List Entry) (table : Database)
+        (offer : ChildPayloads) (made : Made)
         → FitsFields (Sa offer.proposals) → length offer.ts_i ≤ 16 → length offer.ts_r ≤ 16
-        → IsMade setting entries table offer made → FitMessages made.payloads }
+        → IsMadeChild setting extended entries table offer made → FitMessages made.payloads }
 {
     answers_can_be_sent();
 }

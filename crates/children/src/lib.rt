@@ -8,16 +8,21 @@
 //! each other in [`laws`].
 //!
 //! ```text
-//! let asked = Asked { spi: spi.number(), local, remote };
-//! let request = ask(alloc, setting.extended, asked.spi, &local, &remote)?;
+//! let spi = table.reserve()?;
+//! let asked = Asked { spi: spi.number(), local, remote, extended };
+//! ask(alloc, &asked)?.append_to(&mut request)?;
 //!
-//! match respond(alloc, &offer, &setting, &policy, &mut table)? {
-//!     Response::Made(made) => { send(made.payloads); install(&mut table, made.pair); }
-//!     Response::Refused(notice) => send(notice.payload(alloc)?),
+//! match respond(alloc, &offer, extended, &setting, &policy, &mut table)? {
+//!     Response::Made(made) => {
+//!         made.payloads.append_to(&mut reply)?;
+//!         install(&mut table, made.pair);
+//!     }
+//!     Response::Refused(notice) => reply.push(notice.payload(alloc)?)?,
 //! }
 //!
-//! if let Some(pair) = accept(alloc, &answer, &asked, &setting)? {
-//!     table.install(spi, pair);
+//! match accept(alloc, &answer, &asked, &setting)? {
+//!     Some(pair) => { table.install(spi, pair); }
+//!     None => table.release(spi),
 //! }
 //! ```
 #![tactic(auto)]
@@ -30,8 +35,11 @@ mod making;
 mod responding;
 mod setting;
 
-pub use accepting::{Asked, accept};
-pub use asking::{ChildPayloads, ask};
+pub use accepting::accept;
+pub use asking::{Asked, ask};
 pub use fault::ChildFault;
-pub use responding::{Made, Offer, Response, install, respond};
+pub use responding::{Made, Response, install, respond};
 pub use setting::Setting;
+
+#[cfg(test)]
+mod tests;

@@ -1,31 +1,20 @@
 //! What a responder answers, and the pair that it has of the child.
-ghost use Rattle.std.specs.Prelude.{◌≡◌, ◌≤◌, ◌<◌, ◌^◌, ℕ, Some, IfOk, IsOk, slice_get};
-ghost use Rattle.byteorder.specs.Endian.{big_number};
-ghost use Rattle.policy.specs.Narrowing.{IsNarrowing};
+ghost use Rattle.std.specs.Prelude.{◌≡◌, IfOk, IsOk};
 ghost use Rattle.replay.specs.Window.{IsBlockCount};
 ghost use Rattle.sadb.specs.Database.{IsAsBefore, IsReady};
-ghost use Rattle.children.specs.Responding.{answered_sa, made_of, next_spi, offered, AddsNext, IsRefusedAtOnce, IsResponse, LeavesRoom};
+ghost use Rattle.exchange.specs.Children.{offered};
+ghost use Rattle.children.specs.Responding.{answered_proposals, made_of, next_spi, AddsNext, IsChildResponse, IsRefusedAtOnce, LeavesRoom};
 
-use crate::asking::{ChildPayloads, lone};
+use crate::asking::lone;
 use crate::making::{Agreed, make_pair, spi_of};
 use crate::{ChildFault, Setting};
-use base::Selector;
-use exchange::{Notice, Role, answer};
+use base::Items;
+use exchange::{ChildOffer, ChildPayloads, Notice, Role, answer};
 use policy::{NarrowFault, Narrowed, Policy, narrow};
 use sadb::{Pair, Table, TableFault};
 use std::alloc::{AllocError, Global};
 use suite::{Chosen, Wanted, choose};
-use wire::{Payload, Proposal};
-
-/// What a request offers, in its three payloads.
-#[derive(Clone, Copy)]
-pub struct Offer<'a> {
-    pub proposals: &'a [Proposal],
-    /// The selectors of the initiator's side.
-    pub ts_i: &'a [Selector],
-    /// The selectors of the responder's side.
-    pub ts_r: &'a [Selector],
-}
+use wire::Proposal;
 
 /// The answer to an offer.
 #[derive(Drop)]
@@ -45,30 +34,31 @@ pub struct Made {
     pub pair: Pair,
 }
 
-/// Answers an offer (RFC 7296, sections 1.3, 2.7 and 2.9). Refused, in this order: [`Notice::NoProposalChosen`] where no proposal is
-/// acceptable, [`Notice::TsUnacceptable`] where the policy protects nothing of the flows that are offered,
-/// [`Notice::NoAdditionalSas`] where the table is full or its SPIs are spent. Otherwise the answer has the chosen proposal's number,
-/// the next SPI of the table and the selectors narrowed to the policy; the pair receives under that SPI with the initiator's key, and
-/// sends under the chosen proposal's with its own.
+/// Answers an offer (RFC 7296, sections 1.3, 2.7 and 2.9); `extended` tells whether this end allows extended sequence numbers
+/// (RFC 4303, section 2.2.1). Refused, in this order: [`Notice::NoProposalChosen`] where no proposal is acceptable,
+/// [`Notice::TsUnacceptable`] where the policy protects nothing of the flows that are offered, [`Notice::NoAdditionalSas`] where
+/// the table is full or its SPIs are spent. Otherwise the answer has the chosen proposal's number, the next SPI of the table and
+/// the selectors narrowed to the policy; the pair receives under that SPI with the initiator's key, and sends under the chosen
+/// proposal's with its own.
 ///
 /// Of the table its room alone changes, also after an error; where a pair is made, it can take it, as [`install`] wants it. An
 /// error is for want of memory alone, and none comes for an offer that is refused for its proposals or its selectors.
 pub fn respond(
     alloc: Global,
-    offer: &Offer<'_>,
+    offer: &ChildOffer<'_>,
+    extended: bool,
     setting: &Setting,
     policy: &Policy,
     table: &mut Table,
 ) -> Result<Response, ChildFault>
     requires { IsBlockCount setting.now.blocks }
-    ensures response { IfOk result (IsResponse setting.now policy.now table.old (offered offer.now)) }
+    ensures response { IfOk result
+        (IsChildResponse setting.now extended policy.now table.old (offered offer.now)) }
     ensures table { IsAsBefore table.old table.new }
     ensures ready { IfOk result (λ response. LeavesRoom response table.new) }
-    ensures early { IsRefusedAtOnce setting.now.extended policy.now (offered offer.now) → IsOk result }
+    ensures early { IsRefusedAtOnce extended policy.now (offered offer.now) → IsOk result }
 {
-    let wanted = Wanted::Esp {
-        extended: setting.extended,
-    };
+    let wanted = Wanted::Esp { extended };
     let Some(chosen) = choose(offer.proposals, &wanted) else {
         return Ok(Response::Refused(Notice::NoProposalChosen));
     };
@@ -84,20 +74,22 @@ pub fn respond(
         Err(_) => return Ok(Response::Refused(Notice::NoAdditionalSas)),
     };
     let peer = spi_of(&offer.proposals[chosen.place]);
-    Ok(Response::Made(make(alloc, setting, &chosen, peer, own, narrowed)?))
+    let made = make(alloc, setting, &wanted, &chosen, peer, own, narrowed)?;
+    Ok(Response::Made(made))
 }
 
 /// The answer's payloads and the responder's pair, on these SPIs and selectors.
 fn make(
     alloc: Global,
     setting: &Setting,
+    wanted: &Wanted,
     chosen: &Chosen,
     peer: u32,
     own: u32,
     narrowed: Narrowed,
 ) -> Result<Made, ChildFault>
     requires { IsBlockCount setting.now.blocks }
-    ensures { IfOk result (λ made. made ≡ made_of setting.now chosen.now (record {
+    ensures { IfOk result (λ made. made ≡ made_of setting.now wanted.now chosen.now (record {
       spi_i = peer;
       spi_r = own;
       extended = chosen.now.extended;
@@ -113,28 +105,27 @@ fn make(
         ts_r: narrowed.responder.as_slice(),
     };
     let pair = make_pair(alloc, Role::Responder, setting, &agreed)?;
-    let Ok(sa) = answered_sa(alloc, setting.extended, chosen, own) else {
+    let Ok(proposals) = answered_proposals(alloc, wanted, chosen, own) else {
         return Err(ChildFault::Message);
     };
     let payloads = ChildPayloads {
-        sa,
-        ts_i: Payload::TsI(narrowed.initiator),
-        ts_r: Payload::TsR(narrowed.responder),
+        proposals,
+        ts_i: narrowed.initiator,
+        ts_r: narrowed.responder,
     };
     Ok(Made { payloads, pair })
 }
 
-/// The proposal of the answer, with this end's SPI (RFC 7296, section 3.3.1).
-fn answered_sa(
+/// The one proposal of the answer, with this end's SPI (RFC 7296, section 3.3.1).
+fn answered_proposals(
     alloc: Global,
-    extended: bool,
+    wanted: &Wanted,
     chosen: &Chosen,
     own: u32,
-) -> Result<Payload, AllocError>
-    ensures { IfOk result (λ sa. sa ≡ answered_sa extended chosen.now own) }
+) -> Result<Items<Proposal>, AllocError>
+    ensures { IfOk result (λ proposals. proposals ≡ answered_proposals wanted.now chosen.now own) }
 {
-    let proposal = answer(alloc, &Wanted::Esp { extended }, chosen, &own.to_be_bytes())?;
-    Ok(Payload::Sa(lone(alloc, proposal)?))
+    lone(alloc, answer(alloc, wanted, chosen, &own.to_be_bytes())?)
 }
 
 /// Adds the pair that was made of an offer, and answers its serial. The caller asks only for a table that is ready, with a pair

@@ -2,3 +2,4 @@ mod SealedLemmas
 mod CountingLemmas
 mod OfferLemmas
 mod LawLemmas
+mod FittingLemmas

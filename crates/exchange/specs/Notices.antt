@@ -1,6 +1,7 @@
 -- Notices (RFC 7296 section 3.10).
-use Rattle.std.specs.Prelude.{◌==◌, ◌&&◌, ℕ, Bool, false, Option, Some, None, List, [], ◌∷◌, length, nat_le, if◌then◌else◌}
+use Rattle.std.specs.Prelude.{◌<◌, ◌==◌, ◌&&◌, ℕ, Bool, false, Option, Some, None, List, [], ◌∷◌, length, nat_le, if◌then◌else◌}
 use Rattle.wire.specs.Numbers.{AUTHENTICATION_FAILED, COOKIE, INVALID_SYNTAX, NO_ADDITIONAL_SAS, NO_PROPOSAL_CHOSEN, TS_UNACCEPTABLE, UNSUPPORTED_CRITICAL_PAYLOAD}
+use Rattle.wire.specs.Sizes.{FitsData}
 use Rattle.wire.specs.declared.payload.Payload.{Payload}
 use Rattle.wire.specs.declared.payload.Payload.TheVariants.{Notify}
 use Rattle.exchange.specs.declared.notices.Notice.{Notice}
@@ -25,6 +26,12 @@ data_of_notice _ = []
 -- a notice concerns the association that it comes under: it names no protocol and no SPI
 abbrev pub payload_of_notice : Notice → Payload
 payload_of_notice n = Notify 0 [] (type_of_notice n) (data_of_notice n)
+
+-- a type is an octet (section 3.2), and a cookie has 1 to 64 octets (section 2.6)
+abbrev pub FitsNotice : Notice → Type 0
+FitsNotice (UnsupportedCriticalPayload kind) = kind < 256
+FitsNotice (Cookie octets) = FitsData 1 64 octets
+FitsNotice notice = Unit {0}
 
 -- a cookie as it is brought back (section 2.6)
 abbrev pub returned_cookie : List ℕ → Payload

@@ -1,7 +1,8 @@
 //! The headers of messages that are sent (RFC 7296, section 3.1).
 ghost use Rattle.std.specs.Prelude.{◌≡◌};
-ghost use Rattle.exchange.specs.Headers.{is_initiator, other_role, sent_header};
+ghost use Rattle.exchange.specs.Headers.{is_initiator, keys_of, other_role, sent_header};
 
+use suite::{KeyRecord, Keys};
 use wire::{Flags, Header};
 
 /// Which of the two ends one is: that which began, or that which answered. An association keeps the roles of its first exchange
@@ -27,6 +28,16 @@ impl Role {
         match self {
             Role::Initiator => Role::Responder,
             Role::Responder => Role::Initiator,
+        }
+    }
+
+    /// The keys under which the end of this role seals, of an association that has these (RFC 7296, section 2.14).
+    pub fn keys(self, keys: &KeyRecord) -> Keys
+        ensures { result ≡ keys_of self keys.now }
+    {
+        match self {
+            Role::Initiator => keys.initiator_keys(),
+            Role::Responder => keys.responder_keys(),
         }
     }
 }

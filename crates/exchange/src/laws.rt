@@ -7,6 +7,12 @@ ghost use Rattle.suite.specs.declared.choice.Wanted.{Wanted};
 ghost use Rattle.suite.specs.Choice.{wanted_protocol, ChoosesNumbers, HasSpi, IsAcceptableProposal, IsChosenProposal};
 ghost use Rattle.wire.specs.Sizes.{size_of, FitsHeaderFields, FitsFields};
 ghost use Rattle.wire.specs.declared.message.Message.{Message};
+ghost use Rattle.base.specs.declared.selector.Selector.{Selector};
+ghost use Rattle.wire.specs.declared.payload.Payload.{Payload};
+ghost use Rattle.wire.specs.declared.payload.Payload.TheVariants.{Sa, TsI, TsR};
+ghost use Rattle.exchange.specs.Counting.{only_sa, only_ts_i, only_ts_r};
+ghost use Rattle.exchange.specs.Notices.{payload_of_notice, FitsNotice};
+ghost use Rattle.exchange.specs.declared.notices.Notice.{Notice};
 ghost use Rattle.exchange.specs.Sealed.{CanBeSealed};
 ghost use Rattle.exchange.specs.Offers.{answer_of, offer_of, IsAcceptableAnswer, IsTakenFrom};
 
@@ -40,4 +46,20 @@ pub fn ends_agree()
         → IsChosenProposal theirs (offer_of ours spi ∷ []) chosen → ChoosesNumbers ours (answer_of theirs chosen answer).transforms chosen.extended }
     ensures taken { (wanted : Wanted) (proposals : List Proposal) (chosen : Chosen) (spi : List ℕ)
         → IsChosenProposal wanted proposals chosen → IsTakenFrom proposals chosen.place (answer_of wanted chosen spi) }
+{}
+
+/// Of payloads that have what their fields allow, those that count have it. Does nothing.
+pub fn what_counts_fits()
+    ensures sa { (payloads : List Payload) (proposals : List Proposal) → AllByRecursion FitsFields payloads
+        → only_sa payloads ≡ Some proposals → FitsFields (Sa proposals) }
+    ensures ts_i { (payloads : List Payload) (selectors : List Selector) → AllByRecursion FitsFields payloads
+        → only_ts_i payloads ≡ Some selectors → FitsFields (TsI selectors) }
+    ensures ts_r { (payloads : List Payload) (selectors : List Selector) → AllByRecursion FitsFields payloads
+        → only_ts_r payloads ≡ Some selectors → FitsFields (TsR selectors) }
+{}
+
+/// A notice that fits is carried by a payload that has what its fields allow, of at most 72 octets. Does nothing.
+pub fn notices_fit()
+    ensures { (notice : Notice) → FitsNotice notice
+        → FitsFields (payload_of_notice notice) × (size_of (payload_of_notice notice) ≤ 72) }
 {}

@@ -4,7 +4,8 @@
 //! [`seal_message`] makes a message of one encrypted payload from a message in clear, by the caller's
 //! [`Sealer`](suite::Sealer), and [`open_message`] takes it apart again. Of the payloads inside, [`unknown_critical`] finds what
 //! refuses a request, [`only_sa`] and its like those that count, a [`Notice`] is sent and [`leading_cookie`] and its like are read, and
-//! [`esp_spis`] tells what is to be deleted. [`offer`], [`answer`] and [`accept`] go with [`choose`](suite::choose).
+//! [`esp_spis`] tells what is to be deleted. [`offer`], [`answer`] and [`accept`] go with [`choose`](suite::choose), and
+//! [`ChildPayloads`] are what both messages say of a child.
 //!
 //! ```text
 //! seal_message(&sealer, &record.initiator_keys(), &message, &fresh.seal, &mut datagram)?;
@@ -17,6 +18,7 @@
 //! ```
 #![tactic(auto)]
 
+mod child;
 mod deletions;
 mod headers;
 pub mod laws;
@@ -25,6 +27,7 @@ mod offers;
 mod payloads;
 mod sealed;
 
+pub use child::{ChildOffer, ChildPayloads};
 pub use deletions::{deletes_association, esp_spis, names_more_than};
 pub use headers::{Role, sent_header};
 pub use notices::{Notice, asked_cookie, has_invalid_syntax, leading_cookie, returned_cookie};

@@ -1,7 +1,8 @@
 //! Notices (RFC 7296, section 3.10).
 ghost use Rattle.std.specs.Prelude.{◌≡◌, None, Some, IfOk, MatchOption};
 ghost use Rattle.std.specs.List.{list_any};
-ghost use Rattle.exchange.specs.Notices.{type_of_notice, data_of_notice, payload_of_notice, returned_cookie, cookie_in, leading_cookie, asked_cookie, is_invalid_syntax};
+ghost use Rattle.exchange.specs.Notices.{type_of_notice, data_of_notice, payload_of_notice, returned_cookie, cookie_in, leading_cookie, asked_cookie, is_invalid_syntax, FitsNotice};
+ghost use Rattle.base.specs.Octets.{AreOctets};
 
 use base::Items;
 use std::alloc::{AllocError, Global};
@@ -59,6 +60,15 @@ impl Notice {
             kind: self.number(),
             data: self.data(alloc)?,
         })
+    }
+
+    /// What the types of its fields say of them. Does nothing.
+    pub fn fits(self)
+        ensures { FitsNotice self }
+    {
+        if let Notice::Cookie { octets } = self {
+            octets_fit(&octets);
+        }
     }
 
     fn data(&self, alloc: Global) -> Result<Items<u8>, AllocError>
@@ -136,3 +146,8 @@ fn is_invalid_syntax(payload: &Payload) -> bool
         _ => false,
     }
 }
+
+// What the type of octets says. Does nothing.
+fn octets_fit(octets: &[u8])
+    ensures { AreOctets octets.now }
+{}

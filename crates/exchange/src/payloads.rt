@@ -14,7 +14,8 @@ use wire::numbers::{
 use wire::{Payload, Proposal};
 
 /// The type of the first payload that is not known and is marked as critical (RFC 7296, section 2.5), `None` where there is
-/// none. A request that has it is refused; in an answer it is passed over.
+/// none. A request that has it is refused. Here an answer is not: its critical payloads are passed over, a rule of this
+/// implementation against that section, which has the initiator ignore such an answer.
 pub fn unknown_critical(payloads: &[Payload]) -> Option<u8>
     ensures { result ≡ unknown_critical payloads.now }
 {

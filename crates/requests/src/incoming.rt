@@ -126,6 +126,13 @@ impl Incoming {
         self.kept.keep_from(first);
     }
 
+    /// How many requests the peer may have under way.
+    pub fn size(&self) -> u8
+        ensures { result ≡ self.now.size }
+    {
+        self.size
+    }
+
     /// Lets the peer have more requests under way, up to 16. Nothing else is changed. The caller asks for no fewer than before,
     /// so no kept reply is lost. Takes no memory.
     pub fn set_size(&mut self, size: u8)

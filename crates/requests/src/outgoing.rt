@@ -80,6 +80,13 @@ impl<T> Outgoing<T> {
         let _ = self.answered.gap();
     }
 
+    /// How many requests the peer lets this end have under way.
+    pub fn window(&self) -> u8
+        ensures { result ≡ self.now.window }
+    {
+        self.window
+    }
+
     /// The peer lets this end have more requests under way, up to 16. Nothing else is changed. The caller asks for no fewer than
     /// before. Takes no memory.
     pub fn set_window(&mut self, window: u8)

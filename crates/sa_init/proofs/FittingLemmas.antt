@@ -10,7 +10,7 @@ use Rattle.suite.specs.declared.sealer.Cipher.{Cipher}
 use Rattle.exchange.specs.declared.notices.Notice.{Notice}
 use Rattle.exchange.specs.declared.notices.Notice.TheVariants.{UnsupportedCriticalPayload, InvalidSyntax, NoProposalChosen, AuthenticationFailed, NoAdditionalSas, TsUnacceptable, Cookie}
 use Rattle.exchange.specs.Notices.{payload_of_notice}
-use Rattle.sa_init.specs.Fitting.{FitsCookie, FitsKeyLength, FitsMessage, FitsNonce, FitsNotice, FitsPublic, FitsTransforms}
+use Rattle.sa_init.specs.Fitting.{FitsCookie, FitsKeyLength, FitsMessage, FitsNonce, FitsPublic, FitsTransforms}
 use Rattle.sa_init.specs.Messages.{agreeing_payloads, answer_message, ike_wanted, notice_message, request_message}
 
 -- the proposal of both messages
@@ -88,20 +88,10 @@ answer_fits cipher group public chosen nonce spi_i spi_r fits some below spi oth
       short = omega (arith, proposal_short cipher group chosen.number, public_fits.few, nonce_fits.few);
     }
 
-notice_payload_fits : (notice : Notice) → FitsNotice notice → FitsFields (payload_of_notice notice) × (size_of (payload_of_notice notice) ≤ 72)
-notice_payload_fits (UnsupportedCriticalPayload kind) fits = (record { protocol_fits = omega arith; kind_fits = omega arith; spi_fits = record { some = omega arith; few = omega arith; fits = tt }; octets_fit = (fits, tt) }, omega arith)
-notice_payload_fits InvalidSyntax fits = (record { protocol_fits = omega arith; kind_fits = omega arith; spi_fits = record { some = omega arith; few = omega arith; fits = tt }; octets_fit = tt }, omega arith)
-notice_payload_fits NoProposalChosen fits = (record { protocol_fits = omega arith; kind_fits = omega arith; spi_fits = record { some = omega arith; few = omega arith; fits = tt }; octets_fit = tt }, omega arith)
-notice_payload_fits AuthenticationFailed fits = (record { protocol_fits = omega arith; kind_fits = omega arith; spi_fits = record { some = omega arith; few = omega arith; fits = tt }; octets_fit = tt }, omega arith)
-notice_payload_fits NoAdditionalSas fits = (record { protocol_fits = omega arith; kind_fits = omega arith; spi_fits = record { some = omega arith; few = omega arith; fits = tt }; octets_fit = tt }, omega arith)
-notice_payload_fits TsUnacceptable fits = (record { protocol_fits = omega arith; kind_fits = omega arith; spi_fits = record { some = omega arith; few = omega arith; fits = tt }; octets_fit = tt }, omega arith)
-notice_payload_fits (Cookie octets) fits = (record { protocol_fits = omega arith; kind_fits = omega arith; spi_fits = record { some = omega arith; few = omega arith; fits = tt }; octets_fit = fits.fits }, omega (arith, fits.few))
-
-pub notice_fits : (spi_i : ℕ) (notice : Notice) → spi_i < 2 ^ 64 → FitsNotice notice → FitsMessage (notice_message spi_i notice)
-notice_fits spi_i notice spi fits =
-    let payload = notice_payload_fits notice fits in
+pub notice_fits : (spi_i : ℕ) (notice : Notice) → spi_i < 2 ^ 64 → FitsFields (payload_of_notice notice) → size_of (payload_of_notice notice) ≤ 72 → FitsMessage (notice_message spi_i notice)
+notice_fits spi_i notice spi fits short =
     record {
       header = record { spi_i = spi; spi_r = omega arith; minor = omega arith; exchange = omega arith; id = omega arith };
-      payloads = (payload.0, tt);
-      short = omega (arith, payload.1);
+      payloads = (fits, tt);
+      short = omega (arith, short);
     }

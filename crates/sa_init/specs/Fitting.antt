@@ -8,8 +8,6 @@ use Rattle.wire.specs.Sizes.{size_of, FitsData, FitsFields, FitsHeaderFields}
 use Rattle.wire.specs.declared.message.Message.{Message}
 use Rattle.suite.specs.Nonces.{IsNonce}
 use Rattle.suite.specs.declared.sealer.Cipher.{Cipher}
-use Rattle.exchange.specs.declared.notices.Notice.{Notice}
-use Rattle.exchange.specs.declared.notices.Notice.TheVariants.{UnsupportedCriticalPayload, Cookie}
 use Rattle.sa_init.specs.Judging.{OfferView}
 
 -- header and payloads have what their fields allow, and the size is within the limit
@@ -45,11 +43,6 @@ FitsNonce nonce = FitsData NONCE_LEAST NONCE_LIMIT nonce
 abbrev pub FitsCookie : Option Octets → Type 0
 FitsCookie None = Unit {0}
 FitsCookie (Some octets) = FitsData 0 64 octets
-
-abbrev pub FitsNotice : Notice → Type 0
-FitsNotice (UnsupportedCriticalPayload kind) = kind < 256
-FitsNotice (Cookie octets) = FitsData 1 64 octets
-FitsNotice notice = Unit {0}
 
 -- an offer with a nonce of 16 to 256 octets (section 3.9) and a number from 1 on (section 3.3.1), as a message has them
 pub record FitsOffer (offer : OfferView) : Type 0 where

@@ -2,14 +2,15 @@
 ghost use Rattle.std.specs.Prelude.{◌≡◌, None, MatchOption, IfOk};
 ghost use Rattle.wire.specs.Messages.{SpellsPlainly};
 ghost use Rattle.sa_init.specs.Agreement.{IsAnswer};
-ghost use Rattle.sa_init.specs.Fitting.{FitsMessage, FitsNotice, FitsOffer};
+ghost use Rattle.sa_init.specs.Fitting.{FitsMessage, FitsOffer};
 ghost use Rattle.sa_init.specs.Judging.{offer_view};
 ghost use Rattle.sa_init.specs.Messages.{answer_message, notice_message};
 
 use crate::agreeing::{push_agreeing, wanted_by};
-use crate::encoding::{nonce_fits, octets_fit, octets_of};
+use crate::encoding::{nonce_fits, octets_of};
 use crate::judging::Offer;
 use base::Items;
+use exchange::laws::notices_fit;
 use exchange::{Notice, Role, sent_header};
 use std::alloc::{AllocError, Global};
 use suite::{Agreement, Fresh, KeyRecord, Sealer, ike_keys};
@@ -92,7 +93,8 @@ fn answer_message<C: Sealer + Agreement>(
 pub fn refuse(alloc: Global, spi_i: u64, notice: &Notice) -> Result<Items<u8>, AllocError>
     ensures { IfOk result (SpellsPlainly (notice_message spi_i notice.now)) }
 {
-    notice_fits(*notice);
+    notice.fits();
+    notices_fit();
     let mut payloads = Items::new(alloc);
     payloads.push(notice.payload(alloc)?)?;
     let message = Message {
@@ -100,13 +102,4 @@ pub fn refuse(alloc: Global, spi_i: u64, notice: &Notice) -> Result<Items<u8>, A
         payloads,
     };
     octets_of(alloc, &message)
-}
-
-// Brings what the types of a notice's fields say. Does nothing.
-fn notice_fits(notice: Notice)
-    ensures { FitsNotice notice }
-{
-    if let Notice::Cookie { octets } = notice {
-        octets_fit(&octets);
-    }
 }

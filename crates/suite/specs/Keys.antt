@@ -48,6 +48,10 @@ child_material sk_d ni nr = prf_plus sk_d (ni ++ nr) 64
 abbrev pub child_keys : List ℕ → List ℕ → List ℕ → List (List ℕ)
 child_keys sk_d ni nr = key_at 0 (child_material sk_d ni nr) ∷ key_at 1 (child_material sk_d ni nr) ∷ []
 
+-- section 2.17: the first child is made with the association, whose nonces are those of its keys
+abbrev pub first_child_keys : KeyRecord → List (List ℕ)
+first_child_keys r = child_keys r.sk_d r.nonce_i r.nonce_r
+
 -- section 2.14: SK_ei and SK_ai protect what the original initiator sends, SK_er and SK_ar what the responder sends
 abbrev pub initiator_keys : KeyRecord → Keys
 initiator_keys r = record { encryption = r.sk_ei; integrity = r.sk_ai }

@@ -42,7 +42,7 @@ pub struct KeyRecord {
 }
 
 impl KeyRecord {
-    ghost use Rattle.suite.specs.Keys.{initiator_keys, responder_keys};
+    ghost use Rattle.suite.specs.Keys.{first_child_keys, initiator_keys, responder_keys};
 
     /// The keys under which the original initiator seals.
     pub fn initiator_keys(&self) -> Keys
@@ -62,6 +62,14 @@ impl KeyRecord {
             encryption: self.sk_er,
             integrity: self.sk_ar,
         }
+    }
+
+    /// The keys of the child that is made with the association, whose nonces are the association's own (RFC 7296,
+    /// section 2.17): the integrity key of what the original initiator sends, then that of what the responder sends.
+    pub fn first_child_keys(&self) -> [[u8; 32]; 2]
+        ensures { result ≡ first_child_keys self.now }
+    {
+        child_keys(&self.sk_d, self.nonce_i.as_slice(), self.nonce_r.as_slice())
     }
 }
 

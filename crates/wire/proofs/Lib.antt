@@ -20,3 +20,4 @@ mod WritingLoops
 mod Encoding
 mod SizeLemmas
 mod LawLemmas
+mod FittingLemmas

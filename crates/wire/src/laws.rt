@@ -53,3 +53,9 @@ pub fn messages_that_fit_are_spelled()
         → HEADER_LENGTH + sum_by size_of m.payloads ≤ MESSAGE_LIMIT
         → HasSpelling m (HEADER_LENGTH + sum_by size_of m.payloads) }
 {}
+
+/// What octets spell has what its fields allow.
+pub fn what_is_read_fits()
+    ensures { (first : ℕ) (ps : List Payload) (b : Octets)
+        → SpellsChain first ps b → AllByRecursion FitsFields ps }
+{}

@@ -1,6 +1,7 @@
-use super::parts::{child, identity};
+ghost use Rattle.auth.specs.Windows.{IsWindow};
+
+use super::parts::{auth, child, critical, identity, numbers};
 use crate::{ChildAnswer, Proving, answer, is_accepted};
-use base::Items;
 use caller::ScriptCaller;
 use exchange::Notice;
 use std::alloc::{AllocError, Global};
@@ -17,12 +18,13 @@ fn proof() -> [u8; 32] {
 }
 
 // The answer of "b.example" of type 2.
-fn answer_with(
-    alloc: Global,
-    answered: ChildAnswer,
-    window: u8,
-) -> Result<Vec<Payload>, AllocError> {
+fn answer_with(alloc: Global, answered: ChildAnswer, window: u8) -> Result<Vec<Payload>, AllocError>
+    requires { IsWindow window }
+{
     let own = identity(alloc, 2, b"b.example")?;
+    if !own.fits_payload() {
+        return Err(AllocError);
+    }
     let what = Proving {
         first: b"answer",
         nonce: &[8; 16],
@@ -32,6 +34,15 @@ fn answer_with(
     Ok(payloads.into_vec())
 }
 
+fn with_child(alloc: Global) -> Result<Vec<Payload>, AllocError> {
+    answer_with(alloc, ChildAnswer::Payloads(child(alloc)?), 2)
+}
+
+fn with_notice(alloc: Global) -> Result<Vec<Payload>, AllocError> {
+    answer_with(alloc, ChildAnswer::Notice(Notice::NoProposalChosen), 1)
+}
+
+// What an initiator that waits for this identity of type 2 makes of an answer.
 fn established(
     alloc: Global,
     id: &[u8],
@@ -47,21 +58,49 @@ fn established(
     is_accepted(alloc, &ScriptCaller, &peer, &what, payloads)
 }
 
+// The same of an answer that refuses the child, with this payload behind it.
+fn established_behind(alloc: Global, payload: Payload) -> Result<bool, AllocError> {
+    let mut payloads = with_notice(alloc)?;
+    payloads.push(payload)?;
+    established(alloc, b"b.example", &[8; 16], &payloads)
+}
+
 // RFC 7296, section 1.2.
 #[test]
 fn an_answer_with_a_child(rt: HostRuntime) -> Result<(), Fail> {
     let alloc = rt.alloc();
-    let payloads = answer_with(alloc, ChildAnswer::Payloads(child(alloc)?), 2)?;
-    let mut numbers = Vec::new(alloc);
-    for payload in &payloads {
-        numbers.push(payload.number())?;
-    }
-    assert_eq!(rt; numbers.as_slice(), [36, 39, 33, 44, 45, 41].as_slice());
-    let expected = Payload::Auth {
-        method: 2,
-        data: Items::from_slice(alloc, &proof())?,
-    };
-    assert_eq!(rt; payloads.get(1), Some(&expected));
+    let payloads = with_child(alloc)?;
+    assert_eq!(rt;
+        numbers(alloc, &payloads)?.as_slice(),
+        [36, 39, 33, 44, 45, 41].as_slice()
+    );
+    Ok(())
+}
+
+#[test]
+fn an_answer_with_a_notice(rt: HostRuntime) -> Result<(), Fail> {
+    let alloc = rt.alloc();
+    let payloads = with_notice(alloc)?;
+    assert_eq!(rt;
+        numbers(alloc, &payloads)?.as_slice(),
+        [36, 39, 41].as_slice()
+    );
+    Ok(())
+}
+
+#[test]
+fn its_proof(rt: HostRuntime) -> Result<(), Fail> {
+    let alloc = rt.alloc();
+    let expected = auth(alloc, 2, &proof())?;
+    assert_eq!(rt; with_child(alloc)?.get(1), Some(&expected));
+    Ok(())
+}
+
+// Section 2.15.
+#[test]
+fn who_is_established(rt: HostRuntime) -> Result<(), Fail> {
+    let alloc = rt.alloc();
+    let payloads = with_child(alloc)?;
     assert_eq!(rt;
         established(alloc, b"b.example", &[8; 16], &payloads)?,
         true
@@ -77,28 +116,13 @@ fn an_answer_with_a_child(rt: HostRuntime) -> Result<(), Fail> {
     Ok(())
 }
 
-// Section 2.5: in an answer an unknown payload is passed over, critical or not.
+// A critical payload is passed over, by the rule of this implementation; of two proofs none counts.
 #[test]
-fn an_answer_with_a_notice(rt: HostRuntime) -> Result<(), Fail> {
+fn what_is_passed_over(rt: HostRuntime) -> Result<(), Fail> {
     let alloc = rt.alloc();
-    let notice = Notice::NoProposalChosen.payload(alloc)?;
-    let mut payloads = answer_with(alloc, ChildAnswer::Notice(notice), 1)?;
-    assert_eq!(rt; payloads.len(), 3);
-    payloads.push(Payload::Unknown {
-        kind: 200,
-        critical: true,
-        data: Items::new(alloc),
-    })?;
+    assert_eq!(rt; established_behind(alloc, critical(alloc))?, true);
     assert_eq!(rt;
-        established(alloc, b"b.example", &[8; 16], &payloads)?,
-        true
-    );
-    payloads.push(Payload::Auth {
-        method: 2,
-        data: Items::from_slice(alloc, &proof())?,
-    })?;
-    assert_eq!(rt;
-        established(alloc, b"b.example", &[8; 16], &payloads)?,
+        established_behind(alloc, auth(alloc, 2, &proof())?)?,
         false
     );
     Ok(())

@@ -1,6 +1,6 @@
-use super::parts::{child, identity, request_of};
-use crate::{Judgement, Proving, judge, request};
-use base::Items;
+use super::parts::{auth, critical, identity, numbers, request_behind, request_of, selector};
+use crate::{Judgement, Proving, judge};
+use base::Selector;
 use caller::ScriptCaller;
 use exchange::Notice;
 use std::alloc::{AllocError, Global};
@@ -16,8 +16,21 @@ fn proof() -> [u8; 32] {
     ]
 }
 
-// What an end that waits for "a.example" of type 2 answers to a request, `None` where it accepts it.
-fn refusal(alloc: Global, payloads: &[Payload]) -> Result<Option<Notice>, AllocError> {
+// The same behind a first message of 1500 octets for an identity of 256.
+fn proof_behind_long_message() -> [u8; 32] {
+    [
+        0x7d, 0xe6, 0xfb, 0x1f, 0x2c, 0x33, 0xb4, 0x8e, 0x17, 0xb1, 0xb2, 0xe8, 0x33, 0x76, 0x66,
+        0x02, 0x15, 0x7f, 0xc6, 0xab, 0x46, 0xaf, 0xfe, 0xf9, 0x2e, 0x9a, 0x24, 0xed, 0x14, 0x2e,
+        0x10, 0xfa,
+    ]
+}
+
+// What an end that waits for "a.example" of type 2 makes of a request: the notice that refuses it, or the window and the first
+// selector of each side.
+fn judged(
+    alloc: Global,
+    payloads: &[Payload],
+) -> Result<Result<(u8, Option<Selector>, Option<Selector>), Notice>, AllocError> {
     let peer = identity(alloc, 2, b"a.example")?;
     let what = Proving {
         first: b"first message",
@@ -25,110 +38,50 @@ fn refusal(alloc: Global, payloads: &[Payload]) -> Result<Option<Notice>, AllocE
         sk_p: &[5; 32],
     };
     match judge(alloc, &ScriptCaller, &peer, &what, payloads)? {
-        Judgement::Refused(notice) => Ok(Some(notice)),
-        Judgement::Accepted(_) => Ok(None),
+        Judgement::Refused(notice) => Ok(Err(notice)),
+        Judgement::Accepted(asked) => Ok(Ok((
+            asked.window,
+            asked.offer.ts_i.first().copied(),
+            asked.offer.ts_r.first().copied(),
+        ))),
     }
 }
 
-fn auth(alloc: Global, method: u8, octets: &[u8]) -> Result<Payload, AllocError> {
-    Ok(Payload::Auth {
-        method,
-        data: Items::from_slice(alloc, octets)?,
-    })
+fn refusal(alloc: Global, payloads: &[Payload]) -> Result<Option<Notice>, AllocError> {
+    Ok(judged(alloc, payloads)?.err())
 }
 
-// RFC 7296, sections 1.2 and 2.15.
-#[test]
-fn a_request(rt: HostRuntime) -> Result<(), Fail> {
-    let alloc = rt.alloc();
-    let payloads = request_of(alloc, 2, b"a.example", 4)?;
-    let mut numbers = Vec::new(alloc);
-    for payload in &payloads {
-        numbers.push(payload.number())?;
+// What answers the request of an end of this identity.
+fn refusal_of(alloc: Global, kind: u8, id: &[u8]) -> Result<Option<Notice>, AllocError> {
+    refusal(alloc, &request_of(alloc, kind, id, 1)?)
+}
+
+// What answers a request with this AUTH payload in place of its own.
+fn refusal_with(alloc: Global, method: u8, octets: &[u8]) -> Result<Option<Notice>, AllocError> {
+    let mut payloads = request_of(alloc, 2, b"a.example", 1)?;
+    if let Some(place) = payloads.get_mut(1) {
+        *place = auth(alloc, method, octets)?;
     }
-    assert_eq!(rt; numbers.as_slice(), [35, 39, 33, 44, 45, 41].as_slice());
-    assert_eq!(rt; payloads.get(1), Some(&auth(alloc, 2, &proof())?));
-    assert_eq!(rt; request_of(alloc, 2, b"a.example", 1)?.len(), 5);
-    Ok(())
+    refusal(alloc, &payloads)
 }
 
-#[test]
-fn what_is_asked(rt: HostRuntime) -> Result<(), Fail> {
-    let alloc = rt.alloc();
-    let payloads = request_of(alloc, 2, b"a.example", 4)?;
-    let peer = identity(alloc, 2, b"a.example")?;
-    let what = Proving {
-        first: b"first message",
-        nonce: &[9; 16],
-        sk_p: &[5; 32],
-    };
-    let Judgement::Accepted(asked) = judge(alloc, &ScriptCaller, &peer, &what, &payloads)? else {
-        return Err("refused".into());
-    };
-    assert_eq!(rt; asked.window, 4);
-    assert_eq!(rt; asked.proposals.len(), 1);
-    let made = child(alloc)?;
-    assert_eq!(rt;
-        Payload::TsI(Items::from_slice(alloc, asked.ts_i)?),
-        made.ts_i
-    );
-    assert_eq!(rt;
-        Payload::TsR(Items::from_slice(alloc, asked.ts_r)?),
-        made.ts_r
-    );
-    Ok(())
-}
-
-// Section 2.21.2.
-#[test]
-fn another_identity_or_proof(rt: HostRuntime) -> Result<(), Fail> {
-    let alloc = rt.alloc();
-    let failed = Some(Notice::AuthenticationFailed);
-    assert_eq!(rt;
-        refusal(alloc, &request_of(alloc, 2, b"a.example", 1)?)?,
-        None
-    );
-    assert_eq!(rt;
-        refusal(alloc, &request_of(alloc, 3, b"a.example", 1)?)?,
-        failed
-    );
-    assert_eq!(rt;
-        refusal(alloc, &request_of(alloc, 2, b"b.example", 1)?)?,
-        failed
-    );
-    let mut changed = proof();
-    changed[31] ^= 1;
-    for other in [auth(alloc, 2, &changed)?, auth(alloc, 1, &proof())?] {
-        let mut payloads = request_of(alloc, 2, b"a.example", 1)?;
-        if let Some(place) = payloads.get_mut(1) {
-            *place = other;
-        }
-        assert_eq!(rt; refusal(alloc, &payloads)?, failed);
-    }
-    Ok(())
-}
-
-// Sections 2.5 and 3.10.1, in this order.
-#[test]
-fn what_is_refused_first(rt: HostRuntime) -> Result<(), Fail> {
-    let alloc = rt.alloc();
+// What answers a request without its last payload.
+fn refusal_of_less(alloc: Global) -> Result<Option<Notice>, AllocError> {
     let mut payloads = request_of(alloc, 3, b"a.example", 1)?;
     payloads.pop();
-    assert_eq!(rt; refusal(alloc, &payloads)?, Some(Notice::InvalidSyntax));
-    let mut payloads = request_of(alloc, 2, b"a.example", 1)?;
-    payloads.push(auth(alloc, 2, &proof())?)?;
-    assert_eq!(rt; refusal(alloc, &payloads)?, Some(Notice::InvalidSyntax));
-    payloads.push(Payload::Unknown {
-        kind: 200,
-        critical: true,
-        data: Items::new(alloc),
-    })?;
-    let critical = Notice::UnsupportedCriticalPayload { kind: 200 };
-    assert_eq!(rt; refusal(alloc, &payloads)?, Some(critical));
-    Ok(())
+    refusal(alloc, &payloads)
 }
 
-// The proof of an identity of 256 octets, behind a first message of 1500.
+// What answers a request with a second AUTH payload, and with a critical one behind it.
+fn refusal_of_more(alloc: Global, is_critical: bool) -> Result<Option<Notice>, AllocError> {
+    let mut payloads = request_of(alloc, 2, b"a.example", 1)?;
+    payloads.push(auth(alloc, 2, &proof())?)?;
+    if is_critical {
+        payloads.push(critical(alloc))?;
+    }
+    refusal(alloc, &payloads)
+}
+
 fn long_proof(alloc: Global) -> Result<Vec<Payload>, AllocError> {
     let mut first = Vec::new(alloc);
     for octet in 0..1500u32 {
@@ -138,22 +91,42 @@ fn long_proof(alloc: Global) -> Result<Vec<Payload>, AllocError> {
     for octet in 0..256u32 {
         id.push((octet % 256) as u8)?;
     }
-    let own = identity(alloc, 11, &id)?;
-    let what = Proving {
-        first: &first,
-        nonce: &[9; 16],
-        sk_p: &[5; 32],
-    };
-    let payloads = request(alloc, &ScriptCaller, &own, &what, child(alloc)?, 1)?;
-    Ok(payloads.into_vec())
+    request_behind(alloc, &first, &identity(alloc, 11, &id)?, 1)
 }
 
-fn proof_behind_long_message() -> [u8; 32] {
-    [
-        0x7d, 0xe6, 0xfb, 0x1f, 0x2c, 0x33, 0xb4, 0x8e, 0x17, 0xb1, 0xb2, 0xe8, 0x33, 0x76, 0x66,
-        0x02, 0x15, 0x7f, 0xc6, 0xab, 0x46, 0xaf, 0xfe, 0xf9, 0x2e, 0x9a, 0x24, 0xed, 0x14, 0x2e,
-        0x10, 0xfa,
-    ]
+// RFC 7296, section 1.2.
+#[test]
+fn a_request(rt: HostRuntime) -> Result<(), Fail> {
+    let alloc = rt.alloc();
+    let payloads = request_of(alloc, 2, b"a.example", 4)?;
+    assert_eq!(rt;
+        numbers(alloc, &payloads)?.as_slice(),
+        [35, 39, 33, 44, 45, 41].as_slice()
+    );
+    Ok(())
+}
+
+#[test]
+fn a_request_that_tells_no_window(rt: HostRuntime) -> Result<(), Fail> {
+    let alloc = rt.alloc();
+    let payloads = request_of(alloc, 2, b"a.example", 1)?;
+    assert_eq!(rt;
+        numbers(alloc, &payloads)?.as_slice(),
+        [35, 39, 33, 44, 45].as_slice()
+    );
+    Ok(())
+}
+
+// Section 2.15.
+#[test]
+fn its_proof(rt: HostRuntime) -> Result<(), Fail> {
+    let alloc = rt.alloc();
+    let expected = auth(alloc, 2, &proof())?;
+    assert_eq!(rt;
+        request_of(alloc, 2, b"a.example", 1)?.get(1),
+        Some(&expected)
+    );
+    Ok(())
 }
 
 #[test]
@@ -161,5 +134,46 @@ fn a_long_first_message(rt: HostRuntime) -> Result<(), Fail> {
     let alloc = rt.alloc();
     let expected = auth(alloc, 2, &proof_behind_long_message())?;
     assert_eq!(rt; long_proof(alloc)?.get(1), Some(&expected));
+    Ok(())
+}
+
+#[test]
+fn what_is_asked(rt: HostRuntime) -> Result<(), Fail> {
+    let alloc = rt.alloc();
+    let asked = judged(alloc, &request_of(alloc, 2, b"a.example", 4)?)?;
+    assert_eq!(rt; asked, Ok((4, Some(selector(1)), Some(selector(2)))));
+    Ok(())
+}
+
+// Section 2.21.2.
+#[test]
+fn another_identity(rt: HostRuntime) -> Result<(), Fail> {
+    let alloc = rt.alloc();
+    let failed = Some(Notice::AuthenticationFailed);
+    assert_eq!(rt; refusal_of(alloc, 2, b"a.example")?, None);
+    assert_eq!(rt; refusal_of(alloc, 3, b"a.example")?, failed);
+    assert_eq!(rt; refusal_of(alloc, 2, b"b.example")?, failed);
+    Ok(())
+}
+
+#[test]
+fn another_proof(rt: HostRuntime) -> Result<(), Fail> {
+    let alloc = rt.alloc();
+    let failed = Some(Notice::AuthenticationFailed);
+    let mut changed = proof();
+    changed[31] ^= 1;
+    assert_eq!(rt; refusal_with(alloc, 2, &changed)?, failed);
+    assert_eq!(rt; refusal_with(alloc, 1, &proof())?, failed);
+    Ok(())
+}
+
+// Sections 2.5 and 3.10.1, in this order.
+#[test]
+fn what_is_refused_first(rt: HostRuntime) -> Result<(), Fail> {
+    let alloc = rt.alloc();
+    let unknown = Some(Notice::UnsupportedCriticalPayload { kind: 200 });
+    assert_eq!(rt; refusal_of_less(alloc)?, Some(Notice::InvalidSyntax));
+    assert_eq!(rt; refusal_of_more(alloc, false)?, Some(Notice::InvalidSyntax));
+    assert_eq!(rt; refusal_of_more(alloc, true)?, unknown);
     Ok(())
 }

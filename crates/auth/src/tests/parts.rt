@@ -1,7 +1,10 @@
 //! What the tests make messages of.
-use crate::{ChildPayloads, Identity, Proving, request};
+ghost use Rattle.auth.specs.Windows.{IsWindow};
+
+use crate::{Identity, Proving, request};
 use base::{Items, Range, Selector};
 use caller::ScriptCaller;
+use exchange::ChildPayloads;
 use std::alloc::{AllocError, Global};
 use wire::{Payload, Proposal};
 
@@ -12,17 +15,33 @@ pub fn identity(alloc: Global, kind: u8, octets: &[u8]) -> Result<Identity, Allo
     })
 }
 
-// A side with this address alone.
-fn side(alloc: Global, address: u32) -> Result<Items<Selector>, AllocError> {
-    let selector = Selector {
+pub fn auth(alloc: Global, method: u8, octets: &[u8]) -> Result<Payload, AllocError> {
+    Ok(Payload::Auth {
+        method,
+        data: Items::from_slice(alloc, octets)?,
+    })
+}
+
+// A payload of an unknown type that is marked as critical.
+pub fn critical(alloc: Global) -> Payload {
+    Payload::Unknown {
+        kind: 200,
+        critical: true,
+        data: Items::new(alloc),
+    }
+}
+
+// This address alone.
+pub fn selector(address: u32) -> Selector {
+    Selector {
         protocol: 0,
         start_port: 0,
         end_port: 65535,
         addresses: Range::V4(address, address),
-    };
-    Items::from_slice(alloc, &[selector])
+    }
 }
 
+// One proposal, and the addresses 1 and 2.
 pub fn child(alloc: Global) -> Result<ChildPayloads, AllocError> {
     let mut proposals = Items::new(alloc);
     proposals.push(Proposal {
@@ -32,25 +51,49 @@ pub fn child(alloc: Global) -> Result<ChildPayloads, AllocError> {
         transforms: Items::new(alloc),
     })?;
     Ok(ChildPayloads {
-        sa: Payload::Sa(proposals),
-        ts_i: Payload::TsI(side(alloc, 1)?),
-        ts_r: Payload::TsR(side(alloc, 2)?),
+        proposals,
+        ts_i: Items::from_slice(alloc, &[selector(1)])?,
+        ts_r: Items::from_slice(alloc, &[selector(2)])?,
     })
 }
 
-// The request of an end of this identity.
+// The request of an end of this identity, behind this first message.
+pub fn request_behind(
+    alloc: Global,
+    first: &[u8],
+    own: &Identity,
+    window: u8,
+) -> Result<Vec<Payload>, AllocError>
+    requires { IsWindow window }
+{
+    if !own.fits_payload() {
+        return Err(AllocError);
+    }
+    let what = Proving {
+        first,
+        nonce: &[9; 16],
+        sk_p: &[5; 32],
+    };
+    let payloads = request(alloc, &ScriptCaller, own, &what, child(alloc)?, window)?;
+    Ok(payloads.into_vec())
+}
+
 pub fn request_of(
     alloc: Global,
     kind: u8,
     id: &[u8],
     window: u8,
-) -> Result<Vec<Payload>, AllocError> {
-    let own = identity(alloc, kind, id)?;
-    let what = Proving {
-        first: b"first message",
-        nonce: &[9; 16],
-        sk_p: &[5; 32],
-    };
-    let payloads = request(alloc, &ScriptCaller, &own, &what, child(alloc)?, window)?;
-    Ok(payloads.into_vec())
+) -> Result<Vec<Payload>, AllocError>
+    requires { IsWindow window }
+{
+    request_behind(alloc, b"first message", &identity(alloc, kind, id)?, window)
+}
+
+// The numbers of the payloads' types.
+pub fn numbers(alloc: Global, payloads: &[Payload]) -> Result<Vec<u8>, AllocError> {
+    let mut numbers = Vec::new(alloc);
+    for payload in payloads {
+        numbers.push(payload.number())?;
+    }
+    Ok(numbers)
 }

@@ -14,6 +14,18 @@ fn told(alloc: Global, octets: &[u8]) -> Result<Payload, AllocError> {
     })
 }
 
+fn window_told(alloc: Global, octets: &[u8]) -> Result<u8, AllocError> {
+    Ok(peer_window(&[told(alloc, octets)?]))
+}
+
+fn window_of_several(alloc: Global) -> Result<u8, AllocError> {
+    Ok(peer_window(&[
+        told(alloc, &[0, 0, 9])?,
+        told(alloc, &[0, 0, 0, 3])?,
+        told(alloc, &[0, 0, 0, 5])?,
+    ]))
+}
+
 // RFC 7296, section 2.3.
 #[test]
 fn windows_within_the_limits(rt: HostRuntime) -> Result<(), Fail> {
@@ -29,7 +41,7 @@ fn windows_within_the_limits(rt: HostRuntime) -> Result<(), Fail> {
         (&[0, 0, 0, 0, 9], 1),
     ];
     for (octets, window) in expected {
-        assert_eq!(rt; peer_window(&[told(alloc, octets)?]), window);
+        assert_eq!(rt; window_told(alloc, octets)?, window);
     }
     Ok(())
 }
@@ -38,28 +50,19 @@ fn windows_within_the_limits(rt: HostRuntime) -> Result<(), Fail> {
 fn the_first_counts(rt: HostRuntime) -> Result<(), Fail> {
     let alloc = rt.alloc();
     assert_eq!(rt; peer_window(&[]), 1);
-    let several = [
-        told(alloc, &[0, 0, 9])?,
-        told(alloc, &[0, 0, 0, 3])?,
-        told(alloc, &[0, 0, 0, 5])?,
-    ];
-    assert_eq!(rt; peer_window(&several), 3);
+    assert_eq!(rt; window_of_several(alloc)?, 3);
     Ok(())
 }
 
 #[test]
 fn a_notice_of_four_octets(rt: HostRuntime) -> Result<(), Fail> {
     let alloc = rt.alloc();
-    let Payload::Notify {
-        protocol,
-        spi,
-        kind,
-        data,
-    } = window_notice(alloc, 5)?
-    else {
-        return Err("no notice".into());
+    let expected = Payload::Notify {
+        protocol: 0,
+        spi: Items::new(alloc),
+        kind: 16385,
+        data: Items::from_slice(alloc, &[0, 0, 0, 5])?,
     };
-    assert_eq!(rt; (protocol, spi.len(), kind), (0, 0, 16385));
-    assert_eq!(rt; data.as_slice(), [0, 0, 0, 5].as_slice());
+    assert_eq!(rt; window_notice(alloc, 5)?, expected);
     Ok(())
 }

@@ -1,4 +1,4 @@
-use Rattle.std.proofs.Common.{◌≡◌, ℕ, List, arith, subst, sym}
+use Rattle.std.proofs.Common.{ℕ, List, arith, subst, sym}
 use Rattle.base.proofs.OctetLemmas.{octets_from_fits}
 use Rattle.base.specs.Octets.{AreOctets}
 use Rattle.suite.specs.Callers.{FitsPayload}

@@ -2,7 +2,7 @@ use Rattle.std.proofs.Common.{rules, ◌≡◌, ◌≤◌, ◌+◌, ℕ, get_or,
 use Rattle.std.proofs.lemmas.Option.{get_or_from_slice_get}
 use Rattle.byteorder.specs.Endian.{big_number}
 use Rattle.wire.specs.declared.proposal.Proposal.{Proposal}
-use Rattle.children.specs.Responding.{offered}
+use Rattle.exchange.specs.Children.{offered}
 use Rattle.children.proofs.ChildLemmas.{made_next}
 use Rattle.children.proofs.responding.respond.Goals as goal
 
@@ -39,5 +39,5 @@ pub returns-clause-ready : goal.returns-clause-ready
 returns-clause-ready c =
     record {
       ready = search rules;
-      next = made_next c.args.setting.now c.args.policy.now c.args.table.now (offered c.args.offer.now) c.in_ok-make.field-0 c.prepare.new.self (returns-clause-response c) c.prepare.ensures.content;
+      next = made_next c.args.setting.now c.args.extended c.args.policy.now c.args.table.now (offered c.args.offer.now) c.in_ok-made.made c.prepare.new.self (returns-clause-response c) c.prepare.ensures.content;
     }

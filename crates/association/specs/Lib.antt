@@ -1,0 +1,5 @@
+pub mod Faults
+pub mod Phases
+pub mod Finding
+pub mod Receiving
+pub mod Closing

@@ -1,0 +1,29 @@
+//! One association of IKE (RFC 7296, sections 1.1, 2.1 to 2.4 and 2.6): what an end holds of it in each phase, which association
+//! a message is for, and what the message's number, exchange and sealing allow it to be.
+//!
+//! An [`Association`] has its SPIs, its requests and the peer's ([`requests`]), and a [`Phase`] with what that phase alone has.
+//! [`find`] tells which of a list a message is for, and [`receive`] what is to be made of it: the payloads of a request or of
+//! a response, the reply that was sent before, or a [`MessageFault`]. What payloads say and do is nothing to this crate.
+//! What follows from the definitions alone is in [`laws`].
+//!
+//! ```text
+//! let message = decode_message(alloc, &datagram)?;
+//! let place = find(&associations, &message.header)?;
+//! match receive(alloc, &sealer, &associations[place], &datagram, &message)? {
+//!     Received::Request(plain) => decode_chain(alloc, plain.first, plain.octets.as_slice()),
+//!     Received::Repeat(reply) => send(reply),
+//!     ..
+//! }
+//! ```
+#![tactic(auto)]
+
+mod fault;
+mod finding;
+pub mod laws;
+mod phase;
+mod receiving;
+
+pub use fault::MessageFault;
+pub use finding::find;
+pub use phase::{Association, AuthSent, FirstChild, HalfOpen, InitSent, Phase, Request};
+pub use receiving::{Received, receive};

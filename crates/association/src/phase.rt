@@ -1,0 +1,208 @@
+//! What an end holds of one association.
+ghost use Rattle.std.specs.Prelude.{◌≡◌, Some, None, MatchOption};
+ghost use Rattle.std.specs.Option.{option_copied};
+ghost use Rattle.association.specs.Closing.{Closes, GivesUpSpi, HoldsSpi};
+ghost use Rattle.association.specs.Phases.{asked_of, established_of, established_spi, keys_in, spi_in};
+
+use base::{Items, Selector};
+use children::Asked;
+use exchange::Role;
+use requests::{Incoming, Outgoing, Timer};
+use sadb::{Spi, Table};
+use std::mem;
+use suite::KeyRecord;
+
+/// An IKE association, as one end holds it.
+#[derive(Drop)]
+pub struct Association {
+    /// Its number at this end, from 1 on.
+    pub serial: u32,
+    /// Whether this end began it: its original initiator (RFC 7296, section 2.2).
+    pub role: Role,
+    /// The original initiator's SPI.
+    pub spi_i: u64,
+    /// The responder's SPI, 0 while the initiator doesn't know it.
+    pub spi_r: u64,
+    /// The peer's requests.
+    pub incoming: Incoming,
+    /// This end's requests.
+    pub outgoing: Outgoing<Request>,
+    /// How far it has come.
+    pub phase: Phase,
+}
+
+/// A request of this end that waits for its answer.
+#[derive(Drop)]
+pub struct Request {
+    /// The datagram, which goes out again as it is (RFC 7296, section 2.1).
+    pub octets: Items<u8>,
+    /// Its exchange type, which the answer has too (section 3.1).
+    pub exchange: u8,
+    /// When it goes out again.
+    pub timer: Timer,
+}
+
+/// How far an association has come, with what that phase alone has.
+#[derive(Drop)]
+pub enum Phase {
+    /// This end asked for an association by IKE_SA_INIT, and waits for the response.
+    InitSent(InitSent),
+    /// This end told who it is by IKE_AUTH, and waits for the response.
+    AuthSent(AuthSent),
+    /// This end answered IKE_SA_INIT, and waits for IKE_AUTH.
+    HalfOpen(HalfOpen),
+    /// Both ends know who the other is; these are the keys.
+    Established(KeyRecord),
+    /// It is over, and is held for a while to answer what the peer sends again.
+    Closed {
+        /// The keys, where both ends came to them.
+        keys: Option<KeyRecord>,
+        /// The moment of closing, in milliseconds.
+        at: u64,
+    },
+}
+
+/// The child that an initiator wants with the association (RFC 7296, section 1.2).
+#[derive(Drop)]
+pub struct FirstChild {
+    /// The inbound SPI that its table reserved.
+    pub spi: Spi,
+    /// The selector of its own side.
+    pub local: Selector,
+    /// The selector of the peer's side.
+    pub remote: Selector,
+    /// Whether it allows extended sequence numbers (RFC 4303, section 2.2.1).
+    pub extended: bool,
+}
+
+/// What an initiator keeps of its IKE_SA_INIT request (RFC 7296, sections 1.2 and 2.6).
+#[derive(Drop)]
+pub struct InitSent {
+    /// The secret of the key agreement.
+    pub secret: [u8; 32],
+    pub nonce: [u8; 32],
+    /// The cookie that the request carries.
+    pub cookie: Option<Items<u8>>,
+    /// How many cookies it has taken so far, that one counted.
+    pub cookies_taken: u8,
+    /// The child that IKE_AUTH is to ask for.
+    pub child: FirstChild,
+}
+
+/// What an initiator keeps while it waits for the response of IKE_AUTH.
+#[derive(Drop)]
+pub struct AuthSent {
+    pub keys: KeyRecord,
+    /// The responder's first message, which it has to prove (RFC 7296, section 2.15).
+    pub first: Items<u8>,
+    /// The child that was asked for.
+    pub child: FirstChild,
+}
+
+/// What a responder keeps until IKE_AUTH comes.
+#[derive(Drop)]
+pub struct HalfOpen {
+    pub keys: KeyRecord,
+    /// The initiator's first message, which it has to prove (RFC 7296, section 2.15), and by which its repeat is known.
+    pub request: Items<u8>,
+    /// This end's answer, which goes out again where the request does.
+    pub reply: Items<u8>,
+    /// The moment at which it was made, in milliseconds.
+    pub made: u64,
+}
+
+impl FirstChild {
+    /// What is asked for.
+    pub fn asked(&self) -> Asked
+        ensures { result ≡ asked_of self.now }
+    {
+        Asked {
+            spi: self.spi.number(),
+            local: self.local,
+            remote: self.remote,
+            extended: self.extended,
+        }
+    }
+}
+
+impl Association {
+    /// The keys, where both ends have come to them.
+    pub fn keys(&self) -> Option<&KeyRecord>
+        ensures { MatchOption result (keys_in self.now.phase ≡ None)
+            (λ keys. keys_in self.now.phase ≡ Some keys.now) }
+    {
+        match &self.phase {
+            Phase::InitSent(_) => None,
+            Phase::AuthSent(sent) => Some(&sent.keys),
+            Phase::HalfOpen(open) => Some(&open.keys),
+            Phase::Established(keys) => Some(keys),
+            Phase::Closed { keys, .. } => keys.as_ref(),
+        }
+    }
+
+    /// Both ends know who the other is, and each has proved it. The SPI is answered that was reserved for the first child, where
+    /// this end asked for one. Takes no memory.
+    pub fn establish(&mut self) -> Option<Spi>
+        ensures spi { result ≡ established_spi self.old.phase }
+        ensures content { self.new ≡ record self.old { phase = established_of self.old.phase } }
+    {
+        let (phase, spi) = established(mem::replace(&mut self.phase, Phase::ENDED));
+        self.phase = phase;
+        spi
+    }
+
+    /// Ends it at a moment, in milliseconds: it waits for no answer any more, its children are taken out of the table, and an SPI
+    /// that was reserved for one is given up. What it answered is kept to be sent again. Takes no memory.
+    ///
+    /// The caller asks only where such an SPI is reserved in the table.
+    pub fn close(&mut self, table: &mut Table, moment: u64)
+        requires { HoldsSpi (spi_in self.old.phase) table.old }
+        ensures { Closes self.old table.old moment self.new table.new }
+    {
+        let (keys, spi) = ended(mem::replace(&mut self.phase, Phase::ENDED));
+        self.phase = Phase::Closed { keys, at: moment };
+        self.outgoing.give_up();
+        give_up_spi(table, spi);
+        table.remove_all_of(self.serial);
+    }
+}
+
+impl Phase {
+    // What stands in a place while its content is elsewhere.
+    const ENDED: Phase = Phase::Closed { keys: None, at: 0 };
+}
+
+// The phase that follows where both ends have proved who they are, and the SPI that the first child was to have.
+fn established(phase: Phase) -> (Phase, Option<Spi>)
+    ensures phase { result.0 ≡ established_of phase }
+    ensures spi { result.1 ≡ established_spi phase }
+{
+    match phase {
+        Phase::AuthSent(sent) => (Phase::Established(sent.keys), Some(sent.child.spi)),
+        Phase::HalfOpen(open) => (Phase::Established(open.keys), None),
+        other => (other, None),
+    }
+}
+
+// The keys, and the SPI that the first child was to have.
+fn ended(phase: Phase) -> (Option<KeyRecord>, Option<Spi>)
+    ensures keys { result.0 ≡ keys_in phase }
+    ensures spi { result.1 ≡ spi_in phase }
+{
+    match phase {
+        Phase::InitSent(sent) => (None, Some(sent.child.spi)),
+        Phase::AuthSent(sent) => (Some(sent.keys), Some(sent.child.spi)),
+        Phase::HalfOpen(open) => (Some(open.keys), None),
+        Phase::Established(keys) => (Some(keys), None),
+        Phase::Closed { keys, .. } => (keys, None),
+    }
+}
+
+fn give_up_spi(table: &mut Table, spi: Option<Spi>)
+    requires { HoldsSpi spi table.old }
+    ensures { GivesUpSpi spi table.old table.new }
+{
+    if let Some(spi) = spi {
+        table.release(spi);
+    }
+}

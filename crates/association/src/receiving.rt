@@ -1,0 +1,172 @@
+//! What a message is allowed to be.
+ghost use Rattle.std.specs.Prelude.{◌≡◌, ◌≢◌, true, false, None, IfErr, IfOk};
+ghost use Rattle.exchange.specs.Sealed.{lone_body};
+ghost use Rattle.wire.specs.Messages.{Spells};
+ghost use Rattle.association.specs.Receiving.{admits, fresh_reception, is_closed, opened_by, received_view, reception_of_response, IsReceived, IsReceivedRequest, IsUndecided, IsUndecidedRequest, is_undecided_response};
+
+use crate::{Association, MessageFault, Phase};
+use exchange::{Plain, open_message};
+use requests::Judgement;
+use std::alloc::{AllocError, Global};
+use suite::Sealer;
+use wire::Message;
+use wire::numbers::{CREATE_CHILD_SA, IKE_AUTH, INFORMATIONAL};
+
+/// What a message is to the association that it is for.
+#[derive(Debug, Drop)]
+pub enum Received<'a> {
+    /// It is passed over.
+    Refused(MessageFault),
+    /// A request that took effect before. These octets answered it, and answer it again (RFC 7296, section 2.1).
+    Repeat(&'a [u8]),
+    /// A request that is to take effect, with its payloads.
+    Request(Plain),
+    /// The response to the outstanding request of its number, with its payloads.
+    Response(Plain),
+    /// The response to IKE_SA_INIT, whose payloads are not encrypted.
+    InitialResponse,
+}
+
+/// What a message is to the association that [`find`](crate::find) found for it (RFC 7296, sections 2.1 to 2.3 and 3.14). The
+/// octets are those that the message was decoded from.
+///
+/// A response, in this order: [`MessageFault::WrongPhase`] where the association is closed, [`MessageFault::OutsideWindow`] where
+/// no request of its number is outstanding, [`MessageFault::WrongPhase`] where that has another exchange, and, but for
+/// IKE_SA_INIT, [`MessageFault::NotOpened`].
+///
+/// A request: [`MessageFault::Forgotten`] or [`MessageFault::OutsideWindow`] by its number, [`MessageFault::WrongPhase`] where it is
+/// fresh and the association closed, [`MessageFault::NotOpened`]; then one that took effect is a repeat, and a fresh one is
+/// refused by [`MessageFault::WrongPhase`] where its exchange doesn't belong to the phase: IKE_AUTH to a half-open association,
+/// CREATE_CHILD_SA and INFORMATIONAL to an established one.
+///
+/// An error is for want of memory alone, which none but a message that has to be opened takes.
+pub fn receive<'a, S: Sealer>(
+    alloc: Global,
+    sealer: &S,
+    association: &'a Association,
+    octets: &[u8],
+    message: &Message,
+) -> Result<Received<'a>, AllocError>
+    requires { Spells message.now octets.now }
+    ensures received { IfOk result (λ received.
+        IsReceived S.plain_of association.now octets.now message.now (received_view received)) }
+    ensures memory { IfErr result (λ _. IsUndecided association.now message.now) }
+{
+    if message.header.flags.response {
+        receive_response(alloc, sealer, association, octets, message)
+    } else {
+        receive_request(alloc, sealer, association, octets, message)
+    }
+}
+
+fn receive_response<'a, S: Sealer>(
+    alloc: Global,
+    sealer: &S,
+    association: &'a Association,
+    octets: &[u8],
+    message: &Message,
+) -> Result<Received<'a>, AllocError>
+    requires { Spells message.now octets.now }
+    ensures received { IfOk result (λ received. received_view received
+        ≡ reception_of_response S.plain_of association.now octets.now message.now) }
+    ensures memory { IfErr result (λ _. (is_undecided_response association.now message.now.header ≡ true)
+        × (lone_body message.now.payloads ≢ None)) }
+{
+    if let Phase::Closed { .. } = &association.phase {
+        return Ok(Received::Refused(MessageFault::WrongPhase));
+    }
+    let Some(request) = association.outgoing.get(message.header.id) else {
+        return Ok(Received::Refused(MessageFault::OutsideWindow));
+    };
+    if request.exchange != message.header.exchange {
+        return Ok(Received::Refused(MessageFault::WrongPhase));
+    }
+    if let Phase::InitSent(_) = &association.phase {
+        return Ok(Received::InitialResponse);
+    }
+    match opened(alloc, sealer, association, octets, message)? {
+        Some(plain) => Ok(Received::Response(plain)),
+        None => Ok(Received::Refused(MessageFault::NotOpened)),
+    }
+}
+
+fn receive_request<'a, S: Sealer>(
+    alloc: Global,
+    sealer: &S,
+    association: &'a Association,
+    octets: &[u8],
+    message: &Message,
+) -> Result<Received<'a>, AllocError>
+    requires { Spells message.now octets.now }
+    ensures received { IfOk result (λ received.
+        IsReceivedRequest S.plain_of association.now octets.now message.now (received_view received)) }
+    ensures memory { IfErr result (λ _. IsUndecidedRequest association.now message.now.header
+        × (lone_body message.now.payloads ≢ None)) }
+{
+    match association.incoming.judge(message.header.id) {
+        Judgement::Forgotten => Ok(Received::Refused(MessageFault::Forgotten)),
+        Judgement::Outside => Ok(Received::Refused(MessageFault::OutsideWindow)),
+        Judgement::Repeat(reply) => {
+            match opened(alloc, sealer, association, octets, message)? {
+                Some(_) => Ok(Received::Repeat(reply)),
+                None => Ok(Received::Refused(MessageFault::NotOpened)),
+            }
+        }
+        Judgement::Fresh => receive_fresh(alloc, sealer, association, octets, message),
+    }
+}
+
+// A request that did not take effect yet, and lies in the window.
+fn receive_fresh<'a, S: Sealer>(
+    alloc: Global,
+    sealer: &S,
+    association: &'a Association,
+    octets: &[u8],
+    message: &Message,
+) -> Result<Received<'a>, AllocError>
+    requires { Spells message.now octets.now }
+    ensures received { IfOk result (λ received. received_view received
+        ≡ fresh_reception association.now.phase message.now.header.exchange
+        (opened_by S.plain_of association.now octets.now message.now.payloads)) }
+    ensures memory { IfErr result (λ _. (is_closed association.now.phase ≡ false)
+        × (lone_body message.now.payloads ≢ None)) }
+{
+    if let Phase::Closed { .. } = &association.phase {
+        return Ok(Received::Refused(MessageFault::WrongPhase));
+    }
+    match opened(alloc, sealer, association, octets, message)? {
+        None => Ok(Received::Refused(MessageFault::NotOpened)),
+        Some(plain) if admits(&association.phase, message.header.exchange) => Ok(Received::Request(plain)),
+        Some(_) => Ok(Received::Refused(MessageFault::WrongPhase)),
+    }
+}
+
+// Whether requests of this exchange belong to the phase.
+fn admits(phase: &Phase, exchange: u8) -> bool
+    ensures { result ≡ admits phase.now exchange }
+{
+    match phase {
+        Phase::HalfOpen(_) => exchange == IKE_AUTH,
+        Phase::Established(_) => exchange == CREATE_CHILD_SA || exchange == INFORMATIONAL,
+        _ => false,
+    }
+}
+
+// What the message opens to under the peer's keys, where there are any.
+fn opened<S: Sealer>(
+    alloc: Global,
+    sealer: &S,
+    association: &Association,
+    octets: &[u8],
+    message: &Message,
+) -> Result<Option<Plain>, AllocError>
+    requires { Spells message.now octets.now }
+    ensures opened { IfOk result (λ plain. plain ≡ opened_by S.plain_of association.now octets.now message.now.payloads) }
+    ensures memory { IfErr result (λ _. lone_body message.now.payloads ≢ None) }
+{
+    let Some(keys) = association.keys() else {
+        return Ok(None);
+    };
+    let keys = association.role.other().keys(keys);
+    open_message(alloc, sealer, &keys, octets, message)
+}

@@ -1,0 +1,47 @@
+//! The payloads of a child (RFC 7296, sections 1.2 and 1.3.1).
+ghost use Rattle.std.specs.Prelude.{◌≡◌, ◌++◌, OnOk};
+ghost use Rattle.exchange.specs.Children.{child_payloads};
+
+use base::{Items, Selector};
+use std::alloc::AllocError;
+use wire::{Payload, Proposal};
+
+/// What a request says of a child, or its reply: the content of one SA, one TSi and one TSr payload (RFC 7296, sections 1.2
+/// and 1.3.1).
+#[derive(Debug, Drop)]
+pub struct ChildPayloads {
+    /// The proposals, or the answer to one (section 3.3).
+    pub proposals: Items<Proposal>,
+    /// The selectors of the side of the exchange's initiator (section 2.9).
+    pub ts_i: Items<Selector>,
+    /// The selectors of the other side.
+    pub ts_r: Items<Selector>,
+}
+
+impl ChildPayloads {
+    /// Adds the three payloads behind those of a message: SA, TSi, TSr. An error is for want of memory alone.
+    pub fn append_to(self, payloads: &mut Items<Payload>) -> Result<(), AllocError>
+        ensures { OnOk result (payloads.new ≡ payloads.old ++ child_payloads self) }
+    {
+        let ChildPayloads {
+            proposals,
+            ts_i,
+            ts_r,
+        } = self;
+        payloads.push(Payload::Sa(proposals))?;
+        payloads.push(Payload::TsI(ts_i))?;
+        payloads.push(Payload::TsR(ts_r))?;
+        Ok(())
+    }
+}
+
+/// What a request offers of a child, lent by the payloads that say it.
+#[derive(Clone, Copy)]
+pub struct ChildOffer<'a> {
+    /// The proposals, in the order of preference (RFC 7296, section 3.3).
+    pub proposals: &'a [Proposal],
+    /// The selectors of the side of the exchange's initiator (section 2.9).
+    pub ts_i: &'a [Selector],
+    /// The selectors of the other side.
+    pub ts_r: &'a [Selector],
+}

@@ -1,0 +1,72 @@
+-- What becomes of an association when IKE_AUTH is done, and of the table (RFC 7296 sections 1.2, 2.3 and 2.21.2).
+use Rattle.std.specs.Prelude.{◌≡◌, ℕ, Bool, true, false, Option, Some, None, max}
+use Rattle.requests.specs.Incoming.{PeerRequests}
+use Rattle.requests.specs.Outgoing.{OwnRequests}
+use Rattle.sadb.specs.Database.{Database, Installs, IsReserved, Releases}
+use Rattle.sadb.specs.declared.pair.Pair.{Pair}
+use Rattle.association.specs.Closing.{Closes, HoldsSpi}
+use Rattle.association.specs.Phases.{established_of, established_spi, spi_in}
+use Rattle.association.specs.declared.phase.Association.{Association}
+use Rattle.association.specs.declared.phase.Phase.{Phase}
+use Rattle.association.specs.declared.phase.Request.{Request}
+use Rattle.auth.specs.Windows.{IsWindow}
+use Rattle.children.specs.Responding.{AddsNext, CanTake}
+use Rattle.initial.specs.Configs.{Setup}
+use Rattle.initial.specs.declared.concluding.Outcome.{Outcome}
+use Rattle.initial.specs.declared.concluding.Outcome.TheVariants as outcome
+
+-- A child is added, if there is one: for the SPI that was reserved for it, which is given up otherwise, or for the next one.
+abbrev pub AddsChild : Database → Option ℕ → Option Pair → Option ℕ → Database → Type 0
+AddsChild old None None None new = new ≡ old
+AddsChild old None (Some pair) (Some serial) new = AddsNext old pair serial new
+AddsChild old (Some spi) None None new = Releases old spi new
+AddsChild old (Some spi) (Some pair) (Some serial) new = Installs old spi pair serial new
+AddsChild old spi pair child new = ⊥
+
+-- The window of each end is what it told, and never less than it was.
+abbrev pub widened_incoming : ℕ → PeerRequests → PeerRequests
+widened_incoming window r = record r { size = max window r.size }
+
+abbrev pub widened_outgoing : ℕ → OwnRequests Request → OwnRequests Request
+widened_outgoing window r = record r { window = max window r.window }
+
+-- this end's window and the peer's
+abbrev pub widened : ℕ → ℕ → Association → Association
+widened own peers a = record a { incoming = widened_incoming own a.incoming; outgoing = widened_outgoing peers a.outgoing }
+
+abbrev pub established : Association → Association
+established a = record a { phase = established_of a.phase }
+
+-- with other requests of the peer, or other own ones
+abbrev pub with_incoming : Association → PeerRequests → Association
+with_incoming a incoming = record a { incoming = incoming }
+
+abbrev pub with_outgoing : Association → OwnRequests Request → Association
+with_outgoing a outgoing = record a { outgoing = outgoing }
+
+pub record ClosesBy (setup : Setup) (old : Association) (table : Database) (child : Option ℕ) (new : Association) (new_table : Database) : Type 0 where
+  pub none : child ≡ None
+  pub over : Closes old table setup.moment new new_table
+
+pub record EstablishesBy (setup : Setup) (old : Association) (table : Database) (pair : Option Pair) (window : ℕ) (child : Option ℕ) (new : Association) (new_table : Database) : Type 0 where
+  pub added : AddsChild table (established_spi old.phase) pair child new_table
+  pub content : new ≡ widened setup.config.window window (established old)
+
+abbrev pub ConcludesBy : Setup → Association → Database → Outcome → Option ℕ → Association → Database → Type 0
+ConcludesBy setup old table outcome.Closes child new new_table = ClosesBy setup old table child new new_table
+ConcludesBy setup old table (outcome.Establishes pair window) child new new_table = EstablishesBy setup old table pair window child new new_table
+
+abbrev pub is_closing : Outcome → Bool
+is_closing outcome.Closes = true
+is_closing (outcome.Establishes pair window) = false
+
+-- the table can take the child
+abbrev pub CanAdd : Database → Option ℕ → Option Pair → Type 0
+CanAdd table None None = Unit {0}
+CanAdd table None (Some pair) = CanTake table pair
+CanAdd table (Some spi) None = IsReserved table spi
+CanAdd table (Some spi) (Some pair) = IsReserved table spi × (pair.inbound.association.spi ≡ spi)
+
+abbrev pub CanConclude : Association → Database → Outcome → Type 0
+CanConclude a table outcome.Closes = HoldsSpi (spi_in a.phase) table
+CanConclude a table (outcome.Establishes pair window) = IsWindow window × CanAdd table (established_spi a.phase) pair

@@ -1,0 +1,33 @@
+-- What an end is set to, and what a step has to hand.
+use Rattle.std.specs.Prelude.{ℕ, List}
+use Rattle.replay.specs.Window.{IsBlockCount}
+use Rattle.policy.specs.declared.entry.Entry.{Entry}
+use Rattle.suite.specs.Keys.{first_child_keys}
+use Rattle.suite.specs.declared.fresh.Fresh.{Fresh}
+use Rattle.suite.specs.declared.key_record.KeyRecord.{KeyRecord}
+use Rattle.auth.specs.Proofs.{IsIdentity}
+use Rattle.auth.specs.Windows.{IsWindow}
+use Rattle.children.specs.declared.setting.Setting.{Setting}
+use Rattle.initial.specs.declared.config.Config.{Config}
+use Rattle.initial.specs.declared.step.Step.{Step}
+
+-- the identities fit payloads, the blocks are those of a replay window, and the window is one of 1 to 16
+pub record IsConfig (config : Config) : Type 0 where
+  pub own : IsIdentity config.own.identity
+  pub peer : IsIdentity config.peer.identity
+  pub blocks : IsBlockCount config.blocks
+  pub window : IsWindow config.window
+
+-- what a step has to hand, but for the caller
+pub record Setup : Type 0 where
+  pub config : Config
+  pub entries : List Entry
+  pub fresh : Fresh
+  pub moment : ℕ
+
+abbrev pub setup_of : {C : Type 0} → Step C → Setup
+setup_of step = record { config = step.config.now; entries = step.policy.now; fresh = step.fresh.now; moment = step.moment }
+
+-- what the first child of an association is made on
+abbrev pub first_setting : Config → ℕ → KeyRecord → Setting
+first_setting config ike keys = record { ike = ike; keys = first_child_keys keys; blocks = config.blocks }

@@ -1,0 +1,5 @@
+pub mod Configs
+pub mod Deciding
+pub mod Concluding
+pub mod Answering
+pub mod Ending

@@ -1,0 +1,217 @@
+//! The answer to IKE_AUTH.
+ghost use Rattle.std.specs.Prelude.{◌≡◌, ◌≤◌, IfOk, IfErr};
+ghost use Rattle.exchange.specs.Headers.{keys_of};
+ghost use Rattle.exchange.specs.Sealed.{CanBeSealed, IsSealed};
+ghost use Rattle.requests.specs.Incoming.{IsFreshRequest};
+ghost use Rattle.sadb.specs.Database.{IsAsBefore};
+ghost use Rattle.auth.specs.Fitting.{FitWithin};
+ghost use Rattle.auth.specs.Answers.{answering_payloads, auth_answer};
+ghost use Rattle.initial.specs.Answering.{child_answer, outcome_of, pair_of, reply_message, reply_payloads, AnswersAuth, IsHalfOpen};
+ghost use Rattle.initial.specs.Concluding.{is_closing};
+ghost use Rattle.initial.specs.Configs.{setup_of, IsConfig};
+ghost use Rattle.initial.specs.Deciding.{own_proving, FitsDecision, FitsResponse};
+ghost use Rattle.wire.specs.Numbers.{IKE_AUTH};
+
+use crate::Step;
+use crate::concluding::{Outcome, conclude};
+use crate::deciding::{Decision, decide};
+use crate::sealing::sealed;
+use association::{Association, HalfOpen, Phase};
+use auth::laws::what_is_sent_fits;
+use auth::{ChildAnswer, Proving, answer};
+use base::Items;
+use children::{ChildFault, Response};
+use exchange::laws::{notices_fit, short_messages_can_be_sent};
+use exchange::{Plain, Role, sent_header};
+use sadb::{Pair, Table};
+use std::alloc::{AllocError, Global};
+use suite::{Proof, Sealer};
+use wire::numbers::IKE_AUTH;
+use wire::{Message, Payload};
+
+/// A request that took effect.
+#[derive(Debug, Drop)]
+pub struct Answered {
+    /// The reply.
+    pub octets: Items<u8>,
+    /// The serial of the child that was made.
+    pub child: Option<u32>,
+    /// Whether the association is closed.
+    pub closed: bool,
+}
+
+/// Answers a request of IKE_AUTH at a half-open association (RFC 7296, section 1.2), by the payloads that it opened to.
+///
+/// The association is closed, and the reply is one notice, where the payloads are not in the grammar (INVALID_SYNTAX), or the peer is
+/// refused by [`auth::judge`]. Otherwise it is established: the reply has this end's identity and its proof, what
+/// [`children::respond`] answers for the child, and the window of this end where it is above 1.
+///
+/// The caller asks only at a half-open association, where the request is fresh. An error is for want of memory alone: association
+/// and table are as they were then, but for the table's room.
+pub fn answer_auth<C: Sealer + Proof>(
+    alloc: Global,
+    step: &Step<'_, C>,
+    association: &mut Association,
+    table: &mut Table,
+    number: u32,
+    plain: &Plain,
+) -> Result<Answered, ChildFault>
+    requires config { IsConfig step.now.config.now }
+    requires waiting { IsHalfOpen association.old.phase }
+    requires fresh { IsFreshRequest association.old.incoming number }
+    ensures answered { IfOk result (λ answered. AnswersAuth
+        (record {
+          body_of = C.body_of;
+          own_method = C.own_method step.now.caller.now;
+          proof_of = C.proof_of step.now.caller.now;
+          accepts = C.accepts step.now.caller.now;
+        })
+        (setup_of step.now) association.old table.old number plain.now
+        answered association.new table.new) }
+    ensures refused { IfErr result (λ _. (association.new ≡ association.old) × IsAsBefore table.old table.new) }
+{
+    let Phase::HalfOpen(half_open) = &association.phase else {
+        unreachable!();
+    };
+    let decision = decide(alloc, step, table, association.serial, half_open, plain)?;
+    let reply = make_reply(alloc, step, association, half_open, number, decision)?;
+    let kept = Items::from_slice(alloc, reply.octets.as_slice())?;
+    association.incoming.prepare()?;
+    // From here on nothing can be refused.
+    association.incoming.take(number, kept);
+    let closed = reply.outcome.is_closing();
+    let child = conclude(step, association, table, reply.outcome);
+    Ok(Answered {
+        octets: reply.octets,
+        child,
+        closed,
+    })
+}
+
+/// A reply, and what it brings the association to.
+#[derive(Drop)]
+struct Reply {
+    octets: Items<u8>,
+    outcome: Outcome,
+}
+
+fn make_reply<C: Sealer + Proof>(
+    alloc: Global,
+    step: &Step<'_, C>,
+    association: &Association,
+    half_open: &HalfOpen,
+    number: u32,
+    decision: Decision,
+) -> Result<Reply, AllocError>
+    requires config { IsConfig step.now.config.now }
+    requires fits { FitsDecision decision }
+    ensures sealed { IfOk result (λ reply. IsSealed C.body_of (keys_of association.now.role half_open.now.keys)
+        step.now.fresh.now.seal (reply_message association.now IKE_AUTH number (reply_payloads
+        (C.own_method step.now.caller.now) (C.proof_of step.now.caller.now)
+        (setup_of step.now) half_open.now decision)) reply.octets) }
+    ensures outcome { IfOk result (λ reply. reply.outcome ≡ outcome_of decision) }
+{
+    short_messages_can_be_sent();
+    let Content { payloads, outcome } = make_content(alloc, step, half_open, decision)?;
+    let message = Message {
+        header: sent_header(
+            association.spi_i,
+            association.spi_r,
+            IKE_AUTH,
+            association.role,
+            true,
+            number,
+        ),
+        payloads,
+    };
+    let octets = sealed(
+        alloc,
+        step.caller,
+        association.role,
+        &half_open.keys,
+        &message,
+        &step.fresh.seal,
+    )?;
+    Ok(Reply { octets, outcome })
+}
+
+/// What a reply says, and what it brings the association to.
+#[derive(Drop)]
+struct Content {
+    payloads: Items<Payload>,
+    outcome: Outcome,
+}
+
+fn make_content<C: Proof>(
+    alloc: Global,
+    step: &Step<'_, C>,
+    half_open: &HalfOpen,
+    decision: Decision,
+) -> Result<Content, AllocError>
+    requires config { IsConfig step.now.config.now }
+    requires fits { FitsDecision decision }
+    ensures payloads { IfOk result (λ content. content.payloads ≡ reply_payloads
+        (C.own_method step.now.caller.now) (C.proof_of step.now.caller.now)
+        (setup_of step.now) half_open.now decision) }
+    ensures outcome { IfOk result (λ content. content.outcome ≡ outcome_of decision) }
+    ensures fits { IfOk result (λ content. FitWithin 2840 content.payloads) }
+{
+    match decision {
+        Decision::Refused(notice) => {
+            notices_fit();
+            let mut payloads = Items::new(alloc);
+            payloads.push(notice.payload(alloc)?)?;
+            Ok(Content {
+                payloads,
+                outcome: Outcome::Closes,
+            })
+        }
+        Decision::Accepted { response, window } => {
+            let (child, pair) = parts_of(response);
+            Ok(Content {
+                payloads: accepting(alloc, step, half_open, child)?,
+                outcome: Outcome::Establishes { pair, window },
+            })
+        }
+    }
+}
+
+// The payloads of a reply to a peer that proved its identity.
+fn accepting<C: Proof>(
+    alloc: Global,
+    step: &Step<'_, C>,
+    half_open: &HalfOpen,
+    child: ChildAnswer,
+) -> Result<Items<Payload>, AllocError>
+    requires config { IsConfig step.now.config.now }
+    requires fits { FitWithin 1400 (answering_payloads child) }
+    ensures payloads { IfOk result (λ payloads. payloads ≡ auth_answer
+        (C.own_method step.now.caller.now) (C.proof_of step.now.caller.now)
+        step.now.config.now.own.identity (own_proving half_open.now) child step.now.config.now.window) }
+    ensures fits { IfOk result (FitWithin 2840) }
+{
+    what_is_sent_fits();
+    let proving = Proving::of(Role::Responder, &half_open.keys, half_open.reply.as_slice());
+    answer(
+        alloc,
+        step.caller,
+        &step.config.own.identity,
+        &proving,
+        child,
+        step.config.window,
+    )
+}
+
+// What the reply says of the child, and the pair that this end has of it.
+fn parts_of(response: Response) -> (ChildAnswer, Option<Pair>)
+    requires { FitsResponse response }
+    ensures answer { result.0 ≡ child_answer response }
+    ensures pair { result.1 ≡ pair_of response }
+    ensures fits { FitWithin 1400 (answering_payloads result.0) }
+{
+    notices_fit();
+    match response {
+        Response::Made(made) => (ChildAnswer::Payloads(made.payloads), Some(made.pair)),
+        Response::Refused(notice) => (ChildAnswer::Notice(notice), None),
+    }
+}

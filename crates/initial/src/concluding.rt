@@ -1,0 +1,106 @@
+//! What becomes of an association when IKE_AUTH is done.
+ghost use Rattle.std.specs.Prelude.{◌≡◌, Option, Some, None};
+ghost use Rattle.auth.specs.Windows.{IsWindow};
+ghost use Rattle.association.specs.Closing.{HoldsSpi};
+ghost use Rattle.association.specs.Phases.{established_spi, spi_in};
+ghost use Rattle.initial.specs.Concluding.{established, is_closing, widened, AddsChild, CanAdd, CanConclude, ConcludesBy, EstablishesBy};
+ghost use Rattle.initial.specs.Configs.{setup_of};
+
+use crate::Step;
+use association::Association;
+use children::install;
+use sadb::{Pair, Spi, Table};
+
+/// How IKE_AUTH ends.
+#[derive(Drop)]
+pub enum Outcome {
+    /// The association is over.
+    Closes,
+    /// It is established.
+    Establishes {
+        /// Its first child, if it has one.
+        pair: Option<Pair>,
+        /// The peer's window (RFC 7296, section 2.3).
+        window: u8,
+    },
+}
+
+impl Outcome {
+    /// Whether the association is over.
+    pub fn is_closing(&self) -> bool
+        ensures { result ≡ is_closing self.now }
+    {
+        match self {
+            Outcome::Closes => true,
+            Outcome::Establishes { .. } => false,
+        }
+    }
+}
+
+/// Brings an association and the table to an outcome. The serial of the child is answered, if there is one. Takes no memory.
+pub fn conclude<C>(
+    step: &Step<'_, C>,
+    association: &mut Association,
+    table: &mut Table,
+    outcome: Outcome,
+) -> Option<u32>
+    requires window { IsWindow step.now.config.now.window }
+    requires ready { CanConclude association.old table.old outcome }
+    ensures { ConcludesBy (setup_of step.now) association.old table.old outcome result association.new table.new }
+{
+    match outcome {
+        Outcome::Closes => {
+            association.close(table, step.moment);
+            None
+        }
+        Outcome::Establishes { pair, window } => establish(association, table, pair, step.config.window, window),
+    }
+}
+
+// The child is added, and both windows count from now on.
+fn establish(
+    association: &mut Association,
+    table: &mut Table,
+    pair: Option<Pair>,
+    own: u8,
+    peers: u8,
+) -> Option<u32>
+    requires own { IsWindow own }
+    requires peers { IsWindow peers }
+    requires ready { CanAdd table.old (established_spi association.old.phase) pair }
+    ensures added { AddsChild table.old (established_spi association.old.phase) pair result table.new }
+    ensures content { association.new ≡ widened own peers (established association.old) }
+{
+    let spi = association.establish();
+    widen(association, own, peers);
+    add(table, spi, pair)
+}
+
+fn widen(association: &mut Association, own: u8, peers: u8)
+    requires own { IsWindow own }
+    requires peers { IsWindow peers }
+    ensures { association.new ≡ widened own peers association.old }
+{
+    association.incoming.invariants_hold();
+    association.outgoing.invariants_hold();
+    let size = own.max(association.incoming.size());
+    association.incoming.set_size(size);
+    let window = peers.max(association.outgoing.window());
+    association.outgoing.set_window(window);
+}
+
+// A child takes the SPI that was reserved for it, which is given up where there is none; or the next one, where none was.
+fn add(table: &mut Table, spi: Option<Spi>, pair: Option<Pair>) -> Option<u32>
+    requires { CanAdd table.old spi pair }
+    ensures { AddsChild table.old spi pair result table.new }
+{
+    match (spi, pair) {
+        (Some(spi), Some(pair)) => Some(table.install(spi, pair)),
+        (Some(spi), None) => {
+            table.release(spi);
+            None
+        }
+        (None, Some(pair)) => Some(install(table, pair)),
+        (None, None) => None,
+    }
+}

@@ -1,0 +1,135 @@
+//! What a responder decides about IKE_AUTH.
+ghost use Rattle.std.specs.Prelude.{◌≡◌, Some, IfOk};
+ghost use Rattle.std.specs.List.{AllByRecursion};
+ghost use Rattle.wire.specs.Sizes.{FitsFields};
+ghost use Rattle.exchange.specs.Children.{offered};
+ghost use Rattle.sadb.specs.Database.{IsAsBefore};
+ghost use Rattle.initial.specs.Configs.{setup_of, IsConfig};
+ghost use Rattle.initial.specs.Deciding.{AcceptsAuth, CanBeAnswered, Decides, FitsDecision, FitsResponse, IsDecision, IsRead, LeavesRoomFor};
+ghost use Rattle.children.specs.Responding.{IsChildResponse, LeavesRoom};
+ghost use Rattle.initial.specs.Configs.{first_setting};
+
+use crate::Step;
+use association::HalfOpen;
+use auth::laws::windows_are_read_again;
+use auth::{Judgement, Proving, judge};
+use base::Items;
+use children::{ChildFault, Response, Setting, respond};
+use children::laws::payloads_fit;
+use exchange::laws::what_counts_fits;
+use exchange::{ChildOffer, Notice, Plain, Role};
+use sadb::Table;
+use std::alloc::{AllocError, Global};
+use suite::{KeyRecord, Proof};
+use wire::laws::what_is_read_fits;
+use wire::{Payload, WireFault, decode_chain};
+
+/// What is decided.
+#[derive(Drop)]
+pub enum Decision {
+    /// The association is over, for what the notice says.
+    Refused(Notice),
+    /// The peer proved its identity.
+    Accepted {
+        /// Its first child is made, or not.
+        response: Response,
+        /// The window that it told (RFC 7296, section 2.3).
+        window: u8,
+    },
+}
+
+/// What is decided about a request of IKE_AUTH (RFC 7296, section 1.2). Of the table its room alone changes.
+pub fn decide<C: Proof>(
+    alloc: Global,
+    step: &Step<'_, C>,
+    table: &mut Table,
+    ike: u32,
+    half_open: &HalfOpen,
+    plain: &Plain,
+) -> Result<Decision, ChildFault>
+    requires { IsConfig step.now.config.now }
+    ensures decided { IfOk result (Decides (C.accepts step.now.caller.now) (setup_of step.now)
+        ike half_open.now table.old plain.now) }
+    ensures table { IsAsBefore table.old table.new }
+    ensures room { IfOk result (λ decision. LeavesRoomFor decision table.new) }
+    ensures fits { IfOk result FitsDecision }
+{
+    what_is_read_fits();
+    match read_chain(alloc, plain)? {
+        None => Ok(Decision::Refused(Notice::InvalidSyntax)),
+        Some(payloads) => decide_on(alloc, step, table, ike, half_open, payloads.as_slice()),
+    }
+}
+
+/// The payloads that octets spell, if they spell any. An error is for want of memory alone.
+pub fn read_chain(alloc: Global, plain: &Plain) -> Result<Option<Items<Payload>>, AllocError>
+    ensures { IfOk result (IsRead plain.now) }
+{
+    match decode_chain(alloc, plain.first, plain.octets.as_slice()) {
+        Ok(payloads) => Ok(Some(payloads)),
+        Err(WireFault::Memory) => Err(AllocError),
+        Err(_) => Ok(None),
+    }
+}
+
+// What is decided about these payloads.
+fn decide_on<C: Proof>(
+    alloc: Global,
+    step: &Step<'_, C>,
+    table: &mut Table,
+    ike: u32,
+    half_open: &HalfOpen,
+    payloads: &[Payload],
+) -> Result<Decision, ChildFault>
+    requires config { IsConfig step.now.config.now }
+    requires fits { AllByRecursion FitsFields payloads.now }
+    ensures decided { IfOk result (IsDecision (C.accepts step.now.caller.now) (setup_of step.now)
+        ike half_open.now table.old (Some payloads.now)) }
+    ensures table { IsAsBefore table.old table.new }
+    ensures room { IfOk result (λ decision. LeavesRoomFor decision table.new) }
+    ensures fits { IfOk result FitsDecision }
+{
+    what_counts_fits();
+    windows_are_read_again();
+    let proving = Proving::of(Role::Initiator, &half_open.keys, half_open.request.as_slice());
+    match judge(alloc, step.caller, &step.config.peer.identity, &proving, payloads)? {
+        Judgement::Refused(notice) => {
+            notice.fits();
+            Ok(Decision::Refused(notice))
+        }
+        Judgement::Accepted(asked) => Ok(Decision::Accepted {
+            response: respond_to(alloc, step, table, ike, &half_open.keys, &asked.offer)?,
+            window: asked.window,
+        }),
+    }
+}
+
+// What answers the first child of an association.
+fn respond_to<C>(
+    alloc: Global,
+    step: &Step<'_, C>,
+    table: &mut Table,
+    ike: u32,
+    keys: &KeyRecord,
+    offer: &ChildOffer<'_>,
+) -> Result<Response, ChildFault>
+    requires config { IsConfig step.now.config.now }
+    requires fits { CanBeAnswered (offered offer.now) }
+    ensures response { IfOk result (IsChildResponse (first_setting step.now.config.now ike keys.now)
+        step.now.config.now.extended step.now.policy.now table.old (offered offer.now)) }
+    ensures table { IsAsBefore table.old table.new }
+    ensures room { IfOk result (λ response. LeavesRoom response table.new) }
+    ensures fits { IfOk result FitsResponse }
+{
+    payloads_fit();
+    let setting = Setting {
+        ike,
+        keys: keys.first_child_keys(),
+        blocks: step.config.blocks,
+    };
+    let response = respond(alloc, offer, step.config.extended, &setting, step.policy, table)?;
+    if let Response::Refused(notice) = &response {
+        notice.fits();
+    }
+    Ok(response)
+}

@@ -1,0 +1,109 @@
+//! The response to IKE_AUTH.
+ghost use Rattle.std.specs.Prelude.{◌≡◌, Some, IfOk, IfErr};
+ghost use Rattle.requests.specs.Outgoing.{IsOutstanding};
+ghost use Rattle.association.specs.Closing.{HoldsSpi};
+ghost use Rattle.association.specs.Phases.{spi_in};
+ghost use Rattle.initial.specs.Configs.{setup_of, IsConfig};
+ghost use Rattle.initial.specs.Concluding.{is_closing, CanConclude};
+ghost use Rattle.initial.specs.Ending.{EndsAuth, FitsVerdict, IsAuthSent, IsVerdict, Judges};
+
+use crate::Step;
+use crate::concluding::{Outcome, conclude};
+use crate::deciding::read_chain;
+use association::{Association, AuthSent, Phase};
+use auth::laws::windows_are_read_again;
+use auth::{Proving, is_accepted, peer_window};
+use children::{ChildFault, Setting, accept};
+use exchange::{Plain, Role};
+use sadb::Table;
+use std::alloc::Global;
+use suite::Proof;
+use wire::Payload;
+
+/// A response that was counted.
+#[derive(Clone, Copy, Debug, PartialEq, Eq)]
+pub struct Ended {
+    /// The serial of the child that was made.
+    pub child: Option<u32>,
+    /// Whether the association is closed.
+    pub closed: bool,
+}
+
+/// Counts the response to IKE_AUTH (RFC 7296, section 1.2), by the payloads that it opened to.
+///
+/// The association is closed where the payloads are not in the grammar, or the peer is refused by [`auth::is_accepted`]. Otherwise it is
+/// established, with the child that [`children::accept`] makes of the answer, or without one: then its SPI is given up.
+///
+/// The caller asks only where the response to IKE_AUTH is waited for, of this number, and the child's SPI is reserved in the table.
+/// An error is for want of memory alone, and changes nothing.
+pub fn end_auth<C: Proof>(
+    alloc: Global,
+    step: &Step<'_, C>,
+    association: &mut Association,
+    table: &mut Table,
+    number: u32,
+    plain: &Plain,
+) -> Result<Ended, ChildFault>
+    requires config { IsConfig step.now.config.now }
+    requires waiting { IsAuthSent association.old.phase }
+    requires outstanding { IsOutstanding association.old.outgoing number }
+    requires reserved { HoldsSpi (spi_in association.old.phase) table.old }
+    ensures ended { IfOk result (λ ended. EndsAuth (C.accepts step.now.caller.now) (setup_of step.now)
+        association.old table.old number plain.now ended association.new table.new) }
+    ensures refused { IfErr result (λ _. (association.new ≡ association.old) × (table.new ≡ table.old)) }
+{
+    let Phase::AuthSent(sent) = &association.phase else {
+        unreachable!();
+    };
+    let verdict = judge_response(alloc, step, association.serial, sent, plain)?;
+    // From here on nothing can be refused.
+    let _ = association.outgoing.count(number);
+    let closed = verdict.is_closing();
+    let child = conclude(step, association, table, verdict);
+    Ok(Ended { child, closed })
+}
+
+fn judge_response<C: Proof>(
+    alloc: Global,
+    step: &Step<'_, C>,
+    ike: u32,
+    sent: &AuthSent,
+    plain: &Plain,
+) -> Result<Outcome, ChildFault>
+    requires { IsConfig step.now.config.now }
+    ensures judged { IfOk result (Judges (C.accepts step.now.caller.now) (setup_of step.now) ike sent.now plain.now) }
+    ensures fits { IfOk result (FitsVerdict sent.now) }
+{
+    match read_chain(alloc, plain)? {
+        None => Ok(Outcome::Closes),
+        Some(payloads) => judge_payloads(alloc, step, ike, sent, payloads.as_slice()),
+    }
+}
+
+fn judge_payloads<C: Proof>(
+    alloc: Global,
+    step: &Step<'_, C>,
+    ike: u32,
+    sent: &AuthSent,
+    payloads: &[Payload],
+) -> Result<Outcome, ChildFault>
+    requires { IsConfig step.now.config.now }
+    ensures judged { IfOk result (IsVerdict (C.accepts step.now.caller.now) (setup_of step.now) ike sent.now
+        (Some payloads.now)) }
+    ensures fits { IfOk result (FitsVerdict sent.now) }
+{
+    windows_are_read_again();
+    let proving = Proving::of(Role::Responder, &sent.keys, sent.first.as_slice());
+    if !is_accepted(alloc, step.caller, &step.config.peer.identity, &proving, payloads)? {
+        return Ok(Outcome::Closes);
+    }
+    let setting = Setting {
+        ike,
+        keys: sent.keys.first_child_keys(),
+        blocks: step.config.blocks,
+    };
+    Ok(Outcome::Establishes {
+        pair: accept(alloc, payloads, &sent.child.asked(), &setting)?,
+        window: peer_window(payloads),
+    })
+}

@@ -1,0 +1,17 @@
+//! What a step has to hand.
+
+use crate::Config;
+use policy::Policy;
+use suite::Fresh;
+
+/// What a step has to hand, beside the associations that it may change.
+pub struct Step<'a, C> {
+    /// The caller's cipher, key agreement and proofs.
+    pub caller: &'a C,
+    pub config: &'a Config,
+    pub policy: &'a Policy,
+    /// What the caller made anew for this step.
+    pub fresh: &'a Fresh,
+    /// The moment of the step, in milliseconds.
+    pub moment: u64,
+}
