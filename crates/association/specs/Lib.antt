@@ -1,4 +1,5 @@
 pub mod Faults
+pub mod FirstChildren
 pub mod Phases
 pub mod Finding
 pub mod Receiving

@@ -1,8 +1,6 @@
 -- What an end holds of one association, by its phase.
 use Rattle.std.specs.Prelude.{ℕ, Option, Some, None}
 use Rattle.suite.specs.declared.key_record.KeyRecord.{KeyRecord}
-use Rattle.children.specs.declared.asking.Asked.{Asked}
-use Rattle.association.specs.declared.phase.FirstChild.{FirstChild}
 use Rattle.association.specs.declared.phase.Phase.{Phase}
 use Rattle.association.specs.declared.phase.Phase.TheVariants.{InitSent, AuthSent, HalfOpen, Established, Closed}
 
@@ -30,7 +28,3 @@ abbrev pub established_of : Phase → Phase
 established_of (AuthSent sent) = Established sent.keys
 established_of (HalfOpen opened) = Established opened.keys
 established_of phase = phase
-
--- what is asked for with the association
-abbrev pub asked_of : FirstChild → Asked
-asked_of child = record { spi = child.spi; local = child.local; remote = child.remote; extended = child.extended }

@@ -19,11 +19,13 @@
 
 mod fault;
 mod finding;
+mod first_child;
 pub mod laws;
 mod phase;
 mod receiving;
 
 pub use fault::MessageFault;
 pub use finding::find;
-pub use phase::{Association, AuthSent, FirstChild, HalfOpen, InitSent, Phase, Request};
+pub use first_child::FirstChild;
+pub use phase::{Association, AuthSent, HalfOpen, InitSent, Phase, Request};
 pub use receiving::{Received, receive};

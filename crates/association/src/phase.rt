@@ -2,10 +2,10 @@
 ghost use Rattle.std.specs.Prelude.{◌≡◌, Some, None, MatchOption};
 ghost use Rattle.std.specs.Option.{option_copied};
 ghost use Rattle.association.specs.Closing.{Closes, GivesUpSpi, HoldsSpi};
-ghost use Rattle.association.specs.Phases.{asked_of, established_of, established_spi, keys_in, spi_in};
+ghost use Rattle.association.specs.Phases.{established_of, established_spi, keys_in, spi_in};
 
-use base::{Items, Selector};
-use children::Asked;
+use crate::FirstChild;
+use base::Items;
 use exchange::Role;
 use requests::{Incoming, Outgoing, Timer};
 use sadb::{Spi, Table};
@@ -62,19 +62,6 @@ pub enum Phase {
     },
 }
 
-/// The child that an initiator wants with the association (RFC 7296, section 1.2).
-#[derive(Drop)]
-pub struct FirstChild {
-    /// The inbound SPI that its table reserved.
-    pub spi: Spi,
-    /// The selector of its own side.
-    pub local: Selector,
-    /// The selector of the peer's side.
-    pub remote: Selector,
-    /// Whether it allows extended sequence numbers (RFC 4303, section 2.2.1).
-    pub extended: bool,
-}
-
 /// What an initiator keeps of its IKE_SA_INIT request (RFC 7296, sections 1.2 and 2.6).
 #[derive(Drop)]
 pub struct InitSent {
@@ -109,20 +96,6 @@ pub struct HalfOpen {
     pub reply: Items<u8>,
     /// The moment at which it was made, in milliseconds.
     pub made: u64,
-}
-
-impl FirstChild {
-    /// What is asked for.
-    pub fn asked(&self) -> Asked
-        ensures { result ≡ asked_of self.now }
-    {
-        Asked {
-            spi: self.spi.number(),
-            local: self.local,
-            remote: self.remote,
-            extended: self.extended,
-        }
-    }
 }
 
 impl Association {
@@ -178,7 +151,7 @@ fn established(phase: Phase) -> (Phase, Option<Spi>)
     ensures spi { result.1 ≡ established_spi phase }
 {
     match phase {
-        Phase::AuthSent(sent) => (Phase::Established(sent.keys), Some(sent.child.spi)),
+        Phase::AuthSent(sent) => (Phase::Established(sent.keys), Some(sent.child.into_spi())),
         Phase::HalfOpen(open) => (Phase::Established(open.keys), None),
         other => (other, None),
     }
@@ -190,8 +163,8 @@ fn ended(phase: Phase) -> (Option<KeyRecord>, Option<Spi>)
     ensures spi { result.1 ≡ spi_in phase }
 {
     match phase {
-        Phase::InitSent(sent) => (None, Some(sent.child.spi)),
-        Phase::AuthSent(sent) => (Some(sent.keys), Some(sent.child.spi)),
+        Phase::InitSent(sent) => (None, Some(sent.child.into_spi())),
+        Phase::AuthSent(sent) => (Some(sent.keys), Some(sent.child.into_spi())),
         Phase::HalfOpen(open) => (Some(open.keys), None),
         Phase::Established(keys) => (Some(keys), None),
         Phase::Closed { keys, .. } => (keys, None),

@@ -1,15 +1,16 @@
 -- What counts of payloads that have what their fields allow has it too, and notices have it.
-use Rattle.std.proofs.Common.{◌≡◌, ◌==◌, ◌≤◌, ◌<◌, ℕ, Bool, true, false, if◌then◌else◌, List, [], ◌∷◌, Option, Some, None, option_and_then, refl, subst, arith}
+use Rattle.std.proofs.Common.{◌≡◌, ◌==◌, ◌≤◌, ◌<◌, ◌&&◌, ℕ, length, nat_le, Bool, true, false, if◌then◌else◌, List, [], ◌∷◌, Option, Some, None, option_and_then, refl, subst, arith}
 use Rattle.std.specs.List.{filter, AllByRecursion}
+use Rattle.std.proofs.lemmas.Bool.{leb-true}
 use Rattle.base.specs.declared.selector.Selector.{Selector}
-use Rattle.wire.specs.Numbers.{SA_TYPE, TS_I_TYPE, TS_R_TYPE}
+use Rattle.wire.specs.Numbers.{COOKIE, SA_TYPE, TS_I_TYPE, TS_R_TYPE}
 use Rattle.wire.specs.Payloads.{type_of}
 use Rattle.wire.specs.Sizes.{size_of, FitsFields}
 use Rattle.wire.specs.declared.payload.Payload.{Payload}
-use Rattle.wire.specs.declared.payload.Payload.TheVariants.{Sa, TsI, TsR}
+use Rattle.wire.specs.declared.payload.Payload.TheVariants.{Notify, Sa, TsI, TsR}
 use Rattle.wire.specs.declared.proposal.Proposal.{Proposal}
 use Rattle.exchange.specs.Counting.{lone_item, only, only_sa, only_ts_i, only_ts_r, sa_in, ts_i_in, ts_r_in}
-use Rattle.exchange.specs.Notices.{payload_of_notice, FitsNotice}
+use Rattle.exchange.specs.Notices.{asked_cookie, cookie_in, payload_of_notice, FitsNotice}
 use Rattle.exchange.specs.declared.notices.Notice.{Notice}
 use Rattle.exchange.specs.declared.notices.Notice.TheVariants.{UnsupportedCriticalPayload, InvalidSyntax, NoProposalChosen, AuthenticationFailed, NoAdditionalSas, TsUnacceptable, Cookie}
 
@@ -74,3 +75,33 @@ notice_fits AuthenticationFailed fits = (record { protocol_fits = omega arith; k
 notice_fits NoAdditionalSas fits = (record { protocol_fits = omega arith; kind_fits = omega arith; spi_fits = record { some = omega arith; few = omega arith; fits = tt }; octets_fit = tt }, omega arith)
 notice_fits TsUnacceptable fits = (record { protocol_fits = omega arith; kind_fits = omega arith; spi_fits = record { some = omega arith; few = omega arith; fits = tt }; octets_fit = tt }, omega arith)
 notice_fits (Cookie octets) fits = (record { protocol_fits = omega arith; kind_fits = omega arith; spi_fits = record { some = omega arith; few = omega arith; fits = tt }; octets_fit = fits.fits }, omega (arith, fits.few))
+
+-- what is read of a notice as a cookie
+pub record IsShort (octets : List ℕ) : Type 0 where
+  pub some : 1 ≤ length octets
+  pub few : length octets ≤ 64
+
+short_cookie : (kind : ℕ) (held octets : List ℕ) (is some few : Bool) → (kind == COOKIE) ≡ is → nat_le 1 (length held) ≡ some → nat_le (length held) 64 ≡ few
+    → (if is && some && few then Some held else None) ≡ Some octets → IsShort octets
+short_cookie kind held octets false some few e1 e2 e3 found = absurd (cc)
+short_cookie kind held octets true false few e1 e2 e3 found = absurd (cc)
+short_cookie kind held octets true true false e1 e2 e3 found = absurd (cc)
+short_cookie kind held octets true true true e1 e2 e3 found =
+    let same : held ≡ octets = cc in
+    subst IsShort same (record { some = leb-true 1 (length held) e2; few = leb-true (length held) 64 e3 })
+
+cookie_short : (p : Payload) (octets : List ℕ) → cookie_in p ≡ Some octets → IsShort octets
+cookie_short (Notify protocol spi kind held) octets found =
+    short_cookie kind held octets (kind == COOKIE) (nat_le 1 (length held)) (nat_le (length held) 64) refl refl refl found
+cookie_short p octets found = absurd (cc)
+
+asked_short : (ps : List Payload) (octets : List ℕ) → asked_cookie ps ≡ Some octets → IsShort octets
+asked_short [] octets found = absurd (cc)
+asked_short (p ∷ []) octets found = cookie_short p octets found
+asked_short (p ∷ q ∷ ps) octets found = absurd (cc)
+
+pub some_octets : (ps : List Payload) (octets : List ℕ) → asked_cookie ps ≡ Some octets → 1 ≤ length octets
+some_octets ps octets found = (asked_short ps octets found).some
+
+pub few_octets : (ps : List Payload) (octets : List ℕ) → asked_cookie ps ≡ Some octets → length octets ≤ 64
+few_octets ps octets found = (asked_short ps octets found).few

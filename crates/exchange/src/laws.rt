@@ -1,5 +1,5 @@
 //! What follows from the definitions alone.
-ghost use Rattle.std.specs.Prelude.{◌≡◌, ◌≤◌, List, ℕ, ◌∷◌, [], Some, All, Contains, slice_get};
+ghost use Rattle.std.specs.Prelude.{◌≡◌, ◌≤◌, List, ℕ, ◌∷◌, [], Some, All, Contains, length, slice_get};
 ghost use Rattle.std.specs.List.{AllByRecursion, sum_by};
 ghost use Rattle.wire.specs.declared.proposal.Proposal.{Proposal};
 ghost use Rattle.suite.specs.declared.choice.Chosen.{Chosen};
@@ -11,7 +11,7 @@ ghost use Rattle.base.specs.declared.selector.Selector.{Selector};
 ghost use Rattle.wire.specs.declared.payload.Payload.{Payload};
 ghost use Rattle.wire.specs.declared.payload.Payload.TheVariants.{Sa, TsI, TsR};
 ghost use Rattle.exchange.specs.Counting.{only_sa, only_ts_i, only_ts_r};
-ghost use Rattle.exchange.specs.Notices.{payload_of_notice, FitsNotice};
+ghost use Rattle.exchange.specs.Notices.{asked_cookie, payload_of_notice, FitsNotice};
 ghost use Rattle.exchange.specs.declared.notices.Notice.{Notice};
 ghost use Rattle.exchange.specs.Sealed.{CanBeSealed};
 ghost use Rattle.exchange.specs.Offers.{answer_of, offer_of, IsAcceptableAnswer, IsTakenFrom};
@@ -62,4 +62,10 @@ pub fn what_counts_fits()
 pub fn notices_fit()
     ensures { (notice : Notice) → FitsNotice notice
         → FitsFields (payload_of_notice notice) × (size_of (payload_of_notice notice) ≤ 72) }
+{}
+
+/// A cookie that is asked for has 1 to 64 octets (RFC 7296, section 2.6). Does nothing.
+pub fn cookies_are_short()
+    ensures some { (payloads : List Payload) (octets : List ℕ) → asked_cookie payloads ≡ Some octets → 1 ≤ length octets }
+    ensures few { (payloads : List Payload) (octets : List ℕ) → asked_cookie payloads ≡ Some octets → length octets ≤ 64 }
 {}

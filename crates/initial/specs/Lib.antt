@@ -3,3 +3,4 @@ pub mod Deciding
 pub mod Concluding
 pub mod Answering
 pub mod Ending
+pub mod Reading

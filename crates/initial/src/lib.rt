@@ -12,6 +12,7 @@ mod concluding;
 mod config;
 mod deciding;
 mod ending;
+mod reading;
 mod sealing;
 mod step;
 
@@ -19,4 +20,5 @@ pub use answering::{Answered, answer_auth};
 pub use config::{Config, End};
 pub use concluding::Outcome;
 pub use ending::{Ended, end_auth};
+pub use reading::{Continued, read_response};
 pub use step::Step;

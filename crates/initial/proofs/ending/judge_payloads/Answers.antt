@@ -14,7 +14,7 @@ returns-clause-judged g c =
           ∙ sym c.in_ok-is_accepted.ensures.accepted ∙ c.if-not-branch.false;
       child = first_child (setup_of c.args.step.now) c.args.ike c.args.sent.now c.args.payloads.now c.asked.result
           (record { ike = c.args.ike; keys = c.first_child_keys.result; blocks = c.args.step.now.config.now.blocks }) c.in_ok-accept.field-0
-          c.asked.ensures (ap (λ k. record { ike = c.args.ike; keys = k; blocks = c.args.step.now.config.now.blocks }) c.first_child_keys.ensures)
+          c.asked.ensures.asked (ap (λ k. record { ike = c.args.ike; keys = k; blocks = c.args.step.now.config.now.blocks }) c.first_child_keys.ensures)
           c.in_ok-accept.ensures.accepted;
       told = c.peer_window.ensures;
     }

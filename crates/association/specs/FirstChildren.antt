@@ -1,0 +1,23 @@
+-- The child that is made with an association (RFC 7296 section 1.2).
+use Rattle.std.specs.Prelude.{ℕ, Bool}
+use Rattle.base.specs.declared.selector.Selector.{Selector}
+use Rattle.policy.specs.Narrowing.{IsSendableSelector}
+use Rattle.children.specs.declared.asking.Asked.{Asked}
+
+pub record FirstChildView : Type 0 where
+  -- the inbound SPI that the table reserved
+  pub spi : ℕ
+  -- the selectors of this end's side and of the peer's
+  pub local : Selector
+  pub remote : Selector
+  -- extended sequence numbers are allowed
+  pub extended : Bool
+
+-- a message can carry both selectors (section 3.13.1)
+pub record IsSendableChild (local remote : Selector) : Type 0 where
+  pub local_fits : IsSendableSelector local
+  pub remote_fits : IsSendableSelector remote
+
+-- what is asked for
+abbrev pub asked_of : FirstChildView → Asked
+asked_of child = record { spi = child.spi; local = child.local; remote = child.remote; extended = child.extended }

@@ -1,0 +1,259 @@
+//! The response to IKE_SA_INIT.
+ghost use Rattle.std.specs.Prelude.{◌≡◌, ◌≤◌, ◌<◌, IfOk, IfErr, length};
+ghost use Rattle.wire.specs.Messages.{Spells, SpellsPlainly};
+ghost use Rattle.exchange.specs.Headers.{keys_of};
+ghost use Rattle.exchange.specs.Sealed.{IsSealed};
+ghost use Rattle.requests.specs.Outgoing.{IsOutstanding};
+ghost use Rattle.sa_init.specs.Reading.{waiting_view};
+ghost use Rattle.initial.specs.Configs.{setup_of, IsConfig};
+ghost use Rattle.initial.specs.Reading.{carrying, identity_message, new_request, telling, waiting_of, IsInitSent, IssuesFirst, ReadsResponse, TakesFew};
+ghost use Rattle.std.specs.Prelude.{Some};
+ghost use Rattle.sa_init.specs.Messages.{request_message};
+ghost use Rattle.association.specs.FirstChildren.{asked_of};
+ghost use Rattle.auth.specs.Fitting.{FitWithin};
+ghost use Rattle.auth.specs.Proofs.{proving_of};
+ghost use Rattle.auth.specs.Requests.{auth_request};
+ghost use Rattle.children.specs.Asking.{child_request};
+ghost use Rattle.exchange.specs.declared.headers.Role.TheVariants.{Initiator};
+
+use crate::Step;
+use crate::sealing::sealed;
+use association::{Association, AuthSent, FirstChild, InitSent, Phase, Request};
+use auth::laws::what_is_sent_fits;
+use auth::{Proving, request};
+use base::Items;
+use children::ask;
+use children::laws::payloads_fit;
+use exchange::laws::{cookies_are_short, short_messages_can_be_sent};
+use exchange::{Role, sent_header};
+use requests::{Outgoing, Timer};
+use sa_init::{Response, Waiting, read};
+use std::alloc::{AllocError, Global};
+use std::mem;
+use suite::{Agreement, KeyRecord, Proof, Sealer};
+use wire::numbers::{IKE_AUTH, IKE_SA_INIT};
+use wire::{Message, Payload};
+
+/// What an initiator does about the response to IKE_SA_INIT.
+#[derive(Debug, Drop)]
+pub enum Continued {
+    /// This request goes out: IKE_AUTH, or IKE_SA_INIT again with a cookie.
+    Request(Items<u8>),
+    /// E32: the response doesn't fit, and nothing is changed.
+    Unfit,
+}
+
+/// Goes on by the response to IKE_SA_INIT (RFC 7296, sections 1.2 and 2.6), as [`sa_init::read`] reads it. Where it asks for a
+/// cookie, the request goes out again with it, and its timer runs anew. Where it gives keys, the association has them and the
+/// responder's SPI from now on, and IKE_AUTH goes out as the request of number 1: this end's identity and its proof, what it asks for
+/// its first child, and its window where that is above 1.
+///
+/// The caller asks only where the response to IKE_SA_INIT is waited for, of this number, and the octets are those that the message
+/// was decoded from. An error is for want of memory alone, and changes nothing.
+pub fn read_response<C: Sealer + Agreement + Proof>(
+    alloc: Global,
+    step: &Step<'_, C>,
+    association: &mut Association,
+    number: u32,
+    octets: &[u8],
+    message: &Message,
+) -> Result<Continued, AllocError>
+    requires config { IsConfig step.now.config.now }
+    requires spelled { Spells message.now octets.now }
+    requires waiting { IsInitSent association.old.phase }
+    requires outstanding { IsOutstanding association.old.outgoing number }
+    ensures read { IfOk result (λ continued. ReadsResponse
+        (record {
+          cipher = C.cipher;
+          body_of = C.body_of;
+          group = C.group_number;
+          public_value = C.public_value;
+          shared_secret = C.shared_secret;
+          own_method = C.own_method step.now.caller.now;
+          proof_of = C.proof_of step.now.caller.now;
+        })
+        (setup_of step.now) association.old number octets.now message.now continued association.new) }
+    ensures refused { IfErr result (λ _. association.new ≡ association.old) }
+{
+    cookies_are_short();
+    let Phase::InitSent(sent) = &association.phase else {
+        unreachable!();
+    };
+    let waiting = waiting(association.spi_i, sent);
+    match read(alloc, step.caller, message, &waiting) {
+        Ok(Response::Cookie(cookie)) => {
+            let again = request_again(alloc, step, association.spi_i, sent, cookie)?;
+            // From here on nothing can be refused.
+            let request = new_request(again.kept, IKE_SA_INIT, step.moment);
+            let _ = association.outgoing.replace(number, request);
+            carry(association, again.cookie);
+            Ok(Continued::Request(again.octets))
+        }
+        Ok(Response::Keys(keys)) => {
+            let first = association.outgoing.get(number).unwrap();
+            let next = identity_request(alloc, step, association, sent, message.header.spi_r, &keys, first.octets.as_slice())?;
+            let kept = Items::from_slice(alloc, next.as_slice())?;
+            let response = Items::from_slice(alloc, octets)?;
+            let outgoing = issued(alloc, new_request(kept, IKE_AUTH, step.moment))?;
+            // From here on nothing can be refused.
+            association.spi_r = message.header.spi_r;
+            association.outgoing = outgoing;
+            tell(association, keys, response);
+            Ok(Continued::Request(next))
+        }
+        Ok(Response::Unfit) => Ok(Continued::Unfit),
+        Err(fault) => Err(fault),
+    }
+}
+
+fn new_request(octets: Items<u8>, exchange: u8, moment: u64) -> Request
+    ensures { result ≡ new_request octets exchange moment }
+{
+    Request {
+        octets,
+        exchange,
+        timer: Timer::started(moment),
+    }
+}
+
+/// IKE_SA_INIT with a cookie.
+#[derive(Drop)]
+struct Again {
+    octets: Items<u8>,
+    kept: Items<u8>,
+    cookie: Items<u8>,
+}
+
+fn request_again<C: Sealer + Agreement>(
+    alloc: Global,
+    step: &Step<'_, C>,
+    spi_i: u64,
+    sent: &InitSent,
+    cookie: &[u8],
+) -> Result<Again, AllocError>
+    requires { length cookie.now ≤ 64 }
+    ensures spelled { IfOk result (λ again. SpellsPlainly (request_message C.cipher C.group_number
+        (C.public_value sent.now.secret) spi_i (Some cookie.now) sent.now.nonce) again.octets) }
+    ensures kept { IfOk result (λ again. again.kept ≡ again.octets) }
+    ensures cookie { IfOk result (λ again. again.cookie ≡ cookie.now) }
+{
+    let octets = sa_init::request(alloc, step.caller, spi_i, Some(cookie), &sent.secret, &sent.nonce)?;
+    Ok(Again {
+        kept: Items::from_slice(alloc, octets.as_slice())?,
+        cookie: Items::from_slice(alloc, cookie)?,
+        octets,
+    })
+}
+
+// The request carries this cookie from now on.
+fn carry(association: &mut Association, cookie: Items<u8>)
+    requires { TakesFew association.old.phase }
+    ensures { association.new ≡ record association.old { phase = carrying cookie association.old.phase } }
+{
+    if let Phase::InitSent(sent) = &mut association.phase {
+        sent.cookie = Some(cookie);
+        sent.cookies_taken += 1;
+    }
+}
+
+fn identity_request<C: Sealer + Proof>(
+    alloc: Global,
+    step: &Step<'_, C>,
+    association: &Association,
+    sent: &InitSent,
+    spi_r: u64,
+    keys: &KeyRecord,
+    first: &[u8],
+) -> Result<Items<u8>, AllocError>
+    requires { IsConfig step.now.config.now }
+    ensures { IfOk result (IsSealed C.body_of (keys_of association.now.role keys.now) step.now.fresh.now.seal
+        (identity_message (C.own_method step.now.caller.now) (C.proof_of step.now.caller.now) (setup_of step.now)
+        association.now sent.now spi_r keys.now first.now)) }
+{
+    short_messages_can_be_sent();
+    let payloads = identity_payloads(alloc, step, &sent.child, keys, first)?;
+    let role = association.role;
+    let message = Message {
+        header: sent_header(association.spi_i, spi_r, IKE_AUTH, role, false, 1),
+        payloads,
+    };
+    sealed(alloc, step.caller, role, keys, &message, &step.fresh.seal)
+}
+
+fn identity_payloads<C: Proof>(
+    alloc: Global,
+    step: &Step<'_, C>,
+    child: &FirstChild,
+    keys: &KeyRecord,
+    first: &[u8],
+) -> Result<Items<Payload>, AllocError>
+    requires { IsConfig step.now.config.now }
+    ensures payloads { IfOk result (λ payloads. payloads ≡ auth_request
+        (C.own_method step.now.caller.now) (C.proof_of step.now.caller.now) step.now.config.now.own.identity
+        (proving_of Initiator keys.now first.now) (child_request (asked_of child.now)) step.now.config.now.window) }
+    ensures fits { IfOk result (FitWithin 2840) }
+{
+    payloads_fit();
+    what_is_sent_fits();
+    let asked = child.asked();
+    let proving = Proving::of(Role::Initiator, keys, first);
+    request(
+        alloc,
+        step.caller,
+        &step.config.own.identity,
+        &proving,
+        ask(alloc, &asked)?,
+        step.config.window,
+    )
+}
+
+// The requests of an end whose IKE_SA_INIT is answered, with the next one.
+fn issued(alloc: Global, request: Request) -> Result<Outgoing<Request>, AllocError>
+    ensures { IfOk result (IssuesFirst request) }
+{
+    let mut outgoing = Outgoing::after_initial(alloc);
+    match outgoing.prepare() {
+        Ok(_) => {
+            outgoing.issue(request);
+            Ok(outgoing)
+        }
+        // The window is 1, and no request is under way.
+        Err(_) => Err(AllocError),
+    }
+}
+
+// The keys are there, and the peer's identity is asked for.
+fn tell(association: &mut Association, keys: KeyRecord, first: Items<u8>)
+    ensures { association.new ≡ record association.old { phase = telling keys first association.old.phase } }
+{
+    let phase = mem::replace(&mut association.phase, Phase::Closed { keys: None, at: 0 });
+    association.phase = telling(phase, keys, first);
+}
+
+fn telling(phase: Phase, keys: KeyRecord, first: Items<u8>) -> Phase
+    ensures { result ≡ telling keys first phase }
+{
+    match phase {
+        Phase::InitSent(sent) => Phase::AuthSent(AuthSent {
+            keys,
+            first,
+            child: sent.child,
+        }),
+        other => other,
+    }
+}
+
+fn waiting(spi_i: u64, sent: &InitSent) -> Waiting<'_>
+    ensures { waiting_view result ≡ waiting_of spi_i sent.now }
+{
+    Waiting {
+        spi_i,
+        secret: &sent.secret,
+        nonce: &sent.nonce,
+        cookie: match &sent.cookie {
+            Some(cookie) => Some(cookie.as_slice()),
+            None => None,
+        },
+        cookies_taken: sent.cookies_taken,
+    }
+}
