@@ -1,5 +1,6 @@
 -- How many requests an end takes at once (RFC 7296 section 2.3).
-use Rattle.std.specs.Prelude.{◌≤◌, ◌==◌, ◌&&◌, ℕ, Option, Some, None, List, [], ◌∷◌, length, max, min, nat_lt, unwrap_or, if◌then◌else◌}
+use Rattle.std.specs.Prelude.{◌≤◌, ◌==◌, ◌&&◌, ℕ, max, min, nat_lt, if◌then◌else◌}
+use Rattle.std.specs.Prelude.{Option, Some, None, List, [], ◌∷◌, length, unwrap_or}
 use Rattle.std.specs.Int.{from_be_bytes, to_be_bytes, w32}
 use Rattle.base.specs.Octets.{Octets}
 use Rattle.wire.specs.Numbers.{SET_WINDOW_SIZE}
@@ -34,7 +35,9 @@ window_within number = min (max number LEAST_WINDOW) WIDEST_WINDOW
 
 -- the window that a notice tells: of this type, with four octets
 abbrev pub told_window : ℕ → Octets → Option ℕ
-told_window kind octets = if kind == SET_WINDOW_SIZE && length octets == 4 then Some (window_within (from_be_bytes w32 octets)) else None
+told_window kind octets =
+    if kind == SET_WINDOW_SIZE && length octets == 4
+    then Some (window_within (from_be_bytes w32 octets)) else None
 
 abbrev pub window_in : Payload → Option ℕ
 window_in (Notify protocol spi kind octets) = told_window kind octets

@@ -16,8 +16,8 @@ use suite::Proof;
 use wire::Payload;
 
 /// The payloads of the answer to a request that was accepted (RFC 7296, section 1.2): IDr and AUTH of this end, what answers the
-/// child, and, where its window (1 to 16 requests) is above 1, the notice that tells it. The proof in it fits its payload. An error
-/// is for want of memory alone.
+/// child, and, where its window (1 to 16 requests) is above 1, the notice that tells it. The proof in it fits its payload. An
+/// error is for want of memory alone.
 pub fn answer<C: Proof>(
     alloc: Global,
     caller: &C,
@@ -41,7 +41,8 @@ pub fn answer<C: Proof>(
 
 /// Whether the sender of an answer with these payloads is the peer, and proved it (RFC 7296, section 2.15): there is exactly one
 /// IDr, which is the peer's, and exactly one AUTH, by which it is proved ([`is_proved`]). All else is passed over. That
-/// a critical payload is, too, is a rule of this implementation against section 2.5, which has the initiator ignore such an answer.
+/// a critical payload is, too, is a rule of this implementation against section 2.5, which has the initiator ignore such an
+/// answer.
 ///
 /// An error is for want of memory alone, and none comes where an IDr or an AUTH is missing or there twice, or another identity is
 /// named.

@@ -3,7 +3,8 @@ ghost use Rattle.std.specs.Prelude.{◌≡◌, Ok, false, IfOk, OnOk};
 ghost use Rattle.base.specs.Octets.{AreOctets};
 ghost use Rattle.wire.specs.Sizes.{FitsFields};
 ghost use Rattle.wire.specs.declared.payload.Payload.TheVariants.{Auth};
-ghost use Rattle.auth.specs.Proofs.{auth_payload, id_payload, is_identity, is_proved, octets_to_prove, proved_identity, proving_of, proving_view};
+ghost use Rattle.auth.specs.Proofs.{auth_payload, id_payload, is_identity, is_proved, octets_to_prove};
+ghost use Rattle.auth.specs.Proofs.{proved_identity, proving_of, proving_view};
 
 use crate::Identity;
 use base::Items;
@@ -24,9 +25,9 @@ pub struct Proving<'a> {
 }
 
 impl<'a> Proving<'a> {
-    /// What the end of this role in IKE_SA_INIT proves over (RFC 7296, section 2.15), with the keys of the association and the first
-    /// message that this end sent: an initiator over the responder's nonce, with SK_pi, a responder over the initiator's, with
-    /// SK_pr.
+    /// What the end of this role in IKE_SA_INIT proves over (RFC 7296, section 2.15), with the keys of the association and the
+    /// first message that this end sent: an initiator over the responder's nonce, with SK_pi, a responder over the
+    /// initiator's, with SK_pr.
     pub fn of(role: Role, keys: &'a KeyRecord, first: &'a [u8]) -> Proving<'a>
         ensures { proving_view result ≡ proving_of role keys.now first.now }
     {
@@ -114,8 +115,8 @@ pub(crate) fn are_octets(octets: &[u8])
 }
 
 /// Whether the identity that is named is the peer's, by its type and its data, and the caller accepts of it the AUTH payload's
-/// method and data, `proof`, over what the peer has to prove (RFC 7296, section 2.15). An error is for want of memory alone, and none comes
-/// where another identity is named.
+/// method and data, `proof`, over what the peer has to prove (RFC 7296, section 2.15). An error is for want of memory alone, and
+/// none comes where another identity is named.
 pub fn is_proved<C: Proof>(
     alloc: Global,
     caller: &C,

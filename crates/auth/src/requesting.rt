@@ -2,7 +2,8 @@
 ghost use Rattle.std.specs.Prelude.{◌≡◌, false, IfOk, IsOk, OnOk, MatchOption};
 ghost use Rattle.wire.specs.Sizes.{FitsFields};
 ghost use Rattle.auth.specs.Proofs.{auth_payload, proving_view, IsIdentity};
-ghost use Rattle.auth.specs.Requests.{auth_request, hangs_on_its_proof, is_complete, judgement_view, HasAuthParts, IsAuthJudgement};
+ghost use Rattle.auth.specs.Requests.{auth_request, hangs_on_its_proof, is_complete, judgement_view};
+ghost use Rattle.auth.specs.Requests.{HasAuthParts, IsAuthJudgement};
 ghost use Rattle.auth.specs.Windows.{IsWindow};
 
 use crate::proving::proved_identity;
@@ -18,7 +19,8 @@ use suite::Proof;
 use wire::Payload;
 
 /// The payloads of the request (RFC 7296, section 1.2): IDi and AUTH of this end, the three of its child, and, where its window
-/// (1 to 16 requests) is above 1, the notice that tells it. The proof in it fits its payload. An error is for want of memory alone.
+/// (1 to 16 requests) is above 1, the notice that tells it. The proof in it fits its payload. An error is for want of memory
+/// alone.
 pub fn request<C: Proof>(
     alloc: Global,
     caller: &C,
@@ -65,8 +67,8 @@ pub enum Judgement<'a> {
 /// 3. The IDi is not the peer's, or it is not proved ([`is_proved`]): AUTHENTICATION_FAILED (section 2.21.2).
 /// 4. [`Judgement::Accepted`].
 ///
-/// An error is for want of memory alone, and none comes in place of a refusal that doesn't hang on the proof: the first two, and the
-/// third where another identity is named.
+/// An error is for want of memory alone, and none comes in place of a refusal that doesn't hang on the proof: the first two, and
+/// the third where another identity is named.
 pub fn judge<'a, C: Proof>(
     alloc: Global,
     caller: &C,
@@ -111,7 +113,7 @@ struct Parts<'a> {
 
 // `None` where there is not exactly one of each.
 fn parts_of(payloads: &[Payload]) -> Option<Parts<'_>>
-    ensures { MatchOption result (is_complete payloads.now ≡ false) (λ parts. HasAuthParts payloads.now parts) }
+    ensures { MatchOption result (is_complete payloads.now ≡ false) (HasAuthParts payloads.now) }
 {
     let (kind, id) = only_id_i(payloads)?;
     let (method, proof) = only_auth(payloads)?;

@@ -1,7 +1,8 @@
 //! Windows: how many requests an end takes at once (RFC 7296, section 2.3).
 ghost use Rattle.std.specs.Prelude.{◌≡◌, ◌++◌, IfOk, OnOk};
 ghost use Rattle.wire.specs.Numbers.{SET_WINDOW_SIZE};
-ghost use Rattle.auth.specs.Windows.{peer_window, told_window, window_in, window_notices, window_payload, window_within, IsWindow};
+ghost use Rattle.auth.specs.Windows.{peer_window, told_window, window_in, window_notices, window_payload};
+ghost use Rattle.auth.specs.Windows.{window_within, IsWindow};
 
 use base::Items;
 use std::alloc::{AllocError, Global};

@@ -1,11 +1,10 @@
 -- What each end makes is its pair of the child; and what a responder answers, an initiator accepts.
-use Rattle.std.proofs.Common.{◌≡◌, ◌<◌, ◌≤◌, ◌^◌, ℕ, zero, suc, ◌==◌, Bool, true, false, List, [], ◌∷◌, length, slice_get, Some, None, Contains, refl, sym, ap, subst, ◌∙◌, arith}
+use Rattle.std.proofs.Common.{◌≡◌, ◌<◌, ◌≤◌, ◌^◌, ℕ, zero, suc, ◌==◌, Bool, true, false, List, [], ◌∷◌, Some, Contains, refl, sym, ap, subst, ◌∙◌, arith}
 use Rattle.std.proofs.lemmas.Bool.{eq-eqb}
 use Rattle.byteorder.specs.Endian.{big_bytes, big_number}
 use Rattle.byteorder.specs.Numbers.{length-bytes_high_first}
 use Rattle.base.specs.declared.selector.Selector.{Selector}
 use Rattle.wire.specs.declared.payload.Payload.{Payload}
-use Rattle.wire.specs.declared.payload.Payload.TheVariants.{Sa}
 use Rattle.wire.specs.declared.proposal.Proposal.{Proposal}
 use Rattle.wire.specs.declared.proposal.Transform.{Transform}
 use Rattle.suite.specs.Choice.{acceptable_transforms, sequence_numbers, ChoosesNumbers, HasSpi, IsAcceptableProposal, IsChosenProposal, IsFirstAcceptable}
@@ -24,7 +23,7 @@ use Rattle.children.specs.Accepting.{AreAcceptedTerms, IsAcceptedChild}
 use Rattle.children.specs.Asking.{asked_proposal, child_request, HasChildPayloads}
 use Rattle.children.specs.Pairs.{IsChild}
 use Rattle.children.specs.Responding.{next_spi, IsMadeChild, TakesProposal}
-use Rattle.children.specs.Terms.{numbers_in, AreTermsOf, IsForEsp, Terms}
+use Rattle.children.specs.Terms.{numbers_in, AreTermsOf, IsForEsp}
 use Rattle.children.specs.declared.asking.Asked.{Asked}
 use Rattle.children.specs.declared.responding.Made.{Made}
 use Rattle.children.specs.declared.setting.Setting.{Setting}

@@ -7,22 +7,20 @@ use Rattle.byteorder.specs.Numbers.{length-bytes_high_first}
 use Rattle.base.specs.declared.address.Range.{Range}
 use Rattle.base.specs.declared.address.Range.TheVariants as range
 use Rattle.base.specs.declared.selector.Selector.{Selector}
-use Rattle.wire.specs.Sizes.{body_size, proposal_size, range_size, selector_size, size_of, transform_size, FitsFields, FitsProposal, FitsSelector, FitsSelectors, FitsTransform}
+use Rattle.wire.specs.Sizes.{proposal_size, range_size, selector_size, transform_size, FitsFields, FitsProposal, FitsSelector, FitsSelectors, FitsTransform}
 use Rattle.wire.specs.Proposals.{AreNumbered, NumberedFrom}
-use Rattle.wire.specs.declared.payload.Payload.{Payload}
-use Rattle.wire.specs.declared.payload.Payload.TheVariants.{Sa, TsI, TsR}
+use Rattle.wire.specs.declared.payload.Payload.TheVariants.{Sa}
 use Rattle.wire.specs.declared.proposal.Proposal.{Proposal}
 use Rattle.wire.specs.declared.proposal.Transform.{Transform}
-use Rattle.suite.specs.Choice.{sequence_numbers, without_attributes}
+use Rattle.suite.specs.Choice.{without_attributes}
 use Rattle.suite.specs.declared.choice.Wanted.TheVariants.{Esp}
-use Rattle.exchange.specs.Children.{child_payloads}
 use Rattle.exchange.specs.Offers.{answered_transforms, offered_transforms}
 use Rattle.exchange.specs.declared.child.ChildPayloads.{ChildPayloads}
 use Rattle.policy.specs.Narrowing.{AreSendable, IsNarrowing, IsSendableSelector}
 use Rattle.policy.specs.declared.entry.Entry.{Entry}
 use Rattle.sadb.specs.Database.{Database}
 use Rattle.children.specs.Asking.{child_request, FitMessages}
-use Rattle.children.specs.Responding.{made_of, IsMadeChild}
+use Rattle.children.specs.Responding.{IsMadeChild}
 use Rattle.children.specs.declared.asking.Asked.{Asked}
 use Rattle.children.specs.declared.responding.Made.{Made}
 use Rattle.children.specs.declared.setting.Setting.{Setting}

@@ -1,5 +1,5 @@
 -- Answers are determined.
-use Rattle.std.proofs.Common.{◌≡◌, ◌<◌, ℕ, Bool, true, false, List, [], ◌∷◌, get_or, slice_get, Some, All, inl, inr, refl, sym, ap, subst, ◌∙◌, arith}
+use Rattle.std.proofs.Common.{◌≡◌, ◌<◌, ℕ, Bool, List, [], ◌∷◌, slice_get, Some, inl, inr, refl, sym, ap, subst, ◌∙◌, arith}
 use Rattle.std.proofs.lemmas.Bool.Decides.{leb_tells}
 use Rattle.std.proofs.lemmas.Option.{slice_get_within, get_or_from_slice_get}
 use Rattle.byteorder.specs.Endian.{big_number}
@@ -19,9 +19,9 @@ use Rattle.policy.specs.Narrowing.{IsNarrowing}
 use Rattle.policy.specs.declared.entry.Entry.{Entry}
 use Rattle.sadb.specs.Database.{Database}
 use Rattle.sadb.specs.declared.pair.Pair.{Pair}
-use Rattle.children.specs.Accepting.{AreAcceptedTerms, IsAcceptedChild}
+use Rattle.children.specs.Accepting.{IsAcceptedChild}
 use Rattle.children.specs.Pairs.{new_pair}
-use Rattle.children.specs.Responding.{made_of, CanBeNarrowed, IsChildRefusal, IsChildResponse, IsMadeChild, OffersNone, OffersSome}
+use Rattle.children.specs.Responding.{made_of, IsChildRefusal, IsChildResponse, IsMadeChild, OffersNone, OffersSome}
 use Rattle.children.specs.Terms.{Terms}
 use Rattle.children.specs.declared.asking.Asked.{Asked}
 use Rattle.children.specs.declared.responding.Made.{Made}

@@ -31,7 +31,8 @@ pub record AreAcceptedTerms (asked : Asked) (answer : List Payload) (terms : Ter
   pub inside_r : AnswersOffer terms.ts_r (asked.remote ∷ [])
 
 -- the pair that an initiator has by an acceptable answer
-pub record IsAcceptedChild (setting : Setting) (asked : Asked) (answer : List Payload) (pair : Pair) : Type 0 where
+pub record IsAcceptedChild (setting : Setting) (asked : Asked) (answer : List Payload) (pair : Pair)
+    : Type 0 where
   pub terms : Terms
   pub due : AreAcceptedTerms asked answer terms
   pub made : pair ≡ new_pair Initiator setting terms

@@ -1,5 +1,5 @@
 -- What a request asks for (RFC 7296 sections 1.2 and 1.3.1).
-use Rattle.std.specs.Prelude.{◌≡◌, ◌≤◌, ℕ, Bool, List, [], ◌∷◌, Some}
+use Rattle.std.specs.Prelude.{◌≡◌, ◌≤◌, List, [], ◌∷◌, Some}
 use Rattle.std.specs.List.{AllByRecursion, sum_by}
 use Rattle.byteorder.specs.Endian.{big_bytes}
 use Rattle.wire.specs.Sizes.{size_of, FitsFields}

@@ -3,4 +3,10 @@ use Rattle.children.specs.Terms.{Terms}
 use Rattle.children.specs.declared.making.Agreed.{Agreed}
 
 abbrev pub terms_of : Agreed → Terms
-terms_of a = record { spi_i = a.spi_i; spi_r = a.spi_r; extended = a.extended; ts_i = a.ts_i.now; ts_r = a.ts_r.now }
+terms_of a = record {
+  spi_i = a.spi_i;
+  spi_r = a.spi_r;
+  extended = a.extended;
+  ts_i = a.ts_i.now;
+  ts_r = a.ts_r.now;
+}

@@ -25,11 +25,19 @@ spi_of Responder terms = terms.spi_r
 
 -- what the end of this role receives by
 abbrev pub inbound_of : Role → List (List ℕ) → Terms → Association
-inbound_of role keys terms = record { spi = spi_of role terms; key = sending_key (other_role role) keys; extended = terms.extended }
+inbound_of role keys terms = record {
+  spi = spi_of role terms;
+  key = sending_key (other_role role) keys;
+  extended = terms.extended;
+}
 
 -- what it sends by
 abbrev pub outbound_of : Role → List (List ℕ) → Terms → Association
-outbound_of role keys terms = record { spi = spi_of (other_role role) terms; key = sending_key role keys; extended = terms.extended }
+outbound_of role keys terms = record {
+  spi = spi_of (other_role role) terms;
+  key = sending_key role keys;
+  extended = terms.extended;
+}
 
 -- the selectors of its own side, and of the other end's
 abbrev pub local_of : Role → Terms → List Selector
@@ -44,7 +52,10 @@ abbrev pub new_pair : Role → Setting → Terms → Pair
 new_pair role setting terms = record {
   serial = 0;
   ike = setting.ike;
-  inbound = record { association = inbound_of role setting.keys terms; window = unused_window setting.blocks };
+  inbound = record {
+    association = inbound_of role setting.keys terms;
+    window = unused_window setting.blocks;
+  };
   outbound = record { association = outbound_of role setting.keys terms; last = 0 };
   local = local_of role terms;
   remote = remote_of role terms;
@@ -52,7 +63,8 @@ new_pair role setting terms = record {
 }
 
 -- The pair is what the end of this role has of the child that a request and its reply made, under these keys.
-pub record IsChild (role : Role) (keys : List (List ℕ)) (request reply : List Payload) (pair : Pair) : Type 0 where
+pub record IsChild (role : Role) (keys : List (List ℕ)) (request reply : List Payload) (pair : Pair)
+    : Type 0 where
   pub terms : Terms
   pub agreed : AreTermsOf request reply terms
   pub inbound : pair.inbound.association ≡ inbound_of role keys terms

@@ -57,11 +57,15 @@ child_response wanted chosen terms = record {
 
 -- that, and the responder's pair
 abbrev pub made_of : Setting → Wanted → Chosen → Terms → Made
-made_of setting wanted chosen terms = record { payloads = child_response wanted chosen terms; pair = new_pair Responder setting terms }
+made_of setting wanted chosen terms = record {
+  payloads = child_response wanted chosen terms;
+  pair = new_pair Responder setting terms;
+}
 
 -- The terms on which a child is made: the peer's SPI is that of the chosen proposal, this end's the next that the table gives,
 -- and the selectors are narrowed to the policy.
-pub record AreMadeTerms (extended : Bool) (entries : List Entry) (table : Database) (offer : ChildPayloads) (chosen : Chosen) (terms : Terms) : Type 0 where
+pub record AreMadeTerms (extended : Bool) (entries : List Entry) (table : Database) (offer : ChildPayloads)
+    (chosen : Chosen) (terms : Terms) : Type 0 where
   pub choice : IsChosenProposal (Esp extended) offer.proposals chosen
   pub peer : terms.spi_i ≡ big_number 4 choice.proposal.spi
   pub own : terms.spi_r ≡ next_spi table
@@ -75,7 +79,8 @@ pub record AreMadeTerms (extended : Bool) (entries : List Entry) (table : Databa
 
 -- What is made of an offer, by an end that allows extended sequence numbers or doesn't: the answer's payloads, and the
 -- responder's pair.
-pub record IsMadeChild (setting : Setting) (extended : Bool) (entries : List Entry) (table : Database) (offer : ChildPayloads) (made : Made) : Type 0 where
+pub record IsMadeChild (setting : Setting) (extended : Bool) (entries : List Entry) (table : Database)
+    (offer : ChildPayloads) (made : Made) : Type 0 where
   pub chosen : Chosen
   pub terms : Terms
   pub due : AreMadeTerms extended entries table offer chosen terms
@@ -84,7 +89,8 @@ pub record IsMadeChild (setting : Setting) (extended : Bool) (entries : List Ent
 -- why no child is made, each where those before it don't apply
 abbrev pub IsChildRefusal : Bool → List Entry → Database → ChildPayloads → Notice → Type 0
 IsChildRefusal extended entries table offer NoProposalChosen = OffersNone extended offer
-IsChildRefusal extended entries table offer TsUnacceptable = OffersSome extended offer × (¬ CanBeNarrowed entries offer)
+IsChildRefusal extended entries table offer TsUnacceptable =
+    OffersSome extended offer × (¬ CanBeNarrowed entries offer)
 IsChildRefusal extended entries table offer NoAdditionalSas =
     OffersSome extended offer × CanBeNarrowed entries offer × TakesNoMore table
 IsChildRefusal extended entries table offer (UnsupportedCriticalPayload kind) = ⊥
@@ -94,8 +100,10 @@ IsChildRefusal extended entries table offer (Cookie octets) = ⊥
 
 -- the answer to an offer
 abbrev pub IsChildResponse : Setting → Bool → List Entry → Database → ChildPayloads → Response → Type 0
-IsChildResponse setting extended entries table offer (response.Made made) = IsMadeChild setting extended entries table offer made
-IsChildResponse setting extended entries table offer (response.Refused notice) = IsChildRefusal extended entries table offer notice
+IsChildResponse setting extended entries table offer (response.Made made) =
+    IsMadeChild setting extended entries table offer made
+IsChildResponse setting extended entries table offer (response.Refused notice) =
+    IsChildRefusal extended entries table offer notice
 
 -- the table can take the pair: it has room, and gives the pair's inbound SPI next
 pub record CanTake (table : Database) (pair : Pair) : Type 0 where

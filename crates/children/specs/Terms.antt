@@ -29,8 +29,8 @@ pub record IsForEsp (proposal : Proposal) : Type 0 where
   pub protocol : proposal.protocol ≡ ESP_PROTOCOL
   pub spi : length proposal.spi ≡ 4
 
--- The reply answers one proposal of the request by its number (section 3.3.1), both are for ESP, and each end names the SPI of what
--- it is sent. The reply's selectors count, since they are those offered or narrower (section 2.9).
+-- The reply answers one proposal of the request by its number (section 3.3.1), both are for ESP, and each end names the SPI of
+-- what it is sent. The reply's selectors count, since they are those offered or narrower (section 2.9).
 pub record AreTermsOf (request reply : List Payload) (terms : Terms) : Type 0 where
   pub offered : List Proposal
   pub place : ℕ

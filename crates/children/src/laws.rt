@@ -26,16 +26,16 @@ ghost use Rattle.children.specs.declared.setting.Setting.{Setting};
 use exchange::laws::ends_agree;
 use policy::laws::{answers_can_be_sent, answers_lie_inside, narrowing_is_determined};
 
-/// The pairs that the two ends have of the child of one request, which offered one proposal, and its reply mirror each other: what
-/// one sends the other receives, under one SPI and one key, and what is local to one is remote to the other. Does nothing.
+/// The pairs that the two ends have of the child of one request, which offered one proposal, and its reply mirror each other:
+/// what one sends the other receives, under one SPI and one key, and what is local to one is remote to the other. Does nothing.
 pub fn children_mirror()
     ensures { (keys : List (List ℕ)) (request reply : List Payload) (proposal : Proposal) (a b : Pair)
         → only_sa request ≡ Some (proposal ∷ [])
         → IsChild Initiator keys request reply a → IsChild Responder keys request reply b → Mirrors a b }
 {}
 
-/// The pair that a responder makes is its pair of the child of the request and of any reply that has the payloads which were made;
-/// the pair of an accepted answer is the initiator's, where the request has its offer. Does nothing.
+/// The pair that a responder makes is its pair of the child of the request and of any reply that has the payloads which were
+/// made; the pair of an accepted answer is the initiator's, where the request has its offer. Does nothing.
 pub fn pairs_are_children()
     ensures made { (setting : Setting) (extended : Bool) (entries : List Entry) (table : Database)
         (offer : ChildPayloads) (made : Made) (request reply : List Payload)
@@ -61,9 +61,9 @@ pub fn responses_are_acceptable()
     answers_lie_inside();
 }
 
-/// What is made keeps to its offer and to the policy (RFC 7296, sections 2.7 and 2.9): the selectors lie inside those offered, and
-/// inside one entry that protects; numbers are extended only where that is allowed; the answer's proposal has number and protocol of
-/// one that was offered, and takes its transforms from it. Does nothing.
+/// What is made keeps to its offer and to the policy (RFC 7296, sections 2.7 and 2.9): the selectors lie inside those offered,
+/// and inside one entry that protects; numbers are extended only where that is allowed; the answer's proposal has number and
+/// protocol of one that was offered, and takes its transforms from it. Does nothing.
 pub fn responses_keep_to_their_offers()
     ensures offer { (setting : Setting) (extended : Bool) (entries : List Entry) (table : Database)
         (offer : ChildPayloads) (made : Made)

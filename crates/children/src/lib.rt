@@ -3,9 +3,9 @@
 //!
 //! An initiator sends the three payloads of [`ask`], with an SPI that its table reserved, and takes the answer by [`accept`]. A
 //! responder makes the answer and its own pair by [`respond`], which changes the table's room alone, and adds the pair by
-//! [`install`] once nothing can fail any more. Each [`Setting`] brings the keys of the exchange
-//! ([`suite::child_keys`]); what a pair is by a request and its reply stands in `specs/Pairs`, and that the two ends' pairs mirror
-//! each other in [`laws`].
+//! [`install`] once nothing can fail any more. Where no pair comes of it, the initiator's SPI goes back to its table. Each
+//! [`Setting`] brings the keys of the exchange ([`suite::child_keys`]); what a pair is by a request and its reply stands in
+//! `specs/Pairs`, and that the two ends' pairs mirror each other in [`laws`].
 //!
 //! ```text
 //! let spi = table.reserve()?;

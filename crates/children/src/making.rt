@@ -47,20 +47,16 @@ pub fn make_pair(
     let [key_i, key_r] = &setting.keys;
     let extended = agreed.extended;
     Ok(match role {
-        Role::Initiator => Pair::new(
-            setting.ike,
-            Inbound::new(agreed.spi_i, key_r, extended, window),
-            Outbound::new(agreed.spi_r, key_i, extended, 0),
-            ts_i,
-            ts_r,
-        ),
-        Role::Responder => Pair::new(
-            setting.ike,
-            Inbound::new(agreed.spi_r, key_i, extended, window),
-            Outbound::new(agreed.spi_i, key_r, extended, 0),
-            ts_r,
-            ts_i,
-        ),
+        Role::Initiator => {
+            let inbound = Inbound::new(agreed.spi_i, key_r, extended, window);
+            let outbound = Outbound::new(agreed.spi_r, key_i, extended, 0);
+            Pair::new(setting.ike, inbound, outbound, ts_i, ts_r)
+        }
+        Role::Responder => {
+            let inbound = Inbound::new(agreed.spi_r, key_i, extended, window);
+            let outbound = Outbound::new(agreed.spi_i, key_r, extended, 0);
+            Pair::new(setting.ike, inbound, outbound, ts_r, ts_i)
+        }
     })
 }
 

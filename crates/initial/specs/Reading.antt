@@ -11,7 +11,7 @@ use Rattle.suite.specs.declared.sealer.Cipher.{Cipher}
 use Rattle.exchange.specs.Headers.{keys_of, sent_header}
 use Rattle.exchange.specs.Sealed.{IsSealed}
 use Rattle.exchange.specs.declared.headers.Role.TheVariants.{Initiator}
-use Rattle.requests.specs.Outgoing.{number_0_answered, HasSameOwnRequests, IssuesRequest, OwnRequests, ReplacesRequest}
+use Rattle.requests.specs.Outgoing.{number_0_answered, ReplacesRequest}
 use Rattle.sa_init.specs.Messages.{request_message}
 use Rattle.sa_init.specs.Reading.{IsResponse, WaitingView}
 use Rattle.sa_init.specs.declared.response.Response.{Response}
@@ -26,6 +26,7 @@ use Rattle.auth.specs.Proofs.{proving_of}
 use Rattle.auth.specs.Requests.{auth_request}
 use Rattle.children.specs.Asking.{child_request}
 use Rattle.initial.specs.Configs.{Setup}
+use Rattle.initial.specs.Issuing.{new_request, IssuesNext}
 use Rattle.initial.specs.declared.reading.Continued.{Continued}
 use Rattle.initial.specs.declared.reading.Continued.TheVariants as continued
 
@@ -42,10 +43,6 @@ pub record Asker : Type 0 where
 -- what this end remembers of its request
 abbrev pub waiting_of : ℕ → InitSent → WaitingView
 waiting_of spi_i sent = record { spi_i = spi_i; secret = sent.secret; nonce = sent.nonce; cookie = sent.cookie; cookies_taken = sent.cookies_taken }
-
--- a request that is sent for the first time at this moment
-abbrev pub new_request : Octets → ℕ → ℕ → Request
-new_request octets exchange moment = record { octets = octets; exchange = exchange; timer = record { sent = moment; repeats = 0 } }
 
 -- The request goes out again with the cookie, and all else unchanged; its timer runs anew (section 2.6).
 pub record BringsCookie (asker : Asker) (moment : ℕ) (old : Association) (sent : InitSent) (number : ℕ) (cookie : Octets) (octets : Octets) (new : Association) : Type 0 where
@@ -64,19 +61,13 @@ identity_message own_method proof_of setup old sent spi_r keys first = record {
   payloads = auth_request own_method proof_of setup.config.own.identity (proving_of Initiator keys first) (child_request (asked_of sent.child)) setup.config.window;
 }
 
--- the requests of an end whose IKE_SA_INIT is answered, with the next one, of number 1
-pub record IssuesFirst (request : Request) (new : OwnRequests Request) : Type 0 where
-  pub ready : OwnRequests Request
-  pub prepared : HasSameOwnRequests number_0_answered ready
-  pub issued : IssuesRequest ready request 1 new
-
 -- The keys are there: the request is answered, and IKE_AUTH goes out as the next one.
 pub record TellsIdentity (asker : Asker) (setup : Setup) (old : Association) (sent : InitSent) (number : ℕ) (m : Message) (response : Octets) (keys : KeyRecord) (octets : Octets) (new : Association) : Type 0 where
   -- the request that is answered, this end's first message
   pub request : Request
   pub outstanding : map.get old.outgoing.outstanding number ≡ Some request
   pub sealed : IsSealed asker.body_of (keys_of old.role keys) setup.fresh.seal (identity_message asker.own_method asker.proof_of setup old sent m.header.spi_r keys request.octets) octets
-  pub issued : IssuesFirst (new_request octets IKE_AUTH setup.moment) new.outgoing
+  pub issued : IssuesNext number_0_answered (new_request octets IKE_AUTH setup.moment) new.outgoing
   pub content : new ≡ record old {
     spi_r = m.header.spi_r;
     outgoing = new.outgoing;

@@ -1,22 +1,25 @@
 //! The initial exchanges (RFC 7296, section 1.2): what the messages of IKE_SA_INIT and IKE_AUTH do to an association that both
 //! ends hold, to the table of associations for ESP, and what is sent back.
 //!
-//! An initiator's association is [`begin`]'s; [`read_response`] makes of the response to IKE_SA_INIT the next request, and
-//! [`end_auth`] of the response to IKE_AUTH an association that is established, with its first child, or closed. A responder's
-//! association is what [`answer_auth`] takes IKE_AUTH by. Which association a message is for, whether its number is fresh and what
+//! An initiator's association is [`begin`]'s, and a responder's [`admit`]'s. [`read_response`] makes of the response to IKE_SA_INIT the next request, and
+//! [`end_auth`] of the response to IKE_AUTH an association that is established, with its first child, or closed; so does
+//! [`answer_auth`] of the request, at a responder. Which association a message is for, whether its number is fresh and what
 //! it opens to, [`association`] tells; each call here makes all that it needs before it changes anything.
 #![tactic(auto)]
 
 mod answering;
+mod beginning;
 mod concluding;
 mod config;
 mod deciding;
 mod ending;
+mod issuing;
 mod reading;
 mod sealing;
 mod step;
 
 pub use answering::{Answered, answer_auth};
+pub use beginning::{Admitted, Beginning, admit, begin};
 pub use config::{Config, End};
 pub use concluding::Outcome;
 pub use ending::{Ended, end_auth};

@@ -6,7 +6,7 @@ ghost use Rattle.exchange.specs.Sealed.{IsSealed};
 ghost use Rattle.requests.specs.Outgoing.{IsOutstanding};
 ghost use Rattle.sa_init.specs.Reading.{waiting_view};
 ghost use Rattle.initial.specs.Configs.{setup_of, IsConfig};
-ghost use Rattle.initial.specs.Reading.{carrying, identity_message, new_request, telling, waiting_of, IsInitSent, IssuesFirst, ReadsResponse, TakesFew};
+ghost use Rattle.initial.specs.Reading.{carrying, identity_message, telling, waiting_of, IsInitSent, ReadsResponse, TakesFew};
 ghost use Rattle.std.specs.Prelude.{Some};
 ghost use Rattle.sa_init.specs.Messages.{request_message};
 ghost use Rattle.association.specs.FirstChildren.{asked_of};
@@ -17,8 +17,9 @@ ghost use Rattle.children.specs.Asking.{child_request};
 ghost use Rattle.exchange.specs.declared.headers.Role.TheVariants.{Initiator};
 
 use crate::Step;
+use crate::issuing::{issued, new_request};
 use crate::sealing::sealed;
-use association::{Association, AuthSent, FirstChild, InitSent, Phase, Request};
+use association::{Association, AuthSent, FirstChild, InitSent, Phase};
 use auth::laws::what_is_sent_fits;
 use auth::{Proving, request};
 use base::Items;
@@ -26,7 +27,7 @@ use children::ask;
 use children::laws::payloads_fit;
 use exchange::laws::{cookies_are_short, short_messages_can_be_sent};
 use exchange::{Role, sent_header};
-use requests::{Outgoing, Timer};
+use requests::Outgoing;
 use sa_init::{Response, Waiting, read};
 use std::alloc::{AllocError, Global};
 use std::mem;
@@ -94,7 +95,7 @@ pub fn read_response<C: Sealer + Agreement + Proof>(
             let next = identity_request(alloc, step, association, sent, message.header.spi_r, &keys, first.octets.as_slice())?;
             let kept = Items::from_slice(alloc, next.as_slice())?;
             let response = Items::from_slice(alloc, octets)?;
-            let outgoing = issued(alloc, new_request(kept, IKE_AUTH, step.moment))?;
+            let outgoing = issued(Outgoing::after_initial(alloc), new_request(kept, IKE_AUTH, step.moment))?;
             // From here on nothing can be refused.
             association.spi_r = message.header.spi_r;
             association.outgoing = outgoing;
@@ -103,16 +104,6 @@ pub fn read_response<C: Sealer + Agreement + Proof>(
         }
         Ok(Response::Unfit) => Ok(Continued::Unfit),
         Err(fault) => Err(fault),
-    }
-}
-
-fn new_request(octets: Items<u8>, exchange: u8, moment: u64) -> Request
-    ensures { result ≡ new_request octets exchange moment }
-{
-    Request {
-        octets,
-        exchange,
-        timer: Timer::started(moment),
     }
 }
 
@@ -205,21 +196,6 @@ fn identity_payloads<C: Proof>(
         ask(alloc, &asked)?,
         step.config.window,
     )
-}
-
-// The requests of an end whose IKE_SA_INIT is answered, with the next one.
-fn issued(alloc: Global, request: Request) -> Result<Outgoing<Request>, AllocError>
-    ensures { IfOk result (IssuesFirst request) }
-{
-    let mut outgoing = Outgoing::after_initial(alloc);
-    match outgoing.prepare() {
-        Ok(_) => {
-            outgoing.issue(request);
-            Ok(outgoing)
-        }
-        // The window is 1, and no request is under way.
-        Err(_) => Err(AllocError),
-    }
 }
 
 // The keys are there, and the peer's identity is asked for.

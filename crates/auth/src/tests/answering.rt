@@ -1,6 +1,6 @@
 ghost use Rattle.auth.specs.Windows.{IsWindow};
 
-use super::parts::{auth, child, critical, identity, numbers};
+use super::parts::{are_of_types, auth, child, critical, has_proof, identity};
 use crate::{ChildAnswer, Proving, answer, is_accepted};
 use caller::ScriptCaller;
 use exchange::Notice;
@@ -58,72 +58,45 @@ fn established(
     is_accepted(alloc, &ScriptCaller, &peer, &what, payloads)
 }
 
-// The same of an answer that refuses the child, with this payload behind it.
+// The same of an answer that makes the child.
+fn established_by(alloc: Global, id: &[u8], nonce: &[u8]) -> Result<bool, AllocError> {
+    established(alloc, id, nonce, &with_child(alloc)?)
+}
+
+// The same of an answer that refuses it, with this payload behind it.
 fn established_behind(alloc: Global, payload: Payload) -> Result<bool, AllocError> {
     let mut payloads = with_notice(alloc)?;
     payloads.push(payload)?;
     established(alloc, b"b.example", &[8; 16], &payloads)
 }
 
-// RFC 7296, section 1.2.
-#[test]
-fn an_answer_with_a_child(rt: HostRuntime) -> Result<(), Fail> {
-    let alloc = rt.alloc();
-    let payloads = with_child(alloc)?;
-    assert_eq!(rt;
-        numbers(alloc, &payloads)?.as_slice(),
-        [36, 39, 33, 44, 45, 41].as_slice()
-    );
-    Ok(())
+fn answers(alloc: Global) -> Result<[bool; 3], AllocError> {
+    Ok([
+        are_of_types(&with_child(alloc)?, &[36, 39, 33, 44, 45, 41]),
+        are_of_types(&with_notice(alloc)?, &[36, 39, 41]),
+        has_proof(&with_child(alloc)?, &proof()),
+    ])
 }
 
-#[test]
-fn an_answer_with_a_notice(rt: HostRuntime) -> Result<(), Fail> {
-    let alloc = rt.alloc();
-    let payloads = with_notice(alloc)?;
-    assert_eq!(rt;
-        numbers(alloc, &payloads)?.as_slice(),
-        [36, 39, 41].as_slice()
-    );
-    Ok(())
-}
-
-#[test]
-fn its_proof(rt: HostRuntime) -> Result<(), Fail> {
-    let alloc = rt.alloc();
-    let expected = auth(alloc, 2, &proof())?;
-    assert_eq!(rt; with_child(alloc)?.get(1), Some(&expected));
-    Ok(())
-}
-
-// Section 2.15.
-#[test]
-fn who_is_established(rt: HostRuntime) -> Result<(), Fail> {
-    let alloc = rt.alloc();
-    let payloads = with_child(alloc)?;
-    assert_eq!(rt;
-        established(alloc, b"b.example", &[8; 16], &payloads)?,
-        true
-    );
-    assert_eq!(rt;
-        established(alloc, b"a.example", &[8; 16], &payloads)?,
-        false
-    );
-    assert_eq!(rt;
-        established(alloc, b"b.example", &[7; 16], &payloads)?,
-        false
-    );
-    Ok(())
-}
-
-// A critical payload is passed over, by the rule of this implementation; of two proofs none counts.
-#[test]
-fn what_is_passed_over(rt: HostRuntime) -> Result<(), Fail> {
-    let alloc = rt.alloc();
-    assert_eq!(rt; established_behind(alloc, critical(alloc))?, true);
-    assert_eq!(rt;
+// Another identity and another nonce; a critical payload is passed over, by the rule of this implementation, and of two proofs
+// none counts.
+fn established_answers(alloc: Global) -> Result<[bool; 5], AllocError> {
+    Ok([
+        established_by(alloc, b"b.example", &[8; 16])?,
+        established_by(alloc, b"a.example", &[8; 16])?,
+        established_by(alloc, b"b.example", &[7; 16])?,
+        established_behind(alloc, critical(alloc))?,
         established_behind(alloc, auth(alloc, 2, &proof())?)?,
-        false
+    ])
+}
+
+// RFC 7296, sections 1.2 and 2.15.
+#[test]
+fn what_is_sent_and_accepted(rt: HostRuntime) -> Result<(), Fail> {
+    assert_eq!(rt; answers(rt.alloc())?, [true; 3]);
+    assert_eq!(rt;
+        established_answers(rt.alloc())?,
+        [true, false, false, true, false]
     );
     Ok(())
 }

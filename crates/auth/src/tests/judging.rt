@@ -1,8 +1,11 @@
-use super::parts::{auth, critical, identity, numbers, request_behind, request_of, selector};
-use crate::{Judgement, Proving, judge};
-use base::Selector;
+ghost use Rattle.auth.specs.Windows.{IsWindow};
+
+use super::parts::{
+    are_of_types, auth, child, critical, has_proof, identity, request_behind, request_of, selector,
+};
+use crate::{Asked, Judgement, Proving, judge};
+use base::Items;
 use caller::ScriptCaller;
-use exchange::Notice;
 use std::alloc::{AllocError, Global};
 use std::test::Fail;
 use wire::Payload;
@@ -25,155 +28,142 @@ fn proof_behind_long_message() -> [u8; 32] {
     ]
 }
 
-// What an end that waits for "a.example" of type 2 makes of a request: the notice that refuses it, or the window and the first
-// selector of each side.
-fn judged(
-    alloc: Global,
-    payloads: &[Payload],
-) -> Result<Result<(u8, Option<Selector>, Option<Selector>), Notice>, AllocError> {
+// What the sender of a request proves over.
+const PROVING: Proving<'static> = Proving {
+    first: b"first message",
+    nonce: &[9; 16],
+    sk_p: &[5; 32],
+};
+
+// The number of the notice by which an end that waits for "a.example" of type 2 refuses a request, 0 where it accepts it.
+fn refusal(alloc: Global, payloads: &[Payload]) -> Result<u16, AllocError> {
     let peer = identity(alloc, 2, b"a.example")?;
-    let what = Proving {
-        first: b"first message",
-        nonce: &[9; 16],
-        sk_p: &[5; 32],
-    };
-    match judge(alloc, &ScriptCaller, &peer, &what, payloads)? {
-        Judgement::Refused(notice) => Ok(Err(notice)),
-        Judgement::Accepted(asked) => Ok(Ok((
-            asked.window,
-            asked.offer.ts_i.first().copied(),
-            asked.offer.ts_r.first().copied(),
-        ))),
+    match judge(alloc, &ScriptCaller, &peer, &PROVING, payloads)? {
+        Judgement::Refused(notice) => Ok(notice.number()),
+        Judgement::Accepted(_) => Ok(0),
     }
 }
 
-fn refusal(alloc: Global, payloads: &[Payload]) -> Result<Option<Notice>, AllocError> {
-    Ok(judged(alloc, payloads)?.err())
+// Whether that end reads the window 4 and the sides of `child`.
+fn is_asked(alloc: Global) -> Result<bool, AllocError> {
+    let payloads = request_of(alloc, 2, b"a.example", 4)?;
+    let peer = identity(alloc, 2, b"a.example")?;
+    match judge(alloc, &ScriptCaller, &peer, &PROVING, &payloads)? {
+        Judgement::Refused(_) => Ok(false),
+        Judgement::Accepted(Asked { offer, window }) => Ok(
+            window == 4
+                && offer.proposals.len() == 1
+                && offer.ts_i == [selector(1)].as_slice()
+                && offer.ts_r == [selector(2)].as_slice(),
+        ),
+    }
 }
 
 // What answers the request of an end of this identity.
-fn refusal_of(alloc: Global, kind: u8, id: &[u8]) -> Result<Option<Notice>, AllocError> {
+fn refusal_of(alloc: Global, kind: u8, id: &[u8]) -> Result<u16, AllocError> {
     refusal(alloc, &request_of(alloc, kind, id, 1)?)
 }
 
-// What answers a request with this AUTH payload in place of its own.
-fn refusal_with(alloc: Global, method: u8, octets: &[u8]) -> Result<Option<Notice>, AllocError> {
-    let mut payloads = request_of(alloc, 2, b"a.example", 1)?;
-    if let Some(place) = payloads.get_mut(1) {
-        *place = auth(alloc, method, octets)?;
+// A request of an identity of this type, with this AUTH payload.
+fn request_with(
+    alloc: Global,
+    kind: u8,
+    method: u8,
+    octets: &[u8],
+) -> Result<Items<Payload>, AllocError> {
+    let mut payloads = Items::new(alloc);
+    payloads.push(Payload::IdI {
+        kind,
+        data: Items::from_slice(alloc, b"a.example")?,
+    })?;
+    payloads.push(auth(alloc, method, octets)?)?;
+    child(alloc)?.append_to(&mut payloads)?;
+    Ok(payloads)
+}
+
+// What answers such a request.
+fn refusal_with(alloc: Global, method: u8, octets: &[u8]) -> Result<u16, AllocError> {
+    refusal(alloc, request_with(alloc, 2, method, octets)?.as_slice())
+}
+
+// What answers the request of another identity with this payload behind it.
+fn refusal_behind(alloc: Global, payload: Payload) -> Result<u16, AllocError> {
+    let mut payloads = request_with(alloc, 3, 2, &proof())?;
+    payloads.push(payload)?;
+    refusal(alloc, payloads.as_slice())
+}
+
+// The same without its last payload.
+fn refusal_of_less(alloc: Global) -> Result<u16, AllocError> {
+    match request_with(alloc, 3, 2, &proof())?.as_slice() {
+        [others @ .., _] => refusal(alloc, others),
+        [] => Ok(0),
     }
-    refusal(alloc, &payloads)
 }
 
-// What answers a request without its last payload.
-fn refusal_of_less(alloc: Global) -> Result<Option<Notice>, AllocError> {
-    let mut payloads = request_of(alloc, 3, b"a.example", 1)?;
-    payloads.pop();
-    refusal(alloc, &payloads)
+fn is_of_types(alloc: Global, window: u8, types: &[u8]) -> Result<bool, AllocError>
+    requires { IsWindow window }
+{
+    Ok(are_of_types(&request_of(alloc, 2, b"a.example", window)?, types))
 }
 
-// What answers a request with a second AUTH payload, and with a critical one behind it.
-fn refusal_of_more(alloc: Global, is_critical: bool) -> Result<Option<Notice>, AllocError> {
-    let mut payloads = request_of(alloc, 2, b"a.example", 1)?;
-    payloads.push(auth(alloc, 2, &proof())?)?;
-    if is_critical {
-        payloads.push(critical(alloc))?;
+fn is_proved_by(alloc: Global, proof: &[u8]) -> Result<bool, AllocError> {
+    Ok(has_proof(&request_of(alloc, 2, b"a.example", 1)?, proof))
+}
+
+// Octets that count up from 0, and again behind the greatest.
+fn counted(alloc: Global, count: u32, greatest: u8) -> Result<Vec<u8>, AllocError> {
+    let mut octets = Vec::new(alloc);
+    let mut next = 0;
+    for _ in 0..count {
+        octets.push(next)?;
+        next = if next >= greatest { 0 } else { next + 1 };
     }
-    refusal(alloc, &payloads)
+    Ok(octets)
 }
 
-fn long_proof(alloc: Global) -> Result<Vec<Payload>, AllocError> {
-    let mut first = Vec::new(alloc);
-    for octet in 0..1500u32 {
-        first.push((octet % 251) as u8)?;
-    }
-    let mut id = Vec::new(alloc);
-    for octet in 0..256u32 {
-        id.push((octet % 256) as u8)?;
-    }
-    request_behind(alloc, &first, &identity(alloc, 11, &id)?, 1)
+// Whether an identity of 256 octets is proved so behind a first message of 1500.
+fn is_proved_at_length_by(alloc: Global, proof: &[u8]) -> Result<bool, AllocError> {
+    let first = counted(alloc, 1500, 250)?;
+    let own = identity(alloc, 11, &counted(alloc, 256, 255)?)?;
+    Ok(has_proof(&request_behind(alloc, &first, &own, 1)?, proof))
 }
 
-// RFC 7296, section 1.2.
+fn requests(alloc: Global) -> Result<[bool; 5], AllocError> {
+    Ok([
+        is_of_types(alloc, 4, &[35, 39, 33, 44, 45, 41])?,
+        is_of_types(alloc, 1, &[35, 39, 33, 44, 45])?,
+        is_proved_by(alloc, &proof())?,
+        is_proved_at_length_by(alloc, &proof_behind_long_message())?,
+        is_asked(alloc)?,
+    ])
+}
+
+// Another identity, and another proof; a payload too few, one too many, and a critical one.
+fn refusals(alloc: Global) -> Result<[u16; 8], AllocError> {
+    Ok([
+        refusal_of(alloc, 3, b"a.example")?,
+        refusal_of(alloc, 2, b"b.example")?,
+        refusal_with(alloc, 2, &proof())?,
+        refusal_with(alloc, 2, &[0; 32])?,
+        refusal_with(alloc, 1, &proof())?,
+        refusal_of_less(alloc)?,
+        refusal_behind(alloc, auth(alloc, 2, &proof())?)?,
+        refusal_behind(alloc, critical(alloc))?,
+    ])
+}
+
+// RFC 7296, sections 1.2 and 2.15.
 #[test]
-fn a_request(rt: HostRuntime) -> Result<(), Fail> {
-    let alloc = rt.alloc();
-    let payloads = request_of(alloc, 2, b"a.example", 4)?;
-    assert_eq!(rt;
-        numbers(alloc, &payloads)?.as_slice(),
-        [35, 39, 33, 44, 45, 41].as_slice()
-    );
+fn what_is_sent_and_asked(rt: HostRuntime) -> Result<(), Fail> {
+    assert_eq!(rt; requests(rt.alloc())?, [true; 5]);
     Ok(())
 }
 
+// AUTHENTICATION_FAILED is 24 (section 2.21.2). Before the identity is looked at comes INVALID_SYNTAX, 7 (section 3.10.1), and
+// before that UNSUPPORTED_CRITICAL_PAYLOAD, 1 (section 2.5).
 #[test]
-fn a_request_that_tells_no_window(rt: HostRuntime) -> Result<(), Fail> {
-    let alloc = rt.alloc();
-    let payloads = request_of(alloc, 2, b"a.example", 1)?;
-    assert_eq!(rt;
-        numbers(alloc, &payloads)?.as_slice(),
-        [35, 39, 33, 44, 45].as_slice()
-    );
-    Ok(())
-}
-
-// Section 2.15.
-#[test]
-fn its_proof(rt: HostRuntime) -> Result<(), Fail> {
-    let alloc = rt.alloc();
-    let expected = auth(alloc, 2, &proof())?;
-    assert_eq!(rt;
-        request_of(alloc, 2, b"a.example", 1)?.get(1),
-        Some(&expected)
-    );
-    Ok(())
-}
-
-#[test]
-fn a_long_first_message(rt: HostRuntime) -> Result<(), Fail> {
-    let alloc = rt.alloc();
-    let expected = auth(alloc, 2, &proof_behind_long_message())?;
-    assert_eq!(rt; long_proof(alloc)?.get(1), Some(&expected));
-    Ok(())
-}
-
-#[test]
-fn what_is_asked(rt: HostRuntime) -> Result<(), Fail> {
-    let alloc = rt.alloc();
-    let asked = judged(alloc, &request_of(alloc, 2, b"a.example", 4)?)?;
-    assert_eq!(rt; asked, Ok((4, Some(selector(1)), Some(selector(2)))));
-    Ok(())
-}
-
-// Section 2.21.2.
-#[test]
-fn another_identity(rt: HostRuntime) -> Result<(), Fail> {
-    let alloc = rt.alloc();
-    let failed = Some(Notice::AuthenticationFailed);
-    assert_eq!(rt; refusal_of(alloc, 2, b"a.example")?, None);
-    assert_eq!(rt; refusal_of(alloc, 3, b"a.example")?, failed);
-    assert_eq!(rt; refusal_of(alloc, 2, b"b.example")?, failed);
-    Ok(())
-}
-
-#[test]
-fn another_proof(rt: HostRuntime) -> Result<(), Fail> {
-    let alloc = rt.alloc();
-    let failed = Some(Notice::AuthenticationFailed);
-    let mut changed = proof();
-    changed[31] ^= 1;
-    assert_eq!(rt; refusal_with(alloc, 2, &changed)?, failed);
-    assert_eq!(rt; refusal_with(alloc, 1, &proof())?, failed);
-    Ok(())
-}
-
-// Sections 2.5 and 3.10.1, in this order.
-#[test]
-fn what_is_refused_first(rt: HostRuntime) -> Result<(), Fail> {
-    let alloc = rt.alloc();
-    let unknown = Some(Notice::UnsupportedCriticalPayload { kind: 200 });
-    assert_eq!(rt; refusal_of_less(alloc)?, Some(Notice::InvalidSyntax));
-    assert_eq!(rt; refusal_of_more(alloc, false)?, Some(Notice::InvalidSyntax));
-    assert_eq!(rt; refusal_of_more(alloc, true)?, unknown);
+fn what_is_refused(rt: HostRuntime) -> Result<(), Fail> {
+    assert_eq!(rt; refusals(rt.alloc())?, [24, 24, 0, 24, 24, 7, 7, 1]);
     Ok(())
 }

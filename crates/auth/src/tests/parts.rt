@@ -4,7 +4,7 @@ ghost use Rattle.auth.specs.Windows.{IsWindow};
 use crate::{Identity, Proving, request};
 use base::{Items, Range, Selector};
 use caller::ScriptCaller;
-use exchange::ChildPayloads;
+use exchange::{ChildPayloads, only_auth};
 use std::alloc::{AllocError, Global};
 use wire::{Payload, Proposal};
 
@@ -89,11 +89,17 @@ pub fn request_of(
     request_behind(alloc, b"first message", &identity(alloc, kind, id)?, window)
 }
 
-// The numbers of the payloads' types.
-pub fn numbers(alloc: Global, payloads: &[Payload]) -> Result<Vec<u8>, AllocError> {
-    let mut numbers = Vec::new(alloc);
-    for payload in payloads {
-        numbers.push(payload.number())?;
+// Whether the payloads are of just these types.
+pub fn are_of_types(payloads: &[Payload], types: &[u8]) -> bool {
+    for (payload, kind) in payloads.iter().zip(types) {
+        if payload.number() != *kind {
+            return false;
+        }
     }
-    Ok(numbers)
+    payloads.len() == types.len()
+}
+
+// Whether the only AUTH payload has the method 2 and this proof.
+pub fn has_proof(payloads: &[Payload], proof: &[u8]) -> bool {
+    only_auth(payloads) == Some((2, proof))
 }

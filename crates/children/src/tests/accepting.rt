@@ -1,10 +1,9 @@
 //! Which answers are acceptable, and the pair by one.
 use super::fixture::{
-    OWN, START, Suite, asked, elsewhere, far, is_pair, lower_half, message, near, one, proposal,
-    setting,
+    OWN, START, Suite, asked, elsewhere, far, is_pair, lower_half, message, near, proposal, setting,
 };
 use crate::{ChildFault, accept};
-use base::Selector;
+use base::{Items, Selector};
 use sadb::Pair;
 use std::alloc::Global;
 use std::test::Fail;
@@ -75,19 +74,18 @@ fn declines_other_selectors(rt: HostRuntime) -> Result<(), Fail> {
     Ok(())
 }
 
-/// The payloads of an answer with one SA payload more.
-fn twice(alloc: Global) -> Result<Vec<Payload>, Fail> {
-    let first = proposal(alloc, 1, START, Suite::Plain)?;
-    let second = proposal(alloc, 1, START, Suite::Plain)?;
-    let mut answer = message(alloc, first, &[near()], &[far()])?;
-    answer.push(Payload::Sa(one(alloc, second)?))?;
-    Ok(answer.into_vec())
+/// The payloads of an answer, and an SA payload without a proposal.
+fn with_another(alloc: Global) -> Result<Items<Payload>, Fail> {
+    let proposal = proposal(alloc, 1, START, Suite::Plain)?;
+    let mut answer = message(alloc, proposal, &[near()], &[far()])?;
+    answer.push(Payload::Sa(Items::new(alloc)))?;
+    Ok(answer)
 }
 
 // An answer has one SA payload (RFC 7296, section 1.3.1).
 #[test]
-fn declines_two_answers(rt: HostRuntime) -> Result<(), Fail> {
-    let answer = twice(rt.alloc())?;
-    assert!(rt; pair_by(rt.alloc(), &answer, true)?.is_none());
+fn declines_two_sa_payloads(rt: HostRuntime) -> Result<(), Fail> {
+    let answer = with_another(rt.alloc())?;
+    assert!(rt; pair_by(rt.alloc(), answer.as_slice(), true)?.is_none());
     Ok(())
 }

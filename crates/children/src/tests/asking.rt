@@ -1,24 +1,21 @@
 //! What is asked.
-use super::fixture::{OWN, Suite, asked, far, near, proposal, say};
-use crate::ask;
-use exchange::ChildPayloads;
-use std::alloc::{AllocError, Global};
+use super::fixture::{OWN, Suite, are, asked, far, message, near, proposal, request};
 use std::test::Fail;
-
-fn request(alloc: Global, extended: bool) -> Result<ChildPayloads, AllocError> {
-    ask(alloc, &asked(OWN, extended))
-}
 
 #[test]
 fn asks_for_extended_numbers_first(rt: HostRuntime) -> Result<(), Fail> {
-    let wanted = proposal(rt.alloc(), 1, OWN, Suite::Either)?;
-    say(&rt, &request(rt.alloc(), true)?, wanted, near(), far());
+    let proposal = proposal(rt.alloc(), 1, OWN, Suite::Either)?;
+    let wanted = message(rt.alloc(), proposal, &[near()], &[far()])?;
+    let payloads = request(rt.alloc(), &asked(OWN, true))?;
+    are(&rt, payloads.as_slice(), wanted.as_slice());
     Ok(())
 }
 
 #[test]
 fn asks_for_plain_numbers(rt: HostRuntime) -> Result<(), Fail> {
-    let wanted = proposal(rt.alloc(), 1, OWN, Suite::Plain)?;
-    say(&rt, &request(rt.alloc(), false)?, wanted, near(), far());
+    let proposal = proposal(rt.alloc(), 1, OWN, Suite::Plain)?;
+    let wanted = message(rt.alloc(), proposal, &[near()], &[far()])?;
+    let payloads = request(rt.alloc(), &asked(OWN, false))?;
+    are(&rt, payloads.as_slice(), wanted.as_slice());
     Ok(())
 }

@@ -1,14 +1,14 @@
-//! What the tests share: an initiator for 10.0.0.0/24, a responder for 10.1.0.0/16, and the payloads between them. Values come from
-//! functions without a contract, so that a test is proved without them.
+//! What the tests share: an initiator for 10.0.0.0/24, a responder for 10.1.0.0/16, and the payloads between them. Values come
+//! from functions without a contract, so that a test is proved without them.
 ghost use Rattle.replay.specs.Window.{IsBlockCount};
 
 use crate::asking::lone;
-use crate::{Asked, Setting};
+use crate::{Asked, Response, Setting, ask, install, respond};
 use base::{Items, Range, Selector};
-use exchange::ChildPayloads;
+use exchange::{ChildOffer, ChildPayloads};
 use policy::{Action, Entry, Policy};
 use sadb::{Pair, Table};
-use std::alloc::Global;
+use std::alloc::{AllocError, Global};
 use std::process::Abort;
 use std::test::Fail;
 use wire::{Payload, Proposal, Transform};
@@ -136,6 +136,13 @@ pub fn message(
     Ok(payloads)
 }
 
+/// What an initiator sends.
+pub fn request(alloc: Global, asked: &Asked) -> Result<Items<Payload>, AllocError> {
+    let mut payloads = Items::new(alloc);
+    ask(alloc, asked)?.append_to(&mut payloads)?;
+    Ok(payloads)
+}
+
 /// The responder's: it protects what goes between 10.1.0.0/16 and the lower half of 10.0.0.0/24.
 pub fn policy(alloc: Global) -> Result<Policy, Fail> {
     let entry = Entry {
@@ -149,17 +156,28 @@ pub fn policy(alloc: Global) -> Result<Policy, Fail> {
     Ok(Policy::new(lone(alloc, entry)?)?)
 }
 
-/// Finds one proposal and one selector of each side.
-pub fn say(
-    rt: &impl Abort,
-    payloads: &ChildPayloads,
-    proposal: Proposal,
-    ts_i: Selector,
-    ts_r: Selector,
-) {
-    assert_eq!(rt; payloads.proposals.as_slice(), [proposal].as_slice());
-    assert_eq!(rt; payloads.ts_i.as_slice(), [ts_i].as_slice());
-    assert_eq!(rt; payloads.ts_r.as_slice(), [ts_r].as_slice());
+/// What a responder sends; the pair that it makes is added.
+pub fn reply(
+    alloc: Global,
+    offer: &ChildOffer<'_>,
+    extended: bool,
+    table: &mut Table,
+) -> Result<Items<Payload>, Fail> {
+    let policy = policy(alloc)?;
+    let mut payloads = Items::new(alloc);
+    match respond(alloc, offer, extended, &setting(), &policy, table)? {
+        Response::Made(made) => {
+            install(table, made.pair);
+            made.payloads.append_to(&mut payloads)?;
+        }
+        Response::Refused(notice) => payloads.push(notice.payload(alloc)?)?,
+    }
+    Ok(payloads)
+}
+
+/// Finds the same payloads.
+pub fn are(rt: &impl Abort, payloads: &[Payload], wanted: &[Payload]) {
+    assert_eq!(rt; payloads, wanted);
 }
 
 /// Finds a pair of these SPIs, inward and outward, and of one selector of each side.
@@ -167,4 +185,17 @@ pub fn is_pair(rt: &impl Abort, pair: &Pair, spis: (u32, u32), local: Selector, 
     assert_eq!(rt; (pair.inbound.spi(), pair.outbound.spi()), spis);
     assert_eq!(rt; pair.local.as_slice(), [local].as_slice());
     assert_eq!(rt; pair.remote.as_slice(), [remote].as_slice());
+}
+
+/// Finds such a pair under the first of these SPIs.
+pub fn has_pair(
+    rt: &impl Abort,
+    table: &Table,
+    spis: (u32, u32),
+    local: Selector,
+    remote: Selector,
+) -> Result<(), Fail> {
+    let pair = table.inbound(spis.0).ok_or("no pair")?;
+    is_pair(rt, pair, spis, local, remote);
+    Ok(())
 }

@@ -1,102 +1,125 @@
-//! What is answered, and the pair that is made.
+//! What is answered, and the pair that is made and added.
 use super::fixture::{
-    START, Suite, elsewhere, far, is_pair, lower_half, near, one, policy, proposal, say, setting,
+    START, Suite, are, elsewhere, far, has_pair, lower_half, message, near, one, proposal, reply,
     table,
 };
-use crate::{Made, Response, respond};
-use base::Selector;
+use base::{Items, Selector};
 use exchange::{ChildOffer, Notice};
-use sadb::{Table, TableFault};
+use sadb::Table;
 use std::alloc::Global;
+use std::process::Abort;
 use std::test::Fail;
-use wire::Proposal;
+use wire::{Payload, Proposal};
 
 /// What is answered to an offer for the initiator's side and this other one.
-fn response(
+fn answered(
     alloc: Global,
     proposals: &[Proposal],
     ts_r: Selector,
     extended: bool,
     table: &mut Table,
-) -> Result<Response, Fail> {
-    let policy = policy(alloc)?;
+) -> Result<Items<Payload>, Fail> {
     let offer = ChildOffer {
         proposals,
         ts_i: &[near()],
         ts_r: &[ts_r],
     };
-    Ok(respond(alloc, &offer, extended, &setting(), &policy, table)?)
+    reply(alloc, &offer, extended, table)
 }
 
-/// The notice for an offer of one proposal, by an end that doesn't allow extended numbers.
-fn refusal(
+/// What is answered to one proposal, by an end that doesn't allow extended numbers.
+fn plain(
     alloc: Global,
     suite: Suite,
     ts_r: Selector,
     table: &mut Table,
-) -> Result<Option<Notice>, Fail> {
+) -> Result<Items<Payload>, Fail> {
     let proposals = one(alloc, proposal(alloc, 1, 0x300, suite)?)?;
-    match response(alloc, proposals.as_slice(), ts_r, false, table)? {
-        Response::Refused(notice) => Ok(Some(notice)),
-        Response::Made(_) => Ok(None),
-    }
+    answered(alloc, proposals.as_slice(), ts_r, false, table)
 }
 
-/// Reserves so many SPIs.
-fn reserve(table: &mut Table, count: u32) -> Result<(), TableFault> {
-    for _ in 0..count {
-        table.reserve()?;
+/// Adds as many pairs as a table may hold.
+fn fill(alloc: Global, table: &mut Table) -> Result<(), Fail> {
+    for _ in 0..1024 {
+        plain(alloc, Suite::Plain, far(), table)?;
     }
+    Ok(())
+}
+
+/// Finds that all that is answered is a notice.
+fn refuse(
+    rt: &impl Abort,
+    alloc: Global,
+    suite: Suite,
+    ts_r: Selector,
+    table: &mut Table,
+    notice: Notice,
+) -> Result<(), Fail> {
+    let payloads = plain(alloc, suite, ts_r, table)?;
+    let mut wanted = Items::new(alloc);
+    wanted.push(notice.payload(alloc)?)?;
+    are(rt, payloads.as_slice(), wanted.as_slice());
     Ok(())
 }
 
 // Each is told before those that follow, which apply as well.
 #[test]
 fn refuses_in_order(rt: HostRuntime) -> Result<(), Fail> {
-    let mut table = table(rt.alloc());
-    reserve(&mut table, 1024)?;
-    let first = refusal(rt.alloc(), Suite::Extended, elsewhere(), &mut table)?;
-    assert_eq!(rt; first, Some(Notice::NoProposalChosen));
-    let second = refusal(rt.alloc(), Suite::Plain, elsewhere(), &mut table)?;
-    assert_eq!(rt; second, Some(Notice::TsUnacceptable));
-    let third = refusal(rt.alloc(), Suite::Plain, far(), &mut table)?;
-    assert_eq!(rt; third, Some(Notice::NoAdditionalSas));
-    Ok(())
+    let alloc = rt.alloc();
+    let mut table = table(alloc);
+    fill(alloc, &mut table)?;
+    let first = Notice::NoProposalChosen;
+    refuse(&rt, alloc, Suite::Extended, elsewhere(), &mut table, first)?;
+    let second = Notice::TsUnacceptable;
+    refuse(&rt, alloc, Suite::Plain, elsewhere(), &mut table, second)?;
+    refuse(
+        &rt,
+        alloc,
+        Suite::Plain,
+        far(),
+        &mut table,
+        Notice::NoAdditionalSas,
+    )
 }
 
-/// What is made of an offer with a proposal that isn't acceptable, and of another.
-fn made(
+/// What is answered to a proposal that isn't acceptable and another.
+fn chosen(
     alloc: Global,
     suite: Suite,
     extended: bool,
     table: &mut Table,
-) -> Result<Option<Made>, Fail> {
+) -> Result<Items<Payload>, Fail> {
     let mut proposals = one(alloc, proposal(alloc, 1, 0x300, Suite::Sha1)?)?;
     proposals.push(proposal(alloc, 2, 0x301, suite)?)?;
-    match response(alloc, proposals.as_slice(), far(), extended, table)? {
-        Response::Made(made) => Ok(Some(made)),
-        Response::Refused(_) => Ok(None),
-    }
+    answered(alloc, proposals.as_slice(), far(), extended, table)
 }
 
-// The number is the chosen one's, and the selectors are narrowed.
+/// An answer to the second proposal, with the selectors narrowed.
+fn narrowed(alloc: Global, spi: u32, suite: Suite) -> Result<Items<Payload>, Fail> {
+    message(
+        alloc,
+        proposal(alloc, 2, spi, suite)?,
+        &[lower_half()],
+        &[far()],
+    )
+}
+
 #[test]
 fn answers_the_last_of_two(rt: HostRuntime) -> Result<(), Fail> {
     let mut table = table(rt.alloc());
-    let made = made(rt.alloc(), Suite::Either, true, &mut table)?.ok_or("refused")?;
-    let wanted = proposal(rt.alloc(), 2, START, Suite::Extended)?;
-    say(&rt, &made.payloads, wanted, lower_half(), far());
-    is_pair(&rt, &made.pair, (START, 0x301), far(), lower_half());
-    Ok(())
+    let payloads = chosen(rt.alloc(), Suite::Either, true, &mut table)?;
+    let wanted = narrowed(rt.alloc(), START, Suite::Extended)?;
+    are(&rt, payloads.as_slice(), wanted.as_slice());
+    has_pair(&rt, &table, (START, 0x301), far(), lower_half())
 }
 
+// The next SPI is the second.
 #[test]
-fn answers_with_the_next_spi(rt: HostRuntime) -> Result<(), Fail> {
+fn answers_with_plain_numbers(rt: HostRuntime) -> Result<(), Fail> {
     let mut table = table(rt.alloc());
-    reserve(&mut table, 1)?;
-    let made = made(rt.alloc(), Suite::Either, false, &mut table)?.ok_or("refused")?;
-    let wanted = proposal(rt.alloc(), 2, START + 1, Suite::Plain)?;
-    say(&rt, &made.payloads, wanted, lower_half(), far());
-    is_pair(&rt, &made.pair, (START + 1, 0x301), far(), lower_half());
-    Ok(())
+    plain(rt.alloc(), Suite::Plain, far(), &mut table)?;
+    let payloads = chosen(rt.alloc(), Suite::Either, false, &mut table)?;
+    let wanted = narrowed(rt.alloc(), START + 1, Suite::Plain)?;
+    are(&rt, payloads.as_slice(), wanted.as_slice());
+    has_pair(&rt, &table, (START + 1, 0x301), far(), lower_half())
 }

@@ -1,13 +1,12 @@
 //! Whole runs: a child is asked for, answered and accepted, and packets cross between the two ends.
 ghost use Rattle.std.specs.Prelude.{IfSome};
-ghost use Rattle.sadb.specs.Database.{IsFor};
+ghost use Rattle.sadb.specs.Database.{IsFor, IsThere};
 
-use super::fixture::{START, asked, far, is_pair, lower_half, policy, setting, table};
-use crate::{Asked, Response, accept, ask, install, respond};
-use base::{Items, Selector};
+use super::fixture::{START, asked, far, has_pair, lower_half, reply, request, setting, table};
+use crate::{Asked, accept};
 use exchange::{ChildOffer, only_sa, only_ts_i, only_ts_r};
 use sadb::{Pair, Table};
-use std::alloc::{AllocError, Global};
+use std::alloc::Global;
 use std::process::Abort;
 use std::test::Fail;
 use wire::Payload;
@@ -34,13 +33,6 @@ impl Ends {
     }
 }
 
-/// What the initiator sends.
-fn request(alloc: Global, asked: &Asked) -> Result<Items<Payload>, AllocError> {
-    let mut payloads = Items::new(alloc);
-    ask(alloc, asked)?.append_to(&mut payloads)?;
-    Ok(payloads)
-}
-
 /// What the payloads of a request offer.
 fn offer_of(request: &[Payload]) -> Option<ChildOffer<'_>> {
     Some(ChildOffer {
@@ -48,25 +40,6 @@ fn offer_of(request: &[Payload]) -> Option<ChildOffer<'_>> {
         ts_i: only_ts_i(request)?,
         ts_r: only_ts_r(request)?,
     })
-}
-
-/// The answer of a responder, whose pair is added.
-fn answer(
-    alloc: Global,
-    offer: &ChildOffer<'_>,
-    extended: bool,
-    table: &mut Table,
-) -> Result<Items<Payload>, Fail> {
-    let policy = policy(alloc)?;
-    let mut payloads = Items::new(alloc);
-    match respond(alloc, offer, extended, &setting(), &policy, table)? {
-        Response::Made(made) => {
-            install(table, made.pair);
-            made.payloads.append_to(&mut payloads)?;
-        }
-        Response::Refused(notice) => payloads.push(notice.payload(alloc)?)?,
-    }
-    Ok(payloads)
 }
 
 /// The initiator's pair of what it asked, by the responder's answer.
@@ -78,8 +51,8 @@ fn agree(
 ) -> Result<Pair, Fail> {
     let request = request(alloc, asked)?;
     let offer = offer_of(request.as_slice()).ok_or("no offer")?;
-    let answer = answer(alloc, &offer, extended, responder)?;
-    let pair = accept(alloc, answer.as_slice(), asked, &setting())?;
+    let reply = reply(alloc, &offer, extended, responder)?;
+    let pair = accept(alloc, reply.as_slice(), asked, &setting())?;
     Ok(pair.ok_or("not accepted")?)
 }
 
@@ -108,10 +81,16 @@ fn serial_for(table: &Table, spi: u32, packet: &[u8]) -> Option<u32>
     }
 }
 
+/// The serial of the pair under an SPI.
+fn serial_under(table: &Table, spi: u32) -> Option<u32>
+    ensures { IfSome result (IsThere table.now.pairs) }
+{
+    Some(table.inbound(spi)?.serial)
+}
+
 /// Seals a payload by the pair that receives under an SPI.
 fn seal(table: &mut Table, spi: u32, out: &mut Vec<u8>) -> Result<u64, Fail> {
-    let pair = table.inbound(spi).ok_or("no pair")?;
-    let serial = pair.serial;
+    let serial = serial_under(table, spi).ok_or("no pair")?;
     Ok(table.seal(serial, IPV4, b"abc", out)?)
 }
 
@@ -125,12 +104,14 @@ fn open<'a>(table: &mut Table, spi: u32, packet: &'a [u8]) -> Result<&'a [u8], F
 fn cross(
     rt: &impl Abort,
     alloc: Global,
-    from: (&mut Table, u32),
-    to: (&mut Table, u32),
+    from: &mut Table,
+    from_spi: u32,
+    to: &mut Table,
+    to_spi: u32,
 ) -> Result<(), Fail> {
     let mut packet = Vec::new(alloc);
-    seal(from.0, from.1, &mut packet)?;
-    assert_eq!(rt; open(to.0, to.1, &packet)?, b"abc".as_slice());
+    seal(from, from_spi, &mut packet)?;
+    assert_eq!(rt; open(to, to_spi, &packet)?, b"abc".as_slice());
     Ok(())
 }
 
@@ -138,37 +119,18 @@ fn cross(
 fn cross_both_ways(rt: &impl Abort, alloc: Global, extended: bool) -> Result<(), Fail> {
     let mut ends = Ends::new(alloc);
     connect(rt, alloc, &mut ends, extended)?;
-    cross(
-        rt,
-        alloc,
-        (&mut ends.initiator, FIRST),
-        (&mut ends.responder, START),
-    )?;
-    cross(
-        rt,
-        alloc,
-        (&mut ends.responder, START),
-        (&mut ends.initiator, FIRST),
-    )
+    let Ends {
+        mut initiator,
+        mut responder,
+    } = ends;
+    cross(rt, alloc, &mut initiator, FIRST, &mut responder, START)?;
+    cross(rt, alloc, &mut responder, START, &mut initiator, FIRST)
 }
 
 #[test]
 fn packets_cross(rt: HostRuntime) -> Result<(), Fail> {
     cross_both_ways(&rt, rt.alloc(), true)?;
     cross_both_ways(&rt, rt.alloc(), false)
-}
-
-/// Compares the pair under an SPI.
-fn has_pair(
-    rt: &impl Abort,
-    table: &Table,
-    spis: (u32, u32),
-    local: Selector,
-    remote: Selector,
-) -> Result<(), Fail> {
-    let pair = table.inbound(spis.0).ok_or("no pair")?;
-    is_pair(rt, pair, spis, local, remote);
-    Ok(())
 }
 
 // The second child of both ends.

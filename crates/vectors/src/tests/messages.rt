@@ -78,7 +78,9 @@ const EVERY_TYPE_FREE: [u8; 259] = [
 ];
 
 /// The number of a refusal and its offset, 0 for none.
-fn refusal<T: Drop>(answer: Result<T, WireFault>) -> (u8, Option<usize>) {
+type Refusal = (u8, Option<usize>);
+
+fn refusal<T: Drop>(answer: Result<T, WireFault>) -> Refusal {
     match answer {
         Ok(_) => (0, None),
         Err(fault) => (fault.code(), fault.offset()),
@@ -86,7 +88,7 @@ fn refusal<T: Drop>(answer: Result<T, WireFault>) -> (u8, Option<usize>) {
 }
 
 /// What is said of a body with the header of a payload of this type, behind an empty vendor ID of four octets.
-fn refusal_of_body(alloc: Global, kind: u8, body: &[u8]) -> Result<(u8, Option<usize>), Fail> {
+fn refusal_of_body(alloc: Global, kind: u8, body: &[u8]) -> Result<Refusal, Fail> {
     let length = body.len() + 4;
     let mut octets = [kind, 0, 0, 4, 0, 0].to_vec(alloc)?;
     octets.extend_from_slice(&[(length / 256 % 256) as u8, (length % 256) as u8])?;
@@ -115,105 +117,167 @@ fn header() -> Header {
     }
 }
 
+/// A header alone, which names this payload as the first and has this version.
+fn header_alone(first: u8, version: u8) -> [u8; 28] {
+    let mut octets = [0u8; 28];
+    octets[16] = first;
+    octets[17] = version;
+    octets[27] = 28;
+    octets
+}
+
 #[test]
 fn datagrams(rt: HostRuntime) -> Result<(), Fail> {
     let alloc = rt.alloc();
     let long = vec![in alloc; 0u8; 3001]?;
-    assert_eq!(rt;
-        refusal(decode_message(alloc, &COOKIE_ANSWER[..27])),
-        (1, None)
-    );
-    assert_eq!(rt;
-        refusal(decode_message(alloc, &COOKIE_ANSWER[..28])),
-        (2, None)
-    );
-    assert_eq!(rt; refusal(decode_message(alloc, &long)), (9, None));
-    let mut empty = [0u8; 28];
-    empty[17] = 0x20;
-    empty[27] = 28;
-    let read = decode_message(alloc, &empty)
-        .ok()
-        .ok_or("a message without payloads")?;
-    assert!(rt; read.payloads.is_empty());
-    empty[16] = 33;
-    assert_eq!(rt; refusal(decode_message(alloc, &empty)), (4, Some(28)));
-    empty[17] = 0x30;
-    assert_eq!(rt; refusal(decode_message(alloc, &empty)), (3, None));
+    let rows: [(&[u8], Refusal); 6] = [
+        (&COOKIE_ANSWER[..27], (1, None)),
+        (&COOKIE_ANSWER[..28], (2, None)),
+        (&long, (9, None)),
+        (&header_alone(0, 0x20), (0, None)),
+        (&header_alone(33, 0x20), (4, Some(28))),
+        (&header_alone(33, 0x30), (3, None)),
+    ];
+    for (octets, wanted) in rows {
+        assert_eq!(rt; refusal(decode_message(alloc, octets)), wanted);
+    }
     Ok(())
 }
 
 #[test]
-fn chains(rt: HostRuntime) -> Result<(), Fail> {
-    let alloc = rt.alloc();
+fn a_message_without_payloads(rt: HostRuntime) -> Result<(), Fail> {
+    let read = decode_message(rt.alloc(), &header_alone(0, 0x20))?;
+    assert!(rt; read.payloads.is_empty());
+    Ok(())
+}
+
+#[test]
+fn chains(rt: HostRuntime) {
     let selectors = [
         0, 0, 0, 24, 1, 0, 0, 0, 7, 0, 0, 16, 0, 0, 255, 255, 10, 0, 0, 255, 10, 0, 0, 0,
     ];
-    assert_eq!(rt; refusal(decode_chain(alloc, 44, &selectors)), (6, Some(0)));
-    let mut delete = [0, 0, 0, 12, 3, 4, 0, 1, 0, 0, 16, 0];
-    let read = decode_chain(alloc, 42, &delete).ok().ok_or("a deletion")?;
-    match read.as_slice() {
-        [Payload::Delete { protocol, spis }] => {
-            assert_eq!(rt; *protocol, 3);
-            assert_eq!(rt; spis.as_slice(), [0x1000].as_slice());
-        }
-        _ => return Err(Fail::from("another payload is read")),
-    }
-    delete[7] = 2;
-    assert_eq!(rt; refusal(decode_chain(alloc, 42, &delete)), (8, Some(0)));
     let nonce = [
         0, 0, 0, 19, 1, 2, 3, 4, 5, 6, 7, 8, 9, 10, 11, 12, 13, 14, 15,
     ];
-    assert_eq!(rt; refusal(decode_chain(alloc, 40, &nonce)), (7, Some(0)));
-    assert_eq!(rt;
-        refusal(decode_chain(alloc, 200, &[0, 0x80, 0, 6, 0xaa])),
-        (4, Some(0))
-    );
-    let read = decode_chain(alloc, 200, &[0, 0x80, 0, 5, 0xaa])
-        .ok()
-        .ok_or("an unknown payload")?;
-    match read.as_slice() {
-        [
-            Payload::Unknown {
-                kind,
-                critical,
-                data,
-            },
-        ] => {
-            assert_eq!(rt; (*kind, *critical), (200, true));
-            assert_eq!(rt; data.as_slice(), [0xaa].as_slice());
-        }
-        _ => return Err(Fail::from("another payload is read")),
+    let rows: [(u8, &[u8], Refusal); 10] = [
+        (44, &selectors, (6, Some(0))),
+        (42, &DELETION, (0, None)),
+        (42, &[0, 0, 0, 12, 3, 4, 0, 2, 0, 0, 16, 0], (8, Some(0))),
+        (40, &nonce, (7, Some(0))),
+        (200, &[0, 0x80, 0, 6, 0xaa], (4, Some(0))),
+        (200, &UNKNOWN, (0, None)),
+        (46, &[0, 0, 0, 4], (4, Some(0))),
+        (43, &[0, 0, 0, 4, 9], (4, Some(4))),
+        (0, &[9], (4, Some(0))),
+        (0, &[], (0, None)),
+    ];
+    for (first, octets, wanted) in rows {
+        assert_eq!(rt;
+            refusal(decode_chain(rt.alloc(), first, octets)),
+            wanted,
+            "of type {first}"
+        );
     }
-    let encrypted = decode_chain(alloc, 46, &[0, 0, 0, 4]);
-    assert_eq!(rt; refusal(encrypted), (4, Some(0)));
-    assert_eq!(rt;
-        refusal(decode_chain(alloc, 43, &[0, 0, 0, 4, 9])),
-        (4, Some(4))
-    );
-    assert_eq!(rt; refusal(decode_chain(alloc, 0, &[9])), (4, Some(0)));
-    assert_eq!(rt; refusal(decode_chain(alloc, 0, &[])), (0, None));
+}
+
+const DELETION: [u8; 12] = [0, 0, 0, 12, 3, 4, 0, 1, 0, 0, 16, 0];
+
+#[test]
+fn a_deletion_is_read(rt: HostRuntime) -> Result<(), Fail> {
+    let read = decode_chain(rt.alloc(), 42, &DELETION)?;
+    let [Payload::Delete { protocol, spis }] = read.as_slice() else {
+        return Err(Fail::from("another payload is read"));
+    };
+    assert_eq!(rt; *protocol, 3);
+    assert_eq!(rt; spis.as_slice(), [0x1000].as_slice());
     Ok(())
 }
 
+const UNKNOWN: [u8; 5] = [0, 0x80, 0, 5, 0xaa];
+
 #[test]
-fn proposals(rt: HostRuntime) -> Result<(), Fail> {
+fn an_unknown_payload_is_read(rt: HostRuntime) -> Result<(), Fail> {
+    let read = decode_chain(rt.alloc(), 200, &UNKNOWN)?;
+    let [
+        Payload::Unknown {
+            kind,
+            critical,
+            data,
+        },
+    ] = read.as_slice()
+    else {
+        return Err(Fail::from("another payload is read"));
+    };
+    assert_eq!(rt; (*kind, *critical), (200, true));
+    assert_eq!(rt; data.as_slice(), [0xaa].as_slice());
+    Ok(())
+}
+
+/// The proposal of ESP with one octet replaced.
+fn proposal_with(place: usize, value: u8) -> [u8; 40] {
+    let mut octets = ESP_PROPOSAL;
+    set(&mut octets, place, value);
+    octets
+}
+
+#[test]
+fn proposals(rt: HostRuntime) {
+    let alloc = rt.alloc();
+    let refused = (5, Some(0));
+    for (place, value, wanted) in [
+        // the number of a lone proposal, which is any but 0
+        (8, 1, (0, None)),
+        (8, 2, (0, None)),
+        (8, 255, (0, None)),
+        (8, 0, refused),
+        // marks, counts, lengths and the type of the second octets
+        (4, 2, refused),
+        (4, 3, refused),
+        (7, 35, refused),
+        (7, 37, refused),
+        (11, 2, refused),
+        (11, 4, refused),
+        (16, 0, refused),
+        (16, 2, refused),
+        (24, 0, refused),
+        (32, 3, refused),
+        (35, 9, refused),
+        (10, 5, refused),
+        // reserved octets
+        (1, 0xff, (0, None)),
+        (5, 0xff, (0, None)),
+        (17, 0xff, (0, None)),
+        (21, 0xff, (0, None)),
+        (25, 0xff, (0, None)),
+        (29, 0xff, (0, None)),
+        (33, 0xff, (0, None)),
+        (37, 0xff, (0, None)),
+    ] {
+        assert_eq!(rt;
+            refusal(decode_chain(alloc, 33, &proposal_with(place, value))),
+            wanted,
+            "{value} at {place}"
+        );
+    }
+}
+
+// The payload that the header names behind it is missing, and a number 0 behind a vendor ID of no octets.
+#[test]
+fn proposals_among_other_payloads(rt: HostRuntime) -> Result<(), Fail> {
     let alloc = rt.alloc();
     assert_eq!(rt;
         refusal(decode_chain(alloc, 33, &IKE_PROPOSAL)),
         (4, Some(44))
     );
-    for (number, code) in [(1, 0), (2, 0), (255, 0), (0, 5)] {
-        let mut octets = ESP_PROPOSAL;
-        octets[8] = number;
-        assert_eq!(rt;
-            refusal(decode_chain(alloc, 33, &octets)).0,
-            code,
-            "number {number}"
-        );
-    }
-    let read = decode_chain(alloc, 33, &ESP_PROPOSAL)
-        .ok()
-        .ok_or("a proposal")?;
+    let mut behind = [33, 0, 0, 4].to_vec(alloc)?;
+    behind.extend_from_slice(&proposal_with(8, 0))?;
+    assert_eq!(rt; refusal(decode_chain(alloc, 43, &behind)), (5, Some(4)));
+    Ok(())
+}
+
+#[test]
+fn a_proposal_is_read(rt: HostRuntime) -> Result<(), Fail> {
+    let read = decode_chain(rt.alloc(), 33, &ESP_PROPOSAL)?;
     let [Payload::Sa(proposals)] = read.as_slice() else {
         return Err(Fail::from("another payload is read"));
     };
@@ -222,79 +286,57 @@ fn proposals(rt: HostRuntime) -> Result<(), Fail> {
     };
     assert_eq!(rt; proposal.spi.as_slice(), [0, 0, 1, 0].as_slice());
     assert_eq!(rt; proposal.transforms.len(), 3);
-    // marks, counts, lengths and the type of the second octets
-    for (place, value) in [
-        (4, 2),
-        (4, 3),
-        (7, 35),
-        (7, 37),
-        (11, 2),
-        (11, 4),
-        (16, 0),
-        (16, 2),
-        (24, 0),
-        (32, 3),
-        (35, 9),
-        (10, 5),
-    ] {
-        let mut octets = ESP_PROPOSAL;
-        set(&mut octets, place, value);
-        assert_eq!(rt;
-            refusal(decode_chain(alloc, 33, &octets)),
-            (5, Some(0)),
-            "{value} at {place}"
-        );
-    }
-    // a lone proposal with the number 0 behind a vendor ID of no octets
-    let mut behind = [33, 0, 0, 4].to_vec(alloc)?;
-    behind.extend_from_slice(&ESP_PROPOSAL)?;
-    set(&mut behind, 12, 0);
-    assert_eq!(rt; refusal(decode_chain(alloc, 43, &behind)), (5, Some(4)));
-    for place in [1, 5, 17, 21, 25, 29, 33, 37] {
-        let mut octets = ESP_PROPOSAL;
-        set(&mut octets, place, 0xff);
-        assert_eq!(rt;
-            refusal(decode_chain(alloc, 33, &octets)),
-            (0, None),
-            "reserved at {place}"
-        );
+    Ok(())
+}
+
+/// Whether a message is read and written again as it was, behind octets that stay.
+fn goes_round(alloc: Global, octets: &[u8]) -> Result<bool, Fail> {
+    let read = decode_message(alloc, octets)?;
+    let mut out = [1, 2].to_vec(alloc)?;
+    encode_message(&read, &mut out)?;
+    Ok(out.as_slice().strip_prefix(&[1, 2]) == Some(octets))
+}
+
+#[test]
+fn exact_pieces(rt: HostRuntime) -> Result<(), Fail> {
+    let rows: [&[u8]; 3] = [&COOKIE_ANSWER, &SEALED_REQUEST, &EVERY_TYPE];
+    for octets in rows {
+        assert!(rt; goes_round(rt.alloc(), octets)?, "{octets:?}");
     }
     Ok(())
 }
 
 #[test]
-fn exact_pieces(rt: HostRuntime) -> Result<(), Fail> {
-    let alloc = rt.alloc();
-    for octets in [
-        COOKIE_ANSWER.as_slice(),
-        SEALED_REQUEST.as_slice(),
-        EVERY_TYPE.as_slice(),
-    ] {
-        let read = decode_message(alloc, octets).ok().ok_or("a message")?;
-        let mut out = [1, 2].to_vec(alloc)?;
-        assert_eq!(rt; refusal(encode_message(&read, &mut out)), (0, None));
-        assert_eq!(rt; &out[..2], [1, 2].as_slice());
-        assert_eq!(rt; &out[2..], octets);
-    }
-    let plain = decode_message(alloc, &EVERY_TYPE).ok().ok_or("a message")?;
-    assert_eq!(rt; plain.payloads.len(), 14);
+fn sizes_of_every_type(rt: HostRuntime) -> Result<(), Fail> {
+    let read = decode_message(rt.alloc(), &EVERY_TYPE)?;
+    assert_eq!(rt; read.header, header());
+    assert_eq!(rt; read.payloads.len(), 14);
     let mut length = HEADER_LENGTH;
-    for payload in plain.payloads.as_slice() {
+    for payload in read.payloads.as_slice() {
         length = length.saturating_add(payload.size());
     }
     assert_eq!(rt; length, EVERY_TYPE.len());
-    assert_eq!(rt; plain.header, header());
-    let free = decode_message(alloc, &EVERY_TYPE_FREE)
-        .ok()
-        .ok_or("a message")?;
+    Ok(())
+}
+
+#[test]
+fn reserved_octets_are_passed_over(rt: HostRuntime) -> Result<(), Fail> {
+    let plain = decode_message(rt.alloc(), &EVERY_TYPE)?;
+    let free = decode_message(rt.alloc(), &EVERY_TYPE_FREE)?;
     assert!(rt; plain == free);
     assert!(rt; plain.clone()? == free);
     Ok(())
 }
 
+/// A message of every type with one octet replaced.
+fn every_type_with(place: usize, value: u8) -> [u8; 259] {
+    let mut octets = EVERY_TYPE;
+    set(&mut octets, place, value);
+    octets
+}
+
 #[test]
 fn offsets(rt: HostRuntime) {
-    let alloc = rt.alloc();
     // a length octet that is wrong, of the payload at each offset
     for (place, value, code, offset) in [
         (32, 3, 5, 28),
@@ -311,10 +353,8 @@ fn offsets(rt: HostRuntime) {
         (67, 4, 5, 28),
         (67, 2, 5, 28),
     ] {
-        let mut octets = EVERY_TYPE;
-        set(&mut octets, place, value);
         assert_eq!(rt;
-            refusal(decode_message(alloc, &octets)),
+            refusal(decode_message(rt.alloc(), &every_type_with(place, value))),
             (code, Some(offset)),
             "{value} at {place}"
         );

@@ -5,7 +5,7 @@ ghost use Rattle.wire.specs.declared.fault.WireFault.{WireFault};
 use base::Items;
 use caller::ScriptCaller;
 use exchange::laws::short_messages_can_be_sent;
-use exchange::{Notice, open_message, seal_message, sealed_messages_open};
+use exchange::{Notice, Plain, open_message, seal_message, sealed_messages_open};
 use std::alloc::Global;
 use std::test::Fail;
 use suite::Keys;
@@ -45,14 +45,44 @@ fn header(exchange: u8, id: u32) -> Header
     }
 }
 
-fn message(alloc: Global, exchange: u8, id: u32, payloads: &[Payload]) -> Result<Message, Fail> {
-    let mut listed = Items::new(alloc);
-    for payload in payloads {
-        listed.push(payload.clone()?)?;
+/// A payload, as a table names it.
+#[derive(Clone, Copy)]
+enum Sample {
+    Nonce,
+    InvalidSyntax,
+    /// An encrypted payload of so many octets 00.
+    Sealed(usize),
+    /// A vendor ID of so many octets 00.
+    VendorId(usize),
+}
+
+fn payload(alloc: Global, sample: Sample) -> Result<Payload, Fail> {
+    Ok(match sample {
+        Sample::Nonce => Payload::Nonce(Items::from_slice(alloc, &[7; 32])?),
+        Sample::InvalidSyntax => Notice::InvalidSyntax.payload(alloc)?,
+        Sample::Sealed(length) => Payload::Sealed {
+            first: 0,
+            body: zeros(alloc, length)?,
+        },
+        Sample::VendorId(length) => Payload::Skipped {
+            kind: SkippedKind::VendorId,
+            data: zeros(alloc, length)?,
+        },
+    })
+}
+
+fn zeros(alloc: Global, length: usize) -> Result<Items<u8>, Fail> {
+    Ok(Items::from_vec(vec![in alloc; 0u8; length]?))
+}
+
+fn message(alloc: Global, exchange: u8, id: u32, samples: &[Sample]) -> Result<Message, Fail> {
+    let mut payloads = Items::new(alloc);
+    for sample in samples {
+        payloads.push(payload(alloc, *sample)?)?;
     }
     Ok(Message {
         header: header(exchange, id),
-        payloads: listed,
+        payloads,
     })
 }
 
@@ -81,118 +111,114 @@ fn sealed(alloc: Global, message: &Message) -> Result<Vec<u8>, WireFault> {
 // RFC 7296, sections 3.1 and 3.14: header and encrypted payload of an empty INFORMATIONAL request, number 2.
 #[test]
 fn seals_no_payload(rt: HostRuntime) -> Result<(), Fail> {
-    let alloc = rt.alloc();
-    let octets = empty(alloc, 2)?;
-    assert_eq!(rt; octets.len(), 49);
-    let expected = [
+    // The check value is that of Python's module `hmac`.
+    let wanted: [u8; 49] = [
         0, 0, 0, 0, 0, 0, 0, 1, 0, 0, 0, 0, 0, 0, 0, 2, 46, 32, 37, 8, 0, 0, 0, 2, 0, 0, 0, 49, 0,
-        0, 0, 21,
+        0, 0, 21, 0x00, 0x96, 0x5e, 0xed, 0xb0, 0x3f, 0xc4, 0x16, 0x47, 0xea, 0xdc, 0x39, 0x2e,
+        0x30, 0xc1, 0x5a, 0x63,
     ];
-    let (head, body) = octets.as_slice().split_at(32);
-    assert_eq!(rt; head, expected.as_slice());
-    // An octet 00, and the check value as Python's module `hmac` computes it.
-    let wanted: [u8; 17] = [
-        0x00, 0x96, 0x5e, 0xed, 0xb0, 0x3f, 0xc4, 0x16, 0x47, 0xea, 0xdc, 0x39, 0x2e, 0x30, 0xc1,
-        0x5a, 0x63,
-    ];
-    assert_eq!(rt; body, wanted.as_slice());
+    let octets = empty(rt.alloc(), 2)?;
+    assert_eq!(rt; octets.as_slice(), wanted.as_slice());
     Ok(())
+}
+
+/// What an encrypted message holds: the type of its first payload, and the octets of them all; none if it does not open.
+fn opened(alloc: Global, octets: &[u8]) -> Result<Option<Plain>, Fail> {
+    let came = decode_message(alloc, octets)?;
+    Ok(open_message(alloc, &ScriptCaller, &KEYS, octets, &came)?)
 }
 
 #[test]
 fn opens_what_was_sealed(rt: HostRuntime) -> Result<(), Fail> {
     let alloc = rt.alloc();
-    let notice = Notice::InvalidSyntax.payload(alloc)?;
-    let said = message(alloc, 36, 3, &[nonce(alloc)?, notice])?;
+    let said = message(alloc, 36, 3, &[Sample::Nonce, Sample::InvalidSyntax])?;
     let octets = sealed(alloc, &said)?;
     // 32 octets, two payloads of 36 and 8, and what the cipher adds
     assert_eq!(rt; octets.len(), 93);
-    let came = decode_message(alloc, &octets)?;
-    assert_eq!(rt; came.header, said.header);
-    let plain = open_message(alloc, &ScriptCaller, &KEYS, &octets, &came)?.ok_or("does not open")?;
+    let plain = opened(alloc, &octets)?.ok_or("does not open")?;
     assert_eq!(rt; plain.first, 40);
-    let payloads = decode_chain(alloc, plain.first, plain.octets.as_slice())?;
-    assert_eq!(rt; payloads.as_slice(), said.payloads.as_slice());
-    sealed_messages_open(&ScriptCaller);
+    let payloads = decode_chain(alloc, 40, plain.octets.as_slice())?;
+    assert!(rt; payloads == said.payloads);
     Ok(())
+}
+
+#[test]
+fn a_sealed_message_keeps_its_header(rt: HostRuntime) -> Result<(), Fail> {
+    let octets = sealed(
+        rt.alloc(),
+        &message(rt.alloc(), 36, 3, &[Sample::Nonce, Sample::InvalidSyntax])?,
+    )?;
+    let came = decode_message(rt.alloc(), &octets)?;
+    assert_eq!(rt; came.header, header(36, 3));
+    Ok(())
+}
+
+#[test]
+fn laws_can_be_called() {
+    sealed_messages_open(&ScriptCaller);
+}
+
+fn opens(alloc: Global, samples: &[Sample]) -> Result<bool, Fail> {
+    let mut octets = Vec::new(alloc);
+    encode_message(&message(alloc, 37, 2, samples)?, &mut octets)?;
+    Ok(opened(alloc, &octets)?.is_some())
 }
 
 // Only an encrypted payload that stands alone, and whose body opens, is opened.
 #[test]
 fn opens_nothing_else(rt: HostRuntime) -> Result<(), Fail> {
-    let alloc = rt.alloc();
-    assert_eq!(rt; opens(alloc, &[])?, false);
-    assert_eq!(rt; opens(alloc, &[nonce(alloc)?])?, false);
-    assert_eq!(rt;
-        opens(alloc, &[nonce(alloc)?, sealed_as(alloc, &[0; 17])?])?,
-        false
-    );
-    assert_eq!(rt; opens(alloc, &[sealed_as(alloc, &[0; 16])?])?, false);
-    assert_eq!(rt; opens(alloc, &[sealed_as(alloc, &[0; 17])?])?, false);
-    assert_eq!(rt; opens_as_it_came(alloc, &empty(alloc, 2)?)?, true);
+    let rows: [&[Sample]; 5] = [
+        &[],
+        &[Sample::Nonce],
+        &[Sample::Nonce, Sample::Sealed(17)],
+        &[Sample::Sealed(16)],
+        &[Sample::Sealed(17)],
+    ];
+    for samples in rows {
+        assert!(rt; !opens(rt.alloc(), samples)?);
+    }
+    let right = empty(rt.alloc(), 2)?;
+    assert!(rt; opened(rt.alloc(), &right)?.is_some());
     Ok(())
 }
 
-fn opens(alloc: Global, payloads: &[Payload]) -> Result<bool, Fail> {
-    let mut octets = Vec::new(alloc);
-    encode_message(&message(alloc, 37, 2, payloads)?, &mut octets)?;
-    opens_as_it_came(alloc, &octets)
-}
-
-fn opens_as_it_came(alloc: Global, octets: &[u8]) -> Result<bool, Fail> {
-    let came = decode_message(alloc, octets)?;
-    Ok(open_message(alloc, &ScriptCaller, &KEYS, octets, &came)?.is_some())
-}
-
-fn nonce(alloc: Global) -> Result<Payload, Fail> {
-    Ok(Payload::Nonce(Items::from_slice(alloc, &[7; 32])?))
-}
-
-fn sealed_as(alloc: Global, body: &[u8]) -> Result<Payload, Fail> {
-    Ok(Payload::Sealed {
-        first: 0,
-        body: Items::from_slice(alloc, body)?,
-    })
+/// How many octets a message of this payload has, or why it is not sealed.
+fn length_sealed(alloc: Global, sample: Sample) -> Result<Result<usize, WireFault>, Fail> {
+    let said = message(alloc, 37, 2, &[sample])?;
+    match sealed(alloc, &said) {
+        Ok(octets) => Ok(Ok(octets.len())),
+        Err(fault) => Ok(Err(fault)),
+    }
 }
 
 #[test]
 fn the_longest_message(rt: HostRuntime) -> Result<(), Fail> {
-    let alloc = rt.alloc();
     // 32 octets of headers and 17 of the cipher leave 2951 for payloads, each with 4 of its own header.
-    let most = skipped(alloc, 2947)?;
-    let octets = sealed(alloc, &message(alloc, 37, 2, &[most])?)?;
-    assert_eq!(rt; octets.len(), 3000);
-    let more = skipped(alloc, 2948)?;
-    let refused = sealed(alloc, &message(alloc, 37, 2, &[more])?);
-    assert_eq!(rt; refused.err(), Some(WireFault::TooLong));
-    // A nonce of 15 octets has no spelling.
-    let nonce = Payload::Nonce(Items::from_slice(alloc, &[7; 15])?);
-    let refused = sealed(alloc, &message(alloc, 37, 2, &[nonce])?);
-    assert_eq!(rt; refused.err(), Some(WireFault::BadNonce { offset: 28 }));
+    for (length, wanted) in [(2947, Ok(3000)), (2948, Err(WireFault::TooLong))] {
+        let answer = length_sealed(rt.alloc(), Sample::VendorId(length))?;
+        assert_eq!(rt; answer, wanted);
+    }
     Ok(())
 }
 
-fn skipped(alloc: Global, length: usize) -> Result<Payload, Fail> {
-    let mut data = Items::new(alloc);
-    for _ in 0..length {
-        data.push(0)?;
-    }
-    Ok(Payload::Skipped {
-        kind: SkippedKind::VendorId,
-        data,
-    })
+// A nonce of 15 octets has no spelling.
+#[test]
+fn seals_no_short_nonce(rt: HostRuntime) -> Result<(), Fail> {
+    let mut said = message(rt.alloc(), 37, 2, &[])?;
+    let nonce = Items::from_slice(rt.alloc(), &[7; 15])?;
+    said.payloads.push(Payload::Nonce(nonce))?;
+    let refused = sealed(rt.alloc(), &said).err();
+    assert_eq!(rt; refused, Some(WireFault::BadNonce { offset: 28 }));
+    Ok(())
 }
 
 #[test]
 fn messages_of_many_lengths(rt: HostRuntime) -> Result<(), Fail> {
     let alloc = rt.alloc();
     for length in [0, 1, 400, 1000, 2000, 2947] {
-        let octets = sealed(alloc, &message(alloc, 37, 2, &[skipped(alloc, length)?])?)?;
+        let octets = sealed(alloc, &message(alloc, 37, 2, &[Sample::VendorId(length)])?)?;
         assert_eq!(rt; octets.len(), length + 53);
-        let came = decode_message(alloc, &octets)?;
-        let plain = open_message(alloc, &ScriptCaller, &KEYS, &octets, &came)?.ok_or(
-            "does not open",
-        )?;
+        let plain = opened(alloc, &octets)?.ok_or("does not open")?;
         assert_eq!(rt; plain.octets.len(), length + 4);
     }
     Ok(())

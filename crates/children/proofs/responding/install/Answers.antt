@@ -1,4 +1,3 @@
-use Rattle.children.specs.Responding.{AddsNext}
 use Rattle.children.proofs.responding.install.Goals as goal
 
 pub returns : goal.returns

@@ -5,12 +5,14 @@ use Rattle.wire.specs.Numbers.{IKE_AUTH}
 use Rattle.suite.specs.declared.key_record.KeyRecord.{KeyRecord}
 use Rattle.exchange.specs.Headers.{keys_of}
 use Rattle.exchange.specs.Sealed.{IsSealed}
+use Rattle.requests.specs.Outgoing.{number_0_answered}
 use Rattle.association.specs.declared.phase.Association.{Association}
 use Rattle.association.specs.declared.phase.Phase.TheVariants as phase
 use Rattle.initial.specs.Configs.{setup_of}
 use Rattle.sa_init.specs.Reading.{IsResponse}
 use Rattle.sa_init.specs.declared.response.Response.TheVariants as response
-use Rattle.initial.specs.Reading.{identity_message, new_request, telling, waiting_of, IssuesFirst}
+use Rattle.initial.specs.Issuing.{new_request, IssuesNext}
+use Rattle.initial.specs.Reading.{identity_message, telling, waiting_of}
 use Rattle.initial.proofs.reading.read_response.Goals as goal
 
 pub returns-in-Ok-Unfit-clause-read : goal.returns-in-Ok-Unfit-clause-read
@@ -52,8 +54,9 @@ returns-in_ok-outgoing-in-Ok-Keys-clause-read g c =
         sealed = subst (λ f. IsSealed g.C.Sealer.body_of (keys_of old.role keys) c.args.step.now.fresh.now.seal
             (identity_message (g.C.Proof.own_method c.args.step.now.caller.now) (g.C.Proof.proof_of c.args.step.now.caller.now) (setup_of c.args.step.now) old sent m.header.spi_r keys f) next)
             c.as_slice.ensures c.in_ok-next-in-Ok-Keys.ensures;
-        issued = subst (λ o. IssuesFirst (new_request next IKE_AUTH c.args.step.now.moment) o) outgoing
-            (subst (λ r. IssuesFirst r c.in_ok-outgoing-in-Ok-Keys.outgoing) request c.in_ok-outgoing-in-Ok-Keys.ensures);
+        issued = subst (λ o. IssuesNext number_0_answered (new_request next IKE_AUTH c.args.step.now.moment) o) outgoing
+            (subst (λ r. IssuesNext number_0_answered r c.in_ok-outgoing-in-Ok-Keys.outgoing) request
+            (subst (λ old. IssuesNext old c.new_request.result c.in_ok-outgoing-in-Ok-Keys.outgoing) c.after_initial.ensures c.in_ok-outgoing-in-Ok-Keys.ensures));
         content = c.tell.ensures ∙ (λ i. record old { spi_r = m.header.spi_r; outgoing = outgoing i; phase = phase i });
       };
     }

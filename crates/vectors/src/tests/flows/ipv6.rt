@@ -1,9 +1,9 @@
 //! Packets of IPv6, policies over their addresses, and offers that have both families.
-use super::policies::{ALL_PORTS, HERE, PROTECT, THERE, policy};
-use base::{Address, Family, Items, Range, Selector};
+use super::narrowing::{every, narrows};
+use super::policies::{ALL_PORTS, HERE, PROTECT, THERE, decision, fault_of};
+use base::{Address, Family, Range, Selector};
 use policy::{
-    Action, Decision, Direction, Entry, Flow, InnerFault, NarrowFault, Policy, PolicyFault, Ports,
-    covers, inner, narrow,
+    Action, Decision, Direction, Entry, Flow, InnerFault, PolicyFault, Ports, covers, inner,
 };
 use std::process::Abort;
 use std::test::Fail;
@@ -156,8 +156,8 @@ fn an_entry_between_families_is_at_fault(rt: HostRuntime) -> Result<(), Fail> {
         ([PROTECT, PROTECT_6, mixed], 2),
         ([PROTECT_6, exchanged, mixed], 1),
     ] {
-        let refused = Policy::new(Items::from_slice(rt.alloc(), &entries)?);
-        assert_eq!(rt; refused.err(), Some(PolicyFault::BadEntry { index }));
+        let fault = fault_of(rt.alloc(), &entries)?;
+        assert_eq!(rt; fault, Some(PolicyFault::BadEntry { index }));
     }
     Ok(())
 }
@@ -170,35 +170,20 @@ fn decides_by_the_entry_of_the_family(rt: HostRuntime) -> Result<(), Fail> {
         action: Action::Bypass,
         ..PROTECT
     };
-    let policy = policy(rt.alloc(), &[everything, PROTECT_6])?;
     let answer = Flow {
         source: Address::V6(TARGET),
         target: Address::V6(SOURCE),
         ..flow(58)
     };
-    assert_eq!(rt;
-        policy.decide(&flow(58), Direction::Outward),
-        Decision::Protect
-    );
-    assert_eq!(rt;
-        policy.decide(&flow(58), Direction::Inward),
-        Decision::Discard
-    );
-    assert_eq!(rt;
-        policy.decide(&answer, Direction::Inward),
-        Decision::Protect
-    );
-    Ok(())
-}
-
-/// A selector of every protocol and all ports.
-fn every(addresses: Range) -> Selector {
-    Selector {
-        protocol: 0,
-        start_port: 0,
-        end_port: 65535,
-        addresses,
+    for (flow, direction, wanted) in [
+        (flow(58), Direction::Outward, Decision::Protect),
+        (flow(58), Direction::Inward, Decision::Discard),
+        (answer, Direction::Inward, Decision::Protect),
+    ] {
+        let answer = decision(rt.alloc(), &[everything, PROTECT_6], &flow, direction)?;
+        assert_eq!(rt; answer, wanted);
     }
+    Ok(())
 }
 
 #[test]
@@ -208,11 +193,16 @@ fn covers_by_the_selectors_of_the_family(rt: HostRuntime) {
         target: Address::V6(0x0a01_0001),
         ..flow(58)
     };
-    let four = [every(Range::V4(0, u32::MAX))];
-    let both = [four[0], every(Range::V6(0, u128::MAX))];
-    assert!(rt; !covers(&four, &four, &low));
-    assert!(rt; !covers(&both, &four, &low));
-    assert!(rt; covers(&both, &both, &low));
+    let four = every(Range::V4(0, u32::MAX));
+    let six = every(Range::V6(0, u128::MAX));
+    let rows: [(&[Selector], &[Selector], bool); 3] = [
+        (&[four], &[four], false),
+        (&[four, six], &[four], false),
+        (&[four, six], &[four, six], true),
+    ];
+    for (from, to, wanted) in rows {
+        assert_eq!(rt; covers(from, to, &low), wanted);
+    }
 }
 
 #[test]
@@ -222,13 +212,13 @@ fn narrows_an_offer_of_both_families_to_the_family_of_the_entry(
     let initiator = [every(THERE), every(THERE_6)];
     let responder = [every(HERE_6), every(HERE)];
     for (entry, there, here) in [(PROTECT, THERE, HERE), (PROTECT_6, THERE_6, HERE_6)] {
-        let policy = policy(rt.alloc(), &[entry])?;
-        let narrowed = narrow(rt.alloc(), &initiator, &responder, &policy)?;
-        assert_eq!(rt; narrowed.initiator.as_slice(), [every(there)].as_slice());
-        assert_eq!(rt; narrowed.responder.as_slice(), [every(here)].as_slice());
+        let there = [every(there)];
+        let here = [every(here)];
+        let offered = (initiator.as_slice(), responder.as_slice());
+        assert!(rt; narrows(rt.alloc(), &[entry], offered, Some((&there, &here)))?);
         // Sides of one family each, and not the same.
-        let refused = narrow(rt.alloc(), &initiator[..1], &responder[..1], &policy);
-        assert_eq!(rt; refused.err(), Some(NarrowFault::Unacceptable));
+        let offered = (&initiator[..1], &responder[..1]);
+        assert!(rt; narrows(rt.alloc(), &[entry], offered, None)?);
     }
     Ok(())
 }

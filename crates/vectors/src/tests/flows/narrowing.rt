@@ -1,11 +1,12 @@
 //! Offers and what they are narrowed to.
-use super::policies::{ALL_PORTS, HERE, PROTECT, THERE, policy};
+use super::policies::{HERE, PROTECT, THERE, policy};
 use base::{Range, Selector};
 use policy::{Action, Entry, NarrowFault, narrow};
+use std::alloc::Global;
 use std::test::Fail;
 
 /// All ports of every protocol between these addresses.
-fn every(addresses: Range) -> Selector {
+pub fn every(addresses: Range) -> Selector {
     Selector {
         protocol: 0,
         start_port: 0,
@@ -25,39 +26,61 @@ const ELSEWHERE: Selector = Selector {
     addresses: Range::V4(0x0a09_0000, 0x0a09_00ff),
 };
 
+/// The selectors of the initiator and those of the responder.
+type Sides<'a> = (&'a [Selector], &'a [Selector]);
+
+/// Whether a policy of these entries narrows an offer to this answer, or refuses it where there is none.
+pub fn narrows(
+    alloc: Global,
+    entries: &[Entry],
+    (initiator, responder): Sides,
+    wanted: Option<Sides>,
+) -> Result<bool, Fail> {
+    let policy = policy(alloc, entries)?;
+    Ok(
+        match (narrow(alloc, initiator, responder, &policy), wanted) {
+            (Ok(narrowed), Some(wanted)) => {
+                narrowed.initiator.as_slice() == wanted.0
+                    && narrowed.responder.as_slice() == wanted.1
+            }
+            (Err(fault), None) => fault == NarrowFault::Unacceptable,
+            _ => false,
+        },
+    )
+}
+
 #[test]
 fn narrows_to_the_local_side(rt: HostRuntime) -> Result<(), Fail> {
     let entry = Entry {
         local: Range::V4(0x0a00_0080, 0x0a00_01ff),
         ..PROTECT
     };
-    let policy = policy(rt.alloc(), &[entry])?;
-    let narrowed = narrow(rt.alloc(), &[every(THERE)], &[every(HERE)], &policy)?;
-    assert_eq!(rt; narrowed.initiator.as_slice(), [every(THERE)].as_slice());
-    assert_eq!(rt;
-        narrowed.responder.as_slice(),
-        [every(Range::V4(0x0a00_0080, 0x0a00_00ff))].as_slice()
+    let there = [every(THERE)];
+    let common = [every(Range::V4(0x0a00_0080, 0x0a00_00ff))];
+    assert!(rt;
+        narrows(
+            rt.alloc(),
+            &[entry],
+            (&there, &[every(HERE)]),
+            Some((&there, &common))
+        )?
     );
     Ok(())
 }
 
 #[test]
 fn entries_that_do_not_protect_are_not_chosen(rt: HostRuntime) -> Result<(), Fail> {
+    let protect = Entry {
+        local: FIRST_HERE,
+        ..PROTECT
+    };
+    let there = [every(THERE)];
+    let here = [every(HERE)];
     for action in [Action::Bypass, Action::Discard] {
         let other = Entry { action, ..PROTECT };
-        let protect = Entry {
-            local: FIRST_HERE,
-            ..PROTECT
-        };
-        let both = policy(rt.alloc(), &[other, protect])?;
-        let narrowed = narrow(rt.alloc(), &[every(THERE)], &[every(HERE)], &both)?;
-        assert_eq!(rt;
-            narrowed.responder.as_slice(),
-            [every(FIRST_HERE)].as_slice()
-        );
-        let alone = policy(rt.alloc(), &[other])?;
-        let refused = narrow(rt.alloc(), &[every(THERE)], &[every(HERE)], &alone);
-        assert_eq!(rt; refused.err(), Some(NarrowFault::Unacceptable));
+        let wanted: Sides = (&there, &[every(FIRST_HERE)]);
+        assert!(rt; narrows(rt.alloc(), &[other, protect], (&there, &here), Some(wanted))?);
+        assert!(rt; narrows(rt.alloc(), &[other], (&there, &here), None)?);
     }
     Ok(())
 }
@@ -72,14 +95,11 @@ fn the_entry_that_holds_the_first_selectors_comes_first(rt: HostRuntime) -> Resu
         local: Range::V4(0x0a00_0000, 0x0a00_01ff),
         ..PROTECT
     };
-    let policy = policy(rt.alloc(), &[half, whole])?;
-    for offered in [
-        [every(HERE)].as_slice(),
-        [every(HERE), ELSEWHERE].as_slice(),
-    ] {
-        let narrowed = narrow(rt.alloc(), &[every(THERE)], offered, &policy)?;
-        assert_eq!(rt; narrowed.responder.as_slice(), [every(HERE)].as_slice());
-        assert_eq!(rt; narrowed.initiator.as_slice(), [every(THERE)].as_slice());
+    let there = [every(THERE)];
+    let rows: [&[Selector]; 2] = [&[every(HERE)], &[every(HERE), ELSEWHERE]];
+    for offered in rows {
+        let wanted: Sides = (&there, &[every(HERE)]);
+        assert!(rt; narrows(rt.alloc(), &[half, whole], (&there, offered), Some(wanted))?);
     }
     Ok(())
 }
@@ -91,7 +111,6 @@ fn narrows_protocol_and_ports(rt: HostRuntime) -> Result<(), Fail> {
         local_ports: (443, 443),
         ..PROTECT
     };
-    let policy = policy(rt.alloc(), &[web])?;
     let tcp = Selector {
         protocol: 6,
         ..every(THERE)
@@ -102,70 +121,68 @@ fn narrows_protocol_and_ports(rt: HostRuntime) -> Result<(), Fail> {
         end_port: 443,
         ..every(HERE)
     };
-    for offered in [
-        [every(HERE)].as_slice(),
-        [every(HERE), ELSEWHERE].as_slice(),
-    ] {
-        let narrowed = narrow(rt.alloc(), &[every(THERE)], offered, &policy)?;
-        assert_eq!(rt; narrowed.initiator.as_slice(), [tcp].as_slice());
-        assert_eq!(rt; narrowed.responder.as_slice(), [https].as_slice());
+    let rows: [&[Selector]; 2] = [&[every(HERE)], &[every(HERE), ELSEWHERE]];
+    for offered in rows {
+        let wanted: Sides = (&[tcp], &[https]);
+        assert!(rt; narrows(rt.alloc(), &[web], (&[every(THERE)], offered), Some(wanted))?);
+    }
+    Ok(())
+}
+
+/// A selector of ICMP with some of its ports alone, which no flow of it has.
+const POINTLESS: Selector = Selector {
+    protocol: 1,
+    start_port: 5,
+    end_port: 9,
+    addresses: HERE,
+};
+
+#[test]
+fn leaves_out_what_has_no_points(rt: HostRuntime) -> Result<(), Fail> {
+    let there = [every(THERE)];
+    let here = [every(HERE)];
+    let wanted: Sides = (&there, &here);
+    let rows: [(Sides, Option<Sides>); 3] = [
+        (
+            (
+                &[every(THERE), ELSEWHERE],
+                &[every(HERE), ELSEWHERE, POINTLESS],
+            ),
+            Some(wanted),
+        ),
+        ((&there, &[POINTLESS]), None),
+        // As the first selector it fits no entry whole, and the others still count.
+        ((&there, &[POINTLESS, every(HERE)]), Some(wanted)),
+    ];
+    for (offered, wanted) in rows {
+        assert!(rt; narrows(rt.alloc(), &[PROTECT], offered, wanted)?);
     }
     Ok(())
 }
 
 #[test]
-fn leaves_out_what_has_no_points(rt: HostRuntime) -> Result<(), Fail> {
-    let policy = policy(rt.alloc(), &[PROTECT])?;
-    let pointless = Selector {
-        protocol: 1,
-        start_port: 5,
-        end_port: 9,
-        ..every(HERE)
-    };
-    let offered = [every(HERE), ELSEWHERE, pointless];
-    let narrowed = narrow(rt.alloc(), &[every(THERE), ELSEWHERE], &offered, &policy)?;
-    assert_eq!(rt; narrowed.initiator.as_slice(), [every(THERE)].as_slice());
-    assert_eq!(rt; narrowed.responder.as_slice(), [every(HERE)].as_slice());
-    let refused = narrow(rt.alloc(), &[every(THERE)], &[pointless], &policy);
-    assert_eq!(rt; refused.err(), Some(NarrowFault::Unacceptable));
-    // As the first selector it fits no entry whole, and the others still count.
-    let second = narrow(
-        rt.alloc(),
-        &[every(THERE)],
-        &[pointless, every(HERE)],
-        &policy,
-    )?;
-    assert_eq!(rt; second.responder.as_slice(), [every(HERE)].as_slice());
-    Ok(())
-}
-
-#[test]
 fn an_empty_list_is_not_acceptable(rt: HostRuntime) -> Result<(), Fail> {
-    let policy = policy(rt.alloc(), &[PROTECT])?;
-    for (initiator, responder) in [
-        ([].as_slice(), [].as_slice()),
-        ([every(THERE)].as_slice(), [].as_slice()),
-        ([].as_slice(), [every(HERE)].as_slice()),
-    ] {
-        let refused = narrow(rt.alloc(), initiator, responder, &policy);
-        assert_eq!(rt; refused.err(), Some(NarrowFault::Unacceptable));
+    let rows: [Sides; 3] = [(&[], &[]), (&[every(THERE)], &[]), (&[], &[every(HERE)])];
+    for offered in rows {
+        assert!(rt; narrows(rt.alloc(), &[PROTECT], offered, None)?);
     }
     Ok(())
 }
 
 #[test]
 fn keeps_the_offered_order(rt: HostRuntime) -> Result<(), Fail> {
-    let policy = policy(
-        rt.alloc(),
-        &[Entry {
-            local_ports: ALL_PORTS,
-            ..PROTECT
-        }],
-    )?;
+    let there = [every(THERE)];
     let last = every(Range::V4(0x0a00_00ff, 0x0a00_0100));
     let first = every(Range::V4(0x0a00_0000, 0x0a00_0001));
-    let narrowed = narrow(rt.alloc(), &[every(THERE)], &[last, first, last], &policy)?;
     let cut = every(Range::V4(0x0a00_00ff, 0x0a00_00ff));
-    assert_eq!(rt; narrowed.responder.as_slice(), [cut, first, cut].as_slice());
+    let wanted: Sides = (&there, &[cut, first, cut]);
+    assert!(rt;
+        narrows(
+            rt.alloc(),
+            &[PROTECT],
+            (&there, &[last, first, last]),
+            Some(wanted)
+        )?
+    );
     Ok(())
 }

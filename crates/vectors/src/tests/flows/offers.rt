@@ -10,49 +10,71 @@ const WEB: Entry = Entry {
     ..PROTECT
 };
 
+/// Whether each of these answers lies inside its offer, or none of them does.
+fn all_are(inside: bool, rows: &[(&[Selector], &[Selector])]) -> bool {
+    for (answer, offered) in rows {
+        if are_inside(answer, offered) != inside {
+            return false;
+        }
+    }
+    true
+}
+
 #[test]
 fn an_answer_lies_inside_its_offer(rt: HostRuntime) {
     let offered = [PROTECT.local_side(), PROTECT.remote_side()];
     let web = WEB.local_side();
-    for answer in [
-        [PROTECT.local_side(), web].as_slice(),
-        [PROTECT.remote_side()].as_slice(),
-        [web].as_slice(),
-    ] {
-        assert!(rt; are_inside(answer, &offered));
+    assert!(rt;
+        all_are(
+            true,
+            &[
+                (&[PROTECT.local_side(), web], &offered),
+                (&[PROTECT.remote_side()], &offered),
+                (&[web], &offered),
+            ],
+        )
+    );
+    assert!(rt;
+        all_are(
+            false,
+            &[
+                (&[], &offered),
+                (&[web], &[]),
+                (&[PROTECT.local_side()], &[web]),
+                (&[web, PROTECT.local_side()], &[web]),
+                (&[web], &[PROTECT.remote_side()]),
+            ],
+        )
+    );
+}
+
+/// The local side at other addresses.
+fn at(addresses: Range) -> Selector {
+    Selector {
+        addresses,
+        ..PROTECT.local_side()
     }
-    assert!(rt; !are_inside(&[], &offered));
-    assert!(rt; !are_inside(&[web], &[]));
-    assert!(rt; !are_inside(&[PROTECT.local_side()], &[web]));
-    assert!(rt; !are_inside(&[web, PROTECT.local_side()], &[web]));
-    assert!(rt; !are_inside(&[web], &[PROTECT.remote_side()]));
 }
 
 #[test]
 fn an_answer_without_points_or_across_two_offered_is_not_inside(rt: HostRuntime) {
     let whole = PROTECT.local_side();
-    let pointless = Selector {
-        addresses: Range::V4(2, 1),
-        ..whole
-    };
-    assert!(rt; !are_inside(&[pointless], &[whole]));
-    assert!(rt; !are_inside(&[whole, pointless], &[whole]));
+    let pointless = at(Range::V4(2, 1));
     let halves = [
-        Selector {
-            addresses: Range::V4(0x0a00_0000, 0x0a00_007f),
-            ..whole
-        },
-        Selector {
-            addresses: Range::V4(0x0a00_0080, 0x0a00_00ff),
-            ..whole
-        },
+        at(Range::V4(0x0a00_0000, 0x0a00_007f)),
+        at(Range::V4(0x0a00_0080, 0x0a00_00ff)),
     ];
-    assert!(rt; are_inside(&halves, &[whole]));
-    assert!(rt; !are_inside(&[whole], &halves));
-    let six = Selector {
-        addresses: Range::V6(0x0a00_0000, 0x0a00_00ff),
-        ..whole
-    };
-    assert!(rt; !are_inside(&[six], &[whole]));
-    assert!(rt; are_inside(&[whole, six], &[six, whole]));
+    let six = at(Range::V6(0x0a00_0000, 0x0a00_00ff));
+    assert!(rt; all_are(true, &[(&halves, &[whole]), (&[whole, six], &[six, whole])]));
+    assert!(rt;
+        all_are(
+            false,
+            &[
+                (&[pointless], &[whole]),
+                (&[whole, pointless], &[whole]),
+                (&[whole], &halves),
+                (&[six], &[whole]),
+            ],
+        )
+    );
 }

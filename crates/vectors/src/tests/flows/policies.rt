@@ -27,45 +27,52 @@ pub fn policy(alloc: Global, entries: &[Entry]) -> Result<Policy, Fail> {
     Ok(Policy::new(Items::from_slice(alloc, entries)?)?)
 }
 
+/// What a policy of these entries decides of a flow.
+pub fn decision(
+    alloc: Global,
+    entries: &[Entry],
+    flow: &Flow,
+    direction: Direction,
+) -> Result<Decision, Fail> {
+    Ok(policy(alloc, entries)?.decide(flow, direction))
+}
+
+/// An entry for ICMP alone.
+const DISCARD_ICMP: Entry = Entry {
+    protocol: 1,
+    action: Action::Discard,
+    ..PROTECT
+};
+
 #[test]
 fn the_first_entry_decides(rt: HostRuntime) -> Result<(), Fail> {
-    let discard = Entry {
-        protocol: 1,
-        action: Action::Discard,
-        ..PROTECT
-    };
     let flow = inner(&ICMP)?;
-    let first = policy(rt.alloc(), &[discard, PROTECT])?;
-    assert_eq!(rt; first.decide(&flow, Direction::Outward), Decision::Discard);
-    let exchanged = policy(rt.alloc(), &[PROTECT, discard])?;
-    assert_eq!(rt;
-        exchanged.decide(&flow, Direction::Outward),
-        Decision::Protect
-    );
-    assert_eq!(rt; exchanged.entries(), [PROTECT, discard].as_slice());
+    let rows: [(&[Entry], Decision); 4] = [
+        (&[DISCARD_ICMP, PROTECT], Decision::Discard),
+        (&[PROTECT, DISCARD_ICMP], Decision::Protect),
+        // no entry holds it
+        (&[], Decision::Discard),
+        (&[TCP], Decision::Discard),
+    ];
+    for (entries, wanted) in rows {
+        let answer = decision(rt.alloc(), entries, &flow, Direction::Outward)?;
+        assert_eq!(rt; answer, wanted);
+    }
     Ok(())
 }
 
 #[test]
-fn discards_what_no_entry_holds(rt: HostRuntime) -> Result<(), Fail> {
-    let none = policy(rt.alloc(), &[])?;
-    assert_eq!(rt;
-        none.decide(&ICMP_FLOW, Direction::Outward),
-        Decision::Discard
-    );
-    let tcp = policy(
-        rt.alloc(),
-        &[Entry {
-            protocol: 6,
-            ..PROTECT
-        }],
-    )?;
-    assert_eq!(rt;
-        tcp.decide(&ICMP_FLOW, Direction::Outward),
-        Decision::Discard
-    );
+fn keeps_the_order_of_entries(rt: HostRuntime) -> Result<(), Fail> {
+    let kept = policy(rt.alloc(), &[PROTECT, DISCARD_ICMP])?;
+    assert_eq!(rt; kept.entries(), [PROTECT, DISCARD_ICMP].as_slice());
     Ok(())
 }
+
+/// An entry for TCP alone.
+const TCP: Entry = Entry {
+    protocol: 6,
+    ..PROTECT
+};
 
 #[test]
 fn exchanges_the_sides_inward(rt: HostRuntime) -> Result<(), Fail> {
@@ -73,136 +80,165 @@ fn exchanges_the_sides_inward(rt: HostRuntime) -> Result<(), Fail> {
         action: Action::Bypass,
         ..PROTECT
     };
-    let policy = policy(rt.alloc(), &[bypass])?;
     let answer = Flow {
         source: ICMP_FLOW.target,
         target: ICMP_FLOW.source,
         ..ICMP_FLOW
     };
-    assert_eq!(rt;
-        policy.decide(&ICMP_FLOW, Direction::Outward),
-        Decision::Bypass
-    );
-    assert_eq!(rt;
-        policy.decide(&ICMP_FLOW, Direction::Inward),
-        Decision::Discard
-    );
-    assert_eq!(rt; policy.decide(&answer, Direction::Inward), Decision::Bypass);
-    assert_eq!(rt;
-        policy.decide(&answer, Direction::Outward),
-        Decision::Discard
-    );
+    for (flow, direction, wanted) in [
+        (ICMP_FLOW, Direction::Outward, Decision::Bypass),
+        (ICMP_FLOW, Direction::Inward, Decision::Discard),
+        (answer, Direction::Inward, Decision::Bypass),
+        (answer, Direction::Outward, Decision::Discard),
+    ] {
+        let answer = decision(rt.alloc(), &[bypass], &flow, direction)?;
+        assert_eq!(rt; answer, wanted);
+    }
     Ok(())
+}
+
+/// What the entry for web servers on the remote side decides of a flow outward between these ports, and of its answer.
+fn decisions_of_web(alloc: Global, source: u16, target: u16) -> Result<[Decision; 2], Fail> {
+    let web = Entry {
+        remote_ports: (443, 443),
+        ..TCP
+    };
+    let flow = Flow {
+        protocol: 6,
+        ports: Some(Ports { source, target }),
+        ..ICMP_FLOW
+    };
+    let answer = Flow {
+        protocol: 6,
+        source: ICMP_FLOW.target,
+        target: ICMP_FLOW.source,
+        ports: Some(Ports {
+            source: target,
+            target: source,
+        }),
+    };
+    let policy = policy(alloc, &[web])?;
+    Ok([
+        policy.decide(&flow, Direction::Outward),
+        policy.decide(&answer, Direction::Inward),
+    ])
 }
 
 #[test]
 fn compares_the_ports_of_each_side(rt: HostRuntime) -> Result<(), Fail> {
-    let web = Entry {
-        protocol: 6,
-        remote_ports: (443, 443),
-        ..PROTECT
-    };
-    let policy = policy(rt.alloc(), &[web])?;
-    for (source, target, decision) in [
+    for (source, target, wanted) in [
         (50_000, 443, Decision::Protect),
         (50_000, 442, Decision::Discard),
         (50_000, 444, Decision::Discard),
         (443, 50_000, Decision::Discard),
     ] {
-        let flow = Flow {
-            protocol: 6,
-            ports: Some(Ports { source, target }),
-            ..ICMP_FLOW
-        };
-        assert_eq!(rt; policy.decide(&flow, Direction::Outward), decision);
-        let answer = Flow {
-            protocol: 6,
-            source: ICMP_FLOW.target,
-            target: ICMP_FLOW.source,
-            ports: Some(Ports {
-                source: target,
-                target: source,
-            }),
-        };
-        assert_eq!(rt; policy.decide(&answer, Direction::Inward), decision);
+        assert_eq!(rt;
+            decisions_of_web(rt.alloc(), source, target)?,
+            [wanted, wanted]
+        );
     }
     Ok(())
+}
+
+/// All points of IPv4.
+const ALL: Selector = Selector {
+    protocol: 0,
+    start_port: 0,
+    end_port: 65535,
+    addresses: Range::V4(0, 0xffff_ffff),
+};
+
+/// Whether two lists of selectors cover a flow of ICMP.
+fn covers_icmp(from: &[Selector], to: &[Selector]) -> bool {
+    covers(from, to, &ICMP_FLOW)
 }
 
 #[test]
 fn a_flow_without_ports_wants_the_range_of_all_ports(rt: HostRuntime) {
-    let all = Selector {
-        protocol: 0,
-        start_port: 0,
-        end_port: 65535,
-        addresses: Range::V4(0, 0xffff_ffff),
-    };
-    assert!(rt; covers(&[all], &[all], &ICMP_FLOW));
     for (start_port, end_port) in [(1, 65535), (0, 65534), (0, 0), (65535, 0)] {
         let some = Selector {
             start_port,
             end_port,
-            ..all
+            ..ALL
         };
-        assert!(rt; !covers(&[some], &[all], &ICMP_FLOW));
-        assert!(rt; !covers(&[all], &[some], &ICMP_FLOW));
-        assert!(rt; covers(&[some, all], &[all, some], &ICMP_FLOW));
+        assert!(rt; !covers_icmp(&[some], &[ALL]));
+        assert!(rt; !covers_icmp(&[ALL], &[some]));
+        assert!(rt; covers_icmp(&[some, ALL], &[ALL, some]));
     }
-    assert!(rt; !covers(&[], &[all], &ICMP_FLOW));
-    assert!(rt; !covers(&[all], &[], &ICMP_FLOW));
+}
+
+#[test]
+fn an_empty_list_covers_nothing(rt: HostRuntime) {
+    assert!(rt; covers_icmp(&[ALL], &[ALL]));
+    assert!(rt; !covers_icmp(&[], &[ALL]));
+    assert!(rt; !covers_icmp(&[ALL], &[]));
+}
+
+/// How many entries a policy of so many has, or why there is none.
+fn length_of_policy(alloc: Global, count: usize) -> Result<Result<usize, PolicyFault>, Fail> {
+    let entries = Items::from_vec(vec![in alloc; PROTECT; count]?);
+    Ok(match Policy::new(entries) {
+        Ok(policy) => Ok(policy.entries().len()),
+        Err(fault) => Err(fault),
+    })
 }
 
 #[test]
 fn a_policy_has_256_entries_at_most(rt: HostRuntime) -> Result<(), Fail> {
-    for count in [255, 256, 257, 300] {
-        let mut entries = Items::new(rt.alloc());
-        for _ in 0..count {
-            entries.push(PROTECT)?;
-        }
-        match Policy::new(entries) {
-            Ok(policy) => {
-                assert!(rt; count <= 256);
-                assert_eq!(rt; policy.entries().len(), count);
-            }
-            Err(fault) => {
-                assert!(rt; count > 256);
-                assert_eq!(rt; fault, PolicyFault::BadEntry { index: 256 });
-            }
-        }
+    let refused = Err(PolicyFault::BadEntry { index: 256 });
+    for (count, wanted) in [
+        (255, Ok(255)),
+        (256, Ok(256)),
+        (257, refused),
+        (300, refused),
+    ] {
+        assert_eq!(rt; length_of_policy(rt.alloc(), count)?, wanted);
     }
     Ok(())
 }
 
+/// The entry at fault in a list, if one is.
+pub fn fault_of(alloc: Global, entries: &[Entry]) -> Result<Option<PolicyFault>, Fail> {
+    Ok(Policy::new(Items::from_slice(alloc, entries)?).err())
+}
+
+/// Entries of which each has one range whose start lies above its end.
+const REVERSED: [Entry; 4] = [
+    Entry {
+        local: Range::V4(2, 1),
+        ..PROTECT
+    },
+    Entry {
+        remote: Range::V4(2, 1),
+        ..PROTECT
+    },
+    Entry {
+        local_ports: (2, 1),
+        ..PROTECT
+    },
+    Entry {
+        remote_ports: (65535, 0),
+        ..PROTECT
+    },
+];
+
 #[test]
 fn names_the_first_entry_at_fault(rt: HostRuntime) -> Result<(), Fail> {
-    let reversed = [
-        Entry {
-            local: Range::V4(2, 1),
-            ..PROTECT
-        },
-        Entry {
-            remote: Range::V4(2, 1),
-            ..PROTECT
-        },
-        Entry {
-            local_ports: (2, 1),
-            ..PROTECT
-        },
-        Entry {
-            remote_ports: (65535, 0),
-            ..PROTECT
-        },
-    ];
-    for bad in reversed {
+    for bad in REVERSED {
         for (entries, index) in [
             ([bad, PROTECT, PROTECT], 0),
             ([PROTECT, bad, bad], 1),
             ([PROTECT, PROTECT, bad], 2),
         ] {
-            let refused = Policy::new(Items::from_slice(rt.alloc(), &entries)?);
-            assert_eq!(rt; refused.err(), Some(PolicyFault::BadEntry { index }));
+            let fault = fault_of(rt.alloc(), &entries)?;
+            assert_eq!(rt; fault, Some(PolicyFault::BadEntry { index }));
         }
     }
+    Ok(())
+}
+
+#[test]
+fn ranges_of_one_are_in_order(rt: HostRuntime) -> Result<(), Fail> {
     let narrow = Entry {
         local: Range::V4(1, 1),
         remote_ports: (7, 7),

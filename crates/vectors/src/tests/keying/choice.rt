@@ -109,35 +109,53 @@ fn of_payload(alloc: Global, octets: &[u8], wanted: &Wanted) -> Result<Option<Ch
 
 #[test]
 fn payloads_of_both_kinds(rt: HostRuntime) -> Result<(), Fail> {
-    let alloc = rt.alloc();
-    assert_eq!(rt; of_payload(alloc, &OFFERED_ESP, &ESP)?, chosen(0, 1, false));
-    assert_eq!(rt;
-        of_payload(alloc, &OFFERED_ESP, &ESP_EXTENDED)?,
-        chosen(0, 1, false)
-    );
-    assert_eq!(rt; of_payload(alloc, &OFFERED_ESP, &IKE)?, None);
-    assert_eq!(rt; of_payload(alloc, &OFFERED_IKE, &IKE)?, chosen(0, 1, false));
-    assert_eq!(rt;
-        of_payload(alloc, &OFFERED_IKE, &IKE_WITH_KEY_LENGTH)?,
-        None
-    );
-    assert_eq!(rt; of_payload(alloc, &OFFERED_IKE, &ESP)?, None);
+    let rows: [(&[u8], Wanted, Option<Chosen>); 6] = [
+        (&OFFERED_ESP, ESP, chosen(0, 1, false)),
+        (&OFFERED_ESP, ESP_EXTENDED, chosen(0, 1, false)),
+        (&OFFERED_ESP, IKE, None),
+        (&OFFERED_IKE, IKE, chosen(0, 1, false)),
+        (&OFFERED_IKE, IKE_WITH_KEY_LENGTH, None),
+        (&OFFERED_IKE, ESP, None),
+    ];
+    for (octets, wanted, answer) in rows {
+        assert_eq!(rt;
+            of_payload(rt.alloc(), octets, &wanted)?,
+            answer,
+            "{wanted:?}"
+        );
+    }
     Ok(())
+}
+
+const ANOTHER_IKE: [Offer<'static>; 4] = [
+    (1, 65001, &[]),
+    (2, 2, &[]),
+    (3, 12, &[]),
+    (4, 65002, &[]),
+];
+
+// What is chosen of proposals of these numbers.
+fn of_several(alloc: Global, offers: &[(u8, [Offer; 4])]) -> Result<Option<Chosen>, AllocError> {
+    let mut proposals = Items::new(alloc);
+    for (number, offer) in offers {
+        proposals.push(proposal(alloc, *number, 1, &[], offer)?)?;
+    }
+    Ok(choose(proposals.as_slice(), &IKE))
 }
 
 #[test]
 fn the_first_that_is_acceptable(rt: HostRuntime) -> Result<(), Fail> {
-    let alloc = rt.alloc();
-    let other: [Offer; 4] = [(1, 65001, &[]), (2, 2, &[]), (3, 12, &[]), (4, 65002, &[])];
-    let proposals = [
-        proposal(alloc, 1, 1, &[], &other)?,
-        proposal(alloc, 2, 1, &[], &RIGHT_IKE)?,
-        proposal(alloc, 3, 1, &[], &RIGHT_IKE)?,
+    let rows: [(&[(u8, [Offer; 4])], Option<Chosen>); 3] = [
+        (
+            &[(1, ANOTHER_IKE), (2, RIGHT_IKE), (3, RIGHT_IKE)],
+            chosen(1, 2, false),
+        ),
+        (&[], None),
+        (&[(7, RIGHT_IKE)], chosen(0, 7, false)),
     ];
-    assert_eq!(rt; choose(&proposals, &IKE), chosen(1, 2, false));
-    assert_eq!(rt; choose(&[], &IKE), None);
-    let seventh = [proposal(alloc, 7, 1, &[], &RIGHT_IKE)?];
-    assert_eq!(rt; choose(&seventh, &IKE), chosen(0, 7, false));
+    for (offers, answer) in rows {
+        assert_eq!(rt; of_several(rt.alloc(), offers)?, answer);
+    }
     Ok(())
 }
 
@@ -172,11 +190,9 @@ fn exactly_the_wanted_key_length(rt: HostRuntime) -> Result<(), Fail> {
             (3, 12, &[]),
             (4, 65002, &[]),
         ];
-        assert_eq!(rt; of_ike(rt.alloc(), &IKE, &offers)?.is_some(), without);
-        assert_eq!(rt;
-            of_ike(rt.alloc(), &IKE_WITH_KEY_LENGTH, &offers)?.is_some(),
-            with
-        );
+        let plain = of_ike(rt.alloc(), &IKE, &offers)?;
+        let long = of_ike(rt.alloc(), &IKE_WITH_KEY_LENGTH, &offers)?;
+        assert_eq!(rt; (plain.is_some(), long.is_some()), (without, with));
     }
     Ok(())
 }
@@ -184,78 +200,63 @@ fn exactly_the_wanted_key_length(rt: HostRuntime) -> Result<(), Fail> {
 #[test]
 fn no_attribute_elsewhere(rt: HostRuntime) -> Result<(), Fail> {
     let unknown: [(u16, u16); 1] = [(99, 1)];
-    let rows: [[Offer; 4]; 4] = [
-        [
-            (1, 65001, &unknown),
-            (2, 5, &[]),
-            (3, 12, &[]),
-            (4, 65002, &[]),
-        ],
-        [
-            (1, 65001, &[]),
-            (2, 5, &unknown),
-            (3, 12, &[]),
-            (4, 65002, &[]),
-        ],
-        [
-            (1, 65001, &[]),
-            (2, 5, &[]),
-            (3, 12, &unknown),
-            (4, 65002, &[]),
-        ],
-        [
-            (1, 65001, &[]),
-            (2, 5, &[]),
-            (3, 12, &[]),
-            (4, 65002, &unknown),
-        ],
-    ];
-    for offers in &rows {
-        assert_eq!(rt; of_ike(rt.alloc(), &IKE, offers)?, None);
+    for place in 0..4 {
+        let mut offers: [Offer; 4] = RIGHT_IKE;
+        offers[place].2 = &unknown;
+        assert_eq!(rt; of_ike(rt.alloc(), &IKE, &offers)?, None, "at {place}");
     }
     Ok(())
 }
 
-#[test]
-fn no_attribute_of_the_long_form(rt: HostRuntime) -> Result<(), Fail> {
-    let alloc = rt.alloc();
+// A proposal like the right one, whose key length of 256 bits has the long form.
+fn of_the_long_form(alloc: Global) -> Result<Proposal, AllocError> {
+    let mut transforms = Items::new(alloc);
+    transforms.push(long_transform(alloc)?)?;
+    for offer in [(2, 5, &[][..]), (3, 12, &[]), (4, 65002, &[])] {
+        transforms.push(transform(alloc, offer)?)?;
+    }
+    Ok(Proposal {
+        number: 1,
+        protocol: 1,
+        spi: Items::new(alloc),
+        transforms,
+    })
+}
+
+fn long_transform(alloc: Global) -> Result<Transform, AllocError> {
     let mut attributes = Items::new(alloc);
     attributes.push(Attribute::Long {
         kind: 14,
         value: Items::from_slice(alloc, &[1, 0])?,
     })?;
-    let mut transforms = Items::new(alloc);
-    transforms.push(Transform {
+    Ok(Transform {
         kind: 1,
         id: 65001,
         attributes,
-    })?;
-    let others: [Offer; 3] = [(2, 5, &[]), (3, 12, &[]), (4, 65002, &[])];
-    for offer in others {
-        transforms.push(transform(alloc, offer)?)?;
-    }
-    let proposals = [Proposal {
-        number: 1,
-        protocol: 1,
-        spi: Items::new(alloc),
-        transforms,
-    }];
+    })
+}
+
+#[test]
+fn no_attribute_of_the_long_form(rt: HostRuntime) -> Result<(), Fail> {
+    let proposals = [of_the_long_form(rt.alloc())?];
     assert_eq!(rt; choose(&proposals, &IKE_WITH_KEY_LENGTH), None);
     Ok(())
 }
 
 #[test]
 fn no_attribute_for_esp(rt: HostRuntime) -> Result<(), Fail> {
-    let encryption: [Offer; 3] = [(1, 11, &[(14, 128)]), (3, 12, &[]), (5, 0, &[])];
-    let numbers: [Offer; 3] = [(1, 11, &[]), (3, 12, &[]), (5, 0, &[(14, 128)])];
-    assert_eq!(rt; of_esp(rt.alloc(), &ESP, &[0, 0, 1, 0], &encryption)?, None);
-    assert_eq!(rt; of_esp(rt.alloc(), &ESP, &[0, 0, 1, 0], &numbers)?, None);
+    let rows: [[Offer; 3]; 2] = [
+        [(1, 11, &[(14, 128)]), (3, 12, &[]), (5, 0, &[])],
+        [(1, 11, &[]), (3, 12, &[]), (5, 0, &[(14, 128)])],
+    ];
+    for offers in &rows {
+        assert_eq!(rt; of_esp(rt.alloc(), &ESP, &[0, 0, 1, 0], offers)?, None);
+    }
     Ok(())
 }
 
 #[test]
 fn a_type_too_many_or_too_few(rt: HostRuntime) -> Result<(), Fail> {
-    let alloc = rt.alloc();
     let more: [Offer; 5] = [
         (1, 65001, &[]),
         (2, 5, &[]),
@@ -263,23 +264,32 @@ fn a_type_too_many_or_too_few(rt: HostRuntime) -> Result<(), Fail> {
         (4, 65002, &[]),
         (5, 0, &[]),
     ];
-    assert_eq!(rt; of_ike(alloc, &IKE, &more)?, None);
-    assert_eq!(rt; of_ike(alloc, &IKE, &more[..4])?, chosen(0, 1, false));
-    assert_eq!(rt; of_ike(alloc, &IKE, &more[..3])?, None);
-    let esp: [Offer; 4] = [(1, 11, &[]), (3, 12, &[]), (5, 0, &[]), (4, 65002, &[])];
-    assert_eq!(rt; of_esp(alloc, &ESP, &[0, 0, 1, 0], &esp)?, None);
-    assert_eq!(rt;
-        of_esp(alloc, &ESP, &[0, 0, 1, 0], &esp[..3])?,
-        chosen(0, 1, false)
-    );
-    assert_eq!(rt; of_esp(alloc, &ESP, &[0, 0, 1, 0], &esp[..2])?, None);
+    let right = chosen(0, 1, false);
+    for (count, answer) in [(5, None), (4, right), (3, None)] {
+        assert_eq!(rt;
+            of_ike(rt.alloc(), &IKE, &more[..count])?,
+            answer,
+            "{count} types"
+        );
+    }
     Ok(())
 }
 
 #[test]
-fn protocols_and_spis(rt: HostRuntime) -> Result<(), Fail> {
-    let alloc = rt.alloc();
-    let esp: [Offer; 3] = [(1, 11, &[]), (3, 12, &[]), (5, 0, &[])];
+fn a_type_too_many_or_too_few_for_esp(rt: HostRuntime) -> Result<(), Fail> {
+    let more: [Offer; 4] = [(1, 11, &[]), (3, 12, &[]), (5, 0, &[]), (4, 65002, &[])];
+    let right = chosen(0, 1, false);
+    for (count, answer) in [(4, None), (3, right), (2, None)] {
+        let found = of_esp(rt.alloc(), &ESP, &[0, 0, 1, 0], &more[..count])?;
+        assert_eq!(rt; found, answer, "{count} types");
+    }
+    Ok(())
+}
+
+const RIGHT_ESP: [Offer<'static>; 3] = [(1, 11, &[]), (3, 12, &[]), (5, 0, &[])];
+
+#[test]
+fn spis_of_esp(rt: HostRuntime) -> Result<(), Fail> {
     let rows: [(&[u8], bool); 6] = [
         (&[0, 0, 0, 255], false),
         (&[0, 0, 1, 0], true),
@@ -289,20 +299,30 @@ fn protocols_and_spis(rt: HostRuntime) -> Result<(), Fail> {
         (&[], false),
     ];
     for (spi, right) in rows {
-        assert_eq!(rt; of_esp(alloc, &ESP, spi, &esp)?.is_some(), right);
+        let found = of_esp(rt.alloc(), &ESP, spi, &RIGHT_ESP)?;
+        assert_eq!(rt; found.is_some(), right, "{spi:?}");
     }
-    assert_eq!(rt;
-        choose(&[proposal(alloc, 1, 2, &[0, 0, 1, 0], &esp)?], &ESP),
-        None
-    );
-    assert_eq!(rt;
-        choose(&[proposal(alloc, 1, 3, &[], &RIGHT_IKE)?], &IKE),
-        None
-    );
-    assert_eq!(rt;
-        choose(&[proposal(alloc, 1, 1, &[0; 8], &RIGHT_IKE)?], &IKE),
-        None
-    );
+    Ok(())
+}
+
+// Whether anything is chosen of one proposal of this protocol.
+fn is_chosen(
+    alloc: Global,
+    protocol: u8,
+    spi: &[u8],
+    offers: &[Offer],
+    wanted: &Wanted,
+) -> Result<bool, AllocError> {
+    let proposals = [proposal(alloc, 1, protocol, spi, offers)?];
+    Ok(choose(&proposals, wanted).is_some())
+}
+
+// Another protocol, and an SPI where there is to be none.
+#[test]
+fn protocols(rt: HostRuntime) -> Result<(), Fail> {
+    assert!(rt; !is_chosen(rt.alloc(), 2, &[0, 0, 1, 0], &RIGHT_ESP, &ESP)?);
+    assert!(rt; !is_chosen(rt.alloc(), 3, &[], &RIGHT_IKE, &IKE)?);
+    assert!(rt; !is_chosen(rt.alloc(), 1, &[0; 8], &RIGHT_IKE, &IKE)?);
     Ok(())
 }
 
@@ -331,11 +351,10 @@ fn extended_numbers(rt: HostRuntime) -> Result<(), Fail> {
         ),
     ];
     for (offers, plain, extended) in rows {
-        assert_eq!(rt; of_esp(rt.alloc(), &ESP, &[0, 0, 1, 0], offers)?, plain);
-        assert_eq!(rt;
-            of_esp(rt.alloc(), &ESP_EXTENDED, &[0, 0, 1, 0], offers)?,
-            extended
-        );
+        let found = of_esp(rt.alloc(), &ESP, &[0, 0, 1, 0], offers)?;
+        assert_eq!(rt; found, plain);
+        let found = of_esp(rt.alloc(), &ESP_EXTENDED, &[0, 0, 1, 0], offers)?;
+        assert_eq!(rt; found, extended);
     }
     Ok(())
 }

@@ -15,7 +15,7 @@ fn message(alloc: Global, payload: Payload) -> Result<Message, Fail> {
 }
 
 /// What the payload alone is encoded as and read again, or why not.
-fn trip(alloc: Global, payload: Payload) -> Result<(u8, Option<usize>), Fail> {
+fn trip(alloc: Global, payload: Payload) -> Result<Refusal, Fail> {
     let message = message(alloc, payload)?;
     let mut out = Vec::new(alloc);
     if let Err(fault) = encode_message(&message, &mut out) {
@@ -28,62 +28,80 @@ fn trip(alloc: Global, payload: Payload) -> Result<(u8, Option<usize>), Fail> {
     }
 }
 
+/// A type of payload with so many octets or selectors.
+#[derive(Clone, Copy, Debug)]
+enum Counted {
+    Ke,
+    Auth,
+    IdI,
+    IdR,
+    Nonce,
+    TsR,
+    Sealed,
+}
+
+/// A selector of every protocol and all ports, of one address.
+const SELECTOR: Selector = Selector {
+    protocol: 0,
+    start_port: 0,
+    end_port: 65535,
+    addresses: Range::V4(1, 1),
+};
+
+fn with_count(alloc: Global, kind: Counted, count: usize) -> Result<Payload, Fail> {
+    Ok(match kind {
+        Counted::Ke => Payload::Ke {
+            group: 14,
+            data: octets(alloc, 5, count)?,
+        },
+        Counted::Auth => Payload::Auth {
+            method: 2,
+            data: octets(alloc, 5, count)?,
+        },
+        Counted::IdI => Payload::IdI {
+            kind: 1,
+            data: octets(alloc, 5, count)?,
+        },
+        Counted::IdR => Payload::IdR {
+            kind: 1,
+            data: octets(alloc, 5, count)?,
+        },
+        Counted::Nonce => Payload::Nonce(octets(alloc, 5, count)?),
+        Counted::TsR => Payload::TsR(Items::from_vec(vec![in alloc; SELECTOR; count]?)),
+        Counted::Sealed => Payload::Sealed {
+            first: 35,
+            body: octets(alloc, 5, count)?,
+        },
+    })
+}
+
+/// For each type the most that has too few, the least, the most, and the least that has too many, and the refusal's number.
+const LIMITS: [(Counted, [usize; 4], u8); 6] = [
+    (Counted::Ke, [0, 1, 1024, 1025], 8),
+    (Counted::Auth, [0, 1, 1024, 1025], 8),
+    (Counted::IdI, [0, 1, 256, 257], 8),
+    (Counted::IdR, [0, 1, 256, 257], 8),
+    (Counted::Nonce, [15, 16, 256, 257], 7),
+    (Counted::TsR, [0, 1, 16, 17], 6),
+];
+
 #[test]
 fn limits(rt: HostRuntime) -> Result<(), Fail> {
-    let alloc = rt.alloc();
-    for (count, code) in [(0, 8), (1, 0), (1024, 0), (1025, 8)] {
-        let data = octets(alloc, 5, count)?;
-        assert_eq!(rt;
-            trip(alloc, Payload::Ke { group: 14, data })?.0,
-            code,
-            "{count}"
-        );
-        let data = octets(alloc, 5, count)?;
-        assert_eq!(rt;
-            trip(alloc, Payload::Auth { method: 2, data })?.0,
-            code,
-            "{count}"
-        );
+    for (kind, counts, code) in LIMITS {
+        for (count, wanted) in counts.into_iter().zip([code, 0, 0, code]) {
+            let (answer, _) = trip(rt.alloc(), with_count(rt.alloc(), kind, count)?)?;
+            assert!(rt; answer == wanted, "{kind:?} of {count}");
+        }
     }
-    for (count, code) in [(0, 8), (1, 0), (256, 0), (257, 8)] {
-        let data = octets(alloc, 5, count)?;
-        assert_eq!(rt;
-            trip(alloc, Payload::IdI { kind: 1, data })?.0,
-            code,
-            "{count}"
-        );
-        let data = octets(alloc, 5, count)?;
-        assert_eq!(rt;
-            trip(alloc, Payload::IdR { kind: 1, data })?.0,
-            code,
-            "{count}"
-        );
-    }
-    for (count, code) in [(15, 7), (16, 0), (256, 0), (257, 7)] {
-        assert_eq!(rt;
-            trip(alloc, Payload::Nonce(octets(alloc, 5, count)?))?.0,
-            code,
-            "{count}"
-        );
-    }
-    for (count, code) in [(0, 6), (1, 0), (16, 0), (17, 6)] {
-        let selector = Selector {
-            protocol: 0,
-            start_port: 0,
-            end_port: 65535,
-            addresses: Range::V4(1, 1),
-        };
-        let selectors = Items::from_vec(vec![in alloc; selector; count]?);
-        assert_eq!(rt; trip(alloc, Payload::TsR(selectors))?.0, code, "{count}");
-    }
-    // a header of 28 octets, one of the payload of 4, and the body
-    for (count, code) in [(2968, 0), (2969, 9)] {
-        let body = octets(alloc, 5, count)?;
-        assert_eq!(rt;
-            trip(alloc, Payload::Sealed { first: 35, body })?.0,
-            code,
-            "{count}"
-        );
+    Ok(())
+}
+
+// A header of 28 octets, one of the payload of 4, and the body.
+#[test]
+fn the_longest_message(rt: HostRuntime) -> Result<(), Fail> {
+    for (count, wanted) in [(2968, 0), (2969, 9)] {
+        let (answer, _) = trip(rt.alloc(), with_count(rt.alloc(), Counted::Sealed, count)?)?;
+        assert!(rt; answer == wanted, "{count}");
     }
     Ok(())
 }
@@ -91,7 +109,7 @@ fn limits(rt: HostRuntime) -> Result<(), Fail> {
 #[test]
 fn unspelled(rt: HostRuntime) -> Result<(), Fail> {
     let alloc = rt.alloc();
-    for (kind, code) in [
+    for (kind, wanted) in [
         (0, 4),
         (1, 0),
         (32, 0),
@@ -101,14 +119,20 @@ fn unspelled(rt: HostRuntime) -> Result<(), Fail> {
         (49, 0),
         (255, 0),
     ] {
-        let data = octets(alloc, 5, 3)?;
         let payload = Payload::Unknown {
             kind,
             critical: true,
-            data,
+            data: octets(alloc, 5, 3)?,
         };
-        assert_eq!(rt; trip(alloc, payload)?.0, code, "type {kind}");
+        let (answer, _) = trip(alloc, payload)?;
+        assert!(rt; answer == wanted, "type {kind}");
     }
+    Ok(())
+}
+
+#[test]
+fn data_without_a_spelling(rt: HostRuntime) -> Result<(), Fail> {
+    let alloc = rt.alloc();
     let payload = Payload::Skipped {
         kind: SkippedKind::VendorId,
         data: octets(alloc, 5, 65532)?,
@@ -121,7 +145,13 @@ fn unspelled(rt: HostRuntime) -> Result<(), Fail> {
         data: Items::new(alloc),
     };
     assert_eq!(rt; trip(alloc, payload)?, (8, Some(28)));
-    for (protocol, count, code) in [
+    Ok(())
+}
+
+#[test]
+fn deletions(rt: HostRuntime) -> Result<(), Fail> {
+    let alloc = rt.alloc();
+    for (protocol, count, wanted) in [
         (1, 0, 0),
         (1, 1, 8),
         (0, 0, 8),
@@ -130,28 +160,25 @@ fn unspelled(rt: HostRuntime) -> Result<(), Fail> {
         (3, 0, 0),
     ] {
         let spis = Items::from_vec(vec![in alloc; 256u32; count]?);
-        assert_eq!(rt;
-            trip(alloc, Payload::Delete { protocol, spis })?.0,
-            code,
-            "{protocol}, {count}"
-        );
+        let (answer, _) = trip(alloc, Payload::Delete { protocol, spis })?;
+        assert!(rt; answer == wanted, "{protocol}, {count}");
     }
     Ok(())
 }
 
-#[test]
-fn failed_encoding(rt: HostRuntime) -> Result<(), Fail> {
-    let alloc = rt.alloc();
+/// An encrypted payload that is not the last, behind 20 octets.
+fn late(alloc: Global) -> Result<Message, Fail> {
     let mut late = message(alloc, Payload::Nonce(octets(alloc, 5, 16)?))?;
-    let mut out = [1, 2].to_vec(alloc)?;
-    // an encrypted payload that is not the last, behind 20 octets
     late.payloads.push(Payload::Sealed {
         first: 0,
         body: Items::new(alloc),
     })?;
     late.payloads.push(Payload::Nonce(octets(alloc, 5, 16)?))?;
-    assert_eq!(rt; refusal(encode_message(&late, &mut out)), (4, Some(48)));
-    // a payload without a spelling behind octet 3000
+    Ok(late)
+}
+
+/// A payload without a spelling behind octet 3000.
+fn far(alloc: Global) -> Result<Message, Fail> {
     let mut far = message(
         alloc,
         Payload::Skipped {
@@ -160,13 +187,29 @@ fn failed_encoding(rt: HostRuntime) -> Result<(), Fail> {
         },
     )?;
     far.payloads.push(Payload::Nonce(octets(alloc, 5, 15)?))?;
-    assert_eq!(rt; refusal(encode_message(&far, &mut out)), (7, Some(4032)));
-    far.header.minor = 16;
-    assert_eq!(rt; refusal(encode_message(&far, &mut out)), (3, None));
-    assert_eq!(rt; out.as_slice(), [1, 2].as_slice());
-    Ok(())
+    Ok(far)
 }
 
+/// Why a message is not encoded. What stood in the output has to stay.
+fn refusal_of(alloc: Global, message: &Message) -> Result<Refusal, Fail> {
+    let mut out = [1, 2].to_vec(alloc)?;
+    let answer = refusal(encode_message(message, &mut out));
+    if out.as_slice() == [1, 2].as_slice() {
+        Ok(answer)
+    } else {
+        Err(Fail::from("octets are left behind"))
+    }
+}
+
+#[test]
+fn failed_encoding(rt: HostRuntime) -> Result<(), Fail> {
+    assert_eq!(rt; refusal_of(rt.alloc(), &late(rt.alloc())?)?, (4, Some(48)));
+    let mut far = far(rt.alloc())?;
+    assert_eq!(rt; refusal_of(rt.alloc(), &far)?, (7, Some(4032)));
+    far.header.minor = 16;
+    assert_eq!(rt; refusal_of(rt.alloc(), &far)?, (3, None));
+    Ok(())
+}
 /// A security association of one proposal, with an SPI of so many octets.
 fn association(alloc: Global, size: usize, transforms: Items<Transform>) -> Result<Payload, Fail> {
     let mut proposals = Items::new(alloc);
@@ -217,58 +260,60 @@ fn limits_of_proposals(rt: HostRuntime) -> Result<(), Fail> {
         (256, 1, refused),
     ] {
         let payload = association(alloc, size, transforms(alloc, count)?)?;
-        assert_eq!(rt; trip(alloc, payload)?, wanted, "{size}, {count}");
-    }
-    // the type of an attribute has 15 bits
-    for (kind, wanted) in [(0x7fff, (0, None)), (0x8000, refused)] {
-        let short = Attribute::Short { kind, value: 128 };
-        assert_eq!(rt; trip(alloc, attributed(alloc, short)?)?, wanted, "{kind}");
-        let value = octets(alloc, 5, 3)?;
-        let long = Attribute::Long { kind, value };
-        assert_eq!(rt; trip(alloc, attributed(alloc, long)?)?, wanted, "{kind}");
+        assert!(rt; trip(alloc, payload)? == wanted, "{size}, {count}");
     }
     Ok(())
+}
+
+// The type of an attribute has 15 bits.
+#[test]
+fn limits_of_attributes(rt: HostRuntime) -> Result<(), Fail> {
+    let alloc = rt.alloc();
+    for (kind, wanted) in [(0x7fff, (0, None)), (0x8000, (5, Some(28)))] {
+        let short = attributed(alloc, Attribute::Short { kind, value: 128 })?;
+        assert!(rt; trip(alloc, short)? == wanted, "{kind}");
+        let value = octets(alloc, 5, 3)?;
+        let long = attributed(alloc, Attribute::Long { kind, value })?;
+        assert!(rt; trip(alloc, long)? == wanted, "{kind}");
+    }
+    Ok(())
+}
+
+/// A security association of proposals with these numbers.
+fn numbered(alloc: Global, numbers: &[u8]) -> Result<Payload, Fail> {
+    let mut proposals = Items::new(alloc);
+    for number in numbers {
+        proposals.push(Proposal {
+            number: *number,
+            protocol: 3,
+            spi: octets(alloc, 5, 4)?,
+            transforms: transforms(alloc, 20)?,
+        })?;
+    }
+    Ok(Payload::Sa(proposals))
 }
 
 #[test]
 fn misnumbered_proposals(rt: HostRuntime) -> Result<(), Fail> {
-    let alloc = rt.alloc();
-    for (one, other, wanted) in [
-        (1, 2, (0, None)),
-        (0, 1, (5, Some(28))),
-        (1, 1, (5, Some(28))),
-        (2, 3, (5, Some(28))),
-    ] {
-        let mut proposals = Items::new(alloc);
-        for number in [one, other] {
-            proposals.push(Proposal {
-                number,
-                protocol: 3,
-                spi: octets(alloc, 5, 4)?,
-                transforms: transforms(alloc, 20)?,
-            })?;
-        }
-        assert_eq!(rt;
-            trip(alloc, Payload::Sa(proposals))?,
-            wanted,
-            "{one}, {other}"
-        );
+    let rows: [(&[u8], Refusal); 5] = [
+        (&[1, 2], (0, None)),
+        (&[0, 1], (5, Some(28))),
+        (&[1, 1], (5, Some(28))),
+        (&[2, 3], (5, Some(28))),
+        (&[], (5, Some(28))),
+    ];
+    for (numbers, wanted) in rows {
+        let payload = numbered(rt.alloc(), numbers)?;
+        assert!(rt; trip(rt.alloc(), payload)? == wanted, "{numbers:?}");
     }
-    assert_eq!(rt; trip(alloc, Payload::Sa(Items::new(alloc)))?, (5, Some(28)));
     Ok(())
 }
 
 /// Why the payload is not encoded behind a nonce of 20 octets with its header.
-fn refusal_behind(alloc: Global, payload: Payload) -> Result<(u8, Option<usize>), Fail> {
+fn refusal_behind(alloc: Global, payload: Payload) -> Result<Refusal, Fail> {
     let mut message = message(alloc, Payload::Nonce(octets(alloc, 5, 16)?))?;
     message.payloads.push(payload)?;
-    let mut out = [1, 2].to_vec(alloc)?;
-    let answer = refusal(encode_message(&message, &mut out));
-    if out.as_slice() == [1, 2].as_slice() {
-        Ok(answer)
-    } else {
-        Err(Fail::from("octets are left behind"))
-    }
+    refusal_of(alloc, &message)
 }
 
 #[test]
@@ -276,10 +321,17 @@ fn unspelled_behind_others(rt: HostRuntime) -> Result<(), Fail> {
     let alloc = rt.alloc();
     let proposal = association(alloc, 0, transforms(alloc, 256)?)?;
     assert_eq!(rt; refusal_behind(alloc, proposal)?, (5, Some(48)));
+    // no selector, and a nonce of an octet too many
     let selectors = Payload::TsI(Items::new(alloc));
     assert_eq!(rt; refusal_behind(alloc, selectors)?, (6, Some(48)));
-    let nonce = Payload::Nonce(octets(alloc, 5, 257)?);
+    let nonce = with_count(alloc, Counted::Nonce, 257)?;
     assert_eq!(rt; refusal_behind(alloc, nonce)?, (7, Some(48)));
+    Ok(())
+}
+
+#[test]
+fn a_deletion_and_too_many_octets_behind_others(rt: HostRuntime) -> Result<(), Fail> {
+    let alloc = rt.alloc();
     let deletion = Payload::Delete {
         protocol: 4,
         spis: Items::new(alloc),

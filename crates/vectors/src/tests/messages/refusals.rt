@@ -33,45 +33,57 @@ fn lengths_of_data(rt: HostRuntime) -> Result<(), Fail> {
         (NOTIFY_TYPE, 4, field),
     ] {
         let body = vec![in alloc; 1u8; count]?;
-        assert_eq!(rt;
-            refusal_of_body(alloc, kind, &body)?,
-            wanted,
-            "{count} octets of type {kind}"
-        );
+        let answer = refusal_of_body(alloc, kind, &body)?;
+        assert!(rt; answer == wanted, "{count} octets of type {kind}");
     }
     Ok(())
+}
+
+/// What is said of a deletion of this protocol with this size and count of SPIs, and so many octets behind them.
+fn refusal_of_deletion(
+    alloc: Global,
+    [protocol, size, count, octets]: [u8; 4],
+) -> Result<Refusal, Fail> {
+    let mut body = [protocol, size, 0, count].to_vec(alloc)?;
+    for _ in 0..octets {
+        body.push(7)?;
+    }
+    refusal_of_body(alloc, DELETE_TYPE, &body)
 }
 
 #[test]
 fn sizes_of_deleted_spis(rt: HostRuntime) -> Result<(), Fail> {
-    let alloc = rt.alloc();
-    // protocol, size, count, octets behind them
-    for (protocol, size, count, octets, code) in [
-        (1, 0, 0, 0, 0),
-        (1, 0, 1, 0, 8),
-        (1, 4, 0, 0, 8),
-        (2, 4, 2, 8, 0),
-        (3, 4, 0, 0, 0),
-        (3, 0, 0, 0, 8),
-        (3, 8, 1, 8, 8),
-        (3, 4, 1, 8, 8),
-        (3, 4, 2, 4, 8),
-        (0, 0, 0, 0, 8),
-        (4, 4, 1, 4, 8),
+    for (row, wanted) in [
+        ([1, 0, 0, 0], 0),
+        ([1, 0, 1, 0], 8),
+        ([1, 4, 0, 0], 8),
+        ([2, 4, 2, 8], 0),
+        ([3, 4, 0, 0], 0),
+        ([3, 0, 0, 0], 8),
+        ([3, 8, 1, 8], 8),
+        ([3, 4, 1, 8], 8),
+        ([3, 4, 2, 4], 8),
+        ([0, 0, 0, 0], 8),
+        ([4, 4, 1, 4], 8),
     ] {
-        let mut body = [protocol, size, 0, count].to_vec(alloc)?;
-        for _ in 0..octets {
-            body.push(7)?;
-        }
-        let answer = refusal_of_body(alloc, DELETE_TYPE, &body)?;
-        assert_eq!(rt; answer.0, code, "{protocol}, {size}, {count}, {octets}");
+        let (code, _) = refusal_of_deletion(rt.alloc(), row)?;
+        assert!(rt; code == wanted, "{row:?}");
     }
     Ok(())
 }
 
+/// What is said of two proposals with these numbers.
+fn refusal_of_numbers(alloc: Global, one: u8, other: u8) -> Result<Refusal, Fail> {
+    let mut body = ESP_PROPOSAL[4..].to_vec(alloc)?;
+    body.extend_from_slice(&ESP_PROPOSAL[4..])?;
+    set(&mut body, 0, 2);
+    set(&mut body, 4, one);
+    set(&mut body, 40, other);
+    refusal_of_body(alloc, SA_TYPE, &body)
+}
+
 #[test]
 fn numbers_of_proposals(rt: HostRuntime) -> Result<(), Fail> {
-    let alloc = rt.alloc();
     for (one, other, wanted) in [
         (1, 2, (0, None)),
         (0, 1, (5, Some(4))),
@@ -80,18 +92,12 @@ fn numbers_of_proposals(rt: HostRuntime) -> Result<(), Fail> {
         (2, 1, (5, Some(4))),
         (2, 3, (5, Some(4))),
     ] {
-        let mut body = ESP_PROPOSAL[4..].to_vec(alloc)?;
-        body.extend_from_slice(&ESP_PROPOSAL[4..])?;
-        set(&mut body, 0, 2);
-        set(&mut body, 4, one);
-        set(&mut body, 40, other);
-        assert_eq!(rt;
-            refusal_of_body(alloc, SA_TYPE, &body)?,
-            wanted,
+        assert!(rt;
+            refusal_of_numbers(rt.alloc(), one, other)? == wanted,
             "{one}, {other}"
         );
     }
-    assert_eq!(rt; refusal_of_body(alloc, SA_TYPE, &[])?, (5, Some(4)));
+    assert!(rt; refusal_of_body(rt.alloc(), SA_TYPE, &[])? == (5, Some(4)));
     Ok(())
 }
 

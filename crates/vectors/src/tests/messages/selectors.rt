@@ -63,17 +63,21 @@ fn families_are_read(rt: HostRuntime) -> Result<(), Fail> {
     Ok(())
 }
 
-#[test]
-fn families_are_written(rt: HostRuntime) -> Result<(), Fail> {
-    let alloc = rt.alloc();
+/// A message of these selectors of the initiator.
+fn message_of(alloc: Global, selectors: &[Selector]) -> Result<Message, Fail> {
     let mut payloads = Items::new(alloc);
-    payloads.push(Payload::TsI(Items::from_slice(alloc, &both_families())?))?;
-    let message = Message {
+    payloads.push(Payload::TsI(Items::from_slice(alloc, selectors)?))?;
+    Ok(Message {
         header: header(),
         payloads,
-    };
-    let mut out = Vec::new(alloc);
-    assert_eq!(rt; refusal(encode_message(&message, &mut out)), (0, None));
+    })
+}
+
+#[test]
+fn families_are_written(rt: HostRuntime) -> Result<(), Fail> {
+    let message = message_of(rt.alloc(), &both_families())?;
+    let mut out = Vec::new(rt.alloc());
+    encode_message(&message, &mut out)?;
     assert_eq!(rt; out.len(), 132);
     assert!(rt; out.as_slice().ends_with(&BOTH_FAMILIES));
     Ok(())
@@ -81,7 +85,6 @@ fn families_are_written(rt: HostRuntime) -> Result<(), Fail> {
 
 #[test]
 fn malformed_selectors(rt: HostRuntime) -> Result<(), Fail> {
-    let alloc = rt.alloc();
     let refused = (6, Some(4));
     for (place, value, wanted) in [
         (1, 255, (0, None)),
@@ -100,12 +103,15 @@ fn malformed_selectors(rt: HostRuntime) -> Result<(), Fail> {
     ] {
         let mut body = IPV4_RANGE;
         set(&mut body, place, value);
-        assert_eq!(rt;
-            refusal_of_body(alloc, TS_I_TYPE, &body)?,
-            wanted,
-            "{value} at {place}"
-        );
+        let answer = refusal_of_body(rt.alloc(), TS_I_TYPE, &body)?;
+        assert!(rt; answer == wanted, "{value} at {place}");
     }
+    Ok(())
+}
+
+#[test]
+fn malformed_selectors_of_ipv6(rt: HostRuntime) -> Result<(), Fail> {
+    let refused = (6, Some(4));
     for (place, value, wanted) in [
         (1, 255, (0, None)),
         (0, 2, refused),
@@ -117,41 +123,46 @@ fn malformed_selectors(rt: HostRuntime) -> Result<(), Fail> {
     ] {
         let mut body = IPV6_RANGE;
         set(&mut body, place, value);
-        assert_eq!(rt;
-            refusal_of_body(alloc, TS_R_TYPE, &body)?,
-            wanted,
-            "{value} at {place}"
-        );
+        let answer = refusal_of_body(rt.alloc(), TS_R_TYPE, &body)?;
+        assert!(rt; answer == wanted, "{value} at {place}");
     }
     Ok(())
 }
 
+/// The body of a payload of so many selectors.
+fn repeated(alloc: Global, count: u8) -> Result<Vec<u8>, Fail> {
+    let mut body = [count, 0, 0, 0].to_vec(alloc)?;
+    for _ in 0..count {
+        body.extend_from_slice(&IPV4_RANGE[4..])?;
+    }
+    Ok(body)
+}
+
 #[test]
 fn numbers_of_selectors(rt: HostRuntime) -> Result<(), Fail> {
-    let alloc = rt.alloc();
     for (count, wanted) in [
-        (0u8, (6, Some(4))),
+        (0, (6, Some(4))),
         (1, (0, None)),
         (16, (0, None)),
         (17, (6, Some(4))),
     ] {
-        let mut body = [count, 0, 0, 0].to_vec(alloc)?;
-        for _ in 0..count {
-            body.extend_from_slice(&IPV4_RANGE[4..])?;
-        }
-        assert_eq!(rt;
-            refusal_of_body(alloc, TS_I_TYPE, &body)?,
-            wanted,
-            "{count}"
-        );
+        let body = repeated(rt.alloc(), count)?;
+        let answer = refusal_of_body(rt.alloc(), TS_I_TYPE, &body)?;
+        assert!(rt; answer == wanted, "{count}");
     }
     assert_eq!(rt; SELECTOR_LIMIT, 16);
     Ok(())
 }
 
+/// Why a message of one selector is not written.
+fn refusal_of_one(alloc: Global, selector: Selector) -> Result<Refusal, Fail> {
+    let message = message_of(alloc, &[selector])?;
+    let mut out = Vec::new(alloc);
+    Ok(refusal(encode_message(&message, &mut out)))
+}
+
 #[test]
 fn starts_above_ends_are_not_written(rt: HostRuntime) -> Result<(), Fail> {
-    let alloc = rt.alloc();
     for (unordered, wanted) in [
         (selector(0, 10, 10, Range::V4(5, 5)), (0, None)),
         (selector(0, 11, 10, Range::V4(5, 5)), (6, Some(28))),
@@ -159,14 +170,10 @@ fn starts_above_ends_are_not_written(rt: HostRuntime) -> Result<(), Fail> {
         (selector(0, 10, 10, Range::V6(5, 5)), (0, None)),
         (selector(0, 10, 10, Range::V6(6, 5)), (6, Some(28))),
     ] {
-        let mut payloads = Items::new(alloc);
-        payloads.push(Payload::TsI(Items::from_slice(alloc, &[unordered])?))?;
-        let message = Message {
-            header: header(),
-            payloads,
-        };
-        let mut out = Vec::new(alloc);
-        assert_eq!(rt; refusal(encode_message(&message, &mut out)), wanted);
+        assert!(rt;
+            refusal_of_one(rt.alloc(), unordered)? == wanted,
+            "{unordered:?}"
+        );
     }
     Ok(())
 }

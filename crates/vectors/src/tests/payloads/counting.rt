@@ -14,128 +14,235 @@ const SIDE: Selector = Selector {
     addresses: Range::V4(1, 2),
 };
 
-fn unknown(alloc: Global, kind: u8, critical: bool) -> Payload {
-    Payload::Unknown {
-        kind,
-        critical,
-        data: Items::new(alloc),
-    }
+/// A payload, as a table names it.
+#[derive(Clone, Copy)]
+enum Sample {
+    /// An unknown one of this type, which is critical or not.
+    Unknown(u8, bool),
+    /// A nonce of 16 octets that are all this one.
+    Nonce(u8),
+    /// A deletion of SPIs of a protocol.
+    Deletion(u8, &'static [u32]),
+    /// An association of one empty proposal.
+    Sa,
+    /// A public key of one octet, behind the number of its group.
+    Ke(u16, u8),
+    /// An identity of one octet, behind its kind.
+    IdI(u8, u8),
+    IdR(u8, u8),
+    /// A proof of one octet, behind its method.
+    Auth(u8, u8),
+    TsI(&'static [Selector]),
+    TsR(&'static [Selector]),
 }
 
-fn nonce(alloc: Global, octet: u8) -> Result<Payload, AllocError> {
-    Ok(Payload::Nonce(Items::from_slice(alloc, &[octet; 16])?))
-}
-
-fn deletion(alloc: Global, protocol: u8, spis: &[u32]) -> Result<Payload, AllocError> {
-    Ok(Payload::Delete {
-        protocol,
-        spis: Items::from_slice(alloc, spis)?,
+fn payload(alloc: Global, sample: Sample) -> Result<Payload, AllocError> {
+    Ok(match sample {
+        Sample::Unknown(kind, critical) => Payload::Unknown {
+            kind,
+            critical,
+            data: Items::new(alloc),
+        },
+        Sample::Nonce(octet) => Payload::Nonce(Items::from_slice(alloc, &[octet; 16])?),
+        Sample::Deletion(protocol, spis) => Payload::Delete {
+            protocol,
+            spis: Items::from_slice(alloc, spis)?,
+        },
+        Sample::Sa => Payload::Sa(proposals(alloc)?),
+        Sample::Ke(group, octet) => Payload::Ke {
+            group,
+            data: Items::from_slice(alloc, &[octet])?,
+        },
+        Sample::IdI(kind, octet) => Payload::IdI {
+            kind,
+            data: Items::from_slice(alloc, &[octet])?,
+        },
+        Sample::IdR(kind, octet) => Payload::IdR {
+            kind,
+            data: Items::from_slice(alloc, &[octet])?,
+        },
+        Sample::Auth(method, octet) => Payload::Auth {
+            method,
+            data: Items::from_slice(alloc, &[octet])?,
+        },
+        Sample::TsI(selectors) => Payload::TsI(Items::from_slice(alloc, selectors)?),
+        Sample::TsR(selectors) => Payload::TsR(Items::from_slice(alloc, selectors)?),
     })
+}
+
+/// One empty proposal.
+fn proposals(alloc: Global) -> Result<Items<Proposal>, AllocError> {
+    let mut proposals = Items::new(alloc);
+    proposals.push(Proposal {
+        number: 7,
+        protocol: 3,
+        spi: Items::new(alloc),
+        transforms: Items::new(alloc),
+    })?;
+    Ok(proposals)
+}
+
+fn payloads(alloc: Global, samples: &[Sample]) -> Result<Items<Payload>, AllocError> {
+    let mut payloads = Items::new(alloc);
+    for sample in samples {
+        payloads.push(payload(alloc, *sample)?)?;
+    }
+    Ok(payloads)
 }
 
 // RFC 7296, section 2.5: the first unknown payload that is marked decides.
 #[test]
 fn the_first_unknown_critical(rt: HostRuntime) -> Result<(), Fail> {
-    let alloc = rt.alloc();
-    let passed_over = [unknown(alloc, 200, false), nonce(alloc, 1)?];
-    assert_eq!(rt; unknown_critical(&passed_over), None);
-    let marked = [
-        unknown(alloc, 200, false),
-        nonce(alloc, 1)?,
-        unknown(alloc, 201, true),
-        unknown(alloc, 32, true),
+    let rows: [(&[Sample], Option<u8>); 3] = [
+        (&[Sample::Unknown(200, false), Sample::Nonce(1)], None),
+        (
+            &[
+                Sample::Unknown(200, false),
+                Sample::Nonce(1),
+                Sample::Unknown(201, true),
+                Sample::Unknown(32, true),
+            ],
+            Some(201),
+        ),
+        (&[], None),
     ];
-    assert_eq!(rt; unknown_critical(&marked), Some(201));
-    assert_eq!(rt; unknown_critical(&[]), None);
+    for (samples, wanted) in rows {
+        let payloads = payloads(rt.alloc(), samples)?;
+        assert_eq!(rt; unknown_critical(payloads.as_slice()), wanted);
+    }
     Ok(())
 }
 
 #[test]
 fn only_where_alone_of_its_type(rt: HostRuntime) -> Result<(), Fail> {
-    let alloc = rt.alloc();
-    let one = [unknown(alloc, 200, true), nonce(alloc, 1)?];
-    assert_eq!(rt; only_nonce(&one), Some([1; 16].as_slice()));
-    assert_eq!(rt; only(&one, 40).is_some(), true);
-    assert_eq!(rt; only(&one, 200).is_some(), true);
-    assert_eq!(rt; only(&one, 41).is_none(), true);
-    let two = [
-        nonce(alloc, 1)?,
-        unknown(alloc, 200, true),
-        nonce(alloc, 1)?,
-    ];
-    assert_eq!(rt; only_nonce(&two), None);
-    assert_eq!(rt; only_nonce(&[]), None);
-    // An unknown payload under the number of a nonce is none.
-    assert_eq!(rt; only_nonce(&[unknown(alloc, 40, false)]), None);
+    let rows: [(u8, bool); 3] = [(40, true), (200, true), (41, false)];
+    let payloads = payloads(rt.alloc(), &[Sample::Unknown(200, true), Sample::Nonce(1)])?;
+    for (kind, is_found) in rows {
+        assert_eq!(rt;
+            only(payloads.as_slice(), kind).is_some(),
+            is_found,
+            "type {kind}"
+        );
+    }
     Ok(())
+}
+
+#[test]
+fn a_nonce_where_alone_of_its_type(rt: HostRuntime) -> Result<(), Fail> {
+    let rows: [(&[Sample], Option<&[u8]>); 4] = [
+        (
+            &[Sample::Unknown(200, true), Sample::Nonce(1)],
+            Some(&[1; 16]),
+        ),
+        (
+            &[
+                Sample::Nonce(1),
+                Sample::Unknown(200, true),
+                Sample::Nonce(1),
+            ],
+            None,
+        ),
+        (&[], None),
+        // An unknown payload under the number of a nonce is none.
+        (&[Sample::Unknown(40, false)], None),
+    ];
+    for (samples, wanted) in rows {
+        let payloads = payloads(rt.alloc(), samples)?;
+        assert_eq!(rt; only_nonce(payloads.as_slice()), wanted);
+    }
+    Ok(())
+}
+
+/// One payload of each of these types, told apart by what it holds.
+const ONE_OF_EACH: [Sample; 7] = [
+    Sample::Sa,
+    Sample::Ke(14, 1),
+    Sample::IdI(2, 2),
+    Sample::IdR(3, 3),
+    Sample::Auth(4, 4),
+    Sample::TsI(&[SIDE]),
+    Sample::TsR(&[SIDE, SIDE]),
+];
+
+/// Whether what was found is this octet under this number.
+fn has(found: Option<(u8, &[u8])>, octet: u8) -> bool {
+    match found {
+        Some((number, octets)) => number == octet && octets == [octet].as_slice(),
+        None => false,
+    }
 }
 
 #[test]
 fn each_type_by_itself(rt: HostRuntime) -> Result<(), Fail> {
-    let alloc = rt.alloc();
-    let proposal = Proposal {
-        number: 7,
-        protocol: 3,
-        spi: Items::new(alloc),
-        transforms: Items::new(alloc),
-    };
-    let mut proposals = Items::new(alloc);
-    proposals.push(proposal)?;
-    let data = |octet: u8| Items::from_slice(alloc, &[octet]);
-    let payloads = [
-        Payload::Sa(proposals),
-        Payload::Ke {
-            group: 14,
-            data: data(1)?,
-        },
-        Payload::IdI {
-            kind: 2,
-            data: data(2)?,
-        },
-        Payload::IdR {
-            kind: 3,
-            data: data(3)?,
-        },
-        Payload::Auth {
-            method: 4,
-            data: data(4)?,
-        },
-        Payload::TsI(Items::from_slice(alloc, &[SIDE])?),
-        Payload::TsR(Items::from_slice(alloc, &[SIDE, SIDE])?),
-    ];
-    assert_eq!(rt; has_ke(&payloads), true);
-    assert_eq!(rt; has_ke(&[nonce(alloc, 1)?]), false);
-    assert_eq!(rt; offers_ike(&payloads), false);
-    assert_eq!(rt; only_sa(&payloads).map(|found| found.len()), Some(1));
-    assert_eq!(rt; only_ke(&payloads), Some((14, [1].as_slice())));
-    assert_eq!(rt; only_id_i(&payloads), Some((2, [2].as_slice())));
-    assert_eq!(rt; only_id_r(&payloads), Some((3, [3].as_slice())));
-    assert_eq!(rt; only_auth(&payloads), Some((4, [4].as_slice())));
-    assert_eq!(rt; only_ts_i(&payloads).map(|found| found.len()), Some(1));
-    assert_eq!(rt; only_ts_r(&payloads).map(|found| found.len()), Some(2));
+    let payloads = payloads(rt.alloc(), &ONE_OF_EACH)?;
+    assert!(rt; has(only_id_i(payloads.as_slice()), 2));
+    assert!(rt; has(only_id_r(payloads.as_slice()), 3));
+    assert!(rt; has(only_auth(payloads.as_slice()), 4));
     Ok(())
 }
+
+#[test]
+fn a_public_key_by_itself(rt: HostRuntime) -> Result<(), Fail> {
+    let payloads = payloads(rt.alloc(), &ONE_OF_EACH)?;
+    let (group, octets) = only_ke(payloads.as_slice()).ok_or("no public key")?;
+    assert!(rt; group == 14 && octets == [1].as_slice());
+    Ok(())
+}
+
+/// How many items are found, none where nothing is.
+fn count<T>(found: Option<&[T]>) -> usize {
+    match found {
+        Some(items) => items.len(),
+        None => 0,
+    }
+}
+
+#[test]
+fn lists_by_themselves(rt: HostRuntime) -> Result<(), Fail> {
+    let payloads = payloads(rt.alloc(), &ONE_OF_EACH)?;
+    assert!(rt; count(only_sa(payloads.as_slice())) == 1);
+    assert!(rt; count(only_ts_i(payloads.as_slice())) == 1);
+    assert!(rt; count(only_ts_r(payloads.as_slice())) == 2);
+    Ok(())
+}
+
+#[test]
+fn what_is_there(rt: HostRuntime) -> Result<(), Fail> {
+    let payloads = payloads(rt.alloc(), &ONE_OF_EACH)?;
+    assert!(rt; has_ke(payloads.as_slice()));
+    assert!(rt; !offers_ike(payloads.as_slice()));
+    let nonce = [payload(rt.alloc(), Sample::Nonce(1))?];
+    assert!(rt; !has_ke(&nonce));
+    Ok(())
+}
+
+const CHILDREN: [Sample; 4] = [
+    Sample::Deletion(3, &[5, 6]),
+    Sample::Nonce(1),
+    Sample::Deletion(2, &[7]),
+    Sample::Deletion(3, &[5]),
+];
 
 // RFC 7296, section 1.4.1.
 #[test]
 fn what_is_deleted(rt: HostRuntime) -> Result<(), Fail> {
-    let alloc = rt.alloc();
-    let children = [
-        deletion(alloc, 3, &[5, 6])?,
-        nonce(alloc, 1)?,
-        deletion(alloc, 2, &[7])?,
-        deletion(alloc, 3, &[5])?,
-    ];
-    assert_eq!(rt; deletes_association(&children), false);
-    assert_eq!(rt;
-        esp_spis(alloc, &children)?.as_slice(),
-        [5, 6, 5].as_slice()
-    );
+    let all = [Sample::Deletion(3, &[5]), Sample::Deletion(1, &[])];
+    let rows: [(&[Sample], bool); 2] = [(&CHILDREN, false), (&all, true)];
+    for (samples, wanted) in rows {
+        let payloads = payloads(rt.alloc(), samples)?;
+        assert_eq!(rt; deletes_association(payloads.as_slice()), wanted);
+    }
+    Ok(())
+}
+
+#[test]
+fn which_spis_are_deleted(rt: HostRuntime) -> Result<(), Fail> {
+    let payloads = payloads(rt.alloc(), &CHILDREN)?;
+    let spis = esp_spis(rt.alloc(), payloads.as_slice())?;
+    assert_eq!(rt; spis.as_slice(), [5, 6, 5].as_slice());
     // Those of AH count too.
-    assert_eq!(rt; names_more_than(&children, 3), true);
-    assert_eq!(rt; names_more_than(&children, 4), false);
-    let all = [deletion(alloc, 3, &[5])?, deletion(alloc, 1, &[])?];
-    assert_eq!(rt; deletes_association(&all), true);
+    assert!(rt; names_more_than(payloads.as_slice(), 3));
+    assert!(rt; !names_more_than(payloads.as_slice(), 4));
     Ok(())
 }
 

@@ -12,10 +12,22 @@ fn notice(alloc: Global, kind: u16, data: &[u8]) -> Result<Payload, AllocError> 
     })
 }
 
+/// Whether a notice has this number and these octets, and no protocol and no SPI.
+fn is_notice(payload: &Payload, number: u16, octets: &[u8]) -> bool {
+    match payload {
+        Payload::Notify {
+            protocol,
+            spi,
+            kind,
+            data,
+        } => *protocol == 0 && spi.is_empty() && *kind == number && data.as_slice() == octets,
+        _ => false,
+    }
+}
+
 // RFC 7296, section 3.10.1.
 #[test]
 fn numbers_and_data(rt: HostRuntime) -> Result<(), Fail> {
-    let alloc = rt.alloc();
     let critical = Notice::UnsupportedCriticalPayload { kind: 200 };
     let cookie = Notice::Cookie { octets: [5; 36] };
     let expected: [(Notice, u16, &[u8]); 7] = [
@@ -29,51 +41,76 @@ fn numbers_and_data(rt: HostRuntime) -> Result<(), Fail> {
     ];
     for (sent, number, octets) in expected {
         assert_eq!(rt; sent.number(), number);
-        let Payload::Notify {
-            protocol,
-            spi,
-            kind,
-            data,
-        } = sent.payload(alloc)?
-        else {
-            return Err("no notice".into());
-        };
-        assert_eq!(rt; (protocol, spi.len(), kind), (0, 0, number));
-        assert_eq!(rt; data.as_slice(), octets);
+        let payload = sent.payload(rt.alloc())?;
+        assert!(rt; is_notice(&payload, number, octets), "notice {number}");
     }
     Ok(())
+}
+
+/// A payload, as a table names it.
+#[derive(Clone, Copy)]
+enum Sample {
+    Nonce,
+    /// A notice of this number with this data.
+    Notice(u16, &'static [u8]),
+}
+
+fn payload(alloc: Global, sample: Sample) -> Result<Payload, AllocError> {
+    match sample {
+        Sample::Nonce => Ok(Payload::Nonce(Items::from_slice(alloc, &[1; 16])?)),
+        Sample::Notice(number, data) => notice(alloc, number, data),
+    }
+}
+
+fn payloads(alloc: Global, samples: &[Sample]) -> Result<Items<Payload>, AllocError> {
+    let mut payloads = Items::new(alloc);
+    for sample in samples {
+        payloads.push(payload(alloc, *sample)?)?;
+    }
+    Ok(payloads)
 }
 
 // RFC 7296, section 2.6: 1 to 64 octets, at the first place of a request, alone in an answer.
 #[test]
 fn cookies(rt: HostRuntime) -> Result<(), Fail> {
-    let alloc = rt.alloc();
-    let nonce = || Ok::<_, AllocError>(Payload::Nonce(Items::from_slice(alloc, &[1; 16])?));
-    let first = [notice(alloc, 16390, &[7; 64])?, nonce()?];
-    assert_eq!(rt; leading_cookie(&first), Some([7; 64].as_slice()));
-    assert_eq!(rt; asked_cookie(&first), None);
-    let second = [nonce()?, notice(alloc, 16390, &[7])?];
-    assert_eq!(rt; leading_cookie(&second), None);
-    let alone = [notice(alloc, 16390, &[7])?];
-    assert_eq!(rt; asked_cookie(&alone), Some([7].as_slice()));
-    for data in [&[][..], &[7; 65]] {
-        let none = [notice(alloc, 16390, data)?];
-        assert_eq!(rt; leading_cookie(&none), None);
-        assert_eq!(rt; asked_cookie(&none), None);
+    let rows: [(&[Sample], Option<&[u8]>, Option<&[u8]>); 7] = [
+        (
+            &[Sample::Notice(16390, &[7; 64]), Sample::Nonce],
+            Some(&[7; 64]),
+            None,
+        ),
+        (&[Sample::Nonce, Sample::Notice(16390, &[7])], None, None),
+        (&[Sample::Notice(16390, &[7])], Some(&[7]), Some(&[7])),
+        (&[Sample::Notice(16390, &[])], None, None),
+        (&[Sample::Notice(16390, &[7; 65])], None, None),
+        (&[Sample::Notice(16389, &[7])], None, None),
+        (&[], None, None),
+    ];
+    for (samples, leading, asked) in rows {
+        let payloads = payloads(rt.alloc(), samples)?;
+        assert_eq!(rt; leading_cookie(payloads.as_slice()), leading);
+        assert_eq!(rt; asked_cookie(payloads.as_slice()), asked);
     }
-    assert_eq!(rt; leading_cookie(&[]), None);
-    let back = [returned_cookie(alloc, &[0xaa, 0xbb])?];
+    Ok(())
+}
+
+#[test]
+fn a_cookie_is_brought_back(rt: HostRuntime) -> Result<(), Fail> {
+    let back = [returned_cookie(rt.alloc(), &[0xaa, 0xbb])?];
     assert_eq!(rt; leading_cookie(&back), Some([0xaa, 0xbb].as_slice()));
-    assert_eq!(rt; asked_cookie(&[notice(alloc, 16389, &[7])?]), None);
     Ok(())
 }
 
 #[test]
 fn invalid_syntax(rt: HostRuntime) -> Result<(), Fail> {
-    let alloc = rt.alloc();
-    let other = notice(alloc, 14, &[])?;
-    assert_eq!(rt; has_invalid_syntax(&[other.clone()?]), false);
-    assert_eq!(rt; has_invalid_syntax(&[other, notice(alloc, 7, &[1])?]), true);
-    assert_eq!(rt; has_invalid_syntax(&[]), false);
+    let rows: [(&[Sample], bool); 3] = [
+        (&[Sample::Notice(14, &[])], false),
+        (&[Sample::Notice(14, &[]), Sample::Notice(7, &[1])], true),
+        (&[], false),
+    ];
+    for (samples, wanted) in rows {
+        let payloads = payloads(rt.alloc(), samples)?;
+        assert_eq!(rt; has_invalid_syntax(payloads.as_slice()), wanted);
+    }
     Ok(())
 }

@@ -1,0 +1,61 @@
+-- Associations as they begin, at both ends (RFC 7296 sections 1.2, 2.6 and 2.14).
+use Rattle.std.specs.Prelude.{◌≡◌, ℕ, Option, None}
+use Rattle.base.specs.Octets.{Octets}
+use Rattle.wire.specs.Messages.{SpellsPlainly}
+use Rattle.wire.specs.Numbers.{IKE_SA_INIT}
+use Rattle.suite.specs.declared.fresh.Fresh.{Fresh}
+use Rattle.suite.specs.declared.key_record.KeyRecord.{KeyRecord}
+use Rattle.suite.specs.declared.sealer.Cipher.{Cipher}
+use Rattle.exchange.specs.declared.headers.Role.TheVariants.{Initiator, Responder}
+use Rattle.requests.specs.Incoming.{after_number_0, no_requests}
+use Rattle.requests.specs.Outgoing.{none_issued, OwnRequests}
+use Rattle.sa_init.specs.Agreement.{IsAnswer}
+use Rattle.sa_init.specs.Judging.{OfferView}
+use Rattle.sa_init.specs.Messages.{request_message}
+use Rattle.sa_init.specs.declared.answers.Agreed.{Agreed}
+use Rattle.association.specs.FirstChildren.{FirstChildView}
+use Rattle.association.specs.declared.phase.Association.{Association}
+use Rattle.association.specs.declared.phase.Phase.TheVariants as phase
+use Rattle.association.specs.declared.phase.Request.{Request}
+use Rattle.initial.specs.Issuing.{new_request, IssuesNext}
+use Rattle.initial.specs.declared.beginning.Admitted.{Admitted}
+use Rattle.initial.specs.declared.beginning.Beginning.{Beginning}
+
+-- The first request of an initiator, with what is fresh, and kept under number 0.
+pub record Begins (cipher : Cipher) (group : ℕ) (public_value : Octets → Octets) (fresh : Fresh) (moment : ℕ) (beginning : Beginning) : Type 0 where
+  pub spelled : SpellsPlainly (request_message cipher group (public_value fresh.secret) fresh.spi None fresh.nonce) beginning.octets
+  pub issued : IssuesNext none_issued (new_request beginning.octets IKE_SA_INIT moment) beginning.outgoing
+  pub spi : beginning.spi_i ≡ fresh.spi
+  pub secret : beginning.secret ≡ fresh.secret
+  pub nonce_is : beginning.nonce ≡ fresh.nonce
+
+-- an initiator's association, when its first request goes out
+abbrev pub begun : ℕ → Beginning → FirstChildView → Association
+begun serial beginning child = record {
+  serial = serial;
+  role = Initiator;
+  spi_i = beginning.spi_i;
+  spi_r = 0;
+  incoming = no_requests;
+  outgoing = beginning.outgoing;
+  phase = phase.InitSent (record { secret = beginning.secret; nonce = beginning.nonce; cookie = None; cookies_taken = 0; child = child });
+}
+
+-- a responder's association, when its answer goes out: the request of number 0 took effect
+abbrev pub half_open : ℕ → ℕ → ℕ → KeyRecord → Octets → Octets → ℕ → Association
+half_open serial spi_i spi_r keys request reply moment = record {
+  serial = serial;
+  role = Responder;
+  spi_i = spi_i;
+  spi_r = spi_r;
+  incoming = after_number_0;
+  outgoing = none_issued;
+  phase = phase.HalfOpen (record { keys = keys; request = request; reply = reply; made = moment });
+}
+
+-- The offer is answered, and the association has the keys.
+pub record Admits (cipher : Cipher) (group : ℕ) (public_value : Octets → Octets) (shared_secret : Octets → Octets → Option Octets) (fresh : Fresh) (moment serial : ℕ) (offer : OfferView) (spi_i : ℕ) (request : Octets) (admitted : Admitted) : Type 0 where
+  pub agreed : Agreed
+  pub answer : IsAnswer cipher group public_value shared_secret offer spi_i fresh agreed
+  pub octets : admitted.octets ≡ agreed.octets
+  pub content : admitted.association ≡ half_open serial spi_i fresh.spi agreed.record request agreed.octets moment

@@ -1,0 +1,15 @@
+-- Requests as they are issued (RFC 7296 sections 2.1 and 2.2).
+use Rattle.std.specs.Prelude.{ℕ}
+use Rattle.base.specs.Octets.{Octets}
+use Rattle.requests.specs.Outgoing.{HasSameOwnRequests, IssuesRequest, OwnRequests}
+use Rattle.association.specs.declared.phase.Request.{Request}
+
+-- a request that goes out for the first time at this moment
+abbrev pub new_request : Octets → ℕ → ℕ → Request
+new_request octets exchange moment = record { octets = octets; exchange = exchange; timer = record { sent = moment; repeats = 0 } }
+
+-- one more request is outstanding, of the next number
+pub record IssuesNext (old : OwnRequests Request) (request : Request) (new : OwnRequests Request) : Type 0 where
+  pub ready : OwnRequests Request
+  pub prepared : HasSameOwnRequests old ready
+  pub issued : IssuesRequest ready request old.next new

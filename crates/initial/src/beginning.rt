@@ -1,0 +1,135 @@
+//! Associations as they begin, at both ends.
+ghost use Rattle.std.specs.Prelude.{◌≡◌, None, IfOk, MatchOption};
+ghost use Rattle.sa_init.specs.Fitting.{FitsOffer};
+ghost use Rattle.sa_init.specs.Judging.{offer_view};
+ghost use Rattle.initial.specs.Beginning.{begun, half_open, Admits, Begins};
+
+use crate::Step;
+use crate::issuing::{issued, new_request};
+use association::{Association, FirstChild, HalfOpen, InitSent, Phase, Request};
+use base::Items;
+use exchange::Role;
+use requests::{Incoming, Outgoing};
+use sa_init::{Agreed, Offer, answer, request};
+use std::alloc::{AllocError, Global};
+use suite::{Agreement, Sealer};
+use wire::numbers::IKE_SA_INIT;
+
+/// The first request of an initiator, made before its child has an SPI.
+#[derive(Drop)]
+pub struct Beginning {
+    /// The request.
+    pub octets: Items<u8>,
+    outgoing: Outgoing<Request>,
+    spi_i: u64,
+    secret: [u8; 32],
+    nonce: [u8; 32],
+}
+
+/// Makes the first request of an initiator (RFC 7296, section 1.2), with the SPI, the secret and the nonce that are fresh. An error
+/// is for want of memory alone.
+pub fn begin<C: Sealer + Agreement>(
+    alloc: Global,
+    step: &Step<'_, C>,
+) -> Result<Beginning, AllocError>
+    ensures { IfOk result (Begins C.cipher C.group_number C.public_value step.now.fresh.now step.now.moment) }
+{
+    let fresh = step.fresh;
+    let octets = request(alloc, step.caller, fresh.spi, None, &fresh.secret, &fresh.nonce)?;
+    let kept = Items::from_slice(alloc, octets.as_slice())?;
+    let outgoing = issued(Outgoing::new(alloc), new_request(kept, IKE_SA_INIT, step.moment))?;
+    Ok(Beginning {
+        octets,
+        outgoing,
+        spi_i: fresh.spi,
+        secret: fresh.secret,
+        nonce: fresh.nonce,
+    })
+}
+
+impl Beginning {
+    /// The association that waits for the response, and the request that goes out. Takes no memory.
+    pub fn into_association(
+        self,
+        alloc: Global,
+        serial: u32,
+        child: FirstChild,
+    ) -> (Association, Items<u8>)
+        ensures association { result.0 ≡ begun serial self child }
+        ensures octets { result.1 ≡ self.octets }
+    {
+        let Beginning {
+            octets,
+            outgoing,
+            spi_i,
+            secret,
+            nonce,
+        } = self;
+        let association = Association {
+            serial,
+            role: Role::Initiator,
+            spi_i,
+            spi_r: 0,
+            incoming: Incoming::new(alloc),
+            outgoing,
+            phase: Phase::InitSent(InitSent {
+                secret,
+                nonce,
+                cookie: None,
+                cookies_taken: 0,
+                child,
+            }),
+        };
+        (association, octets)
+    }
+}
+
+/// A responder's association, and what it answers.
+#[derive(Drop)]
+pub struct Admitted {
+    pub association: Association,
+    /// The answer to IKE_SA_INIT.
+    pub octets: Items<u8>,
+}
+
+/// Answers an offer that was accepted ([`sa_init::judge`]), with the SPI, the secret and the nonce that are fresh: the association
+/// is half open from then on. `request` is the datagram that brought the offer. `None` (E32) exactly where the agreement refuses the
+/// initiator's public value. An error is for want of memory alone.
+pub fn admit<C: Sealer + Agreement>(
+    alloc: Global,
+    step: &Step<'_, C>,
+    serial: u32,
+    offer: &Offer<'_>,
+    spi_i: u64,
+    request: &[u8],
+) -> Result<Option<Admitted>, AllocError>
+    requires { FitsOffer (offer_view offer.now) }
+    ensures { IfOk result (λ admitted. MatchOption admitted
+        (C.shared_secret step.now.fresh.now.secret offer.now.public.now ≡ None)
+        (Admits C.cipher C.group_number C.public_value C.shared_secret step.now.fresh.now step.now.moment serial
+        (offer_view offer.now) spi_i request.now)) }
+{
+    let Some(agreed) = answer(alloc, step.caller, offer, spi_i, step.fresh)? else {
+        return Ok(None);
+    };
+    let Agreed { record, octets } = agreed;
+    let half_open = HalfOpen {
+        keys: record,
+        request: Items::from_slice(alloc, request)?,
+        reply: Items::from_slice(alloc, octets.as_slice())?,
+        made: step.moment,
+    };
+    let association = Association {
+        serial,
+        role: Role::Responder,
+        spi_i,
+        spi_r: step.fresh.spi,
+        incoming: Incoming::after_initial(alloc),
+        outgoing: Outgoing::new(alloc),
+        phase: Phase::HalfOpen(half_open),
+    };
+    Ok(Some(Admitted {
+        association,
+        octets,
+    }))
+}
