@@ -1,12 +1,12 @@
 -- What a message is to an association is determined.
-use Rattle.std.proofs.Common.{◌≡◌, ℕ, Bool, true, false, Option, Some, None, List, refl, ap, ◌∙◌, sym}
+use Rattle.std.proofs.Common.{◌≡◌, ℕ, Bool, true, false, Option, refl, ap, ◌∙◌, sym}
 use Rattle.base.specs.Octets.{Octets}
 use Rattle.wire.specs.declared.message.Message.{Message}
 use Rattle.exchange.specs.declared.sealed.Plain.{Plain}
 use Rattle.requests.specs.Incoming.{IsJudgement, IsSameJudgement, PeerRequests}
 use Rattle.requests.specs.declared.incoming.Judgement.{Judgement}
 use Rattle.requests.specs.declared.incoming.Judgement.TheVariants as judged
-use Rattle.association.specs.Receiving.{judged_reception, repeated_reception, opened_by, IsReceived, IsReceivedBy, IsReceivedRequest, Opening, Reception, reception_of_response}
+use Rattle.association.specs.Receiving.{judged_reception, repeated_reception, opened_by, IsReceivedBy, Opening, Reception}
 use Rattle.association.specs.declared.phase.Association.{Association}
 use Rattle.association.specs.declared.phase.Phase.{Phase}
 
@@ -40,5 +40,5 @@ one_reception judges true plain_of a octets m one other first second = first ∙
 one_reception judges false plain_of a octets m one other first second =
     first.whole
     ∙ same_reception a.phase m.header.exchange (opened_by plain_of a octets m.payloads) first.judgement second.judgement
-      (judges a.incoming m.header.id first.judgement second.judgement first.number second.number)
+    (judges a.incoming m.header.id first.judgement second.judgement first.number second.number)
     ∙ sym second.whole

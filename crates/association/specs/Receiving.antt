@@ -1,6 +1,6 @@
 -- What a message is to the association that it is for (RFC 7296 sections 2.1 to 2.3 and 3.14): by its number, its exchange, the phase,
 -- and what it opens to.
-use Rattle.std.specs.Prelude.{◌≡◌, ◌==◌, ◌≢◌, ◌&&◌, ◌||◌, ℕ, Bool, true, false, not, Option, Some, None, List, if◌then◌else◌}
+use Rattle.std.specs.Prelude.{◌≡◌, ◌==◌, ◌≢◌, ◌||◌, ℕ, Bool, true, false, not, Option, Some, None, List, if◌then◌else◌}
 use Rattle.std.specs.FinMap as map
 use Rattle.base.specs.Octets.{Octets}
 use Rattle.wire.specs.Numbers.{CREATE_CHILD_SA, IKE_AUTH, INFORMATIONAL}
@@ -21,7 +21,7 @@ use Rattle.association.specs.declared.fault.MessageFault.{MessageFault}
 use Rattle.association.specs.declared.fault.MessageFault.TheVariants.{NotOpened, Forgotten, OutsideWindow, WrongPhase}
 use Rattle.association.specs.declared.phase.Association.{Association}
 use Rattle.association.specs.declared.phase.Phase.{Phase}
-use Rattle.association.specs.declared.phase.Phase.TheVariants.{InitSent, AuthSent, HalfOpen, Established, Closed}
+use Rattle.association.specs.declared.phase.Phase.TheVariants.{InitSent, HalfOpen, Established, Closed}
 use Rattle.association.specs.declared.phase.Request.{Request}
 use Rattle.association.specs.declared.receiving.Received.{Received}
 use Rattle.association.specs.declared.receiving.Received.TheVariants as received

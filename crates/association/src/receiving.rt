@@ -136,7 +136,9 @@ fn receive_fresh<'a, S: Sealer>(
     }
     match opened(alloc, sealer, association, octets, message)? {
         None => Ok(Received::Refused(MessageFault::NotOpened)),
-        Some(plain) if admits(&association.phase, message.header.exchange) => Ok(Received::Request(plain)),
+        Some(plain) if admits(&association.phase, message.header.exchange) => Ok(Received::Request(
+            plain,
+        )),
         Some(_) => Ok(Received::Refused(MessageFault::WrongPhase)),
     }
 }

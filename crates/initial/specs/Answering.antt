@@ -1,5 +1,5 @@
 -- The answer to IKE_AUTH, and what becomes of the association and of the table (RFC 7296 sections 1.2, 2.3 and 2.21.2).
-use Rattle.std.specs.Prelude.{◌≡◌, ℕ, true, Option, Some, None, List, [], ◌∷◌, max}
+use Rattle.std.specs.Prelude.{◌≡◌, ℕ, true, Option, Some, None, List, [], ◌∷◌}
 use Rattle.base.specs.Octets.{Octets}
 use Rattle.wire.specs.Numbers.{IKE_AUTH}
 use Rattle.wire.specs.declared.message.Message.{Message}
@@ -10,21 +10,16 @@ use Rattle.exchange.specs.Notices.{payload_of_notice}
 use Rattle.exchange.specs.Sealed.{IsSealed}
 use Rattle.exchange.specs.declared.sealed.Plain.{Plain}
 use Rattle.requests.specs.Incoming.{HasSameRequests, PeerRequests, TakesRequest}
-use Rattle.requests.specs.Outgoing.{OwnRequests}
 use Rattle.sadb.specs.Database.{Database, IsAsBefore}
 use Rattle.sadb.specs.declared.pair.Pair.{Pair}
-use Rattle.association.specs.Closing.{Closes}
-use Rattle.association.specs.Phases.{established_of}
 use Rattle.association.specs.declared.phase.Association.{Association}
 use Rattle.association.specs.declared.phase.HalfOpen.{HalfOpen}
 use Rattle.association.specs.declared.phase.Phase.{Phase}
 use Rattle.association.specs.declared.phase.Phase.TheVariants as phase
-use Rattle.association.specs.declared.phase.Request.{Request}
 use Rattle.auth.specs.Answers.{auth_answer}
 use Rattle.auth.specs.Proofs.{Accepts}
 use Rattle.auth.specs.declared.child.ChildAnswer.{ChildAnswer}
 use Rattle.auth.specs.declared.child.ChildAnswer.TheVariants as answered
-use Rattle.children.specs.Responding.{AddsNext}
 use Rattle.children.specs.declared.responding.Response.{Response}
 use Rattle.children.specs.declared.responding.Response.TheVariants as response
 use Rattle.initial.specs.Concluding.{is_closing, with_incoming, ConcludesBy}

@@ -8,7 +8,7 @@ use Rattle.suite.specs.declared.key_record.KeyRecord.{KeyRecord}
 use Rattle.suite.specs.declared.sealer.Cipher.{Cipher}
 use Rattle.exchange.specs.declared.headers.Role.TheVariants.{Initiator, Responder}
 use Rattle.requests.specs.Incoming.{after_number_0, no_requests}
-use Rattle.requests.specs.Outgoing.{none_issued, OwnRequests}
+use Rattle.requests.specs.Outgoing.{none_issued}
 use Rattle.sa_init.specs.Agreement.{IsAnswer}
 use Rattle.sa_init.specs.Judging.{OfferView}
 use Rattle.sa_init.specs.Messages.{request_message}
@@ -16,7 +16,6 @@ use Rattle.sa_init.specs.declared.answers.Agreed.{Agreed}
 use Rattle.association.specs.FirstChildren.{FirstChildView}
 use Rattle.association.specs.declared.phase.Association.{Association}
 use Rattle.association.specs.declared.phase.Phase.TheVariants as phase
-use Rattle.association.specs.declared.phase.Request.{Request}
 use Rattle.initial.specs.Issuing.{new_request, IssuesNext}
 use Rattle.initial.specs.declared.beginning.Admitted.{Admitted}
 use Rattle.initial.specs.declared.beginning.Beginning.{Beginning}

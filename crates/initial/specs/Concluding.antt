@@ -7,7 +7,6 @@ use Rattle.sadb.specs.declared.pair.Pair.{Pair}
 use Rattle.association.specs.Closing.{Closes, HoldsSpi}
 use Rattle.association.specs.Phases.{established_of, established_spi, spi_in}
 use Rattle.association.specs.declared.phase.Association.{Association}
-use Rattle.association.specs.declared.phase.Phase.{Phase}
 use Rattle.association.specs.declared.phase.Request.{Request}
 use Rattle.auth.specs.Windows.{IsWindow}
 use Rattle.children.specs.Responding.{AddsNext, CanTake}

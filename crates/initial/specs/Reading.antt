@@ -1,5 +1,5 @@
 -- What an initiator does about the response to IKE_SA_INIT (RFC 7296 sections 1.2, 2.6, 2.14 and 2.15).
-use Rattle.std.specs.Prelude.{◌≡◌, ◌+◌, ◌<◌, ℕ, false, Option, Some, None}
+use Rattle.std.specs.Prelude.{◌≡◌, ◌+◌, ◌<◌, ℕ, false, Option, Some}
 use Rattle.std.specs.FinMap as map
 use Rattle.base.specs.Octets.{Octets}
 use Rattle.wire.specs.Messages.{SpellsPlainly}

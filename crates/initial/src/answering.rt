@@ -115,10 +115,24 @@ fn make_reply<C: Sealer + Proof>(
     let Content { payloads, outcome } = make_content(alloc, step, half_open, decision)?;
     let role = association.role;
     let message = Message {
-        header: sent_header(association.spi_i, association.spi_r, IKE_AUTH, role, true, number),
+        header: sent_header(
+            association.spi_i,
+            association.spi_r,
+            IKE_AUTH,
+            role,
+            true,
+            number,
+        ),
         payloads,
     };
-    let octets = sealed(alloc, step.caller, role, &half_open.keys, &message, &step.fresh.seal)?;
+    let octets = sealed(
+        alloc,
+        step.caller,
+        role,
+        &half_open.keys,
+        &message,
+        &step.fresh.seal,
+    )?;
     Ok(Reply { octets, outcome })
 }
 

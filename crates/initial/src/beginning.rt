@@ -35,9 +35,19 @@ pub fn begin<C: Sealer + Agreement>(
     ensures { IfOk result (Begins C.cipher C.group_number C.public_value step.now.fresh.now step.now.moment) }
 {
     let fresh = step.fresh;
-    let octets = request(alloc, step.caller, fresh.spi, None, &fresh.secret, &fresh.nonce)?;
+    let octets = request(
+        alloc,
+        step.caller,
+        fresh.spi,
+        None,
+        &fresh.secret,
+        &fresh.nonce,
+    )?;
     let kept = Items::from_slice(alloc, octets.as_slice())?;
-    let outgoing = issued(Outgoing::new(alloc), new_request(kept, IKE_SA_INIT, step.moment))?;
+    let outgoing = issued(
+        Outgoing::new(alloc),
+        new_request(kept, IKE_SA_INIT, step.moment),
+    )?;
     Ok(Beginning {
         octets,
         outgoing,

@@ -53,7 +53,13 @@ pub fn conclude<C>(
             association.close(table, step.moment);
             None
         }
-        Outcome::Establishes { pair, window } => establish(association, table, pair, step.config.window, window),
+        Outcome::Establishes { pair, window } => establish(
+            association,
+            table,
+            pair,
+            step.config.window,
+            window,
+        ),
     }
 }
 

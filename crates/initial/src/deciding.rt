@@ -14,8 +14,8 @@ use association::HalfOpen;
 use auth::laws::windows_are_read_again;
 use auth::{Judgement, Proving, judge};
 use base::Items;
-use children::{ChildFault, Response, Setting, respond};
 use children::laws::payloads_fit;
+use children::{ChildFault, Response, Setting, respond};
 use exchange::laws::what_counts_fits;
 use exchange::{ChildOffer, Notice, Plain, Role};
 use sadb::Table;
@@ -91,8 +91,18 @@ fn decide_on<C: Proof>(
 {
     what_counts_fits();
     windows_are_read_again();
-    let proving = Proving::of(Role::Initiator, &half_open.keys, half_open.request.as_slice());
-    match judge(alloc, step.caller, &step.config.peer.identity, &proving, payloads)? {
+    let proving = Proving::of(
+        Role::Initiator,
+        &half_open.keys,
+        half_open.request.as_slice(),
+    );
+    match judge(
+        alloc,
+        step.caller,
+        &step.config.peer.identity,
+        &proving,
+        payloads,
+    )? {
         Judgement::Refused(notice) => {
             notice.fits();
             Ok(Decision::Refused(notice))
@@ -127,7 +137,14 @@ fn respond_to<C>(
         keys: keys.first_child_keys(),
         blocks: step.config.blocks,
     };
-    let response = respond(alloc, offer, step.config.extended, &setting, step.policy, table)?;
+    let response = respond(
+        alloc,
+        offer,
+        step.config.extended,
+        &setting,
+        step.policy,
+        table,
+    )?;
     if let Response::Refused(notice) = &response {
         notice.fits();
     }

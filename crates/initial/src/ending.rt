@@ -94,7 +94,13 @@ fn judge_payloads<C: Proof>(
 {
     windows_are_read_again();
     let proving = Proving::of(Role::Responder, &sent.keys, sent.first.as_slice());
-    if !is_accepted(alloc, step.caller, &step.config.peer.identity, &proving, payloads)? {
+    if !is_accepted(
+        alloc,
+        step.caller,
+        &step.config.peer.identity,
+        &proving,
+        payloads,
+    )? {
         return Ok(Outcome::Closes);
     }
     let setting = Setting {

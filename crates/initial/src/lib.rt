@@ -20,8 +20,8 @@ mod step;
 
 pub use answering::{Answered, answer_auth};
 pub use beginning::{Admitted, Beginning, admit, begin};
-pub use config::{Config, End};
 pub use concluding::Outcome;
+pub use config::{Config, End};
 pub use ending::{Ended, end_auth};
 pub use reading::{Continued, read_response};
 pub use step::Step;

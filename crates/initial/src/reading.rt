@@ -92,10 +92,21 @@ pub fn read_response<C: Sealer + Agreement + Proof>(
         }
         Ok(Response::Keys(keys)) => {
             let first = association.outgoing.get(number).unwrap();
-            let next = identity_request(alloc, step, association, sent, message.header.spi_r, &keys, first.octets.as_slice())?;
+            let next = identity_request(
+                alloc,
+                step,
+                association,
+                sent,
+                message.header.spi_r,
+                &keys,
+                first.octets.as_slice(),
+            )?;
             let kept = Items::from_slice(alloc, next.as_slice())?;
             let response = Items::from_slice(alloc, octets)?;
-            let outgoing = issued(Outgoing::after_initial(alloc), new_request(kept, IKE_AUTH, step.moment))?;
+            let outgoing = issued(
+                Outgoing::after_initial(alloc),
+                new_request(kept, IKE_AUTH, step.moment),
+            )?;
             // From here on nothing can be refused.
             association.spi_r = message.header.spi_r;
             association.outgoing = outgoing;
@@ -128,7 +139,14 @@ fn request_again<C: Sealer + Agreement>(
     ensures kept { IfOk result (λ again. again.kept ≡ again.octets) }
     ensures cookie { IfOk result (λ again. again.cookie ≡ cookie.now) }
 {
-    let octets = sa_init::request(alloc, step.caller, spi_i, Some(cookie), &sent.secret, &sent.nonce)?;
+    let octets = sa_init::request(
+        alloc,
+        step.caller,
+        spi_i,
+        Some(cookie),
+        &sent.secret,
+        &sent.nonce,
+    )?;
     Ok(Again {
         kept: Items::from_slice(alloc, octets.as_slice())?,
         cookie: Items::from_slice(alloc, cookie)?,

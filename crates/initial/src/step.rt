@@ -5,6 +5,7 @@ use policy::Policy;
 use suite::Fresh;
 
 /// What a step has to hand, beside the associations that it may change.
+#[derive(Drop)]
 pub struct Step<'a, C> {
     /// The caller's cipher, key agreement and proofs.
     pub caller: &'a C,

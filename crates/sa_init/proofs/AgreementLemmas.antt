@@ -3,10 +3,9 @@ use Rattle.std.proofs.Common.{◌≡◌, ◌≢◌, ℕ, zero, suc, List, [], �
 use Rattle.base.specs.Octets.{Octets}
 use Rattle.wire.specs.Messages.{Spells, SpellsPlainly}
 use Rattle.wire.specs.declared.message.Message.{Message}
-use Rattle.wire.specs.declared.payload.Payload.{Payload}
 use Rattle.wire.specs.declared.proposal.Proposal.{Proposal}
 use Rattle.suite.specs.Callers.{IsSecret}
-use Rattle.suite.specs.Choice.{ChoosesNumbers, HasSpi, IsChosenProposal}
+use Rattle.suite.specs.Choice.{HasSpi, IsChosenProposal}
 use Rattle.suite.specs.Keys.{ike_keys}
 use Rattle.suite.specs.declared.choice.Chosen.{Chosen}
 use Rattle.suite.specs.declared.choice.Wanted.{Wanted}
@@ -18,7 +17,7 @@ use Rattle.sa_init.specs.Agreement.{IsAnswer}
 use Rattle.sa_init.specs.Judging.{OfferView}
 use Rattle.sa_init.specs.Messages.{answer_message, ike_wanted}
 use Rattle.sa_init.specs.Parts.{HasParts, PartsView}
-use Rattle.sa_init.specs.Reading.{GivesKeys, IsAcceptance, WaitingView}
+use Rattle.sa_init.specs.Reading.{GivesKeys, WaitingView}
 use Rattle.sa_init.specs.declared.answers.Agreed.{Agreed}
 use Rattle.sa_init.proofs.PartLemmas.{same_parts}
 

@@ -1,5 +1,5 @@
 -- The messages of the exchange have what their fields allow, and are short.
-use Rattle.std.proofs.Common.{◌≡◌, ℕ, ◌+◌, ◌<◌, ◌≤◌, ◌^◌, List, [], ◌∷◌, ◌++◌, length, Option, Some, None, arith}
+use Rattle.std.proofs.Common.{ℕ, ◌<◌, ◌≤◌, ◌^◌, [], Option, Some, None, arith}
 use Rattle.std.specs.List.{AllByRecursion, sum_by}
 use Rattle.base.specs.Octets.{Octets}
 use Rattle.wire.specs.Sizes.{attribute_size, proposal_size, size_of, FitsAttribute, FitsFields, FitsProposal, FitsTransform}
@@ -8,7 +8,6 @@ use Rattle.suite.specs.Choice.{acceptable_transforms, key_length_attribute, with
 use Rattle.suite.specs.declared.choice.Chosen.{Chosen}
 use Rattle.suite.specs.declared.sealer.Cipher.{Cipher}
 use Rattle.exchange.specs.declared.notices.Notice.{Notice}
-use Rattle.exchange.specs.declared.notices.Notice.TheVariants.{UnsupportedCriticalPayload, InvalidSyntax, NoProposalChosen, AuthenticationFailed, NoAdditionalSas, TsUnacceptable, Cookie}
 use Rattle.exchange.specs.Notices.{payload_of_notice}
 use Rattle.sa_init.specs.Fitting.{FitsCookie, FitsKeyLength, FitsMessage, FitsNonce, FitsPublic, FitsTransforms}
 use Rattle.sa_init.specs.Messages.{agreeing_payloads, answer_message, ike_wanted, notice_message, request_message}

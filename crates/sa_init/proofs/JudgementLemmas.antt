@@ -1,5 +1,5 @@
 -- Judgements are determined.
-use Rattle.std.proofs.Common.{◌≡◌, ◌<◌, ℕ, Bool, List, Option, Some, None, slice_get, get_or, All, inl, inr, refl, sym, ap, subst, ◌∙◌, arith}
+use Rattle.std.proofs.Common.{◌≡◌, ℕ, List, Some, None, slice_get, All, inl, inr, refl, sym, ap, subst, ◌∙◌, arith}
 use Rattle.std.proofs.lemmas.Bool.{cases_order}
 use Rattle.std.proofs.lemmas.Option.{slice_get_within, get_or_from_slice_get}
 use Rattle.base.specs.Octets.{Octets}
@@ -9,7 +9,6 @@ use Rattle.suite.specs.Choice.{IsAcceptableProposal, IsChosenProposal}
 use Rattle.suite.specs.declared.choice.Chosen.{Chosen}
 use Rattle.suite.specs.declared.sealer.Cipher.{Cipher}
 use Rattle.exchange.specs.Counting.{unknown_critical}
-use Rattle.exchange.specs.declared.notices.Notice.{Notice}
 use Rattle.exchange.specs.declared.notices.Notice.TheVariants.{UnsupportedCriticalPayload, InvalidSyntax, NoProposalChosen, AuthenticationFailed, NoAdditionalSas, TsUnacceptable, Cookie}
 use Rattle.sa_init.specs.Cookies.{new_cookie, CookieSecrets}
 use Rattle.sa_init.specs.Judging.{Accepted, Answered, BringsRightCookie, Full, Incomplete, IsAccepted, IsConsidered, IsDeclined, IsHeard, IsIncomplete, IsJudgement, IsSuited, IsTurnedAway, IsUnsuited, IsWhole, JudgementView, OfferView, WantsCookie}

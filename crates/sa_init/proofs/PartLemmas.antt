@@ -2,13 +2,12 @@
 use Rattle.std.proofs.Common.{◌≡◌, ◌==◌, ◌≢◌, ℕ, zero, suc, ◌+◌, ◌≤◌, Bool, true, false, if◌then◌else◌, List, [], ◌∷◌, Option, Some, None, slice_get, option_and_then, refl, sym, ap, subst, ◌∙◌, arith}
 use Rattle.std.specs.List.{filter, AllByRecursion}
 use Rattle.base.specs.Octets.{IsOctet, Octets}
-use Rattle.wire.specs.Messages.{Spells}
 use Rattle.wire.specs.Numbers.{NONCE_TYPE, SA_TYPE}
 use Rattle.wire.specs.Payloads.{following, type_of, SpellsPayload, SpellsPayloads}
 use Rattle.wire.specs.Proposals.{AreNumbered, NumberedFrom}
 use Rattle.wire.specs.declared.message.Message.{Message}
 use Rattle.wire.specs.declared.payload.Payload.{Payload}
-use Rattle.wire.specs.declared.payload.Payload.TheVariants.{Sa, Ke, IdI, IdR, Auth, Nonce, Notify, Delete, TsI, TsR, Sealed, Skipped, Unknown}
+use Rattle.wire.specs.declared.payload.Payload.TheVariants.{Sa, Nonce}
 use Rattle.wire.specs.declared.proposal.Proposal.{Proposal}
 use Rattle.suite.specs.Nonces.{IsNonce}
 use Rattle.suite.specs.declared.sealer.Cipher.{Cipher}

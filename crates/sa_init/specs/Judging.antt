@@ -92,7 +92,7 @@ pub record IsConsidered (secrets : CookieSecrets) (sender : Sender) (half_open h
   pub opening : half_open < HALF_OPEN_LIMIT
   pub holding : held < ASSOCIATION_LIMIT
 
--- no proposal is acceptable (section 2.7), or the key exchange is of another group (section 1.3)
+-- no proposal is acceptable (section 2.7), or the key exchange is of another group (section 1.2)
 abbrev pub IsUnsuited : Cipher → ℕ → PartsView → Type 0
 IsUnsuited cipher group parts =
     (parts.group ≢ group) ⊎ All (λ proposal. ¬ IsAcceptableProposal (ike_wanted cipher group) proposal) parts.proposals

@@ -32,6 +32,15 @@ impl Model for Cookies {
 #[error("E36: the numbers are spent")]
 pub struct SecretsSpent;
 
+impl SecretsSpent {
+    /// The refusal's number, as programs print it behind `E`.
+    pub fn code(self) -> u8
+        ensures { result ≡ 36 }
+    {
+        36
+    }
+}
+
 impl Cookies {
     /// The first secret, of version 1, with none before it.
     pub fn new(secret: &[u8; 32]) -> Cookies

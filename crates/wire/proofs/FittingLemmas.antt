@@ -38,8 +38,7 @@ all_marked_fit : {A : Type 0} (Fits : A → Type 0) (Spelled : A → List ℕ �
 all_marked_fit Fits Spelled more one [] x octets s = tt
 all_marked_fit Fits Spelled more one (a ∷ []) x octets s = (marked_fits (Fits a) 0 (Spelled a) (one a) x octets s, tt)
 all_marked_fit Fits Spelled more one (a ∷ b ∷ found) x octets s =
-    let both = subst AreOctets s.joined octets in
-    (
+    let both = subst AreOctets s.joined octets in (
       marked_fits (Fits a) more (Spelled a) (one a) s.front (octets_front s.front s.rest both) s.first,
       all_marked_fit Fits Spelled more one (b ∷ found) s.rest (octets_back s.front s.rest both) s.others,
     )
@@ -138,8 +137,7 @@ payloads_fit first [] x clear octets s = tt
 payloads_fit first (p ∷ ps) x clear octets s =
     let j = s.2 in
     let both = subst AreOctets j.joined octets in
-    let front = octets_front j.front j.rest both in
-    (
+    let front = octets_front j.front j.rest both in (
       fields_fit p s.1 j.first.second j.first.body clear.0 (inside_octets s.1 j.first.second j.first.body j.front j.first.part front) j.first.header j.first.inside,
       payloads_fit (following p s.1) ps j.rest clear.1 (octets_back j.front j.rest both) j.others,
     )

@@ -1,4 +1,3 @@
-use Rattle.std.proofs.Common.{◌≡◌}
 use Rattle.association.proofs.ReceivingLemmas.{one_reception}
 use Rattle.association.proofs.laws.receptions_are_determined.Goals as goal
 

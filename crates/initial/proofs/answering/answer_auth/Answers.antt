@@ -1,4 +1,4 @@
-use Rattle.std.proofs.Common.{◌≡◌, refl, sym, subst, ap, ◌∙◌}
+use Rattle.std.proofs.Common.{subst, ap, ◌∙◌}
 use Rattle.requests.specs.Incoming.{TakesRequest}
 use Rattle.initial.specs.Concluding.{is_closing, with_incoming, ConcludesBy}
 use Rattle.initial.specs.Configs.{setup_of}

@@ -1,4 +1,4 @@
-use Rattle.std.proofs.Common.{◌≡◌, ap, subst, sym, ◌∙◌}
+use Rattle.std.proofs.Common.{ap, subst, sym, ◌∙◌}
 use Rattle.exchange.specs.declared.headers.Role.TheVariants.{Initiator}
 use Rattle.auth.specs.Proofs.{proving_of}
 use Rattle.auth.specs.Requests.{judgement_view, IsAcceptedRequest, IsAuthJudgement, asked_view}
@@ -14,8 +14,8 @@ respond_to-requires-clause-fits g c =
     let peer = c.args.step.now.config.now.peer.identity in
     let accepts = g.C.Proof.accepts c.args.step.now.caller.now in
     let accepted : IsAcceptedRequest accepts peer (peer_proving c.args.half_open.now) payloads (asked_view c.in-Accepted.asked) =
-        subst (λ j. IsAuthJudgement accepts peer (peer_proving c.args.half_open.now) payloads (judgement_view j)) c.in-Accepted.is
-        (subst (λ w. IsAuthJudgement accepts peer w payloads (judgement_view c.in_ok-notice.field-0)) (c.of-proving.ensures ∙ ap (λ f. proving_of Initiator c.args.half_open.now.keys f) c.as_slice.ensures) c.in_ok-notice.ensures.judged) in
+    subst (λ j. IsAuthJudgement accepts peer (peer_proving c.args.half_open.now) payloads (judgement_view j)) c.in-Accepted.is
+    (subst (λ w. IsAuthJudgement accepts peer w payloads (judgement_view c.in_ok-notice.field-0)) (c.of-proving.ensures ∙ ap (λ f. proving_of Initiator c.args.half_open.now.keys f) c.as_slice.ensures) c.in_ok-notice.ensures.judged) in
     record {
       proposals = c.what_counts_fits.ensures.sa payloads offer.proposals.now c.requires.fits accepted.sa;
       ts_i = c.what_counts_fits.ensures.ts_i payloads offer.ts_i.now c.requires.fits accepted.ts_i;
@@ -28,6 +28,6 @@ returns-in_ok-respond_to-in-Accepted-clause-fits g c =
     let peer = c.args.step.now.config.now.peer.identity in
     let accepts = g.C.Proof.accepts c.args.step.now.caller.now in
     let accepted : IsAcceptedRequest accepts peer (peer_proving c.args.half_open.now) payloads (asked_view c.in-Accepted.asked) =
-        subst (λ j. IsAuthJudgement accepts peer (peer_proving c.args.half_open.now) payloads (judgement_view j)) c.in-Accepted.is
-        (subst (λ w. IsAuthJudgement accepts peer w payloads (judgement_view c.in_ok-notice.field-0)) (c.of-proving.ensures ∙ ap (λ f. proving_of Initiator c.args.half_open.now.keys f) c.as_slice.ensures) c.in_ok-notice.ensures.judged) in
+    subst (λ j. IsAuthJudgement accepts peer (peer_proving c.args.half_open.now) payloads (judgement_view j)) c.in-Accepted.is
+    (subst (λ w. IsAuthJudgement accepts peer w payloads (judgement_view c.in_ok-notice.field-0)) (c.of-proving.ensures ∙ ap (λ f. proving_of Initiator c.args.half_open.now.keys f) c.as_slice.ensures) c.in_ok-notice.ensures.judged) in
     (c.in_ok-respond_to-in-Accepted.ensures.fits, subst IsWindow (sym accepted.told) (c.windows_are_read_again.ensures.bounds payloads))

@@ -1,4 +1,4 @@
-use Rattle.std.proofs.Common.{◌≡◌, ap, sym, ◌∙◌}
+use Rattle.std.proofs.Common.{ap, sym, ◌∙◌}
 use Rattle.exchange.specs.declared.headers.Role.TheVariants.{Responder}
 use Rattle.auth.specs.Answers.{is_accepted}
 use Rattle.auth.specs.Proofs.{proving_of}

@@ -1,4 +1,4 @@
-use Rattle.std.proofs.Common.{◌≡◌, ap, subst, ◌∙◌}
+use Rattle.std.proofs.Common.{ap, subst, ◌∙◌}
 use Rattle.requests.specs.Outgoing.{IssuesRequest, OwnRequests}
 use Rattle.association.specs.declared.phase.Request.{Request}
 use Rattle.initial.proofs.issuing.issued.Goals as goal

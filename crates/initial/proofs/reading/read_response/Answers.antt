@@ -41,8 +41,8 @@ returns-in_ok-outgoing-in-Ok-Keys-clause-read g c =
     let request : c.new_request.result ≡ new_request next IKE_AUTH c.args.step.now.moment = c.new_request.ensures ∙ ap (λ o. new_request o IKE_AUTH c.args.step.now.moment) kept in
     let outgoing : c.in_ok-outgoing-in-Ok-Keys.outgoing ≡ new.outgoing = sym (ap (λ (a : Association). a.outgoing) c.tell.ensures) in
     let phase : telling keys c.in_ok-response-in-Ok-Keys.response old.phase ≡ phase.AuthSent (record { keys = keys; first = c.args.octets.now; child = sent.child }) =
-        ap (telling keys c.in_ok-response-in-Ok-Keys.response) c.in-InitSent.is
-        ∙ ap (λ f. phase.AuthSent (record { keys = keys; first = f; child = sent.child })) c.in_ok-response-in-Ok-Keys.ensures in
+    ap (telling keys c.in_ok-response-in-Ok-Keys.response) c.in-InitSent.is
+    ∙ ap (λ f. phase.AuthSent (record { keys = keys; first = f; child = sent.child })) c.in_ok-response-in-Ok-Keys.ensures in
     record {
       sent = sent;
       was = c.in-InitSent.is;
