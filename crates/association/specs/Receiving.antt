@@ -13,9 +13,10 @@ use Rattle.exchange.specs.Headers.{keys_of, other_role}
 use Rattle.exchange.specs.Sealed.{lone_body, plain_of_message}
 use Rattle.exchange.specs.declared.headers.Role.{Role}
 use Rattle.exchange.specs.declared.sealed.Plain.{Plain}
-use Rattle.requests.specs.Incoming.{IsJudgement}
+use Rattle.requests.specs.Incoming.{IsFreshRequest, IsJudgement}
 use Rattle.requests.specs.declared.incoming.Judgement.{Judgement}
 use Rattle.requests.specs.declared.incoming.Judgement.TheVariants as judged
+use Rattle.association.specs.Finding.{is_waiting}
 use Rattle.association.specs.Phases.{keys_in}
 use Rattle.association.specs.declared.fault.MessageFault.{MessageFault}
 use Rattle.association.specs.declared.fault.MessageFault.TheVariants.{NotOpened, Forgotten, OutsideWindow, WrongPhase}
@@ -137,7 +138,34 @@ abbrev pub IsUndecidedBy : Bool → Association → Header → Type 0
 IsUndecidedBy true a h = is_undecided_response a h ≡ true
 IsUndecidedBy false a h = IsUndecidedRequest a h
 
--- what the message is depends on what it opens to, and it has an encrypted payload alone
+-- what the message is depends on what it opens to, it has an encrypted payload alone, and there are keys to open it under
 pub record IsUndecided (a : Association) (m : Message) : Type 0 where
   pub undecided : IsUndecidedBy m.header.flags.response a m.header
   pub encrypted : lone_body m.payloads ≢ None
+  pub keyed : keys_in a.phase ≢ None
+
+-- A request that takes effect: its number did not yet and lies in the window, its exchange belongs to the phase, and it opens under
+-- the peer's keys.
+pub record IsEffective (plain_of : Opening) (a : Association) (octets : Octets) (m : Message) (plain : Plain) : Type 0 where
+  pub request : m.header.flags.response ≡ false
+  pub fresh : IsFreshRequest a.incoming m.header.id
+  pub admitted : admits a.phase m.header.exchange ≡ true
+  pub opened : opened_by plain_of a octets m.payloads ≡ Some plain
+
+-- The response to an outstanding request of its number and its exchange.
+pub record IsDue (a : Association) (m : Message) : Type 0 where
+  pub response : m.header.flags.response ≡ true
+  pub open_yet : is_closed a.phase ≡ false
+  pub request : Request
+  pub outstanding : map.get a.outgoing.outstanding m.header.id ≡ Some request
+  pub exchange_is : (request.exchange == m.header.exchange) ≡ true
+
+-- one that opens under the peer's keys
+pub record IsAnswering (plain_of : Opening) (a : Association) (octets : Octets) (m : Message) (plain : Plain) : Type 0 where
+  pub due : IsDue a m
+  pub opened : opened_by plain_of a octets m.payloads ≡ Some plain
+
+-- that of IKE_SA_INIT, which this end waits for
+pub record IsAnsweringInitial (a : Association) (m : Message) : Type 0 where
+  pub due : IsDue a m
+  pub waiting : is_waiting a.phase ≡ true

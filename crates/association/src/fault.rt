@@ -10,7 +10,8 @@ pub enum MessageFault {
     /// No association has its pair of SPIs.
     #[error("E28: no association has these SPIs")]
     UnknownAssociation,
-    /// It has another payload than one that is encrypted, or that doesn't open under the peer's keys (RFC 7296, section 3.14).
+    /// It has not one encrypted payload and no other, or that doesn't open under the peer's keys, or there are none yet (RFC 7296,
+    /// section 3.14).
     #[error("E29: the message doesn't open")]
     NotOpened,
     /// A request that took effect, and whose reply is kept no more (section 2.1).

@@ -2,7 +2,8 @@
 ghost use Rattle.std.specs.Prelude.{◌≡◌};
 ghost use Rattle.base.specs.Octets.{Octets};
 ghost use Rattle.wire.specs.declared.message.Message.{Message};
-ghost use Rattle.association.specs.Receiving.{IsReceived, Opening, Reception};
+ghost use Rattle.exchange.specs.declared.sealed.Plain.{Plain};
+ghost use Rattle.association.specs.Receiving.{Answers, AnswersInitial, IsAnswering, IsAnsweringInitial, IsEffective, IsReceived, Opening, Reception, TakesEffect};
 ghost use Rattle.association.specs.declared.phase.Association.{Association};
 
 use requests::laws::judgements_are_determined;
@@ -14,3 +15,20 @@ pub fn receptions_are_determined()
 {
     judgements_are_determined();
 }
+
+/// What a message is to an association tells what is asked of the association: a request that takes effect is fresh, belongs to the
+/// phase and opens; a response answers an outstanding request, and opens but for that of IKE_SA_INIT.
+pub fn receptions_say_why()
+    ensures effective { (plain_of : Opening) (a : Association) (octets : Octets) (m : Message) (plain : Plain)
+        → IsReceived plain_of a octets m (TakesEffect plain) → IsEffective plain_of a octets m plain }
+    ensures answering { (plain_of : Opening) (a : Association) (octets : Octets) (m : Message) (plain : Plain)
+        → IsReceived plain_of a octets m (Answers plain) → IsAnswering plain_of a octets m plain }
+    ensures initial { (plain_of : Opening) (a : Association) (octets : Octets) (m : Message)
+        → IsReceived plain_of a octets m AnswersInitial → IsAnsweringInitial a m }
+{}
+
+/// A request that is fresh, belongs to the phase and opens takes effect.
+pub fn what_is_due_is_received()
+    ensures { (plain_of : Opening) (a : Association) (octets : Octets) (m : Message) (plain : Plain)
+        → IsEffective plain_of a octets m plain → IsReceived plain_of a octets m (TakesEffect plain) }
+{}

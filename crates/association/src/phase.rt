@@ -80,7 +80,7 @@ pub struct InitSent {
 #[derive(Drop)]
 pub struct AuthSent {
     pub keys: KeyRecord,
-    /// The responder's first message, which it has to prove (RFC 7296, section 2.15).
+    /// The responder's first message, over which its AUTH is computed (RealMessage2; RFC 7296, section 2.15).
     pub first: Items<u8>,
     /// The child that was asked for.
     pub child: FirstChild,
@@ -90,9 +90,11 @@ pub struct AuthSent {
 #[derive(Drop)]
 pub struct HalfOpen {
     pub keys: KeyRecord,
-    /// The initiator's first message, which it has to prove (RFC 7296, section 2.15), and by which its repeat is known.
+    /// The initiator's first message, over which its AUTH is computed (RealMessage1; RFC 7296, section 2.15), and by which its
+    /// repeat is known.
     pub request: Items<u8>,
-    /// This end's answer, which goes out again where the request does.
+    /// This end's answer, over which its own AUTH is computed (RealMessage2), and which goes out again where the request comes
+    /// again.
     pub reply: Items<u8>,
     /// The moment at which it was made, in milliseconds.
     pub made: u64,
@@ -113,8 +115,9 @@ impl Association {
         }
     }
 
-    /// Both ends know who the other is, and each has proved it. The SPI is answered that was reserved for the first child, where
-    /// this end asked for one. Takes no memory.
+    /// Makes an association established whose IKE_AUTH is done; in any other phase than [`Phase::AuthSent`] and
+    /// [`Phase::HalfOpen`] nothing changes. The SPI is answered that was reserved for the first child, where this end asked for
+    /// one. Takes no memory.
     pub fn establish(&mut self) -> Option<Spi>
         ensures spi { result ≡ established_spi self.old.phase }
         ensures content { self.new ≡ record self.old { phase = established_of self.old.phase } }

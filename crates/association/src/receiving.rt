@@ -2,6 +2,7 @@
 ghost use Rattle.std.specs.Prelude.{◌≡◌, ◌≢◌, true, false, None, IfErr, IfOk};
 ghost use Rattle.exchange.specs.Sealed.{lone_body};
 ghost use Rattle.wire.specs.Messages.{Spells};
+ghost use Rattle.association.specs.Phases.{keys_in};
 ghost use Rattle.association.specs.Receiving.{admits, fresh_reception, is_closed, opened_by, received_view, reception_of_response, IsReceived, IsReceivedRequest, IsUndecided, IsUndecidedRequest, is_undecided_response};
 
 use crate::{Association, MessageFault, Phase};
@@ -39,7 +40,7 @@ pub enum Received<'a> {
 /// refused by [`MessageFault::WrongPhase`] where its exchange doesn't belong to the phase: IKE_AUTH to a half-open association,
 /// CREATE_CHILD_SA and INFORMATIONAL to an established one.
 ///
-/// An error is for want of memory alone, which none but a message that has to be opened takes.
+/// An error is for want of memory alone, which none but a message that is opened takes.
 pub fn receive<'a, S: Sealer>(
     alloc: Global,
     sealer: &S,
@@ -70,7 +71,7 @@ fn receive_response<'a, S: Sealer>(
     ensures received { IfOk result (λ received. received_view received
         ≡ reception_of_response S.plain_of association.now octets.now message.now) }
     ensures memory { IfErr result (λ _. (is_undecided_response association.now message.now.header ≡ true)
-        × (lone_body message.now.payloads ≢ None)) }
+        × (lone_body message.now.payloads ≢ None) × (keys_in association.now.phase ≢ None)) }
 {
     if let Phase::Closed { .. } = &association.phase {
         return Ok(Received::Refused(MessageFault::WrongPhase));
@@ -101,7 +102,7 @@ fn receive_request<'a, S: Sealer>(
     ensures received { IfOk result (λ received.
         IsReceivedRequest S.plain_of association.now octets.now message.now (received_view received)) }
     ensures memory { IfErr result (λ _. IsUndecidedRequest association.now message.now.header
-        × (lone_body message.now.payloads ≢ None)) }
+        × (lone_body message.now.payloads ≢ None) × (keys_in association.now.phase ≢ None)) }
 {
     match association.incoming.judge(message.header.id) {
         Judgement::Forgotten => Ok(Received::Refused(MessageFault::Forgotten)),
@@ -129,7 +130,7 @@ fn receive_fresh<'a, S: Sealer>(
         ≡ fresh_reception association.now.phase message.now.header.exchange
         (opened_by S.plain_of association.now octets.now message.now.payloads)) }
     ensures memory { IfErr result (λ _. (is_closed association.now.phase ≡ false)
-        × (lone_body message.now.payloads ≢ None)) }
+        × (lone_body message.now.payloads ≢ None) × (keys_in association.now.phase ≢ None)) }
 {
     if let Phase::Closed { .. } = &association.phase {
         return Ok(Received::Refused(MessageFault::WrongPhase));
@@ -164,7 +165,8 @@ fn opened<S: Sealer>(
 ) -> Result<Option<Plain>, AllocError>
     requires { Spells message.now octets.now }
     ensures opened { IfOk result (λ plain. plain ≡ opened_by S.plain_of association.now octets.now message.now.payloads) }
-    ensures memory { IfErr result (λ _. lone_body message.now.payloads ≢ None) }
+    ensures memory { IfErr result (λ _. (lone_body message.now.payloads ≢ None)
+        × (keys_in association.now.phase ≢ None)) }
 {
     let Some(keys) = association.keys() else {
         return Ok(None);

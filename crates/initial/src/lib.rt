@@ -25,3 +25,6 @@ pub use config::{Config, End};
 pub use ending::{Ended, end_auth};
 pub use reading::{Continued, read_response};
 pub use step::Step;
+
+#[cfg(test)]
+mod tests;
