@@ -6,3 +6,4 @@ pub mod Ending
 pub mod Issuing
 pub mod Beginning
 pub mod Reading
+pub mod Taking

@@ -95,7 +95,7 @@ pub record IsInitSent (p : Phase) : Type 0 where
   pub sent : InitSent
   pub is : p ≡ phase.InitSent sent
 
--- the request carries this cookie from then on
+-- the request carries this cookie from then on; only private contracts cite this and the next
 abbrev pub carrying : Octets → Phase → Phase
 carrying cookie (phase.InitSent sent) = phase.InitSent (record sent { cookie = Some cookie; cookies_taken = sent.cookies_taken + 1 })
 carrying cookie p = p
@@ -105,7 +105,7 @@ abbrev pub TakesFew : Phase → Type 0
 TakesFew (phase.InitSent sent) = sent.cookies_taken < 255
 TakesFew p = Unit {0}
 
--- the keys are there, and IKE_AUTH is asked
+-- the keys are derived, and the response to IKE_AUTH is waited for; only private contracts cite this
 abbrev pub telling : KeyRecord → Octets → Phase → Phase
 telling keys first (phase.InitSent sent) = phase.AuthSent (record { keys = keys; first = first; child = sent.child })
 telling keys first p = p

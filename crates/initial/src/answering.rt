@@ -44,7 +44,8 @@ pub struct Answered {
 ///
 /// The association is closed, and the reply is one notice, where the payloads are not in the grammar (INVALID_SYNTAX), or the peer is
 /// refused by [`auth::judge`]. Otherwise it is established: the reply has this end's identity and its proof, what
-/// [`children::respond`] answers for the child, and the window of this end where it is above 1.
+/// [`children::respond`] answers for the child, and the window of this end where it is above 1. From then on both windows count
+/// (section 2.3): this end's as configured, the peer's as it told, 1 where it told none.
 ///
 /// The caller asks only at a half-open association, where the request is fresh. An error is for want of memory alone: association
 /// and table are as they were then, but for the table's room.

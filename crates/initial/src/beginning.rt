@@ -26,8 +26,8 @@ pub struct Beginning {
     nonce: [u8; 32],
 }
 
-/// Makes the first request of an initiator (RFC 7296, section 1.2), with the SPI, the secret and the nonce that are fresh. An error
-/// is for want of memory alone.
+/// Makes the first request of an initiator (RFC 7296, section 1.2), with the SPI, the secret and the nonce that are fresh. That the
+/// SPI is not zero and no SPI of this end in use is the caller's to see to. An error is for want of memory alone.
 pub fn begin<C: Sealer + Agreement>(
     alloc: Global,
     step: &Step<'_, C>,
@@ -103,7 +103,8 @@ pub struct Admitted {
 }
 
 /// Answers an offer that was accepted ([`sa_init::judge`]), with the SPI, the secret and the nonce that are fresh: the association
-/// is half open from then on. `request` is the datagram that brought the offer. `None` (E32) exactly where the agreement refuses the
+/// is half open from then on. `request` is the very datagram that brought the offer, over which the initiator's AUTH is computed.
+/// That the fresh SPI is not zero and no SPI of this end in use is the caller's to see to. `None` (E32) exactly where the agreement refuses the
 /// initiator's public value. An error is for want of memory alone.
 pub fn admit<C: Sealer + Agreement>(
     alloc: Global,

@@ -1,4 +1,4 @@
-//! What an end is set to.
+//! The configuration of an end.
 
 use auth::Identity;
 use std::fmt;
@@ -8,11 +8,11 @@ use std::fmt;
 pub struct End {
     /// Who it is (RFC 7296, section 3.5).
     pub identity: Identity,
-    /// Where it is.
+    /// Its IPv4 address, as its four octets stand in a packet. Nothing here reads it.
     pub address: [u8; 4],
 }
 
-/// What an end is set to, once and for all.
+/// The configuration of this end.
 #[derive(Drop)]
 pub struct Config {
     /// This end.

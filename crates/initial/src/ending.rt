@@ -32,7 +32,8 @@ pub struct Ended {
 /// Counts the response to IKE_AUTH (RFC 7296, section 1.2), by the payloads that it opened to.
 ///
 /// The association is closed where the payloads are not in the grammar, or the peer is refused by [`auth::is_accepted`]. Otherwise it is
-/// established, with the child that [`children::accept`] makes of the answer, or without one: then its SPI is given up.
+/// established, with the child that [`children::accept`] makes of the answer, or without one: then its SPI is given up. From then
+/// on both windows count (section 2.3): this end's as configured, the peer's as it told, 1 where it told none.
 ///
 /// The caller asks only where the response to IKE_AUTH is waited for, of this number, and the child's SPI is reserved in the table.
 /// An error is for want of memory alone, and changes nothing.

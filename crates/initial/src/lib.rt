@@ -1,10 +1,22 @@
-//! The initial exchanges (RFC 7296, section 1.2): what the messages of IKE_SA_INIT and IKE_AUTH do to an association that both
-//! ends hold, to the table of associations for ESP, and what is sent back.
+//! The initial exchanges (RFC 7296, section 1.2): what the messages of IKE_SA_INIT and IKE_AUTH do to one association, to the
+//! table of associations for ESP, and what is sent back.
 //!
-//! An initiator's association is [`begin`]'s, and a responder's [`admit`]'s. [`read_response`] makes of the response to IKE_SA_INIT the next request, and
-//! [`end_auth`] of the response to IKE_AUTH an association that is established, with its first child, or closed; so does
-//! [`answer_auth`] of the request, at a responder. Which association a message is for, whether its number is fresh and what
-//! it opens to, [`association`] tells; each call here makes all that it needs before it changes anything.
+//! An initiator's association is [`begin`]'s, and a responder's [`admit`]'s. [`read_response`] makes of the response to
+//! IKE_SA_INIT the next request, and [`end_auth`] of the response to IKE_AUTH an association that is established, with its first
+//! child, or closed; so does [`answer_auth`] of the request, at a responder. Which association a message is for, whether its
+//! number is fresh and what it opens to, [`association`] tells; each call here makes all that it needs before it changes anything.
+//!
+//! ```text
+//! let beginning = begin(alloc, &step)?;
+//! let child = FirstChild::new(table.reserve()?, local, remote, true);
+//! let (mut association, request) = beginning.into_association(alloc, 1, child);
+//! send(request);
+//!
+//! match read_response(alloc, &step, &mut association, 0, &datagram, &message)? {
+//!     Continued::Request(next) => send(next),
+//!     Continued::Unfit => ..,
+//! }
+//! ```
 #![tactic(auto)]
 
 mod answering;
@@ -17,14 +29,15 @@ mod issuing;
 mod reading;
 mod sealing;
 mod step;
+mod taking;
 
 pub use answering::{Answered, answer_auth};
 pub use beginning::{Admitted, Beginning, admit, begin};
-pub use concluding::Outcome;
 pub use config::{Config, End};
 pub use ending::{Ended, end_auth};
 pub use reading::{Continued, read_response};
 pub use step::Step;
+pub use taking::{Effect, take_message};
 
 #[cfg(test)]
 mod tests;

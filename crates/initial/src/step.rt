@@ -1,4 +1,4 @@
-//! What a step has to hand.
+//! The surroundings of a step.
 
 use crate::Config;
 use policy::Policy;
@@ -11,7 +11,7 @@ pub struct Step<'a, C> {
     pub caller: &'a C,
     pub config: &'a Config,
     pub policy: &'a Policy,
-    /// What the caller made anew for this step.
+    /// Random words of this step alone, from the caller.
     pub fresh: &'a Fresh,
     /// The moment of the step, in milliseconds.
     pub moment: u64,
