@@ -26,6 +26,7 @@ mod config;
 mod deciding;
 mod ending;
 mod issuing;
+pub mod laws;
 mod reading;
 mod sealing;
 mod step;
