@@ -1,2 +1,3 @@
 mod ChildLemmas
 mod SpiLemmas
+mod OtherLemmas

@@ -1,12 +1,12 @@
 -- An SPI that an association holds stays reserved, or is held no more.
-use Rattle.std.proofs.Common.{◌≡◌, ℕ, Option, Some, None, ap, subst, sym, ◌∙◌}
+use Rattle.std.proofs.Common.{◌≡◌, ℕ, Option, None, ap, subst, sym, ◌∙◌}
 use Rattle.base.specs.Octets.{Octets}
 use Rattle.wire.specs.declared.message.Message.{Message}
 use Rattle.exchange.specs.declared.sealed.Plain.{Plain}
 use Rattle.sadb.specs.Database.{Database}
 use Rattle.sa_init.specs.declared.response.Response.{Response}
 use Rattle.sa_init.specs.declared.response.Response.TheVariants as response
-use Rattle.association.specs.Closing.{Closes, HoldsSpi}
+use Rattle.association.specs.Closing.{HoldsSpi}
 use Rattle.association.specs.Phases.{established_of, spi_in}
 use Rattle.association.specs.Receiving.{Answers, AnswersInitial, Reception, Refused, Repeat, TakesEffect}
 use Rattle.association.specs.declared.phase.Association.{Association}
@@ -18,8 +18,8 @@ use Rattle.initial.specs.Answering.{outcome_of, AnswersAuth, Prover}
 use Rattle.initial.specs.Concluding.{ConcludesBy}
 use Rattle.initial.specs.Configs.{Setup}
 use Rattle.initial.specs.Ending.{EndsAuth}
-use Rattle.initial.specs.Reading.{Asker, Continues, ReadsResponse}
-use Rattle.initial.specs.Taking.{asker_of, prover_of, Does, DoesInitial, DoesRequest, DoesResponse, IsPassedOver, Meaning, TakesMessage}
+use Rattle.initial.specs.Reading.{Asker, Continues}
+use Rattle.initial.specs.Taking.{asker_of, prover_of, Does, DoesRequest, DoesResponse, IsPassedOver, Meaning, TakesMessage}
 use Rattle.initial.specs.declared.answering.Answered.{Answered}
 use Rattle.initial.specs.declared.concluding.Outcome.{Outcome}
 use Rattle.initial.specs.declared.concluding.Outcome.TheVariants as outcome
@@ -49,12 +49,15 @@ ended_none accepts setup old table number plain e new new_table is =
 
 continued_same : (asker : Asker) (setup : Setup) (old : Association) (sent : InitSent) (number : ℕ) (m : Message) (octets : Octets) (r : Response) (c : Continued) (new : Association)
     → old.phase ≡ phase.InitSent sent → Continues asker setup old sent number m octets r c new → held_by new ≡ held_by old
-continued_same asker setup old sent number m octets (response.Cookie cookie) (continued.Request next) new was is = ap held_by is.content ∙ sym (ap spi_in was)
-continued_same asker setup old sent number m octets (response.Keys keys) (continued.Request next) new was is = ap held_by is.content ∙ sym (ap spi_in was)
-continued_same asker setup old sent number m octets response.Unfit continued.Unfit new was is = ap held_by is
+continued_same asker setup old sent number m octets (response.Cookie cookie) (continued.Again next) new was is = ap held_by is.content ∙ sym (ap spi_in was)
+continued_same asker setup old sent number m octets (response.Cookie cookie) (continued.Identity next) new was is = absurd is
 continued_same asker setup old sent number m octets (response.Cookie cookie) continued.Unfit new was is = absurd is
+continued_same asker setup old sent number m octets (response.Keys keys) (continued.Again next) new was is = absurd is
+continued_same asker setup old sent number m octets (response.Keys keys) (continued.Identity next) new was is = ap held_by is.content ∙ sym (ap spi_in was)
 continued_same asker setup old sent number m octets (response.Keys keys) continued.Unfit new was is = absurd is
-continued_same asker setup old sent number m octets response.Unfit (continued.Request next) new was is = absurd is
+continued_same asker setup old sent number m octets response.Unfit (continued.Again next) new was is = absurd is
+continued_same asker setup old sent number m octets response.Unfit (continued.Identity next) new was is = absurd is
+continued_same asker setup old sent number m octets response.Unfit continued.Unfit new was is = ap held_by is
 
 -- held no more, or still and reserved
 held_none : (o : Option ℕ) (table : Database) → o ≡ None → HoldsSpi o table
@@ -126,35 +129,35 @@ does_hold meaning setup old table octets m (Refused f) (effect.Refused fault) ne
 does_hold meaning setup old table octets m (Repeat reply) (effect.Refused fault) new new_table holds is = absurd is
 does_hold meaning setup old table octets m (TakesEffect plain) (effect.Refused fault) new new_table holds is = request_holds meaning setup old.phase old table m.header.id plain (effect.Refused fault) new new_table holds is
 does_hold meaning setup old table octets m (Answers plain) (effect.Refused fault) new new_table holds is = response_holds meaning setup old.phase old table m.header.id plain (effect.Refused fault) new new_table holds is
-does_hold meaning setup old table octets m AnswersInitial (effect.Refused fault) new new_table holds is = 
+does_hold meaning setup old table octets m AnswersInitial (effect.Refused fault) new new_table holds is =
     let same = continued_same (asker_of meaning) setup old is.0.read.sent m.header.id m octets is.0.read.response is.0.continued new is.0.read.was is.0.read.continues in
     subst (λ (d : Database). HoldsSpi (held_by new) d) (sym is.1) (subst (λ s. HoldsSpi s table) (sym same) holds)
 does_hold meaning setup old table octets m (Refused f) (effect.Repeated said) new new_table holds is = absurd is
 does_hold meaning setup old table octets m (Repeat reply) (effect.Repeated said) new new_table holds is = held_still old new table new_table is.1 holds
 does_hold meaning setup old table octets m (TakesEffect plain) (effect.Repeated said) new new_table holds is = request_holds meaning setup old.phase old table m.header.id plain (effect.Repeated said) new new_table holds is
 does_hold meaning setup old table octets m (Answers plain) (effect.Repeated said) new new_table holds is = response_holds meaning setup old.phase old table m.header.id plain (effect.Repeated said) new new_table holds is
-does_hold meaning setup old table octets m AnswersInitial (effect.Repeated said) new new_table holds is = 
+does_hold meaning setup old table octets m AnswersInitial (effect.Repeated said) new new_table holds is =
     let same = continued_same (asker_of meaning) setup old is.0.read.sent m.header.id m octets is.0.read.response is.0.continued new is.0.read.was is.0.read.continues in
     subst (λ (d : Database). HoldsSpi (held_by new) d) (sym is.1) (subst (λ s. HoldsSpi s table) (sym same) holds)
 does_hold meaning setup old table octets m (Refused f) (effect.Replied answered) new new_table holds is = absurd is
 does_hold meaning setup old table octets m (Repeat reply) (effect.Replied answered) new new_table holds is = absurd is
 does_hold meaning setup old table octets m (TakesEffect plain) (effect.Replied answered) new new_table holds is = request_holds meaning setup old.phase old table m.header.id plain (effect.Replied answered) new new_table holds is
 does_hold meaning setup old table octets m (Answers plain) (effect.Replied answered) new new_table holds is = response_holds meaning setup old.phase old table m.header.id plain (effect.Replied answered) new new_table holds is
-does_hold meaning setup old table octets m AnswersInitial (effect.Replied answered) new new_table holds is = 
+does_hold meaning setup old table octets m AnswersInitial (effect.Replied answered) new new_table holds is =
     let same = continued_same (asker_of meaning) setup old is.0.read.sent m.header.id m octets is.0.read.response is.0.continued new is.0.read.was is.0.read.continues in
     subst (λ (d : Database). HoldsSpi (held_by new) d) (sym is.1) (subst (λ s. HoldsSpi s table) (sym same) holds)
 does_hold meaning setup old table octets m (Refused f) (effect.Requested next) new new_table holds is = absurd is
 does_hold meaning setup old table octets m (Repeat reply) (effect.Requested next) new new_table holds is = absurd is
 does_hold meaning setup old table octets m (TakesEffect plain) (effect.Requested next) new new_table holds is = request_holds meaning setup old.phase old table m.header.id plain (effect.Requested next) new new_table holds is
 does_hold meaning setup old table octets m (Answers plain) (effect.Requested next) new new_table holds is = response_holds meaning setup old.phase old table m.header.id plain (effect.Requested next) new new_table holds is
-does_hold meaning setup old table octets m AnswersInitial (effect.Requested next) new new_table holds is = 
+does_hold meaning setup old table octets m AnswersInitial (effect.Requested next) new new_table holds is =
     let same = continued_same (asker_of meaning) setup old is.0.read.sent m.header.id m octets is.0.read.response is.0.continued new is.0.read.was is.0.read.continues in
     subst (λ (d : Database). HoldsSpi (held_by new) d) (sym is.1) (subst (λ s. HoldsSpi s table) (sym same) holds)
 does_hold meaning setup old table octets m (Refused f) (effect.Counted ended) new new_table holds is = absurd is
 does_hold meaning setup old table octets m (Repeat reply) (effect.Counted ended) new new_table holds is = absurd is
 does_hold meaning setup old table octets m (TakesEffect plain) (effect.Counted ended) new new_table holds is = request_holds meaning setup old.phase old table m.header.id plain (effect.Counted ended) new new_table holds is
 does_hold meaning setup old table octets m (Answers plain) (effect.Counted ended) new new_table holds is = response_holds meaning setup old.phase old table m.header.id plain (effect.Counted ended) new new_table holds is
-does_hold meaning setup old table octets m AnswersInitial (effect.Counted ended) new new_table holds is = 
+does_hold meaning setup old table octets m AnswersInitial (effect.Counted ended) new new_table holds is =
     let same = continued_same (asker_of meaning) setup old is.0.read.sent m.header.id m octets is.0.read.response is.0.continued new is.0.read.was is.0.read.continues in
     subst (λ (d : Database). HoldsSpi (held_by new) d) (sym is.1) (subst (λ s. HoldsSpi s table) (sym same) holds)
 

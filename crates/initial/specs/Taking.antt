@@ -7,7 +7,6 @@ use Rattle.suite.specs.declared.sealer.Cipher.{Cipher}
 use Rattle.exchange.specs.declared.sealed.Plain.{Plain}
 use Rattle.sadb.specs.Database.{Database}
 use Rattle.association.specs.Receiving.{Answers, AnswersInitial, IsReceived, Opening, Reception, Refused, Repeat, TakesEffect}
-use Rattle.association.specs.declared.fault.MessageFault.{MessageFault}
 use Rattle.association.specs.declared.fault.MessageFault.TheVariants.{WrongPhase}
 use Rattle.association.specs.declared.phase.Association.{Association}
 use Rattle.association.specs.declared.phase.Phase.{Phase}
@@ -73,7 +72,8 @@ DoesResponse meaning setup p old table number plain e new new_table = ⊥
 
 -- what is done about the response to IKE_SA_INIT, by how it is gone on
 abbrev pub Says : Effect → Continued → Type 0
-Says (effect.Requested octets) (continued.Request next) = octets ≡ next
+Says (effect.Requested octets) (continued.Again next) = octets ≡ next
+Says (effect.Requested octets) (continued.Identity next) = octets ≡ next
 Says (effect.Refused fault) continued.Unfit = fault ≡ WrongPhase
 Says e c = ⊥
 

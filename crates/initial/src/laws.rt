@@ -1,7 +1,8 @@
 //! What follows from the definitions alone. No function here does anything.
+ghost use Rattle.std.specs.Prelude.{◌≢◌, ◌+◌, ◌<◌, ℕ, Some};
 ghost use Rattle.base.specs.Octets.{Octets};
 ghost use Rattle.wire.specs.declared.message.Message.{Message};
-ghost use Rattle.sadb.specs.Database.{Database};
+ghost use Rattle.sadb.specs.Database.{Database, IsReserved};
 ghost use Rattle.association.specs.Closing.{HoldsSpi};
 ghost use Rattle.association.specs.Phases.{spi_in};
 ghost use Rattle.association.specs.declared.phase.Association.{Association};
@@ -15,4 +16,12 @@ pub fn spis_stay_reserved()
         (effect : Effect) (new : Association) (new_table : Database) → HoldsSpi (spi_in old.phase) table
         → TakesMessage meaning setup old table octets m effect new new_table
         → HoldsSpi (spi_in new.phase) new_table }
+{}
+
+/// An SPI that is reserved for another association than the one that a message is for stays reserved.
+pub fn what_others_hold_stays()
+    ensures { (meaning : Meaning) (setup : Setup) (old : Association) (table : Database) (octets : Octets) (m : Message)
+        (effect : Effect) (new : Association) (new_table : Database) (spi : ℕ) → spi_in old.phase ≢ Some spi
+        → IsReserved table spi → spi < table.start + table.given
+        → TakesMessage meaning setup old table octets m effect new new_table → IsReserved new_table spi }
 {}

@@ -13,7 +13,7 @@
 //! send(request);
 //!
 //! match read_response(alloc, &step, &mut association, 0, &datagram, &message)? {
-//!     Continued::Request(next) => send(next),
+//!     Continued::Again(next) | Continued::Identity(next) => send(next),
 //!     Continued::Unfit => ..,
 //! }
 //! ```

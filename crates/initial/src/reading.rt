@@ -38,8 +38,10 @@ use wire::{Message, Payload};
 /// What an initiator does about the response to IKE_SA_INIT.
 #[derive(Debug, Drop)]
 pub enum Continued {
-    /// This request goes out: IKE_AUTH, or IKE_SA_INIT again with a cookie.
-    Request(Items<u8>),
+    /// IKE_SA_INIT goes out again with a cookie.
+    Again(Items<u8>),
+    /// The association has its keys, and IKE_AUTH goes out.
+    Identity(Items<u8>),
     /// E32: the response doesn't fit, and nothing is changed.
     Unfit,
 }
@@ -88,7 +90,7 @@ pub fn read_response<C: Sealer + Agreement + Proof>(
             let request = new_request(again.kept, IKE_SA_INIT, step.moment);
             let _ = association.outgoing.replace(number, request);
             carry(association, again.cookie);
-            Ok(Continued::Request(again.octets))
+            Ok(Continued::Again(again.octets))
         }
         Ok(Response::Keys(keys)) => {
             let first = association.outgoing.get(number).unwrap();
@@ -111,7 +113,7 @@ pub fn read_response<C: Sealer + Agreement + Proof>(
             association.spi_r = message.header.spi_r;
             association.outgoing = outgoing;
             tell(association, keys, response);
-            Ok(Continued::Request(next))
+            Ok(Continued::Identity(next))
         }
         Ok(Response::Unfit) => Ok(Continued::Unfit),
         Err(fault) => Err(fault),

@@ -138,7 +138,7 @@ fn take_initial<C: Sealer + Agreement + Proof>(
     ensures refused { IfErr result (λ _. association.new ≡ association.old) }
 {
     match read_response(alloc, step, association, message.header.id, octets, message)? {
-        Continued::Request(next) => Ok(Effect::Requested(next)),
+        Continued::Again(next) | Continued::Identity(next) => Ok(Effect::Requested(next)),
         Continued::Unfit => Ok(Effect::Refused(MessageFault::WrongPhase)),
     }
 }

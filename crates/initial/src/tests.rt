@@ -1,17 +1,21 @@
 // An association from its first request to the reply that establishes it. The lengths follow from the layouts of RFC 7296 section 3
 // and from a cipher that adds 17 octets.
-ghost use Rattle.std.specs.Prelude.{IfOk};
+ghost use Rattle.std.specs.Prelude.{◌≡◌, ◌≤◌, None, IfOk};
+ghost use Rattle.policy.specs.Narrowing.{IsSendableSelector};
+ghost use Rattle.sadb.specs.Database.{IsReserved};
+ghost use Rattle.association.specs.Closing.{HoldsSpi};
+ghost use Rattle.association.specs.Phases.{spi_in};
 ghost use Rattle.wire.specs.Messages.{Spells};
 ghost use Rattle.sa_init.specs.Fitting.{IsSpelled};
 ghost use Rattle.initial.specs.Configs.{IsConfig};
 
-use crate::{Admitted, Config, Continued, End, Step, admit, answer_auth, begin, read_response};
-use association::{Association, FirstChild, Phase, Received, receive};
+use crate::laws::spis_stay_reserved;
+use crate::{Admitted, Config, Effect, End, Step, admit, begin, take_message};
+use association::{Association, FirstChild, MessageFault};
 use auth::Identity;
 use base::{Items, Range, Selector};
 use caller::ScriptCaller;
 use policy::{Action, Entry, Policy};
-use requests::Judgement as Number;
 use sa_init::laws::accepted_offers_fit;
 use sa_init::{Cookies, Judgement, Sender, judge};
 use sadb::Table;
@@ -61,12 +65,15 @@ fn fresh(octet: u8) -> Fresh {
     }
 }
 
-fn addresses(start: u32, end: u32) -> Selector {
+fn addresses(ends: (u32, u32)) -> Selector
+    requires { ends.0 ≤ ends.1 }
+    ensures { IsSendableSelector result }
+{
     Selector {
         protocol: 0,
         start_port: 0,
         end_port: 65535,
-        addresses: Range::V4(start, end),
+        addresses: Range::V4(ends.0, ends.1),
     }
 }
 
@@ -95,177 +102,185 @@ fn decoded(alloc: Global, octets: &[u8]) -> Result<Message, Fail>
     Ok(decode_message(alloc, octets)?)
 }
 
-// What one of the ends has.
-#[derive(Drop)]
-struct Site {
-    config: Config,
-    policy: Policy,
-    table: Table,
-}
-
-fn make_site(
-    alloc: Global,
-    own: &[u8],
-    peer: &[u8],
-    local: (u32, u32),
-    remote: (u32, u32),
-) -> Result<Site, Fail>
-    ensures { IfOk result (λ site. IsConfig site.config) }
+fn step<'a>(config: &'a Config, policy: &'a Policy, fresh: &'a Fresh) -> Step<'a, ScriptCaller>
+    ensures { result.config.now ≡ config.now }
 {
-    Ok(Site {
-        config: config(alloc, own, peer)?,
-        policy: policy(alloc, local, remote)?,
-        table: Table::new(alloc, 4096),
-    })
+    Step {
+        caller: &ScriptCaller,
+        config,
+        policy,
+        fresh,
+        moment: 0,
+    }
 }
 
-fn initiator(alloc: Global) -> Result<Site, Fail>
-    ensures { IfOk result (λ site. IsConfig site.config) }
+fn child(table: &mut Table) -> Result<FirstChild, Fail>
+    ensures { IfOk result (λ child. IsReserved table.new child.spi) }
 {
-    make_site(alloc, b"a.example", b"b.example", NEAR, FAR)
-}
-
-fn responder(alloc: Global) -> Result<Site, Fail>
-    ensures { IfOk result (λ site. IsConfig site.config) }
-{
-    make_site(alloc, b"b.example", b"a.example", FAR, NEAR)
-}
-
-fn child(table: &mut Table) -> Result<FirstChild, Fail> {
     let spi = table.reserve()?;
-    Ok(FirstChild::new(
-        spi,
-        addresses(NEAR.0, NEAR.1),
-        addresses(FAR.0, FAR.1),
-        true,
-    ))
+    let (near, far) = (addresses(NEAR), addresses(FAR));
+    Ok(FirstChild::new(spi, near, far, true))
 }
 
 // An initiator's association and its request.
-fn begun(alloc: Global, site: &mut Site) -> Result<(Association, Items<u8>), Fail> {
+fn begun(
+    alloc: Global,
+    config: &Config,
+    policy: &Policy,
+    table: &mut Table,
+) -> Result<(Association, Items<u8>), Fail>
+    ensures { IfOk result (λ begun. HoldsSpi (spi_in begun.0.phase) table.new) }
+{
     let fresh = fresh(1);
-    let step = Step {
-        caller: &ScriptCaller,
-        config: &site.config,
-        policy: &site.policy,
-        fresh: &fresh,
-        moment: 0,
-    };
-    let beginning = begin(alloc, &step)?;
-    let child = child(&mut site.table)?;
+    let beginning = begin(alloc, &step(config, policy, &fresh))?;
+    let child = child(table)?;
     Ok(beginning.into_association(alloc, 1, child))
 }
 
 // A responder's association and its answer to that request.
-fn admitted(alloc: Global, site: &Site, octets: &[u8]) -> Result<Admitted, Fail> {
+fn admitted(
+    alloc: Global,
+    config: &Config,
+    policy: &Policy,
+    octets: &[u8],
+) -> Result<Admitted, Fail>
+    ensures { IfOk result (λ admitted. spi_in admitted.association.phase ≡ None) }
+{
     accepted_offers_fit();
     let message = decoded(alloc, octets)?;
     let fresh = fresh(2);
-    let step = Step {
-        caller: &ScriptCaller,
-        config: &site.config,
-        policy: &site.policy,
-        fresh: &fresh,
-        moment: 0,
-    };
     let sender = Sender {
         address: [192, 0, 2, 1],
         spi_i: message.header.spi_i,
     };
     let cookies = Cookies::new(&[0; 32]);
-    match judge(
-        &ScriptCaller,
-        message.payloads.as_slice(),
-        &sender,
-        &cookies,
-        0,
-        0,
-    ) {
+    let payloads = message.payloads.as_slice();
+    match judge(&ScriptCaller, payloads, &sender, &cookies, 0, 0) {
         Judgement::Accepted(offer) => {
+            let step = step(config, policy, &fresh);
             Ok(admit(alloc, &step, 1, &offer, sender.spi_i, octets)?.ok_or("refused")?)
         }
         _ => Err("not accepted")?,
     }
 }
 
-// The request of IKE_AUTH.
-fn identified(
+// What comes of a datagram.
+fn taken(
     alloc: Global,
-    site: &Site,
+    config: &Config,
+    policy: &Policy,
     association: &mut Association,
+    table: &mut Table,
     octets: &[u8],
-) -> Result<Items<u8>, Fail>
-    requires { IsConfig site.now.config }
+) -> Result<Effect, Fail>
+    requires config { IsConfig config.now }
+    requires reserved { HoldsSpi (spi_in association.old.phase) table.old }
+    ensures { IfOk result (λ _. HoldsSpi (spi_in association.new.phase) table.new) }
 {
+    spis_stay_reserved();
     let message = decoded(alloc, octets)?;
     let fresh = fresh(3);
-    let step = Step {
-        caller: &ScriptCaller,
-        config: &site.config,
-        policy: &site.policy,
-        fresh: &fresh,
-        moment: 0,
-    };
-    if association.outgoing.get(0).is_none() {
-        return Err("no request")?;
-    }
-    let Phase::InitSent(_) = &association.phase else {
-        return Err("another phase")?;
-    };
-    match read_response(alloc, &step, association, 0, octets, &message)? {
-        Continued::Request(octets) => Ok(octets),
-        Continued::Unfit => Err("unfit")?,
-    }
+    let step = step(config, policy, &fresh);
+    Ok(take_message(alloc, &step, association, table, octets, &message)?)
 }
 
-// Its reply.
-fn answered(
-    alloc: Global,
-    site: &mut Site,
-    association: &mut Association,
-    octets: &[u8],
-) -> Result<usize, Fail>
-    requires { IsConfig site.old.config }
-{
-    let message = decoded(alloc, octets)?;
-    let Received::Request(plain) = receive(alloc, &ScriptCaller, association, octets, &message)?
+/// What goes between two ends until their first child, and what comes of the last two messages when they come again.
+#[derive(Drop)]
+struct Messages {
+    lengths: [usize; 4],
+    children: [Option<u32>; 2],
+    is_repeated: bool,
+    again: Effect,
+}
+
+fn exchanged(alloc: Global) -> Result<Messages, Fail> {
+    let (a, b) = (
+        config(alloc, b"a.example", b"b.example")?,
+        config(alloc, b"b.example", b"a.example")?,
+    );
+    let (near, far) = (policy(alloc, NEAR, FAR)?, policy(alloc, FAR, NEAR)?);
+    let (mut table_a, mut table_b) = (Table::new(alloc, 4096), Table::new(alloc, 8192));
+    let (mut initiator, first) = begun(alloc, &a, &near, &mut table_a)?;
+    let Admitted {
+        association: mut responder,
+        octets: second,
+    } = admitted(alloc, &b, &far, first.as_slice())?;
+    let Effect::Requested(third) = taken(
+        alloc,
+        &a,
+        &near,
+        &mut initiator,
+        &mut table_a,
+        second.as_slice(),
+    )?
     else {
-        return Err("not received")?;
+        return Err("no request")?;
     };
-    let fresh = fresh(4);
-    let step = Step {
-        caller: &ScriptCaller,
-        config: &site.config,
-        policy: &site.policy,
-        fresh: &fresh,
-        moment: 0,
+    let Effect::Replied(fourth) = taken(
+        alloc,
+        &b,
+        &far,
+        &mut responder,
+        &mut table_b,
+        third.as_slice(),
+    )?
+    else {
+        return Err("no reply")?;
     };
-    let Number::Fresh = association.incoming.judge(1) else {
-        return Err("not fresh")?;
+    let Effect::Counted(ended) = taken(
+        alloc,
+        &a,
+        &near,
+        &mut initiator,
+        &mut table_a,
+        fourth.octets.as_slice(),
+    )?
+    else {
+        return Err("not counted")?;
     };
-    let Phase::HalfOpen(_) = &association.phase else {
-        return Err("another phase")?;
+    let Effect::Repeated(repeated) = taken(
+        alloc,
+        &b,
+        &far,
+        &mut responder,
+        &mut table_b,
+        third.as_slice(),
+    )?
+    else {
+        return Err("not repeated")?;
     };
-    let answered = answer_auth(alloc, &step, association, &mut site.table, 1, &plain)?;
-    if answered.closed || answered.child != Some(1) {
-        return Err("no child")?;
-    }
-    Ok(answered.octets.len())
-}
-
-// The lengths of the four messages.
-fn lengths(alloc: Global) -> Result<(usize, usize, usize, usize), Fail> {
-    let mut a = initiator(alloc)?;
-    let mut b = responder(alloc)?;
-    let (mut association, first) = begun(alloc, &mut a)?;
-    let mut admitted = admitted(alloc, &b, first.as_slice())?;
-    let third = identified(alloc, &a, &mut association, admitted.octets.as_slice())?;
-    let fourth = answered(alloc, &mut b, &mut admitted.association, third.as_slice())?;
-    Ok((first.len(), admitted.octets.len(), third.len(), fourth))
+    let again = taken(
+        alloc,
+        &a,
+        &near,
+        &mut initiator,
+        &mut table_a,
+        fourth.octets.as_slice(),
+    )?;
+    Ok(Messages {
+        lengths: [first.len(), second.len(), third.len(), fourth.octets.len()],
+        children: [fourth.child, ended.child],
+        is_repeated: repeated.as_slice() == fourth.octets.as_slice(),
+        again,
+    })
 }
 
 #[test]
 fn two_ends_agree(rt: HostRuntime) -> Result<(), Fail> {
-    assert!(rt; lengths(rt.alloc())? == (148, 148, 202, 194));
+    let messages = exchanged(rt.alloc())?;
+    assert!(rt; messages.lengths == [148, 148, 202, 194]);
+    assert!(rt; messages.children == [Some(1), Some(1)]);
+    Ok(())
+}
+
+#[test]
+fn what_comes_again(rt: HostRuntime) -> Result<(), Fail> {
+    let messages = exchanged(rt.alloc())?;
+    assert!(rt; messages.is_repeated);
+    let outside = match messages.again {
+        Effect::Refused(fault) => fault == MessageFault::OutsideWindow,
+        _ => false,
+    };
+    assert!(rt; outside);
     Ok(())
 }
