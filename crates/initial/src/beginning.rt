@@ -20,10 +20,13 @@ use wire::numbers::IKE_SA_INIT;
 pub struct Beginning {
     /// The request.
     pub octets: Items<u8>,
-    outgoing: Outgoing<Request>,
-    spi_i: u64,
-    secret: [u8; 32],
-    nonce: [u8; 32],
+    /// This end's requests, of which it is the first.
+    pub outgoing: Outgoing<Request>,
+    /// This end's SPI.
+    pub spi_i: u64,
+    /// The secret of its key agreement.
+    pub secret: [u8; 32],
+    pub nonce: [u8; 32],
 }
 
 /// Makes the first request of an initiator (RFC 7296, section 1.2), with the SPI, the secret and the nonce that are fresh. That the
