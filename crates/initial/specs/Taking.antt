@@ -72,8 +72,8 @@ DoesResponse meaning setup p old table number plain e new new_table = ⊥
 
 -- what is done about the response to IKE_SA_INIT, by how it is gone on
 abbrev pub Says : Effect → Continued → Type 0
-Says (effect.Requested octets) (continued.Again next) = octets ≡ next
-Says (effect.Requested octets) (continued.Identity next) = octets ≡ next
+Says (effect.Again octets) (continued.Again next) = octets ≡ next
+Says (effect.Identified octets) (continued.Identity next) = octets ≡ next
 Says (effect.Refused fault) continued.Unfit = fault ≡ WrongPhase
 Says e c = ⊥
 

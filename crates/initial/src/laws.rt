@@ -1,5 +1,5 @@
 //! What follows from the definitions alone. No function here does anything.
-ghost use Rattle.std.specs.Prelude.{◌≢◌, ◌+◌, ◌<◌, ℕ, Some};
+ghost use Rattle.std.specs.Prelude.{◌≡◌, ◌≢◌, ◌+◌, ◌<◌, ℕ, Some};
 ghost use Rattle.base.specs.Octets.{Octets};
 ghost use Rattle.wire.specs.declared.message.Message.{Message};
 ghost use Rattle.sadb.specs.Database.{Database, IsReserved};
@@ -16,6 +16,13 @@ pub fn spis_stay_reserved()
         (effect : Effect) (new : Association) (new_table : Database) → HoldsSpi (spi_in old.phase) table
         → TakesMessage meaning setup old table octets m effect new new_table
         → HoldsSpi (spi_in new.phase) new_table }
+{}
+
+/// An association comes to no SPI by a message: what it holds for its first child it held before.
+pub fn no_spi_comes()
+    ensures { (meaning : Meaning) (setup : Setup) (old : Association) (table : Database) (octets : Octets) (m : Message)
+        (effect : Effect) (new : Association) (new_table : Database) (spi : ℕ) → spi_in new.phase ≡ Some spi
+        → TakesMessage meaning setup old table octets m effect new new_table → spi_in old.phase ≡ Some spi }
 {}
 
 /// An SPI that is reserved for another association than the one that a message is for stays reserved.

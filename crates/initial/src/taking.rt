@@ -34,8 +34,10 @@ pub enum Effect {
     Repeated(Items<u8>),
     /// A request took effect, and is answered.
     Replied(Answered),
-    /// The response to IKE_SA_INIT was taken, and this request goes out.
-    Requested(Items<u8>),
+    /// The response to IKE_SA_INIT asks for a cookie, and this request goes out again with it.
+    Again(Items<u8>),
+    /// The response to IKE_SA_INIT was taken: the keys are there, and IKE_AUTH goes out.
+    Identified(Items<u8>),
     /// The response to IKE_AUTH was taken.
     Counted(Ended),
 }
@@ -138,7 +140,8 @@ fn take_initial<C: Sealer + Agreement + Proof>(
     ensures refused { IfErr result (λ _. association.new ≡ association.old) }
 {
     match read_response(alloc, step, association, message.header.id, octets, message)? {
-        Continued::Again(next) | Continued::Identity(next) => Ok(Effect::Requested(next)),
+        Continued::Again(next) => Ok(Effect::Again(next)),
+        Continued::Identity(next) => Ok(Effect::Identified(next)),
         Continued::Unfit => Ok(Effect::Refused(MessageFault::WrongPhase)),
     }
 }

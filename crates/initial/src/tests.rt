@@ -205,7 +205,7 @@ fn exchanged(alloc: Global) -> Result<Messages, Fail> {
         association: mut responder,
         octets: second,
     } = admitted(alloc, &b, &far, first.as_slice())?;
-    let Effect::Requested(third) = taken(
+    let Effect::Identified(third) = taken(
         alloc,
         &a,
         &near,
