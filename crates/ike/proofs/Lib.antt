@@ -1,0 +1,5 @@
+mod ListLemmas
+mod EntryLemmas
+mod RepeatLemmas
+mod SoundLemmas
+mod StepLemmas

@@ -1,0 +1,11 @@
+use Rattle.ike.proofs.StepLemmas.{step_sound}
+use Rattle.ike.proofs.laws.soundness_stays.Goals as goal
+
+pub returns : goal.returns
+returns c =
+    step_sound (record {
+      stays = c.spis_stay_reserved.ensures;
+      others = c.what_others_hold_stays.ensures;
+      none = c.no_spi_comes.ensures;
+      room = c.acceptance_is_limited.ensures.room;
+    })

@@ -1,0 +1,21 @@
+use Rattle.std.proofs.Common.{◌≡◌, MatchOption, None, ap, inr, rules, subst, ◌∙◌}
+use Rattle.sa_init.specs.Judging.{offer_view}
+use Rattle.initial.specs.Beginning.{Admits}
+use Rattle.ike.specs.Receiving.{half_open_step}
+use Rattle.ike.proofs.receiving.take_offer.Goals as goal
+
+pub returns-in_ok-hold_admitted-in-Some-2-clause-taken : goal.returns-in_ok-hold_admitted-in-Some-2-clause-taken
+returns-in_ok-hold_admitted-in-Some-2-clause-taken g c =
+    let fresh = c.args.step.now.fresh.now in
+    let offer = offer_view c.args.offer.now in
+    let made = Admits g.C.Sealer.cipher g.C.Agreement.group_number g.C.Agreement.public_value g.C.Agreement.shared_secret fresh c.args.step.now.moment in
+    record {
+      can = record { serial = c.in-Some.ensures.1; usable = search rules };
+      done = inr (record {
+        admitted = c.in-Some-2.admitted;
+        admits = subst (λ n. made n offer c.args.spi_i c.args.octets.now c.in-Some-2.admitted) c.in-Some.ensures.0
+            (subst (λ o. MatchOption o (g.C.Agreement.shared_secret fresh.secret c.args.offer.now.public.now ≡ None) (made c.in-Some.serial offer c.args.spi_i c.args.octets.now)) c.in-Some-2.is c.in_ok-admitted.ensures);
+        said = c.in_ok-hold_admitted-in-Some-2.ensures.held.0 ∙ ap (λ n. half_open_step n c.in-Some-2.admitted.octets) c.in-Some.ensures.0;
+        content = c.in_ok-hold_admitted-in-Some-2.ensures.held.1;
+      });
+    }

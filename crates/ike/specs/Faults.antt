@@ -1,0 +1,19 @@
+-- The numbers of this crate's refusals.
+use Rattle.std.specs.Prelude.{ℕ}
+use Rattle.wire.specs.Fault.{fault_number}
+use Rattle.association.specs.Faults.{code_of_message_fault}
+use Rattle.children.specs.Faults.{code_of_child_fault}
+use Rattle.ike.specs.declared.fault.IkeFault.{IkeFault}
+use Rattle.ike.specs.declared.fault.IkeFault.TheVariants as fault
+
+abbrev pub code_of_ike_fault : IkeFault → ℕ
+code_of_ike_fault (fault.Unread f) = fault_number f
+code_of_ike_fault (fault.Message f) = code_of_message_fault f
+code_of_ike_fault fault.Unprotected = 23
+code_of_ike_fault fault.Crowded = 25
+code_of_ike_fault fault.TableFull = 25
+code_of_ike_fault fault.SpisSpent = 26
+code_of_ike_fault fault.HalfOpenFull = 34
+code_of_ike_fault fault.NumbersSpent = 36
+code_of_ike_fault fault.BadFresh = 37
+code_of_ike_fault (fault.Memory f) = code_of_child_fault f

@@ -1,0 +1,58 @@
+-- What comes of a step: its output, and which messages were sent under which keys, which keys and which child were made.
+use Rattle.std.specs.Prelude.{ℕ, Bool, true, false, Option, Some, None}
+use Rattle.base.specs.Octets.{Octets}
+use Rattle.initial.specs.declared.taking.Effect.{Effect}
+use Rattle.initial.specs.declared.taking.Effect.TheVariants as effect
+use Rattle.ike.specs.declared.fault.IkeFault.{IkeFault}
+use Rattle.ike.specs.declared.fault.IkeFault.TheVariants as fault
+use Rattle.ike.specs.declared.output.IkeOutput.{IkeOutput}
+use Rattle.ike.specs.declared.output.IkeOutput.TheVariants.{Reply, Repeat, Request, Counted, Dropped}
+use Rattle.ike.specs.declared.output.MadeChild.{MadeChild}
+use Rattle.ike.specs.declared.output.Mark.{Mark}
+use Rattle.ike.specs.declared.output.Stepped.{Stepped}
+use Rattle.ike.specs.declared.output.Trace.{Trace}
+
+abbrev pub no_trace : Trace
+no_trace = record { sent = None; keyed = None; child = None }
+
+abbrev pub plain_step : IkeOutput → Stepped
+plain_step output = record { output = output; trace = no_trace }
+
+abbrev pub passed_over : IkeFault → Stepped
+passed_over f = plain_step (Dropped f)
+
+abbrev pub closed_of : ℕ → Bool → Option ℕ
+closed_of ike true = Some ike
+closed_of ike false = None
+
+-- the child that a request of this number asked for, at this end or at the other
+abbrev pub child_of : ℕ → ℕ → Bool → Option ℕ → Option MadeChild
+child_of ike number asked (Some serial) = Some (record { serial = serial; ike = ike; number = number; asked = asked })
+child_of ike number asked None = None
+
+abbrev pub reply_mark : ℕ → ℕ → Option Mark
+reply_mark ike number = Some (record { ike = ike; response = true; number = number })
+
+abbrev pub request_mark : ℕ → ℕ → Option Mark
+request_mark ike number = Some (record { ike = ike; response = false; number = number })
+
+-- what a message of this number did to the association with this serial
+abbrev pub stepped_of : ℕ → ℕ → Effect → Stepped
+stepped_of ike number (effect.Refused f) = passed_over (fault.Message f)
+stepped_of ike number (effect.Repeated octets) = record {
+  output = Repeat octets;
+  trace = record { sent = reply_mark ike number; keyed = None; child = None };
+}
+stepped_of ike number (effect.Replied answered) = record {
+  output = Reply answered.octets (closed_of ike answered.closed);
+  trace = record { sent = reply_mark ike number; keyed = None; child = child_of ike number false answered.child };
+}
+stepped_of ike number (effect.Again octets) = plain_step (Request ike octets)
+stepped_of ike number (effect.Identified octets) = record {
+  output = Request ike octets;
+  trace = record { sent = request_mark ike 1; keyed = Some ike; child = None };
+}
+stepped_of ike number (effect.Counted ended) = record {
+  output = Counted ike ended.child (closed_of ike ended.closed);
+  trace = record { sent = None; keyed = None; child = child_of ike number true ended.child };
+}

@@ -1,0 +1,204 @@
+-- What a datagram that came does (RFC 7296 sections 1.2, 2.1, 2.6 and 3.1).
+use Rattle.std.specs.Prelude.{◌≡◌, ◌≢◌, ◌==◌, ◌&&◌, ◌<◌, ◌+◌, ◌++◌, ◌∷◌, ◌⊎◌, ℕ, Bool, true, false, not, Option, Some, None, List, [], Result, Ok, Err, length, nat_eq, slice_get, slice_set}
+use Rattle.std.specs.Cmp.Lexicographic.{pointwise}
+use Rattle.std.specs.List.{position}
+use Rattle.base.specs.Octets.{Octets}
+use Rattle.wire.specs.Messages.{Spells, SpellsPlainly}
+use Rattle.wire.specs.Refusals.{IsFaultOf}
+use Rattle.wire.specs.Numbers.{IKE_SA_INIT}
+use Rattle.wire.specs.declared.fault.WireFault.{WireFault}
+use Rattle.wire.specs.declared.fault.WireFault.TheVariants as wire_fault
+use Rattle.wire.specs.declared.message.Header.{Header}
+use Rattle.wire.specs.declared.message.Message.{Message}
+use Rattle.exchange.specs.declared.notices.Notice.{Notice}
+use Rattle.sadb.specs.Database.{Database}
+use Rattle.sa_init.specs.Cookies.{CookieSecrets}
+use Rattle.sa_init.specs.Judging.{Accepted, Answered, Full, Incomplete, IsJudgement, JudgementView, OfferView}
+use Rattle.sa_init.specs.Messages.{notice_message}
+use Rattle.sa_init.specs.declared.judging.Sender.{Sender}
+use Rattle.association.specs.Finding.{found}
+use Rattle.association.specs.declared.fault.MessageFault.{MessageFault}
+use Rattle.association.specs.declared.fault.MessageFault.TheVariants.{WrongPhase}
+use Rattle.association.specs.declared.phase.Association.{Association}
+use Rattle.association.specs.declared.phase.Phase.{Phase}
+use Rattle.association.specs.declared.phase.Phase.TheVariants.{HalfOpen}
+use Rattle.initial.specs.Beginning.{Admits}
+use Rattle.initial.specs.Configs.{Setup}
+use Rattle.initial.specs.Taking.{Meaning, TakesMessage}
+use Rattle.initial.specs.declared.beginning.Admitted.{Admitted}
+use Rattle.initial.specs.declared.taking.Effect.{Effect}
+use Rattle.ike.specs.Machines.{half_open_count, is_bad_spi, Held, SERIAL_END}
+use Rattle.ike.specs.Outputs.{no_trace, passed_over, plain_step, stepped_of}
+use Rattle.ike.specs.declared.fault.IkeFault.{IkeFault}
+use Rattle.ike.specs.declared.fault.IkeFault.TheVariants as fault
+use Rattle.ike.specs.declared.output.IkeOutput.TheVariants.{Reply, Repeat}
+use Rattle.ike.specs.declared.output.Stepped.{Stepped}
+
+-- what came is passed over, for this reason
+pub record PassesOver (reason : IkeFault) (old : Held) (stepped : Stepped) (new : Held) : Type 0 where
+  pub said : stepped ≡ passed_over reason
+  pub unchanged : new ≡ old
+
+-- A request of IKE_SA_INIT is told by the responder's SPI, the flag R and the exchange alone.
+abbrev pub is_initial_request : Header → Bool
+is_initial_request h = h.spi_r == 0 && not h.flags.response && h.exchange == IKE_SA_INIT
+
+-- it comes from the original initiator, has the number 0, and names an SPI (sections 2.2 and 3.1)
+abbrev pub is_sound_initial : Header → Bool
+is_sound_initial h = h.flags.initiator && h.id == 0 && not (h.spi_i == 0)
+
+abbrev pub same_octets : Octets → Octets → Bool
+same_octets = pointwise nat_eq
+
+abbrev pub is_answered_phase : Octets → Phase → Bool
+is_answered_phase octets (HalfOpen opened) = same_octets opened.request octets
+is_answered_phase octets _ = false
+
+-- the octets are those of the request that made a half-open association
+abbrev pub is_answered : Octets → Association → Bool
+is_answered octets a = is_answered_phase octets a.phase
+
+-- the reply that a half-open association keeps
+abbrev pub kept_reply : Phase → Option Octets
+kept_reply (HalfOpen opened) = Some opened.reply
+kept_reply _ = None
+
+-- the reply of the association at this place goes out again
+pub record Repeats (place : ℕ) (associations : List Association) (stepped : Stepped) : Type 0 where
+  pub association : Association
+  pub there : slice_get associations place ≡ Some association
+  pub reply : Octets
+  pub kept : kept_reply association.phase ≡ Some reply
+  pub said : stepped ≡ plain_step (Repeat reply)
+
+-- a notice answers the request
+pub record SaysNotice (spi_i : ℕ) (notice : Notice) (stepped : Stepped) : Type 0 where
+  pub octets : Octets
+  pub spelled : SpellsPlainly (notice_message spi_i notice) octets
+  pub said : stepped ≡ plain_step (Reply octets None)
+
+-- a serial is left, and the fresh SPI can be this end's
+pub record CanMake (old : Held) (spi : ℕ) : Type 0 where
+  pub serial : old.next < SERIAL_END
+  pub usable : is_bad_spi spi old.associations ≡ false
+
+-- one more association, under the next serial
+abbrev pub with_next : Held → Association → Held
+with_next held association = record { next = held.next + 1; associations = held.associations ++ association ∷ [] }
+
+abbrev pub half_open_step : ℕ → Octets → Stepped
+half_open_step ike octets = record { output = Reply octets None; trace = record { sent = None; keyed = Some ike; child = None } }
+
+-- an association is half open from then on
+pub record AdmitsNext (meaning : Meaning) (setup : Setup) (offer : OfferView) (spi_i : ℕ) (octets : Octets) (old : Held) (stepped : Stepped) (new : Held) : Type 0 where
+  pub admitted : Admitted
+  pub admits : Admits meaning.cipher meaning.group meaning.public_value meaning.shared_secret setup.fresh setup.moment old.next offer spi_i octets admitted
+  pub said : stepped ≡ half_open_step old.next admitted.octets
+  pub content : new ≡ with_next old admitted.association
+
+-- an offer that is accepted makes an association, unless the agreement refuses the public value (section 2.14)
+pub record TakesOffer (meaning : Meaning) (setup : Setup) (offer : OfferView) (spi_i : ℕ) (octets : Octets) (old : Held) (stepped : Stepped) (new : Held) : Type 0 where
+  pub can : CanMake old setup.fresh.spi
+  pub done :
+      ((meaning.shared_secret setup.fresh.secret offer.public ≡ None) × PassesOver (fault.Message WrongPhase) old stepped new)
+      ⊎ AdmitsNext meaning setup offer spi_i octets old stepped new
+
+abbrev pub sender_of : Octets → Header → Sender
+sender_of from h = record { address = from; spi_i = h.spi_i }
+
+abbrev pub IsJudged : Meaning → CookieSecrets → Held → Octets → Message → JudgementView → Type 0
+IsJudged meaning cookies held from m judgement =
+    IsJudgement meaning.cipher meaning.group cookies (sender_of from m.header) (half_open_count held.associations) (length held.associations) m.payloads judgement
+
+abbrev pub DoesJudgement : Meaning → Setup → ℕ → Octets → JudgementView → Held → Stepped → Held → Type 0
+DoesJudgement meaning setup spi_i octets (Answered notice) old stepped new = SaysNotice spi_i notice stepped × (new ≡ old)
+DoesJudgement meaning setup spi_i octets Incomplete old stepped new = PassesOver (fault.Message WrongPhase) old stepped new
+DoesJudgement meaning setup spi_i octets Full old stepped new = PassesOver fault.HalfOpenFull old stepped new
+DoesJudgement meaning setup spi_i octets (Accepted offer) old stepped new = TakesOffer meaning setup offer spi_i octets old stepped new
+
+-- a request that no half-open association answered before
+pub record TakesNew (meaning : Meaning) (setup : Setup) (cookies : CookieSecrets) (from octets : Octets) (m : Message) (old : Held) (stepped : Stepped) (new : Held) : Type 0 where
+  pub judgement : JudgementView
+  pub judged : IsJudged meaning cookies old from m judgement
+  pub done : DoesJudgement meaning setup m.header.spi_i octets judgement old stepped new
+
+-- by the place of the association that answered it, if one did
+abbrev pub TakesRequestAt : Option ℕ → Meaning → Setup → CookieSecrets → Octets → Octets → Message → Held → Stepped → Held → Type 0
+TakesRequestAt (Some place) meaning setup cookies from octets m old stepped new = Repeats place old.associations stepped × (new ≡ old)
+TakesRequestAt None meaning setup cookies from octets m old stepped new = TakesNew meaning setup cookies from octets m old stepped new
+
+-- by whether its header is sound
+abbrev pub TakesSound : Bool → Meaning → Setup → CookieSecrets → Octets → Octets → Message → Held → Stepped → Held → Type 0
+TakesSound true meaning setup cookies from octets m old stepped new =
+    TakesRequestAt (position (is_answered octets) old.associations) meaning setup cookies from octets m old stepped new
+TakesSound false meaning setup cookies from octets m old stepped new = PassesOver (fault.Message WrongPhase) old stepped new
+
+-- the association at this place takes the message, and no other is changed
+pub record TakesAt (place : ℕ) (meaning : Meaning) (setup : Setup) (octets : Octets) (m : Message) (old : Held) (table : Database) (stepped : Stepped) (new : Held) (new_table : Database) : Type 0 where
+  pub association : Association
+  pub there : slice_get old.associations place ≡ Some association
+  pub effect : Effect
+  pub changed : Association
+  pub takes : TakesMessage meaning setup association table octets m effect changed new_table
+  pub said : stepped ≡ stepped_of association.serial m.header.id effect
+  pub content : new ≡ record old { associations = slice_set old.associations place changed }
+
+-- by what is found for it
+abbrev pub TakesFound : Result ℕ MessageFault → Meaning → Setup → Octets → Message → Held → Database → Stepped → Held → Database → Type 0
+TakesFound (Ok place) meaning setup octets m old table stepped new new_table = TakesAt place meaning setup octets m old table stepped new new_table
+TakesFound (Err f) meaning setup octets m old table stepped new new_table = PassesOver (fault.Message f) old stepped new × (new_table ≡ table)
+
+-- by whether it is a request of IKE_SA_INIT
+abbrev pub TakesRead : Bool → Meaning → Setup → CookieSecrets → Octets → Octets → Message → Held → Database → Stepped → Held → Database → Type 0
+TakesRead true meaning setup cookies from octets m old table stepped new new_table =
+    TakesSound (is_sound_initial m.header) meaning setup cookies from octets m old stepped new × (new_table ≡ table)
+TakesRead false meaning setup cookies from octets m old table stepped new new_table =
+    TakesFound (found m.header old.associations) meaning setup octets m old table stepped new new_table
+
+-- the datagram is a message
+pub record ReadsDatagram (meaning : Meaning) (setup : Setup) (cookies : CookieSecrets) (from octets : Octets) (old : Held) (table : Database) (stepped : Stepped) (new : Held) (new_table : Database) : Type 0 where
+  pub message : Message
+  pub spelled : Spells message octets
+  pub done : TakesRead (is_initial_request message.header) meaning setup cookies from octets message old table stepped new new_table
+
+-- or it is none
+pub record FailsToRead (octets : Octets) (old : Held) (table : Database) (stepped : Stepped) (new : Held) (new_table : Database) : Type 0 where
+  pub reason : WireFault
+  pub is : IsFaultOf octets reason
+  pub passed : PassesOver (fault.Unread reason) old stepped new
+  pub unchanged : new_table ≡ table
+
+abbrev pub TakesDatagram : Meaning → Setup → CookieSecrets → Octets → Octets → Held → Database → Stepped → Held → Database → Type 0
+TakesDatagram meaning setup cookies from octets old table stepped new new_table =
+    FailsToRead octets old table stepped new new_table ⊎ ReadsDatagram meaning setup cookies from octets old table stepped new new_table
+
+-- An offer is accepted, but no association can be made of it: no serial is left, or the fresh SPI can't be this end's.
+abbrev pub CannotMake : Held → ℕ → IkeFault → Type 0
+CannotMake old spi fault.NumbersSpent = old.next ≡ SERIAL_END
+CannotMake old spi fault.BadFresh = (old.next < SERIAL_END) × (is_bad_spi spi old.associations ≡ true)
+CannotMake old spi (fault.Memory f) = Unit {0}
+CannotMake old spi f = ⊥
+
+pub record RefusesOffer (meaning : Meaning) (setup : Setup) (cookies : CookieSecrets) (from : Octets) (m : Message) (old : Held) (reason : IkeFault) : Type 0 where
+  pub offer : OfferView
+  pub judged : IsJudged meaning cookies old from m (Accepted offer)
+  pub why : CannotMake old setup.fresh.spi reason
+
+-- for want of memory, or as an offer
+abbrev pub RefusesNew : Meaning → Setup → CookieSecrets → Octets → Message → Held → IkeFault → Type 0
+RefusesNew meaning setup cookies from m old (fault.Memory f) = Unit {0}
+RefusesNew meaning setup cookies from m old reason = RefusesOffer meaning setup cookies from m old reason
+
+-- the datagram is a request that made no association which is half open, with an offer
+pub record RefusesInitial (meaning : Meaning) (setup : Setup) (cookies : CookieSecrets) (from octets : Octets) (old : Held) (reason : IkeFault) : Type 0 where
+  pub message : Message
+  pub spelled : Spells message octets
+  pub initial : is_initial_request message.header ≡ true
+  pub sound : is_sound_initial message.header ≡ true
+  pub first : position (is_answered octets) old.associations ≡ None
+  pub refused : RefusesOffer meaning setup cookies from message old reason
+
+-- why a datagram is refused: for want of memory, or as an offer
+abbrev pub RefusesDatagram : Meaning → Setup → CookieSecrets → Octets → Octets → Held → IkeFault → Type 0
+RefusesDatagram meaning setup cookies from octets old (fault.Memory f) = Unit {0}
+RefusesDatagram meaning setup cookies from octets old reason = RefusesInitial meaning setup cookies from octets old reason

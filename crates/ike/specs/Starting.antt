@@ -1,0 +1,98 @@
+-- The order to ask for a child, with a new association (RFC 7296 section 1.2).
+use Rattle.std.specs.Prelude.{◌⊎◌, ◌≡◌, ◌==◌, ◌+◌, ◌<◌, ◌^◌, ℕ, Bool, Option, Some, None, List, length, slice_get, nat_le, if◌then◌else◌}
+use Rattle.std.specs.List.{list_any}
+use Rattle.base.specs.Octets.{Octets}
+use Rattle.policy.specs.Decisions.{local_side, remote_side}
+use Rattle.policy.specs.declared.entry.Action.{Action}
+use Rattle.policy.specs.declared.entry.Action.TheVariants as action
+use Rattle.policy.specs.declared.entry.Entry.{Entry}
+use Rattle.suite.specs.declared.fresh.Fresh.{Fresh}
+use Rattle.sadb.specs.Database.{Database, IsAsBefore, IsFull, IsSpent, Reserves}
+use Rattle.sa_init.specs.Judging.{ASSOCIATION_LIMIT}
+use Rattle.association.specs.FirstChildren.{FirstChildView}
+use Rattle.association.specs.declared.fault.MessageFault.TheVariants.{UnknownAssociation, WrongPhase}
+use Rattle.association.specs.declared.phase.Association.{Association}
+use Rattle.initial.specs.Beginning.{begun, Begins}
+use Rattle.initial.specs.Configs.{Setup}
+use Rattle.initial.specs.Taking.{Meaning}
+use Rattle.initial.specs.declared.beginning.Beginning.{Beginning}
+use Rattle.ike.specs.Machines.{has_serial, is_bad_spi, Held, SERIAL_END}
+use Rattle.ike.specs.Outputs.{plain_step}
+use Rattle.ike.specs.Receiving.{with_next}
+use Rattle.ike.specs.declared.fault.IkeFault.{IkeFault}
+use Rattle.ike.specs.declared.fault.IkeFault.TheVariants as fault
+use Rattle.ike.specs.declared.output.IkeOutput.TheVariants.{Request}
+use Rattle.ike.specs.declared.output.Stepped.{Stepped}
+
+abbrev pub if_protects : Action → Entry → Option Entry
+if_protects action.Protect entry = Some entry
+if_protects _ entry = None
+
+abbrev pub protecting : Option Entry → Option Entry
+protecting None = None
+protecting (Some entry) = if_protects entry.action entry
+
+-- the entry of this number, where it protects
+abbrev pub protecting_entry : List Entry → ℕ → Option Entry
+protecting_entry entries place = protecting (slice_get entries place)
+
+-- why no association is begun, before the table is asked
+abbrev pub new_order_fault : Held → ℕ → Option IkeFault
+new_order_fault old spi =
+    if nat_le ASSOCIATION_LIMIT (length old.associations) then Some fault.Crowded
+    else if old.next == SERIAL_END then Some fault.NumbersSpent
+    else if is_bad_spi spi old.associations then Some fault.BadFresh
+    else None
+
+-- a further child of an association that is held can't be asked for yet
+abbrev pub further_order_fault : Held → ℕ → IkeFault
+further_order_fault old serial =
+    if list_any (has_serial serial) old.associations then fault.Message WrongPhase else fault.Message UnknownAssociation
+
+abbrev pub order_fault_of : Option Entry → Option ℕ → Held → ℕ → Option IkeFault
+order_fault_of None ike old spi = Some fault.Unprotected
+order_fault_of (Some entry) (Some serial) old spi = Some (further_order_fault old serial)
+order_fault_of (Some entry) None old spi = new_order_fault old spi
+
+abbrev pub order_fault : List Entry → Option ℕ → ℕ → Fresh → Held → Option IkeFault
+order_fault entries ike place fresh old = order_fault_of (protecting_entry entries place) ike old fresh.spi
+
+-- the child that is asked for by an entry: the whole of both its sides
+abbrev pub child_by : Entry → ℕ → Bool → FirstChildView
+child_by entry spi extended = record { spi = spi; local = local_side entry; remote = remote_side entry; extended = extended }
+
+-- an association may be begun, of this serial, by this entry
+pub record IsAllowed (entries : List Entry) (ike : Option ℕ) (place : ℕ) (fresh : Fresh) (old : Held) (serial : ℕ) (entry : Entry) : Type 0 where
+  pub none : order_fault entries ike place fresh old ≡ None
+  pub protects : protecting_entry entries place ≡ Some entry
+  pub next : serial ≡ old.next
+  pub left : old.next < SERIAL_END
+
+-- The next SPI is reserved for the child, and the first request goes out.
+pub record BeginsNext (entry : Entry) (extended : Bool) (beginning : Beginning) (old : Held) (table : Database) (stepped : Stepped) (new : Held) (new_table : Database) : Type 0 where
+  pub spi : ℕ
+  pub reserved : Reserves table spi new_table
+  pub said : stepped ≡ plain_step (Request old.next beginning.octets)
+  pub content : new ≡ with_next old (begun old.next beginning (child_by entry spi extended))
+
+pub record Starts (meaning : Meaning) (setup : Setup) (ike : Option ℕ) (place : ℕ) (old : Held) (table : Database) (stepped : Stepped) (new : Held) (new_table : Database) : Type 0 where
+  pub entry : Entry
+  pub allowed : IsAllowed setup.entries ike place setup.fresh old old.next entry
+  pub beginning : Beginning
+  pub begins : Begins meaning.cipher meaning.group meaning.public_value setup.fresh setup.moment beginning
+  pub between : Database
+  pub room : IsAsBefore table between
+  pub done : BeginsNext entry setup.config.extended beginning old between stepped new new_table
+
+-- the table gives no SPI
+abbrev pub GivesNoSpi : Database → IkeFault → Type 0
+GivesNoSpi table fault.TableFull = IsFull table
+GivesNoSpi table fault.SpisSpent = (¬ IsFull table) × IsSpent table
+GivesNoSpi table (fault.Memory f) = Unit {0}
+GivesNoSpi table reason = ⊥
+
+-- why the order is refused: as said; or since the table gives no SPI, or for want of memory
+abbrev pub RefusesStart : List Entry → Fresh → Option ℕ → ℕ → Held → Database → IkeFault → Type 0
+RefusesStart entries fresh ike place old table reason =
+    (order_fault entries ike place fresh old ≡ Some reason)
+    ⊎ ((order_fault entries ike place fresh old ≡ None) × GivesNoSpi table reason)

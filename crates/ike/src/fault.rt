@@ -1,0 +1,86 @@
+//! Why a step is refused, or what came is passed over.
+ghost use Rattle.std.specs.Prelude.{◌≡◌};
+ghost use Rattle.ike.specs.Faults.{code_of_ike_fault};
+
+use association::MessageFault;
+use children::ChildFault;
+use std::alloc::AllocError;
+use thiserror::Error;
+use wire::WireFault;
+
+/// Why a step is refused, or why what came is passed over. Nothing is changed then.
+#[derive(Clone, Copy, Debug, PartialEq, Eq, Error)]
+pub enum IkeFault {
+    /// A datagram is no message of IKE.
+    #[error("{0}")]
+    Unread(WireFault),
+    /// A message is for no association, or not due.
+    #[error("{0}")]
+    Message(MessageFault),
+    /// No entry of the policy that protects has this number.
+    #[error("E23: no entry that protects")]
+    Unprotected,
+    /// 128 associations are held, a limit of this implementation.
+    #[error("E25: 128 IKE associations are held")]
+    Crowded,
+    /// The table of associations for ESP is full.
+    #[error("E25: the table is full")]
+    TableFull,
+    /// All SPIs of that table were given.
+    #[error("E26: the inbound SPIs are spent")]
+    SpisSpent,
+    /// 32 associations are half open, or 128 are held; limits of this implementation.
+    #[error("E34: too many associations are half open")]
+    HalfOpenFull,
+    /// No serial, or no version of the cookies' secrets, is left.
+    #[error("E36: the numbers are spent")]
+    NumbersSpent,
+    /// The fresh SPI is zero, or one of this end that is in use.
+    #[error("E37: the fresh SPI is zero or in use")]
+    BadFresh,
+    /// There was no memory.
+    #[error("{0}")]
+    Memory(ChildFault),
+}
+
+impl IkeFault {
+    /// The refusal's number, as programs print it behind `E`.
+    pub fn code(self) -> u8
+        ensures { result ≡ code_of_ike_fault self }
+    {
+        match self {
+            IkeFault::Unread(fault) => fault.code(),
+            IkeFault::Message(fault) => fault.code(),
+            IkeFault::Unprotected => 23,
+            IkeFault::Crowded | IkeFault::TableFull => 25,
+            IkeFault::SpisSpent => 26,
+            IkeFault::HalfOpenFull => 34,
+            IkeFault::NumbersSpent => 36,
+            IkeFault::BadFresh => 37,
+            IkeFault::Memory(fault) => fault.code(),
+        }
+    }
+}
+
+impl From<ChildFault> for IkeFault {
+    ghost use Rattle.std.specs.Prelude.{◌≡◌};
+    ghost use Rattle.ike.specs.declared.fault.IkeFault.TheVariants.{Memory};
+
+    ghost from_gives = { λ f e. e ≡ Memory f };
+
+    fn from(fault: ChildFault) -> IkeFault {
+        IkeFault::Memory(fault)
+    }
+}
+
+impl From<AllocError> for IkeFault {
+    ghost use Rattle.std.specs.Prelude.{◌≡◌};
+    ghost use Rattle.children.specs.declared.fault.ChildFault.TheVariants.{Message};
+    ghost use Rattle.ike.specs.declared.fault.IkeFault.TheVariants.{Memory};
+
+    ghost from_gives = { λ _ e. e ≡ Memory Message };
+
+    fn from(_refused: AllocError) -> IkeFault {
+        IkeFault::Memory(ChildFault::Message)
+    }
+}

@@ -1,0 +1,23 @@
+//! What is given to a step.
+
+use suite::Fresh;
+
+/// A datagram that came, or an order.
+#[derive(Clone, Copy, Drop)]
+pub enum IkeInput<'a> {
+    /// A datagram, from an IPv4 address.
+    Message {
+        from: [u8; 4],
+        octets: &'a [u8],
+        fresh: &'a Fresh,
+    },
+    /// Ask the peer for a child by an entry of the policy, its number counted from 0: with a new association where no serial is
+    /// given. A further child of an association that is held is refused (E32) until that exchange is there.
+    Start {
+        ike: Option<u32>,
+        entry: u32,
+        fresh: &'a Fresh,
+    },
+    /// Make cookies under another secret (RFC 7296, section 2.6).
+    Secret(&'a [u8; 32]),
+}

@@ -1,0 +1,31 @@
+//! What follows from the definitions alone. No function here does anything.
+ghost use Rattle.std.specs.Prelude.{List, ℕ};
+ghost use Rattle.policy.specs.declared.entry.Entry.{Entry};
+ghost use Rattle.sadb.specs.Database.{Database, IsReserved, IsSoundTable};
+ghost use Rattle.initial.specs.Taking.{Meaning};
+ghost use Rattle.ike.specs.Machines.{Machine};
+ghost use Rattle.ike.specs.Soundness.{IsSoundMachine};
+ghost use Rattle.ike.specs.Steps.{InputView, Steps};
+ghost use Rattle.ike.specs.declared.output.Stepped.{Stepped};
+
+use initial::laws::{no_spi_comes, spis_stay_reserved, what_others_hold_stays};
+use sa_init::laws::acceptance_is_limited;
+
+/// Whatever a step does, what the associations hold is reserved in the table from then on, each SPI for one of them alone.
+pub fn soundness_stays()
+    ensures { (meaning : Meaning) (entries : List Entry) (input : InputView) (old : Machine) (table : Database)
+        (stepped : Stepped) (new : Machine) (new_table : Database) → IsSoundTable table → IsSoundMachine old table
+        → Steps meaning entries input old table stepped new new_table → IsSoundMachine new new_table }
+{
+    spis_stay_reserved();
+    what_others_hold_stays();
+    no_spi_comes();
+    acceptance_is_limited();
+}
+
+/// Another table does as well, in which all is reserved that was.
+pub fn soundness_asks_for_reservations()
+    ensures { (machine : Machine) (table : Database) (other : Database)
+        → ((spi : ℕ) → IsReserved table spi → IsReserved other spi)
+        → IsSoundMachine machine table → IsSoundMachine machine other }
+{}

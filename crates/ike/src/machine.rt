@@ -1,0 +1,214 @@
+//! The machine, and one step of it.
+ghost use Rattle.std.specs.Prelude.{◌≡◌, ◌+◌, ◌<◌, ◌^◌, IfOk, IfErr};
+ghost use Rattle.sadb.specs.Database.{Database, IsAsBefore};
+ghost use Rattle.initial.specs.Configs.{IsConfig};
+ghost use Rattle.ike.specs.Machines.{new_machine};
+ghost use Rattle.ike.specs.Outputs.{plain_step};
+ghost use Rattle.sa_init.specs.Cookies.{changed};
+ghost use Rattle.ike.specs.Soundness.{IsSoundMachine};
+ghost use Rattle.ike.specs.Steps.{input_view, Refuses, Steps};
+
+use crate::held::Held;
+use crate::laws::soundness_stays;
+use crate::receiving::take_datagram;
+use crate::starting::start;
+use crate::{IkeFault, IkeInput, IkeOutput, Stepped};
+use association::Association;
+use initial::{Config, Step};
+use policy::Policy;
+use sa_init::{Cookies, SecretsSpent};
+use sadb::Table;
+use std::alloc::Global;
+use std::marker::Model;
+use suite::{Agreement, Proof, Sealer};
+
+/// The IKE machine of one end: its associations with one peer, of which at most 128 are held.
+///
+/// An SPI that an association holds for its first child is reserved in the table that every step is given; it is always the same
+/// table.
+#[derive(Drop)]
+pub struct Ike {
+    config: Config,
+    cookies: Cookies,
+    moment: u64,
+    held: Held,
+}
+
+impl Model for Ike {
+    ghost use Rattle.std.specs.Coded.{codes};
+    ghost use Rattle.association.specs.contracts.phase.Association as association;
+    ghost use Rattle.initial.specs.Configs.{IsConfig};
+    ghost use Rattle.ike.specs.Machines.{Machine};
+
+    ghost Value = { Machine };
+
+    ghost coded = { Prim.hlevel (codes, association.the_row.coded) };
+
+    ghost view = { λ i. record { config = i.config; cookies = i.cookies; moment = i.moment; held = i.held } };
+
+    ghost invariant = { λ i. IsConfig i.config };
+}
+
+impl Ike {
+    /// A machine with no association, at the moment 0. Takes no memory. The caller gives a configuration whose identities fit
+    /// payloads, with a window of 1 to 16 and a count of blocks that [`replay::is_block_count`] allows.
+    pub fn new(alloc: Global, config: Config) -> Ike
+        requires { IsConfig config }
+        ensures content { result ≡ new_machine config }
+        ensures sound { (table : Database) → IsSoundMachine result table }
+    {
+        Ike {
+            cookies: Cookies::new(&config.cookie_secret),
+            config,
+            moment: 0,
+            held: Held::new(alloc),
+        }
+    }
+
+    /// The associations that are held, by rising serial.
+    pub fn associations(&self) -> &[Association]
+        ensures { result.now ≡ self.now.held.associations }
+    {
+        self.held.associations()
+    }
+
+    /// One step: what a datagram or an order does, and what goes out.
+    ///
+    /// A datagram from outside is passed over ([`IkeOutput::Dropped`]) by E1 to E9, where it is no message, by E28 to E33, or by E34. It
+    /// is refused (`Err`) by [`IkeFault::NumbersSpent`] or [`IkeFault::BadFresh`], where it would make an association, and for want
+    /// of memory.
+    ///
+    /// An order to start is refused, in this order: [`IkeFault::Unprotected`] (E23); for a further child E28 or E32; E25 where 128
+    /// associations are held, E36, E37; then E25 or E26 by the table; and for want of memory. Another secret is refused by E36.
+    ///
+    /// What is refused changes nothing but the table's room.
+    pub fn step<C: Sealer + Agreement + Proof>(
+        &mut self,
+        alloc: Global,
+        input: &IkeInput<'_>,
+        table: &mut Table,
+        policy: &Policy,
+        caller: &C,
+    ) -> Result<Stepped, IkeFault>
+        requires sound { IsSoundMachine self.old table.old }
+        ensures stepped { IfOk result (λ stepped. Steps
+            (record {
+              cipher = C.cipher;
+              body_of = C.body_of;
+              plain_of = C.plain_of;
+              group = C.group_number;
+              public_value = C.public_value;
+              shared_secret = C.shared_secret;
+              own_method = C.own_method caller.now;
+              proof_of = C.proof_of caller.now;
+              accepts = C.accepts caller.now;
+            })
+            policy.now (input_view input.now) self.old table.old stepped self.new table.new) }
+        ensures refused { IfErr result (λ reason. Refuses
+            (record {
+              cipher = C.cipher;
+              body_of = C.body_of;
+              plain_of = C.plain_of;
+              group = C.group_number;
+              public_value = C.public_value;
+              shared_secret = C.shared_secret;
+              own_method = C.own_method caller.now;
+              proof_of = C.proof_of caller.now;
+              accepts = C.accepts caller.now;
+            })
+            policy.now (input_view input.now) self.old table.old reason
+            × (self.new ≡ self.old) × IsAsBefore table.old table.new) }
+        ensures sound { IsSoundMachine self.new table.new }
+    {
+        table.invariants_hold();
+        soundness_stays();
+        self.take(alloc, input, table, policy, caller)
+    }
+
+    // The step, of which it isn't said yet that it keeps what holds of every machine.
+    fn take<C: Sealer + Agreement + Proof>(
+        &mut self,
+        alloc: Global,
+        input: &IkeInput<'_>,
+        table: &mut Table,
+        policy: &Policy,
+        caller: &C,
+    ) -> Result<Stepped, IkeFault>
+        requires sound { IsSoundMachine self.old table.old }
+        ensures stepped { IfOk result (λ stepped. Steps
+            (record {
+              cipher = C.cipher;
+              body_of = C.body_of;
+              plain_of = C.plain_of;
+              group = C.group_number;
+              public_value = C.public_value;
+              shared_secret = C.shared_secret;
+              own_method = C.own_method caller.now;
+              proof_of = C.proof_of caller.now;
+              accepts = C.accepts caller.now;
+            })
+            policy.now (input_view input.now) self.old table.old stepped self.new table.new) }
+        ensures refused { IfErr result (λ reason. Refuses
+            (record {
+              cipher = C.cipher;
+              body_of = C.body_of;
+              plain_of = C.plain_of;
+              group = C.group_number;
+              public_value = C.public_value;
+              shared_secret = C.shared_secret;
+              own_method = C.own_method caller.now;
+              proof_of = C.proof_of caller.now;
+              accepts = C.accepts caller.now;
+            })
+            policy.now (input_view input.now) self.old table.old reason
+            × (self.new ≡ self.old) × IsAsBefore table.old table.new) }
+    {
+        match input {
+            IkeInput::Message {
+                from,
+                octets,
+                fresh,
+            } => {
+                let step = Step {
+                    caller,
+                    config: &self.config,
+                    policy,
+                    fresh,
+                    moment: self.moment,
+                };
+                take_datagram(
+                    alloc,
+                    &step,
+                    &self.cookies,
+                    &mut self.held,
+                    table,
+                    from,
+                    octets,
+                )
+            }
+            IkeInput::Start { ike, entry, fresh } => {
+                let step = Step {
+                    caller,
+                    config: &self.config,
+                    policy,
+                    fresh,
+                    moment: self.moment,
+                };
+                start(alloc, &step, &mut self.held, table, *ike, *entry)
+            }
+            IkeInput::Secret(secret) => change_secret(&mut self.cookies, secret),
+        }
+    }
+}
+
+fn change_secret(cookies: &mut Cookies, secret: &[u8; 32]) -> Result<Stepped, IkeFault>
+    ensures changed { IfOk result (λ stepped. (stepped ≡ plain_step IkeOutput.Done) × (cookies.new ≡ changed cookies.old secret.now)
+        × (cookies.old.version + 1 < 2 ^ 32)) }
+    ensures refused { IfErr result (λ reason. (reason ≡ IkeFault.NumbersSpent) × (cookies.new ≡ cookies.old)
+        × (¬ (cookies.old.version + 1 < 2 ^ 32))) }
+{
+    match cookies.change(secret) {
+        Ok(()) => Ok(Stepped::plain(IkeOutput::Done)),
+        Err(SecretsSpent) => Err(IkeFault::NumbersSpent),
+    }
+}

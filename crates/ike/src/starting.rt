@@ -1,0 +1,192 @@
+//! The order to ask for a child, with a new association.
+ghost use Rattle.std.specs.Prelude.{◌≡◌, ◌<◌, Some, None, IfOk, IfErr};
+ghost use Rattle.policy.specs.Decisions.{local_side, remote_side};
+ghost use Rattle.policy.specs.Entries.{IsSoundEntry};
+ghost use Rattle.policy.specs.Narrowing.{IsSendableSelector};
+ghost use Rattle.sadb.specs.Database.{IsAsBefore, IsReady, IsReserved, Reserves};
+ghost use Rattle.initial.specs.Configs.{setup_of};
+ghost use Rattle.ike.specs.Machines.{SERIAL_END};
+ghost use Rattle.ike.specs.Starting.{further_order_fault, if_protects, new_order_fault, order_fault, protecting_entry, BeginsNext, GivesNoSpi, IsAllowed, RefusesStart, Starts};
+
+use crate::held::{Held, has_serial, is_bad_spi};
+use crate::{IkeFault, IkeOutput, Stepped};
+use association::{FirstChild, MessageFault};
+use base::Selector;
+use children::ChildFault;
+use initial::{Beginning, Step, begin};
+use policy::{Action, Entry};
+use sa_init::ASSOCIATION_LIMIT;
+use sadb::{Spi, Table, TableFault};
+use std::alloc::{AllocError, Global};
+use suite::{Agreement, Proof, Sealer};
+
+/// Begins an association whose first child is that of an entry of the policy, by its number.
+pub(crate) fn start<C: Sealer + Agreement + Proof>(
+    alloc: Global,
+    step: &Step<'_, C>,
+    held: &mut Held,
+    table: &mut Table,
+    ike: Option<u32>,
+    place: u32,
+) -> Result<Stepped, IkeFault>
+    ensures started { IfOk result (λ stepped. Starts
+        (record {
+          cipher = C.cipher;
+          body_of = C.body_of;
+          plain_of = C.plain_of;
+          group = C.group_number;
+          public_value = C.public_value;
+          shared_secret = C.shared_secret;
+          own_method = C.own_method step.now.caller.now;
+          proof_of = C.proof_of step.now.caller.now;
+          accepts = C.accepts step.now.caller.now;
+        })
+        (setup_of step.now) ike place held.old table.old stepped held.new table.new) }
+    ensures refused { IfErr result (λ reason. RefusesStart step.now.policy.now step.now.fresh.now ike place held.old table.old reason
+        × (held.new ≡ held.old) × IsAsBefore table.old table.new) }
+{
+    let allowed = check_order(step, held, ike, place)?;
+    prepare(table)?;
+    let beginning = begin(alloc, step)?;
+    Ok(begin_next(
+        alloc,
+        held,
+        table,
+        &allowed,
+        step.config.extended,
+        beginning,
+    )?)
+}
+
+/// What may be begun: an association of this serial, by this entry.
+#[derive(Clone, Copy)]
+struct Allowed {
+    serial: u32,
+    entry: Entry,
+}
+
+fn check_order<C>(
+    step: &Step<'_, C>,
+    held: &Held,
+    ike: Option<u32>,
+    place: u32,
+) -> Result<Allowed, IkeFault>
+    ensures allowed { IfOk result (λ a. IsAllowed step.now.policy.now ike place step.now.fresh.now held.now a.serial a.entry) }
+    ensures sound { IfOk result (λ a. IsSoundEntry a.entry) }
+    ensures refused { IfErr result (λ reason. order_fault step.now.policy.now ike place step.now.fresh.now held.now ≡ Some reason) }
+{
+    let Some(entry) = protecting_entry(step.policy.entries(), place) else {
+        return Err(IkeFault::Unprotected);
+    };
+    let serial = match ike {
+        Some(serial) => return Err(further_order_fault(held, serial)),
+        None => new_serial(held, step.fresh.spi)?,
+    };
+    Ok(Allowed { serial, entry })
+}
+
+// The entry of this number, where it protects.
+fn protecting_entry(entries: &[Entry], place: u32) -> Option<Entry>
+    ensures { result ≡ protecting_entry entries.now place }
+{
+    match entries.get(place as usize) {
+        Some(entry) => if_protects(entry),
+        None => None,
+    }
+}
+
+fn if_protects(entry: &Entry) -> Option<Entry>
+    ensures { result ≡ if_protects entry.now.action entry.now }
+{
+    match entry.action {
+        Action::Protect => Some(*entry),
+        Action::Bypass | Action::Discard => None,
+    }
+}
+
+// Why no further child can be asked for.
+fn further_order_fault(held: &Held, serial: u32) -> IkeFault
+    ensures { result ≡ further_order_fault held.now serial }
+{
+    if has_serial(serial, held.associations()) {
+        IkeFault::Message(MessageFault::WrongPhase)
+    } else {
+        IkeFault::Message(MessageFault::UnknownAssociation)
+    }
+}
+
+// The serial of an association that is begun with this SPI.
+fn new_serial(held: &Held, spi: u64) -> Result<u32, IkeFault>
+    ensures serial { IfOk result (λ serial. (new_order_fault held.now spi ≡ None) × (serial ≡ held.now.next) × (held.now.next < SERIAL_END)) }
+    ensures refused { IfErr result (λ reason. new_order_fault held.now spi ≡ Some reason) }
+{
+    if held.associations().len() >= ASSOCIATION_LIMIT {
+        return Err(IkeFault::Crowded);
+    }
+    let Some(serial) = held.next_serial() else {
+        return Err(IkeFault::NumbersSpent);
+    };
+    if is_bad_spi(spi, held.associations()) {
+        return Err(IkeFault::BadFresh);
+    }
+    Ok(serial)
+}
+
+// Makes room for the child.
+fn prepare(table: &mut Table) -> Result<(), IkeFault>
+    ensures ready { IfOk result (λ _. IsReady table.new) }
+    ensures refused { IfErr result (GivesNoSpi table.old) }
+    ensures content { IsAsBefore table.old table.new }
+{
+    match table.prepare() {
+        Ok(_) => Ok(()),
+        Err(TableFault::Full) => Err(IkeFault::TableFull),
+        Err(TableFault::Spent) => Err(IkeFault::SpisSpent),
+        Err(TableFault::Memory) => Err(IkeFault::Memory(ChildFault::Table)),
+    }
+}
+
+// Reserves the child's SPI, and holds the association. An error is for want of memory, and changes nothing.
+fn begin_next(
+    alloc: Global,
+    held: &mut Held,
+    table: &mut Table,
+    allowed: &Allowed,
+    extended: bool,
+    beginning: Beginning,
+) -> Result<Stepped, AllocError>
+    requires ready { IsReady table.old }
+    requires serial { (allowed.now.serial ≡ held.old.next) × (held.old.next < SERIAL_END) }
+    requires sound { IsSoundEntry allowed.now.entry }
+    ensures begun { IfOk result (λ stepped. BeginsNext allowed.now.entry extended beginning held.old table.old stepped held.new table.new) }
+    ensures refused { IfErr result (λ _. (held.new ≡ held.old) × (table.new ≡ table.old)) }
+{
+    let (local, remote) = sides(&allowed.entry);
+    held.associations.reserve(1)?;
+    // From here on nothing can be refused.
+    let spi = reserve(table);
+    let child = FirstChild::new(spi, local, remote, extended);
+    let (association, octets) = beginning.into_association(alloc, allowed.serial, child);
+    held.associations.push_reserved(association);
+    held.next += 1;
+    Ok(Stepped::plain(IkeOutput::Request {
+        ike: allowed.serial,
+        octets,
+    }))
+}
+
+// Both sides of an entry, which a message can carry.
+fn sides(entry: &Entry) -> (Selector, Selector)
+    requires { IsSoundEntry entry.now }
+    ensures local { (result.0 ≡ local_side entry.now) × IsSendableSelector result.0 }
+    ensures remote { (result.1 ≡ remote_side entry.now) × IsSendableSelector result.1 }
+{
+    (entry.local_side(), entry.remote_side())
+}
+
+fn reserve(table: &mut Table) -> Spi
+    requires { IsReady table.old }
+    ensures { Reserves table.old result table.new }
+{
+    table.reserve().unwrap()
+}
