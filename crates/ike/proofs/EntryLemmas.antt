@@ -1,5 +1,5 @@
 -- An entry that protects is one of the policy, and so it is sound.
-use Rattle.std.proofs.Common.{◌≡◌, ℕ, List, Option, None, Some, ap, refl, sym, ◌∙◌}
+use Rattle.std.proofs.Common.{◌≡◌, ℕ, List, Option, None, Some}
 use Rattle.std.specs.List.{slice_get}
 use Rattle.policy.specs.Entries.{IsSoundEntry, IsSoundPolicy}
 use Rattle.policy.specs.declared.entry.Action.{Action}

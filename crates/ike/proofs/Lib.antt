@@ -1,5 +1,6 @@
 mod ListLemmas
 mod EntryLemmas
 mod RepeatLemmas
+mod CountLemmas
 mod SoundLemmas
 mod StepLemmas

@@ -2,13 +2,19 @@
 use Rattle.std.proofs.Common.{◌≡◌, ◌≢◌, ◌⊎◌, inl, inr, ℕ, ◌+◌, ◌<◌, ◌≤◌, ◌++◌, ◌∷◌, [], List, length, Option, Some, None, ap, refl, subst, sym, ◌∙◌, arith}
 use Rattle.std.specs.List.{slice_get}
 use Rattle.std.specs.Prelude.{slice_set}
+use Rattle.std.proofs.lemmas.Bool.Decides.{leb_tells}
 use Rattle.std.proofs.lemmas.List.{length-append, length-set}
+use Rattle.exchange.specs.declared.headers.Role.{Role}
+use Rattle.exchange.specs.declared.headers.Role.TheVariants.{Initiator}
 use Rattle.sadb.specs.Database.{Database, IsReserved}
-use Rattle.sa_init.specs.Judging.{ASSOCIATION_LIMIT}
+use Rattle.sa_init.specs.Judging.{ASSOCIATION_LIMIT, HALF_OPEN_LIMIT}
 use Rattle.association.specs.Closing.{HoldsSpi}
 use Rattle.association.specs.Phases.{spi_in}
 use Rattle.association.specs.declared.phase.Association.{Association}
-use Rattle.ike.specs.Soundness.{AreSound}
+use Rattle.initial.specs.Reading.{IsInitSent}
+use Rattle.initial.specs.Taking.{StaysItself}
+use Rattle.ike.specs.Machines.{half_open_count, own_spi, spi_by_role, Held, SERIAL_END}
+use Rattle.ike.specs.Soundness.{AreApart, AreSound, At, IsSound}
 use Rattle.ike.proofs.ListLemmas.{grown, replaced}
 
 abbrev pub held_by : Association → Option ℕ
@@ -22,54 +28,120 @@ other_holds : (table new_table : Database) (o : Option ℕ) → ((spi : ℕ) →
 other_holds table new_table None stays holds = tt
 other_holds table new_table (Some spi) stays holds = stays spi refl holds
 
--- what is asked of the association b that stands at a place from now on, among others: its SPI is reserved, no other has it, and theirs stay
-pub record Joins (old : List Association) (place : ℕ) (b : Association) (table new_table : Database) : Type 0 where
-  pub holds : HoldsSpi (held_by b) new_table
-  pub others : (k : ℕ) (c : Association) (spi : ℕ) → k ≢ place → slice_get old k ≡ Some c → held_by c ≡ Some spi → IsReserved table spi → IsReserved new_table spi
-  pub alone : (k : ℕ) (c : Association) (spi : ℕ) → k ≢ place → slice_get old k ≡ Some c → held_by c ≡ Some spi → held_by b ≢ Some spi
+-- what is asked of the association b that stands at a place from now on, among others
+pub record Joins (old : Held) (place : ℕ) (b : Association) (next : ℕ) (table new_table : Database) : Type 0 where
+  pub sound : IsSound b next new_table
+  pub more : old.next ≤ next
+  pub others : (k : ℕ) (c : Association) (spi : ℕ) → k ≢ place → At old k c → held_by c ≡ Some spi → IsReserved table spi → IsReserved new_table spi
+  pub before : (k : ℕ) (c : Association) → k < place → At old k c → AreApart c b
+  pub after : (k : ℕ) (c : Association) → place < k → At old k c → AreApart b c
 
-still_reserved : (old : List Association) (place : ℕ) (b : Association) (table new_table : Database) → AreSound old table → Joins old place b table new_table
-    → (k : ℕ) (c : Association) → Stands old place b k c → HoldsSpi (held_by c) new_table
-still_reserved old place b table new_table sound joins k c (inl (here, same)) = subst (λ (x : Association). HoldsSpi (held_by x) new_table) (sym same) joins.holds
-still_reserved old place b table new_table sound joins k c (inr (other, there)) =
-    other_holds table new_table (held_by c) (λ spi held reserved. joins.others k c spi other there held reserved) (sound.reserved k c there)
+still_sound : (old : Held) (place : ℕ) (b : Association) (next : ℕ) (table new_table : Database) → AreSound old table → Joins old place b next table new_table
+    → (k : ℕ) (c : Association) → Stands old.associations place b k c → IsSound c next new_table
+still_sound old place b next table new_table sound joins k c (inl (here, same)) = subst (λ (x : Association). IsSound x next new_table) (sym same) joins.sound
+still_sound old place b next table new_table sound joins k c (inr (other, there)) =
+    let was = sound.each k c there in
+    record {
+      serial_least = was.serial_least;
+      serial_given = omega (arith, was.serial_given, joins.more);
+      own = was.own;
+      initiator = was.initiator;
+      reserved = other_holds table new_table (held_by c) (λ spi held reserved. joins.others k c spi other there held reserved) was.reserved;
+    }
 
-still_apart : (old : List Association) (place : ℕ) (b : Association) (table new_table : Database) → AreSound old table → Joins old place b table new_table
-    → (k l : ℕ) (c d : Association) (spi : ℕ) → Stands old place b k c → Stands old place b l d → held_by c ≡ Some spi → held_by d ≡ Some spi → k ≡ l
-still_apart old place b table new_table sound joins k l c d spi (inl (here, same)) (inl (there, too)) held also = here ∙ sym there
-still_apart old place b table new_table sound joins k l c d spi (inl (here, same)) (inr (other, there)) held also =
-    absurd (joins.alone l d spi other there also (ap held_by (sym same) ∙ held))
-still_apart old place b table new_table sound joins k l c d spi (inr (other, there)) (inl (here, same)) held also =
-    absurd (joins.alone k c spi other there held (ap held_by (sym same) ∙ also))
-still_apart old place b table new_table sound joins k l c d spi (inr (other, there)) (inr (another, where_too)) held also =
-    sound.apart k l c d spi there where_too held also
+still_apart : (old : Held) (place : ℕ) (b : Association) (next : ℕ) (table new_table : Database) → AreSound old table → Joins old place b next table new_table
+    → (k l : ℕ) (c d : Association) → k < l → Stands old.associations place b k c → Stands old.associations place b l d → AreApart c d
+still_apart old place b next table new_table sound joins k l c d less (inl (here, same)) (inl (there, too)) = absurd (omega (arith, less, here, there))
+still_apart old place b next table new_table sound joins k l c d less (inl (here, same)) (inr (other, there)) =
+    subst (λ (x : Association). AreApart x d) (sym same) (joins.after l d (omega (arith, less, here)) there)
+still_apart old place b next table new_table sound joins k l c d less (inr (other, there)) (inl (here, same)) =
+    subst (λ (x : Association). AreApart c x) (sym same) (joins.before k c (omega (arith, less, here)) there)
+still_apart old place b next table new_table sound joins k l c d less (inr (other, there)) (inr (another, where_too)) =
+    sound.apart k l c d less there where_too
 
 -- one of them changed
-pub sound_replaced : (old : List Association) (place : ℕ) (b : Association) (table new_table : Database)
-    → AreSound old table → Joins old place b table new_table → AreSound (slice_set old place b) new_table
-sound_replaced old place b table new_table sound joins =
+pub sound_replaced : (old : Held) (place : ℕ) (b : Association) (table new_table : Database)
+    → half_open_count (slice_set old.associations place b) ≤ half_open_count old.associations
+    → AreSound old table → Joins old place b old.next table new_table → AreSound (record { next = old.next; associations = slice_set old.associations place b }) new_table
+sound_replaced old place b table new_table fewer sound joins =
     record {
-      few = subst (λ n. n ≤ ASSOCIATION_LIMIT) (sym (length-set old place b)) sound.few;
-      reserved = λ k c is. still_reserved old place b table new_table sound joins k c (replaced old place b k c is);
-      apart = λ k l c d spi is too. still_apart old place b table new_table sound joins k l c d spi (replaced old place b k c is) (replaced old place b l d too);
+      first = sound.first;
+      serials = sound.serials;
+      few = subst (λ n. n ≤ ASSOCIATION_LIMIT) (sym (length-set old.associations place b)) sound.few;
+      few_half_open = omega (arith, fewer, sound.few_half_open);
+      each = λ k c is. still_sound old place b old.next table new_table sound joins k c (replaced old.associations place b k c is);
+      apart = λ k l c d less is too. still_apart old place b old.next table new_table sound joins k l c d less (replaced old.associations place b k c is) (replaced old.associations place b l d too);
     }
 
 -- one more came
-pub sound_grown : (old : List Association) (b : Association) (table new_table : Database) → length old < ASSOCIATION_LIMIT
-    → AreSound old table → Joins old (length old) b table new_table → AreSound (old ++ b ∷ []) new_table
-sound_grown old b table new_table few sound joins =
+pub sound_grown : (old : Held) (b : Association) (table new_table : Database) → length old.associations < ASSOCIATION_LIMIT → old.next < SERIAL_END
+    → half_open_count (old.associations ++ b ∷ []) ≤ HALF_OPEN_LIMIT
+    → AreSound old table → Joins old (length old.associations) b (old.next + 1) table new_table
+    → AreSound (record { next = old.next + 1; associations = old.associations ++ b ∷ [] }) new_table
+sound_grown old b table new_table few left half_open sound joins =
     record {
-      few = subst (λ n. n ≤ ASSOCIATION_LIMIT) (sym (length-append old (b ∷ []))) (omega arith);
-      reserved = λ k c is. still_reserved old (length old) b table new_table sound joins k c (grown old b k c is);
-      apart = λ k l c d spi is too. still_apart old (length old) b table new_table sound joins k l c d spi (grown old b k c is) (grown old b l d too);
+      first = omega arith;
+      serials = omega (arith, left);
+      few = subst (λ n. n ≤ ASSOCIATION_LIMIT) (sym (length-append old.associations (b ∷ []))) (omega (arith, few));
+      few_half_open = half_open;
+      each = λ k c is. still_sound old (length old.associations) b (old.next + 1) table new_table sound joins k c (grown old.associations b k c is);
+      apart = λ k l c d less is too. still_apart old (length old.associations) b (old.next + 1) table new_table sound joins k l c d less (grown old.associations b k c is) (grown old.associations b l d too);
     }
 
 -- the table alone changed, and all that was reserved is reserved
-pub sound_with : (old : List Association) (table new_table : Database) → ((spi : ℕ) → IsReserved table spi → IsReserved new_table spi)
-    → AreSound old table → AreSound old new_table
+pub sound_with : (old : Held) (table new_table : Database) → ((spi : ℕ) → IsReserved table spi → IsReserved new_table spi) → AreSound old table → AreSound old new_table
 sound_with old table new_table stays sound =
     record {
+      first = sound.first;
+      serials = sound.serials;
       few = sound.few;
-      reserved = λ k c is. other_holds table new_table (held_by c) (λ spi held. stays spi) (sound.reserved k c is);
+      few_half_open = sound.few_half_open;
+      each = λ k c is.
+          let was = sound.each k c is in
+          record {
+            serial_least = was.serial_least;
+            serial_given = was.serial_given;
+            own = was.own;
+            initiator = was.initiator;
+            reserved = other_holds table new_table (held_by c) (λ spi held. stays spi) was.reserved;
+          };
       apart = sound.apart;
     }
+
+-- ---- an association that a message changed
+
+by_role : (a b : Association) (r : Role) → a.role ≡ r → b.role ≡ r → spi_by_role r b.spi_i b.spi_r ≡ spi_by_role r a.spi_i a.spi_r → own_spi b ≡ own_spi a
+by_role a b r was is same =
+    ap (λ (x : Role). spi_by_role x b.spi_i b.spi_r) is ∙ same ∙ sym (ap (λ (x : Role). spi_by_role x a.spi_i a.spi_r) was)
+
+-- this end's SPI stays
+pub own_stays : (a b : Association) → (IsInitSent a.phase → a.role ≡ Initiator) → StaysItself a b → own_spi b ≡ own_spi a
+own_stays a b initiator stays =
+    elim stays.spi_r [
+      | inl same ↦ by_role a b a.role refl stays.role (ap (λ n. spi_by_role a.role n b.spi_r) stays.spi_i ∙ ap (λ n. spi_by_role a.role a.spi_i n) same)
+      | inr waits ↦ by_role a b Initiator (initiator waits) (stays.role ∙ initiator waits) stays.spi_i
+    ]
+
+pub apart_before : (a b c : Association) → own_spi b ≡ own_spi a → StaysItself a b → ((spi : ℕ) → held_by b ≡ Some spi → held_by a ≡ Some spi) → AreApart c a → AreApart c b
+apart_before a b c own stays none was =
+    record {
+      rising = subst (λ n. c.serial < n) (sym stays.serial) was.rising;
+      own = λ e. was.own (e ∙ own);
+      held = λ spi held e. was.held spi held (none spi e);
+    }
+
+pub apart_after : (a b c : Association) → own_spi b ≡ own_spi a → StaysItself a b → ((spi : ℕ) → held_by b ≡ Some spi → held_by a ≡ Some spi) → AreApart a c → AreApart b c
+apart_after a b c own stays none was =
+    record {
+      rising = subst (λ n. n < c.serial) (sym stays.serial) was.rising;
+      own = λ e. was.own (sym own ∙ e);
+      held = λ spi held e. was.held spi (none spi held) e;
+    }
+
+-- two at different places don't hold one SPI
+pub alone : (held : Held) (table : Database) (k place : ℕ) (c a : Association) (spi : ℕ) → AreSound held table → k ≢ place → At held k c → At held place a → held_by c ≡ Some spi → held_by a ≢ Some spi
+alone held table k place c a spi sound other there here holds =
+    elim (leb_tells place k) [
+      | inl (yes_it_is, above) ↦ λ e. (sound.apart place k a c (omega (arith, other, above)) here there).held spi e holds
+      | inr (no_it_is_not, below) ↦ (sound.apart k place c a below there here).held spi holds
+    ]

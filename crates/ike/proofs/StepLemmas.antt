@@ -1,10 +1,9 @@
 -- A step keeps associations and table sound, by what a message does to one association.
-use Rattle.std.proofs.Common.{◌≡◌, ◌≢◌, ◌⊎◌, ◌||◌, inl, inr, ℕ, ◌+◌, ◌<◌, ◌≤◌, Bool, true, false, List, length, Option, Some, None, Result, Ok, Err, ap, refl, subst, sym, ◌∙◌, arith}
+use Rattle.std.proofs.Common.{◌≡◌, ◌≢◌, ◌||◌, inl, inr, ℕ, ◌+◌, ◌<◌, ◌≤◌, Bool, true, false, List, length, Option, Some, None, Result, Ok, Err, ap, refl, subst, sym, ◌∙◌, arith}
 use Rattle.std.specs.Cmp.{nat_cmp_total, unsigned_tied}
 use Rattle.std.specs.FinSet as set
-use Rattle.std.specs.List.{slice_get}
-use Rattle.std.specs.Ordering.{nat_cmp}
 use Rattle.std.specs.Prelude.{◌==◌, if◌then◌else◌, nat_le, IfErr, IfOk}
+use Rattle.std.proofs.lemmas.Option.{slice_get_within}
 use Rattle.std.proofs.lemmas.Bool.{eq-eqb}
 use Rattle.std.proofs.lemmas.Bool.Decides.{leb_tells}
 use Rattle.base.specs.Octets.{Octets}
@@ -20,20 +19,26 @@ use Rattle.association.specs.Closing.{HoldsSpi}
 use Rattle.association.specs.Phases.{spi_in}
 use Rattle.association.specs.declared.fault.MessageFault.{MessageFault}
 use Rattle.association.specs.declared.phase.Association.{Association}
+use Rattle.association.specs.declared.phase.HalfOpen.{HalfOpen}
+use Rattle.association.specs.declared.phase.InitSent.{InitSent}
+use Rattle.association.specs.declared.phase.Phase.TheVariants as phase
+use Rattle.exchange.specs.declared.headers.Role.TheVariants.{Initiator}
 use Rattle.initial.specs.Configs.{Setup}
-use Rattle.initial.specs.Taking.{Meaning, TakesMessage}
+use Rattle.initial.specs.Reading.{IsInitSent}
+use Rattle.initial.specs.Taking.{Meaning, StaysItself, TakesMessage}
 use Rattle.initial.specs.declared.taking.Effect.{Effect}
 use Rattle.association.specs.Finding.{found}
-use Rattle.initial.specs.Beginning.{begun}
-use Rattle.ike.specs.Machines.{half_open_count, setup_at, Held, Machine}
-use Rattle.ike.specs.Receiving.{is_initial_request, is_sound_initial, is_answered, DoesJudgement, PassesOver, TakesAt, TakesDatagram, TakesFound, TakesNew, TakesOffer, TakesRead, TakesRequestAt, TakesSound}
+use Rattle.initial.specs.Beginning.{begun, half_open as half_open_association}
+use Rattle.ike.specs.Machines.{half_open_count, is_bad_spi, own_spi, setup_at, Held, Machine, SERIAL_END}
+use Rattle.ike.specs.Receiving.{is_initial_request, is_sound_initial, is_answered, with_next, AdmitsNext, CanMake, DoesJudgement, TakesAt, TakesDatagram, TakesFound, TakesOffer, TakesRead, TakesRequestAt, TakesSound}
 use Rattle.ike.specs.Soundness.{AreSound, IsSoundMachine}
 use Rattle.ike.specs.Starting.{child_by, new_order_fault, order_fault_of, protecting_entry, Starts}
 use Rattle.ike.specs.Steps.{InputView, Refuses, Steps}
 use Rattle.ike.specs.Steps as steps
 use Rattle.ike.specs.declared.fault.IkeFault.{IkeFault}
 use Rattle.ike.specs.declared.output.Stepped.{Stepped}
-use Rattle.ike.proofs.SoundLemmas.{held_by, sound_grown, sound_replaced, sound_with, Joins}
+use Rattle.ike.proofs.CountLemmas.{count_grown, count_replaced, not_used, not_zero, weight_most}
+use Rattle.ike.proofs.SoundLemmas.{alone, apart_after, apart_before, held_by, own_stays, sound_grown, sound_replaced, sound_with, Joins}
 use Rattle.std.specs.List.{position}
 
 -- what is known of a message's effect, and of offers that are accepted
@@ -44,95 +49,145 @@ pub record Laws : Type 0 where
       → spi_in old.phase ≢ Some spi → IsReserved table spi → spi < table.start + table.given → TakesMessage meaning setup old table octets m effect new new_table → IsReserved new_table spi
   pub none : (meaning : Meaning) (setup : Setup) (old : Association) (table : Database) (octets : Octets) (m : Message) (effect : Effect) (new : Association) (new_table : Database) (spi : ℕ)
       → spi_in new.phase ≡ Some spi → TakesMessage meaning setup old table octets m effect new new_table → spi_in old.phase ≡ Some spi
+  pub itself : (meaning : Meaning) (setup : Setup) (old : Association) (table : Database) (octets : Octets) (m : Message) (effect : Effect) (new : Association) (new_table : Database)
+      → TakesMessage meaning setup old table octets m effect new new_table → StaysItself old new
   pub room : (cipher : Cipher) (group : ℕ) (secrets : CookieSecrets) (sender : Sender) (half_open held : ℕ) (payloads : List Payload) (offer : OfferView)
       → IsJudgement cipher group secrets sender half_open held payloads (Accepted offer) → (half_open < HALF_OPEN_LIMIT) × (held < ASSOCIATION_LIMIT)
 
 -- nothing changed
-same_sound : (old new : Held) (table new_table : Database) → AreSound old.associations table → new ≡ old → new_table ≡ table → AreSound new.associations new_table
+same_sound : (old new : Held) (table new_table : Database) → AreSound old table → new ≡ old → new_table ≡ table → AreSound new new_table
 same_sound old new table new_table sound same unchanged =
-    subst (λ (d : Database). AreSound new.associations d) (sym unchanged) (subst (λ (h : Held). AreSound h.associations table) (sym same) sound)
+    subst (λ (d : Database). AreSound new d) (sym unchanged) (subst (λ (h : Held). AreSound h table) (sym same) sound)
 
 -- ---- a message for an association that is held
 
 taken_joins : (laws : Laws) (place : ℕ) (meaning : Meaning) (setup : Setup) (octets : Octets) (m : Message) (old : Held) (table : Database) (stepped : Stepped) (new : Held) (new_table : Database)
-    → IsSoundTable table → AreSound old.associations table → (is : TakesAt place meaning setup octets m old table stepped new new_table)
-    → Joins old.associations place is.changed table new_table
+    → IsSoundTable table → AreSound old table → (is : TakesAt place meaning setup octets m old table stepped new new_table)
+    → Joins old place is.changed old.next table new_table
 taken_joins laws place meaning setup octets m old table stepped new new_table sound_table sound is =
+    let was = sound.each place is.association is.there in
+    let stays : StaysItself is.association is.changed = laws.itself meaning setup is.association table octets m is.effect is.changed new_table is.takes in
+    let own : own_spi is.changed ≡ own_spi is.association = own_stays is.association is.changed was.initiator stays in
+    let none : (spi : ℕ) → held_by is.changed ≡ Some spi → held_by is.association ≡ Some spi =
+    λ spi e. laws.none meaning setup is.association table octets m is.effect is.changed new_table spi e is.takes in
     record {
-      holds = laws.stays meaning setup is.association table octets m is.effect is.changed new_table (sound.reserved place is.association is.there) is.takes;
+      sound = record {
+        serial_least = subst (λ n. 1 ≤ n) (sym stays.serial) was.serial_least;
+        serial_given = subst (λ n. n < old.next) (sym stays.serial) was.serial_given;
+        own = λ e. was.own (sym own ∙ e);
+        initiator = λ w. stays.role ∙ was.initiator (stays.waiting w);
+        reserved = laws.stays meaning setup is.association table octets m is.effect is.changed new_table was.reserved is.takes;
+      };
+      more = omega arith;
       others = λ k c spi other there held reserved.
           laws.others meaning setup is.association table octets m is.effect is.changed new_table spi
-          (λ e. other (sound.apart k place c is.association spi there is.there held e)) reserved (sound_table.reserved_given spi reserved).before_next is.takes;
-      alone = λ k c spi other there held e.
-          other (sound.apart k place c is.association spi there is.there held
-          (laws.none meaning setup is.association table octets m is.effect is.changed new_table spi e is.takes));
+          (alone old table k place c is.association spi sound other there is.there held) reserved (sound_table.reserved_given spi reserved).before_next is.takes;
+      before = λ k c less there. apart_before is.association is.changed c own stays none (sound.apart k place c is.association less there is.there);
+      after = λ k c less there. apart_after is.association is.changed c own stays none (sound.apart place k is.association c less is.there there);
     }
 
 taken_sound : (laws : Laws) (place : ℕ) (meaning : Meaning) (setup : Setup) (octets : Octets) (m : Message) (old : Held) (table : Database) (stepped : Stepped) (new : Held) (new_table : Database)
-    → IsSoundTable table → AreSound old.associations table → TakesAt place meaning setup octets m old table stepped new new_table → AreSound new.associations new_table
+    → IsSoundTable table → AreSound old table → TakesAt place meaning setup octets m old table stepped new new_table → AreSound new new_table
 taken_sound laws place meaning setup octets m old table stepped new new_table sound_table sound is =
-    subst (λ (h : Held). AreSound h.associations new_table) (sym is.content)
-    (sound_replaced old.associations place is.changed table new_table sound (taken_joins laws place meaning setup octets m old table stepped new new_table sound_table sound is))
+    subst (λ (h : Held). AreSound h new_table) (sym is.content)
+    (sound_replaced old place is.changed table new_table
+    (count_replaced old.associations place is.association is.changed is.there (laws.itself meaning setup is.association table octets m is.effect is.changed new_table is.takes).half_open)
+    sound (taken_joins laws place meaning setup octets m old table stepped new new_table sound_table sound is))
 
 found_sound : (laws : Laws) (r : Result ℕ MessageFault) (meaning : Meaning) (setup : Setup) (octets : Octets) (m : Message) (old : Held) (table : Database) (stepped : Stepped) (new : Held) (new_table : Database)
-    → IsSoundTable table → AreSound old.associations table → TakesFound r meaning setup octets m old table stepped new new_table → AreSound new.associations new_table
+    → IsSoundTable table → AreSound old table → TakesFound r meaning setup octets m old table stepped new new_table → AreSound new new_table
 found_sound laws (Ok place) meaning setup octets m old table stepped new new_table sound_table sound is =
     taken_sound laws place meaning setup octets m old table stepped new new_table sound_table sound is
 found_sound laws (Err f) meaning setup octets m old table stepped new new_table sound_table sound is = same_sound old new table new_table sound is.0.unchanged is.1
 
 -- ---- a request of IKE_SA_INIT
 
--- one that holds no SPI joins any others
-joins_freely : (old : List Association) (place : ℕ) (b : Association) (table : Database) → held_by b ≡ None → Joins old place b table table
-joins_freely old place b table none =
+-- what comes last has the next serial, and an SPI that isn't in use
+last_joins : (old : Held) (b : Association) (table new_table : Database) → AreSound old table → is_bad_spi (own_spi b) old.associations ≡ false → b.serial ≡ old.next
+    → (IsInitSent b.phase → b.role ≡ Initiator) → HoldsSpi (held_by b) new_table
+    → ((spi : ℕ) → IsReserved table spi → IsReserved new_table spi) → ((spi : ℕ) → IsReserved table spi → held_by b ≢ Some spi)
+    → Joins old (length old.associations) b (old.next + 1) table new_table
+last_joins old b table new_table sound usable serial initiator holds stays apart =
     record {
-      holds = subst (λ s. HoldsSpi s table) (sym none) tt;
-      others = λ k c spi other there held reserved. reserved;
-      alone = λ k c spi other there held e. absurd (cc);
+      sound = record {
+        serial_least = subst (λ n. 1 ≤ n) (sym serial) sound.first;
+        serial_given = omega (arith, serial);
+        own = not_zero (own_spi b) old.associations usable;
+        initiator = initiator;
+        reserved = holds;
+      };
+      more = omega arith;
+      others = λ k c spi other there held reserved. stays spi reserved;
+      before = λ k c less there.
+          record {
+            rising = let given = (sound.each k c there).serial_given in omega (arith, given, serial);
+            own = not_used (own_spi b) old.associations k c usable there;
+            held = λ spi held. apart spi (subst (λ s. HoldsSpi s table) held (sound.each k c there).reserved);
+          };
+      after = λ k c more there. let within = slice_get_within old.associations k c there in absurd (omega (arith, more, within));
     }
 
+opened_waits : (opened : HalfOpen) (sent : InitSent) → phase.HalfOpen opened ≡ phase.InitSent sent → ⊥
+opened_waits opened sent is = cc
+
+some_none : (spi : ℕ) → Some spi ≡ None → ⊥
+some_none spi e = cc
+
+none_held : (o : Option ℕ) (spi : ℕ) → o ≡ None → o ≢ Some spi
+none_held o spi none e = some_none spi (sym e ∙ none)
+
+admitted_sound : (laws : Laws) (meaning : Meaning) (setup : Setup) (offer : OfferView) (spi_i : ℕ) (octets : Octets) (old : Held) (stepped : Stepped) (new : Held) (table : Database)
+    → half_open_count old.associations < HALF_OPEN_LIMIT → length old.associations < ASSOCIATION_LIMIT → AreSound old table → CanMake old setup.fresh.spi
+    → AdmitsNext meaning setup offer spi_i octets old stepped new → AreSound new table
+admitted_sound laws meaning setup offer spi_i octets old stepped new table half_open few sound can made =
+    let b : Association = half_open_association old.next spi_i setup.fresh.spi made.admits.agreed.record octets made.admits.agreed.octets setup.moment in
+    subst (λ (h : Held). AreSound h table) (sym made.content)
+    (subst (λ (a : Association). AreSound (with_next old a) table) (sym made.admits.content)
+    (sound_grown old b table table few can.serial
+    (let more = count_grown old.associations b in let one = weight_most b in omega (arith, more, one, half_open))
+    sound
+    (last_joins old b table table sound can.usable refl (λ w. absurd (opened_waits _ w.sent w.is)) tt (λ spi there. there) (λ spi there. none_held None spi refl))))
+
 offer_sound : (laws : Laws) (meaning : Meaning) (setup : Setup) (offer : OfferView) (spi_i : ℕ) (octets : Octets) (old : Held) (stepped : Stepped) (new : Held) (table : Database)
-    → length old.associations < ASSOCIATION_LIMIT → AreSound old.associations table → TakesOffer meaning setup offer spi_i octets old stepped new → AreSound new.associations table
-offer_sound laws meaning setup offer spi_i octets old stepped new table few sound is =
+    → half_open_count old.associations < HALF_OPEN_LIMIT → length old.associations < ASSOCIATION_LIMIT → AreSound old table → TakesOffer meaning setup offer spi_i octets old stepped new → AreSound new table
+offer_sound laws meaning setup offer spi_i octets old stepped new table half_open few sound is =
     elim is.done [
       | inl refused ↦ same_sound old new table table sound refused.1.unchanged refl
-      | inr made ↦ subst (λ (h : Held). AreSound h.associations table) (sym made.content)
-          (sound_grown old.associations made.admitted.association table table few sound
-          (joins_freely old.associations (length old.associations) made.admitted.association table (ap held_by made.admits.content)))
+      | inr made ↦ admitted_sound laws meaning setup offer spi_i octets old stepped new table half_open few sound is.can made
     ]
 
 judged_sound : (laws : Laws) (meaning : Meaning) (setup : Setup) (cookies : CookieSecrets) (from octets : Octets) (m : Message) (j : JudgementView) (old : Held) (stepped : Stepped) (new : Held) (table : Database)
     → IsJudgement meaning.cipher meaning.group cookies (record { address = from; spi_i = m.header.spi_i }) (half_open_count old.associations) (length old.associations) m.payloads j
-    → AreSound old.associations table → DoesJudgement meaning setup m.header.spi_i octets j old stepped new → AreSound new.associations table
+    → AreSound old table → DoesJudgement meaning setup m.header.spi_i octets j old stepped new → AreSound new table
 judged_sound laws meaning setup cookies from octets m (Answered notice) old stepped new table judged sound is = same_sound old new table table sound is.1 refl
 judged_sound laws meaning setup cookies from octets m Incomplete old stepped new table judged sound is = same_sound old new table table sound is.unchanged refl
 judged_sound laws meaning setup cookies from octets m Full old stepped new table judged sound is = same_sound old new table table sound is.unchanged refl
 judged_sound laws meaning setup cookies from octets m (Accepted offer) old stepped new table judged sound is =
-    offer_sound laws meaning setup offer m.header.spi_i octets old stepped new table
-    (laws.room meaning.cipher meaning.group cookies (record { address = from; spi_i = m.header.spi_i }) (half_open_count old.associations) (length old.associations) m.payloads offer judged).1 sound is
+    let room = laws.room meaning.cipher meaning.group cookies (record { address = from; spi_i = m.header.spi_i }) (half_open_count old.associations) (length old.associations) m.payloads offer judged in
+    offer_sound laws meaning setup offer m.header.spi_i octets old stepped new table room.0 room.1 sound is
 
 request_sound : (laws : Laws) (o : Option ℕ) (meaning : Meaning) (setup : Setup) (cookies : CookieSecrets) (from octets : Octets) (m : Message) (old : Held) (stepped : Stepped) (new : Held) (table : Database)
-    → AreSound old.associations table → TakesRequestAt o meaning setup cookies from octets m old stepped new → AreSound new.associations table
+    → AreSound old table → TakesRequestAt o meaning setup cookies from octets m old stepped new → AreSound new table
 request_sound laws (Some place) meaning setup cookies from octets m old stepped new table sound is = same_sound old new table table sound is.1 refl
 request_sound laws None meaning setup cookies from octets m old stepped new table sound is =
     judged_sound laws meaning setup cookies from octets m is.judgement old stepped new table is.judged sound is.done
 
 initial_sound : (laws : Laws) (b : Bool) (meaning : Meaning) (setup : Setup) (cookies : CookieSecrets) (from octets : Octets) (m : Message) (old : Held) (stepped : Stepped) (new : Held) (table : Database)
-    → AreSound old.associations table → TakesSound b meaning setup cookies from octets m old stepped new → AreSound new.associations table
+    → AreSound old table → TakesSound b meaning setup cookies from octets m old stepped new → AreSound new table
 initial_sound laws true meaning setup cookies from octets m old stepped new table sound is =
     request_sound laws (position (is_answered octets) old.associations) meaning setup cookies from octets m old stepped new table sound is
 initial_sound laws false meaning setup cookies from octets m old stepped new table sound is = same_sound old new table table sound is.unchanged refl
 
 read_sound : (laws : Laws) (b : Bool) (meaning : Meaning) (setup : Setup) (cookies : CookieSecrets) (from octets : Octets) (m : Message) (old : Held) (table : Database) (stepped : Stepped) (new : Held) (new_table : Database)
-    → IsSoundTable table → AreSound old.associations table → TakesRead b meaning setup cookies from octets m old table stepped new new_table → AreSound new.associations new_table
+    → IsSoundTable table → AreSound old table → TakesRead b meaning setup cookies from octets m old table stepped new new_table → AreSound new new_table
 read_sound laws true meaning setup cookies from octets m old table stepped new new_table sound_table sound is =
-    subst (λ (d : Database). AreSound new.associations d) (sym is.1)
+    subst (λ (d : Database). AreSound new d) (sym is.1)
     (initial_sound laws (is_sound_initial m.header) meaning setup cookies from octets m old stepped new table sound is.0)
 read_sound laws false meaning setup cookies from octets m old table stepped new new_table sound_table sound is =
     found_sound laws (found m.header old.associations) meaning setup octets m old table stepped new new_table sound_table sound is
 
 datagram_sound : (laws : Laws) (meaning : Meaning) (setup : Setup) (cookies : CookieSecrets) (from octets : Octets) (old : Held) (table : Database) (stepped : Stepped) (new : Held) (new_table : Database)
-    → IsSoundTable table → AreSound old.associations table → TakesDatagram meaning setup cookies from octets old table stepped new new_table → AreSound new.associations new_table
+    → IsSoundTable table → AreSound old table → TakesDatagram meaning setup cookies from octets old table stepped new new_table → AreSound new new_table
 datagram_sound laws meaning setup cookies from octets old table stepped new new_table sound_table sound is =
     elim is [
       | inl unread ↦ same_sound old new table new_table sound unread.passed.unchanged unread.unchanged
@@ -155,16 +210,31 @@ no_fault : (b : Bool) (f : IkeFault) (rest : Option IkeFault) → (if b then Som
 no_fault true f rest is = absurd cc
 no_fault false f rest is = refl
 
-few_of : (old : Held) (spi : ℕ) → new_order_fault old spi ≡ None → length old.associations < ASSOCIATION_LIMIT
-few_of old spi none = elim (leb_tells ASSOCIATION_LIMIT (length old.associations)) [
-  | inl (many, above) ↦ absurd (many_clash (nat_le ASSOCIATION_LIMIT (length old.associations)) many (no_fault (nat_le ASSOCIATION_LIMIT (length old.associations)) _ _ none))
-  | inr (few, below) ↦ below
-]
+-- an order that nothing is said against
+record IsFree (old : Held) (spi : ℕ) : Type 0 where
+  few : length old.associations < ASSOCIATION_LIMIT
+  usable : is_bad_spi spi old.associations ≡ false
 
-order_few : (entry : Option Entry) (ike : Option ℕ) (old : Held) (spi : ℕ) → order_fault_of entry ike old spi ≡ None → length old.associations < ASSOCIATION_LIMIT
-order_few None ike old spi none = absurd cc
-order_few (Some entry) (Some serial) old spi none = absurd cc
-order_few (Some entry) None old spi none = few_of old spi none
+after_fault : (b : Bool) (f : IkeFault) (rest : Option IkeFault) → (if b then Some f else rest) ≡ None → rest ≡ None
+after_fault true f rest is = absurd cc
+after_fault false f rest is = is
+
+free_of : (old : Held) (spi : ℕ) → new_order_fault old spi ≡ None → IsFree old spi
+free_of old spi none =
+    let after_few = after_fault (nat_le ASSOCIATION_LIMIT (length old.associations)) _ _ none in
+    let after_spent = after_fault (old.next == SERIAL_END) _ _ after_few in
+    record {
+      few = elim (leb_tells ASSOCIATION_LIMIT (length old.associations)) [
+        | inl (many, above) ↦ absurd (many_clash (nat_le ASSOCIATION_LIMIT (length old.associations)) many (no_fault (nat_le ASSOCIATION_LIMIT (length old.associations)) _ _ none))
+        | inr (few, below) ↦ below
+      ];
+      usable = no_fault (is_bad_spi spi old.associations) _ _ after_spent;
+    }
+
+order_free : (entry : Option Entry) (ike : Option ℕ) (old : Held) (spi : ℕ) → order_fault_of entry ike old spi ≡ None → IsFree old spi
+order_free None ike old spi none = absurd cc
+order_free (Some entry) (Some serial) old spi none = absurd cc
+order_free (Some entry) None old spi none = free_of old spi none
 
 or_true : (b c : Bool) → c ≡ true → (b || c) ≡ true
 or_true true c is = refl
@@ -186,21 +256,23 @@ still_reserved old spi new q is there =
     (set.contains-insert nat_cmp_total old.reserved spi q ∙ or_true _ (set.contains old.reserved q) there)
 
 start_sound : (laws : Laws) (meaning : Meaning) (setup : Setup) (ike : Option ℕ) (place : ℕ) (old : Held) (table : Database) (stepped : Stepped) (new : Held) (new_table : Database)
-    → IsSoundTable table → AreSound old.associations table → Starts meaning setup ike place old table stepped new new_table → AreSound new.associations new_table
+    → IsSoundTable table → AreSound old table → Starts meaning setup ike place old table stepped new new_table → AreSound new new_table
 start_sound laws meaning setup ike place old table stepped new new_table sound_table sound is =
-    let b = begun old.next is.beginning (child_by is.entry is.done.spi setup.config.extended) in
+    let b : Association = begun old.next is.beginning (child_by is.entry is.done.spi setup.config.extended) in
+    let free = order_free (protecting_entry setup.entries place) ike old setup.fresh.spi is.allowed.none in
     let between_reserved : (q : ℕ) → IsReserved table q → IsReserved is.between q = λ q there. subst (λ (d : Database). IsReserved d q) (sym is.room.content) there in
     let same_next : is.between.start + is.between.given ≡ table.start + table.given = ap (λ (d : Database). d.start + d.given) is.room.content in
-    subst (λ (h : Held). AreSound h.associations new_table) (sym is.done.content)
-    (sound_grown old.associations b table new_table (order_few (protecting_entry setup.entries place) ike old setup.fresh.spi is.allowed.none) sound
-    (record {
-      holds = now_reserved is.between is.done.spi new_table is.done.reserved;
-      others = λ k c spi other there held reserved. still_reserved is.between is.done.spi new_table spi is.done.reserved (between_reserved spi reserved);
-      alone = λ k c spi other there held e.
-          let given = (sound_table.reserved_given spi (subst (λ s. HoldsSpi s table) held (sound.reserved k c there))).before_next in
-          let is_new : is.done.spi ≡ spi = same_spi is.done.spi spi e in
-          absurd (omega (arith, given, is_new, same_next, is.done.reserved.in_order));
-    }))
+    subst (λ (h : Held). AreSound h new_table) (sym is.done.content)
+    (sound_grown old b table new_table free.few is.allowed.left
+    (let more = count_grown old.associations b in omega (arith, more, sound.few_half_open))
+    sound
+    (last_joins old b table new_table sound (subst (λ n. is_bad_spi n old.associations ≡ false) (sym is.begins.spi) free.usable) refl (λ w. refl)
+    (now_reserved is.between is.done.spi new_table is.done.reserved)
+    (λ spi there. still_reserved is.between is.done.spi new_table spi is.done.reserved (between_reserved spi there))
+    (λ spi there e.
+    let given = (sound_table.reserved_given spi there).before_next in
+    let is_new : is.done.spi ≡ spi = same_spi is.done.spi spi e in
+    absurd (omega (arith, given, is_new, same_next, is.done.reserved.in_order)))))
 
 -- ---- a step
 
@@ -217,7 +289,7 @@ step_sound laws meaning entries (steps.Secret secret) old table stepped new new_
 refused_sound : (old new : Machine) (table new_table : Database) → IsSoundMachine old table → new ≡ old → IsAsBefore table new_table → IsSoundMachine new new_table
 refused_sound old new table new_table sound same room =
     subst (λ (m : Machine). IsSoundMachine m new_table) (sym same)
-    (sound_with old.held.associations table new_table (λ spi there. subst (λ (d : Database). IsReserved d spi) (sym room.content) there) sound)
+    (sound_with old.held table new_table (λ spi there. subst (λ (d : Database). IsReserved d spi) (sym room.content) there) sound)
 
 pub result_sound : (entries : List Entry) (meaning : Meaning) (input : InputView) (old : Machine) (table : Database) (r : Result Stepped IkeFault) (new : Machine) (new_table : Database)
     → ((stepped : Stepped) → Steps meaning entries input old table stepped new new_table → IsSoundMachine new new_table) → IsSoundMachine old table

@@ -41,8 +41,11 @@ abbrev pub spi_by_role : Role → ℕ → ℕ → ℕ
 spi_by_role Initiator spi_i spi_r = spi_i
 spi_by_role Responder spi_i spi_r = spi_r
 
+abbrev pub own_spi : Association → ℕ
+own_spi a = spi_by_role a.role a.spi_i a.spi_r
+
 abbrev pub has_own_spi : ℕ → Association → Bool
-has_own_spi spi a = spi_by_role a.role a.spi_i a.spi_r == spi
+has_own_spi spi a = own_spi a == spi
 
 -- no new association can have the SPI: it is zero (section 3.1), or this end uses it
 abbrev pub is_bad_spi : ℕ → List Association → Bool

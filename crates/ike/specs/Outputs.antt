@@ -1,6 +1,5 @@
 -- What comes of a step: its output, and which messages were sent under which keys, which keys and which child were made.
 use Rattle.std.specs.Prelude.{ℕ, Bool, true, false, Option, Some, None}
-use Rattle.base.specs.Octets.{Octets}
 use Rattle.initial.specs.declared.taking.Effect.{Effect}
 use Rattle.initial.specs.declared.taking.Effect.TheVariants as effect
 use Rattle.ike.specs.declared.fault.IkeFault.{IkeFault}

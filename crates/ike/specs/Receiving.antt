@@ -1,5 +1,5 @@
 -- What a datagram that came does (RFC 7296 sections 1.2, 2.1, 2.6 and 3.1).
-use Rattle.std.specs.Prelude.{◌≡◌, ◌≢◌, ◌==◌, ◌&&◌, ◌<◌, ◌+◌, ◌++◌, ◌∷◌, ◌⊎◌, ℕ, Bool, true, false, not, Option, Some, None, List, [], Result, Ok, Err, length, nat_eq, slice_get, slice_set}
+use Rattle.std.specs.Prelude.{◌≡◌, ◌==◌, ◌&&◌, ◌<◌, ◌+◌, ◌++◌, ◌∷◌, ◌⊎◌, ℕ, Bool, true, false, not, Option, Some, None, List, [], Result, Ok, Err, length, nat_eq, slice_get, slice_set}
 use Rattle.std.specs.Cmp.Lexicographic.{pointwise}
 use Rattle.std.specs.List.{position}
 use Rattle.base.specs.Octets.{Octets}
@@ -7,7 +7,6 @@ use Rattle.wire.specs.Messages.{Spells, SpellsPlainly}
 use Rattle.wire.specs.Refusals.{IsFaultOf}
 use Rattle.wire.specs.Numbers.{IKE_SA_INIT}
 use Rattle.wire.specs.declared.fault.WireFault.{WireFault}
-use Rattle.wire.specs.declared.fault.WireFault.TheVariants as wire_fault
 use Rattle.wire.specs.declared.message.Header.{Header}
 use Rattle.wire.specs.declared.message.Message.{Message}
 use Rattle.exchange.specs.declared.notices.Notice.{Notice}
@@ -28,7 +27,7 @@ use Rattle.initial.specs.Taking.{Meaning, TakesMessage}
 use Rattle.initial.specs.declared.beginning.Admitted.{Admitted}
 use Rattle.initial.specs.declared.taking.Effect.{Effect}
 use Rattle.ike.specs.Machines.{half_open_count, is_bad_spi, Held, SERIAL_END}
-use Rattle.ike.specs.Outputs.{no_trace, passed_over, plain_step, stepped_of}
+use Rattle.ike.specs.Outputs.{passed_over, plain_step, stepped_of}
 use Rattle.ike.specs.declared.fault.IkeFault.{IkeFault}
 use Rattle.ike.specs.declared.fault.IkeFault.TheVariants as fault
 use Rattle.ike.specs.declared.output.IkeOutput.TheVariants.{Reply, Repeat}

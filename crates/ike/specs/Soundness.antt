@@ -1,18 +1,40 @@
 -- What holds of every machine and the table that goes with it.
-use Rattle.std.specs.Prelude.{◌≡◌, ◌≤◌, ℕ, Some, List, length, slice_get}
+use Rattle.std.specs.Prelude.{◌≡◌, ◌≢◌, ◌<◌, ◌≤◌, ℕ, Some, length, slice_get}
+use Rattle.exchange.specs.declared.headers.Role.TheVariants.{Initiator}
 use Rattle.sadb.specs.Database.{Database}
-use Rattle.sa_init.specs.Judging.{ASSOCIATION_LIMIT}
+use Rattle.sa_init.specs.Judging.{ASSOCIATION_LIMIT, HALF_OPEN_LIMIT}
 use Rattle.association.specs.Closing.{HoldsSpi}
 use Rattle.association.specs.Phases.{spi_in}
 use Rattle.association.specs.declared.phase.Association.{Association}
-use Rattle.ike.specs.Machines.{Machine}
+use Rattle.initial.specs.Reading.{IsInitSent}
+use Rattle.ike.specs.Machines.{half_open_count, own_spi, Held, Machine, SERIAL_END}
 
-pub record AreSound (associations : List Association) (table : Database) : Type 0 where
-  pub few : length associations ≤ ASSOCIATION_LIMIT
-  -- an SPI that an association holds for its first child is reserved, and no other association holds it
-  pub reserved : (place : ℕ) (a : Association) → slice_get associations place ≡ Some a → HoldsSpi (spi_in a.phase) table
-  pub apart : (place other : ℕ) (a b : Association) (spi : ℕ) → slice_get associations place ≡ Some a → slice_get associations other ≡ Some b
-      → spi_in a.phase ≡ Some spi → spi_in b.phase ≡ Some spi → place ≡ other
+-- an association stands at a place of the list
+abbrev pub At : Held → ℕ → Association → Type 0
+At held place a = slice_get held.associations place ≡ Some a
+
+-- what holds of each association: its serial was given, the SPI of this end is not zero, who waits for the response to IKE_SA_INIT is the
+-- initiator, and an SPI that is held for a first child is reserved
+pub record IsSound (a : Association) (next : ℕ) (table : Database) : Type 0 where
+  pub serial_least : 1 ≤ a.serial
+  pub serial_given : a.serial < next
+  pub own : own_spi a ≢ 0
+  pub initiator : IsInitSent a.phase → a.role ≡ Initiator
+  pub reserved : HoldsSpi (spi_in a.phase) table
+
+-- what holds of two associations, of which the other was made later
+pub record AreApart (a other : Association) : Type 0 where
+  pub rising : a.serial < other.serial
+  pub own : own_spi a ≢ own_spi other
+  pub held : (spi : ℕ) → spi_in a.phase ≡ Some spi → spi_in other.phase ≢ Some spi
+
+pub record AreSound (held : Held) (table : Database) : Type 0 where
+  pub first : 1 ≤ held.next
+  pub serials : held.next ≤ SERIAL_END
+  pub few : length held.associations ≤ ASSOCIATION_LIMIT
+  pub few_half_open : half_open_count held.associations ≤ HALF_OPEN_LIMIT
+  pub each : (place : ℕ) (a : Association) → At held place a → IsSound a held.next table
+  pub apart : (place later : ℕ) (a other : Association) → place < later → At held place a → At held later other → AreApart a other
 
 abbrev pub IsSoundMachine : Machine → Database → Type 0
-IsSoundMachine machine table = AreSound machine.held.associations table
+IsSoundMachine machine table = AreSound machine.held table

@@ -1,7 +1,6 @@
 -- The order to ask for a child, with a new association (RFC 7296 section 1.2).
-use Rattle.std.specs.Prelude.{◌⊎◌, ◌≡◌, ◌==◌, ◌+◌, ◌<◌, ◌^◌, ℕ, Bool, Option, Some, None, List, length, slice_get, nat_le, if◌then◌else◌}
+use Rattle.std.specs.Prelude.{◌⊎◌, ◌≡◌, ◌==◌, ◌<◌, ℕ, Bool, Option, Some, None, List, length, slice_get, nat_le, if◌then◌else◌}
 use Rattle.std.specs.List.{list_any}
-use Rattle.base.specs.Octets.{Octets}
 use Rattle.policy.specs.Decisions.{local_side, remote_side}
 use Rattle.policy.specs.declared.entry.Action.{Action}
 use Rattle.policy.specs.declared.entry.Action.TheVariants as action
@@ -11,7 +10,6 @@ use Rattle.sadb.specs.Database.{Database, IsAsBefore, IsFull, IsSpent, Reserves}
 use Rattle.sa_init.specs.Judging.{ASSOCIATION_LIMIT}
 use Rattle.association.specs.FirstChildren.{FirstChildView}
 use Rattle.association.specs.declared.fault.MessageFault.TheVariants.{UnknownAssociation, WrongPhase}
-use Rattle.association.specs.declared.phase.Association.{Association}
 use Rattle.initial.specs.Beginning.{begun, Begins}
 use Rattle.initial.specs.Configs.{Setup}
 use Rattle.initial.specs.Taking.{Meaning}

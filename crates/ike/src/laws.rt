@@ -8,10 +8,14 @@ ghost use Rattle.ike.specs.Soundness.{IsSoundMachine};
 ghost use Rattle.ike.specs.Steps.{InputView, Steps};
 ghost use Rattle.ike.specs.declared.output.Stepped.{Stepped};
 
-use initial::laws::{no_spi_comes, spis_stay_reserved, what_others_hold_stays};
+use initial::laws::{
+    associations_stay_themselves, no_spi_comes, spis_stay_reserved, what_others_hold_stays,
+};
 use sa_init::laws::acceptance_is_limited;
 
-/// Whatever a step does, what the associations hold is reserved in the table from then on, each SPI for one of them alone.
+/// Whatever a step does, the machine is sound with its table from then on: at most 128 associations, 32 of them half open, by rising
+/// serial, each under an SPI of its own that is not zero; and what they hold for their first children is reserved in the table, each
+/// SPI for one of them alone.
 pub fn soundness_stays()
     ensures { (meaning : Meaning) (entries : List Entry) (input : InputView) (old : Machine) (table : Database)
         (stepped : Stepped) (new : Machine) (new_table : Database) → IsSoundTable table → IsSoundMachine old table
@@ -20,6 +24,7 @@ pub fn soundness_stays()
     spis_stay_reserved();
     what_others_hold_stays();
     no_spi_comes();
+    associations_stay_themselves();
     acceptance_is_limited();
 }
 

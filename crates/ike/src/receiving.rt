@@ -37,7 +37,7 @@ pub(crate) fn take_datagram<C: Sealer + Agreement + Proof>(
     octets: &[u8],
 ) -> Result<Stepped, IkeFault>
     requires config { IsConfig step.now.config.now }
-    requires sound { AreSound held.old.associations table.old }
+    requires sound { AreSound held.old table.old }
     ensures taken { IfOk result (λ stepped. TakesDatagram
         (record {
           cipher = C.cipher;
@@ -85,7 +85,7 @@ fn take_read<C: Sealer + Agreement + Proof>(
     message: &Message,
 ) -> Result<Stepped, IkeFault>
     requires config { IsConfig step.now.config.now }
-    requires sound { AreSound held.old.associations table.old }
+    requires sound { AreSound held.old table.old }
     requires spelled { Spells message.now octets.now }
     ensures taken { IfOk result (λ stepped. TakesRead (is_initial_request message.now.header)
         (record {
@@ -144,7 +144,7 @@ fn take_found<C: Sealer + Agreement + Proof>(
     message: &Message,
 ) -> Result<Stepped, ChildFault>
     requires config { IsConfig step.now.config.now }
-    requires sound { AreSound held.old.associations table.old }
+    requires sound { AreSound held.old table.old }
     requires spelled { Spells message.now octets.now }
     ensures taken { IfOk result (λ stepped. TakesFound (found message.now.header held.old.associations)
         (record {
@@ -178,7 +178,7 @@ fn take_at<C: Sealer + Agreement + Proof>(
 ) -> Result<Stepped, ChildFault>
     requires config { IsConfig step.now.config.now }
     requires there { place < length held.old.associations }
-    requires sound { AreSound held.old.associations table.old }
+    requires sound { AreSound held.old table.old }
     requires spelled { Spells message.now octets.now }
     ensures taken { IfOk result (λ stepped. TakesAt place
         (record {

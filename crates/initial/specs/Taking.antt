@@ -1,5 +1,5 @@
 -- What a message does to the association that it is for (RFC 7296 sections 1.2, 2.1 to 2.3).
-use Rattle.std.specs.Prelude.{◌≡◌, ℕ, Option}
+use Rattle.std.specs.Prelude.{◌≡◌, ◌⊎◌, ℕ, Option}
 use Rattle.base.specs.Octets.{Octets}
 use Rattle.wire.specs.declared.message.Message.{Message}
 use Rattle.suite.specs.declared.keys.Keys.{Keys}
@@ -12,10 +12,10 @@ use Rattle.association.specs.declared.phase.Association.{Association}
 use Rattle.association.specs.declared.phase.Phase.{Phase}
 use Rattle.association.specs.declared.phase.Phase.TheVariants as phase
 use Rattle.auth.specs.Proofs.{Accepts}
-use Rattle.initial.specs.Answering.{AnswersAuth, Prover}
+use Rattle.initial.specs.Answering.{AnswersAuth, IsHalfOpen, Prover}
 use Rattle.initial.specs.Configs.{Setup}
 use Rattle.initial.specs.Ending.{EndsAuth}
-use Rattle.initial.specs.Reading.{Asker, ReadsResponse}
+use Rattle.initial.specs.Reading.{Asker, IsInitSent, ReadsResponse}
 use Rattle.initial.specs.declared.reading.Continued.{Continued}
 use Rattle.initial.specs.declared.reading.Continued.TheVariants as continued
 use Rattle.initial.specs.declared.taking.Effect.{Effect}
@@ -104,3 +104,13 @@ reception_of (taken.Repeat reply) = Repeat reply
 reception_of (taken.Request plain) = TakesEffect plain
 reception_of (taken.Response plain) = Answers plain
 reception_of taken.InitialResponse = AnswersInitial
+
+-- A message leaves an association its serial, its role and its SPIs, but that an initiator learns the responder's from the response to
+-- IKE_SA_INIT; and none comes back to a phase in which an association begins.
+pub record StaysItself (old new : Association) : Type 0 where
+  pub serial : new.serial ≡ old.serial
+  pub role : new.role ≡ old.role
+  pub spi_i : new.spi_i ≡ old.spi_i
+  pub spi_r : (new.spi_r ≡ old.spi_r) ⊎ IsInitSent old.phase
+  pub waiting : IsInitSent new.phase → IsInitSent old.phase
+  pub half_open : IsHalfOpen new.phase → IsHalfOpen old.phase

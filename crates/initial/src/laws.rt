@@ -7,7 +7,7 @@ ghost use Rattle.association.specs.Closing.{HoldsSpi};
 ghost use Rattle.association.specs.Phases.{spi_in};
 ghost use Rattle.association.specs.declared.phase.Association.{Association};
 ghost use Rattle.initial.specs.Configs.{Setup};
-ghost use Rattle.initial.specs.Taking.{Meaning, TakesMessage};
+ghost use Rattle.initial.specs.Taking.{Meaning, StaysItself, TakesMessage};
 ghost use Rattle.initial.specs.declared.taking.Effect.{Effect};
 
 /// The SPI that is reserved for an association's first child stays reserved as long as the association holds it.
@@ -16,6 +16,14 @@ pub fn spis_stay_reserved()
         (effect : Effect) (new : Association) (new_table : Database) → HoldsSpi (spi_in old.phase) table
         → TakesMessage meaning setup old table octets m effect new new_table
         → HoldsSpi (spi_in new.phase) new_table }
+{}
+
+/// A message leaves an association its serial, its role and its SPIs, but that an initiator learns the responder's; and no association
+/// comes to be half open, or to wait for the response to IKE_SA_INIT, that was not before.
+pub fn associations_stay_themselves()
+    ensures { (meaning : Meaning) (setup : Setup) (old : Association) (table : Database) (octets : Octets) (m : Message)
+        (effect : Effect) (new : Association) (new_table : Database)
+        → TakesMessage meaning setup old table octets m effect new new_table → StaysItself old new }
 {}
 
 /// An association comes to no SPI by a message: what it holds for its first child it held before.

@@ -7,5 +7,6 @@ returns c =
       stays = c.spis_stay_reserved.ensures;
       others = c.what_others_hold_stays.ensures;
       none = c.no_spi_comes.ensures;
+      itself = c.associations_stay_themselves.ensures;
       room = c.acceptance_is_limited.ensures.room;
     })

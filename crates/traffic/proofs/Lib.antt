@@ -1,0 +1,7 @@
+mod VerdictLemmas
+mod OpeningLemmas
+mod ReceivingLemmas
+mod ReceptionLemmas
+mod SendingLemmas
+mod FollowingLemmas
+mod MirrorLemmas

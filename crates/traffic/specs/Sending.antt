@@ -1,0 +1,77 @@
+-- What becomes of a packet on its way out (RFC 4301 section 5.1).
+use Rattle.std.specs.Prelude.{◌≡◌, ℕ, List, []}
+use Rattle.base.specs.Addresses.{family_of}
+use Rattle.base.specs.Octets.{Octets}
+use Rattle.esp.specs.declared.fault.EspFault.TheVariants.{Exhausted}
+use Rattle.policy.specs.Decisions.{IsDecision}
+use Rattle.policy.specs.Packets.{IsFlowOf, IsInnerRefusal}
+use Rattle.policy.specs.declared.entry.Action.{Action}
+use Rattle.policy.specs.declared.entry.Action.TheVariants.{Protect, Bypass, Discard}
+use Rattle.policy.specs.declared.entry.Entry.{Entry}
+use Rattle.policy.specs.declared.flow.Flow.{Flow}
+use Rattle.policy.specs.declared.policy.Direction.{Direction}
+use Rattle.policy.specs.declared.policy.Direction.TheVariants.{Outward}
+use Rattle.sadb.specs.Database.{Carries, Database, IsOutbound, SealRefusalAt, SealsAt}
+use Rattle.traffic.specs.NextHeaders.{next_header_of}
+use Rattle.traffic.specs.Outcomes.{Outcome, Up, Dummy, Sealed, Clear, Discarded, Dropped}
+use Rattle.traffic.specs.declared.fault.PacketFault.TheVariants.{UnknownAssociation, Esp, Inner, OutsideSelectors}
+
+-- the packet has this flow, and this is what the policy does with it
+pub record IsDecided (policy : List Entry) (direction : Direction) (packet : Octets) (flow : Flow) (action : Action) : Type 0 where
+  pub flow_is : IsFlowOf packet flow
+  pub decision : IsDecision policy flow direction action
+
+-- the packet is treated so
+pub record IsTreated (policy : List Entry) (direction : Direction) (packet : Octets) (action : Action) : Type 0 where
+  pub flow : Flow
+  pub decided : IsDecided policy direction packet flow action
+
+-- of the pairs that carry the flow one seals the whole packet, and nothing else, as the payload of a packet of its family
+pub record IsSealed (old : Database) (flow : Flow) (packet : Octets) (child number : ℕ) (octets : Octets) (new : Database) : Type 0 where
+  pub carrier : IsOutbound old.pairs flow child
+  pub sealed : SealsAt old child (next_header_of (family_of flow.source)) packet [] number new octets
+
+-- the pair that carries the flow has no number left
+pub record IsExhausted (old : Database) (flow : Flow) (packet : Octets) : Type 0 where
+  pub child : ℕ
+  pub carrier : IsOutbound old.pairs flow child
+  pub refused : SealRefusalAt old.pairs child packet Exhausted
+
+-- a packet with a flow that is to be protected, where there is memory: it goes sealed or not at all
+abbrev pub Protects : Database → Flow → Octets → Outcome → Database → Type 0
+Protects old flow packet (Sealed child number octets) new = IsSealed old flow packet child number octets new
+Protects old flow packet (Dropped UnknownAssociation) new = ((serial : ℕ) → ¬ Carries old.pairs flow serial) × (new ≡ old)
+Protects old flow packet (Dropped (Esp Exhausted)) new = IsExhausted old flow packet × (new ≡ old)
+Protects old flow packet (Dropped (Esp fault)) new = ⊥
+Protects old flow packet (Dropped (Inner fault)) new = ⊥
+Protects old flow packet (Dropped OutsideSelectors) new = ⊥
+Protects old flow packet (Clear octets) new = ⊥
+Protects old flow packet Discarded new = ⊥
+Protects old flow packet (Up child number inner) new = ⊥
+Protects old flow packet (Dummy child number) new = ⊥
+
+pub record IsProtected (old : Database) (policy : List Entry) (packet : Octets) (outcome : Outcome) (new : Database) : Type 0 where
+  pub flow : Flow
+  pub decided : IsDecided policy Outward packet flow Protect
+  pub protects : Protects old flow packet outcome new
+
+-- What becomes of a packet on its way out, and of the table.
+abbrev pub Sends : Database → List Entry → Octets → Outcome → Database → Type 0
+Sends old policy packet (Sealed child number octets) new = IsProtected old policy packet (Sealed child number octets) new
+Sends old policy packet (Clear octets) new = (octets ≡ packet) × IsTreated policy Outward packet Bypass × (new ≡ old)
+Sends old policy packet Discarded new = IsTreated policy Outward packet Discard × (new ≡ old)
+Sends old policy packet (Dropped (Inner fault)) new = IsInnerRefusal packet fault × (new ≡ old)
+Sends old policy packet (Dropped fault) new = IsProtected old policy packet (Dropped fault) new
+Sends old policy packet (Up child number inner) new = ⊥
+Sends old policy packet (Dummy child number) new = ⊥
+
+-- a pair carries the flow
+pub record HasCarrier (table : Database) (flow : Flow) : Type 0 where
+  pub child : ℕ
+  pub carrier : IsOutbound table.pairs flow child
+
+-- the packet is to be protected, and there is a pair for it: only then memory is asked for
+pub record IsToBeSealed (table : Database) (policy : List Entry) (packet : Octets) : Type 0 where
+  pub flow : Flow
+  pub decided : IsDecided policy Outward packet flow Protect
+  pub carrier : HasCarrier table flow

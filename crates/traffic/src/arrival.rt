@@ -1,0 +1,94 @@
+//! Packets that come protected (RFC 4301, section 5.2).
+ghost use Rattle.std.specs.Prelude.{IfErr, IfOk};
+ghost use Rattle.sadb.specs.Database.{IsFor};
+ghost use Rattle.traffic.specs.Outcomes.{outcome_of_arrival};
+ghost use Rattle.traffic.specs.Receiving.{HasAddressee, IsAddressedTo, IsAddressedToNone, IsVerdictAt, Receives, reception_of};
+ghost use Rattle.traffic.specs.Verdicts.{verdict_of};
+
+use crate::PacketFault;
+use crate::verdict::{Carried, judge};
+use byteorder::{BigEndian, ByteOrder};
+use esp::{EspFault, Opened};
+use sadb::{Pair, Table};
+
+/// What came of an ESP packet. A child is told by the serial of its pair.
+#[derive(Clone, Copy, Debug, PartialEq, Eq)]
+pub enum Arrival<'a> {
+    /// An inner packet goes up.
+    Up {
+        /// The serial of the pair that carried it.
+        child: u32,
+        /// Its number there.
+        number: u64,
+        /// Its octets, in the packet that came.
+        packet: &'a [u8],
+    },
+    /// A dummy packet, which carries nothing (RFC 4303, section 2.6).
+    Dummy {
+        /// The serial of the pair that carried it.
+        child: u32,
+        /// Its number there.
+        number: u64,
+    },
+    /// It is dropped.
+    Dropped(PacketFault),
+}
+
+/// The octets of an SPI, with which a packet begins (RFC 4303, section 2.1).
+const SPI: usize = 4;
+
+/// Takes an ESP packet that came: finds the pair that it is addressed to, opens the packet by its inbound association, and hands
+/// up what it carried. Takes no memory.
+///
+/// Dropped, in this order: [`EspFault::BadLength`] (E14) with fewer than 4 octets; [`PacketFault::UnknownAssociation`] (E28) where
+/// no pair, Live or Deleting, has the SPI; the refusals of [`Table::open`]; and, with the number taken, E21 for a next header
+/// other than 4, 41 and 59 and for a packet of another family than 4 (IPv4) or 41 (IPv6) names, the refusals of
+/// [`policy::inner`], and [`PacketFault::OutsideSelectors`] (E23) where the pair's remote selectors don't hold the source or its
+/// local ones the target.
+pub fn receive<'a>(table: &mut Table, packet: &'a [u8]) -> Arrival<'a>
+    ensures { Receives table.old packet.now (outcome_of_arrival result) table.new }
+{
+    match open(table, packet) {
+        Ok(arrival) => arrival,
+        Err(fault) => Arrival::Dropped(fault),
+    }
+}
+
+fn open<'a>(table: &mut Table, packet: &'a [u8]) -> Result<Arrival<'a>, PacketFault>
+    ensures { Receives table.old packet.now (reception_of result) table.new }
+{
+    let child = addressee(table, packet)?.serial;
+    let opened = table.open(child, packet)?;
+    let number = opened.number;
+    match carried(table, packet, opened)? {
+        Carried::Packet(packet) => Ok(Arrival::Up {
+            child,
+            number,
+            packet,
+        }),
+        Carried::Nothing => Ok(Arrival::Dummy { child, number }),
+    }
+}
+
+/// The pair that a packet is addressed to.
+fn addressee<'a>(table: &'a Table, packet: &[u8]) -> Result<&'a Pair, PacketFault>
+    ensures found { IfOk result (λ pair. IsAddressedTo table.now packet.now pair.now) }
+    ensures may_open { IfOk result (λ pair. IsFor table.now.pairs pair.now.serial packet.now) }
+    ensures none { IfErr result (IsAddressedToNone table.now packet.now) }
+{
+    if packet.len() < SPI {
+        return Err(PacketFault::Esp(EspFault::BadLength));
+    }
+    match table.inbound(BigEndian::read_u32(packet)) {
+        Some(pair) => Ok(pair),
+        None => Err(PacketFault::UnknownAssociation),
+    }
+}
+
+/// Judges what was opened by the pair that the packet is addressed to, which is there still.
+fn carried<'a>(table: &Table, packet: &[u8], opened: Opened<'a>) -> Result<Carried<'a>, PacketFault>
+    requires { HasAddressee table.now packet.now }
+    ensures { IsVerdictAt table.now packet.now opened.entry.next opened.entry.payload.now (verdict_of result) }
+{
+    judge(addressee(table, packet).unwrap(), opened)
+}

@@ -1,0 +1,91 @@
+//! Packets on their way out (RFC 4301, section 5.1).
+ghost use Rattle.std.specs.Prelude.{◌≡◌, IfErr, IfOk};
+ghost use Rattle.policy.specs.Packets.{IsFlowOf};
+ghost use Rattle.traffic.specs.Outcomes.{outcome_of_departure};
+ghost use Rattle.traffic.specs.Sending.{HasCarrier, IsToBeSealed, Protects, Sends};
+
+use crate::PacketFault;
+use crate::next_header::next_header_of;
+use base::Items;
+use policy::{Decision, Direction, Flow, Policy, inner};
+use sadb::Table;
+use std::alloc::{AllocError, Global};
+
+/// What became of a packet on its way out. A child is told by the serial of its pair.
+#[derive(Debug, Drop)]
+pub enum Departure<'a> {
+    /// It goes protected.
+    Sealed {
+        /// The serial of the pair that carries it.
+        child: u32,
+        /// Its number there.
+        number: u64,
+        /// The ESP packet.
+        octets: Items<u8>,
+    },
+    /// It goes as it is.
+    Clear(&'a [u8]),
+    /// It doesn't go, by the policy.
+    Discarded,
+    /// It is dropped.
+    Dropped(PacketFault),
+}
+
+/// The most octets that an ESP packet has beside its payload: SPI, number, padding, its length, next header and check value.
+const MOST_OVERHEAD: usize = 29;
+
+/// Sends a packet by the policy's decision about its flow: sealed by the pair that carries the flow, in the clear, or not at all.
+/// What is to be protected never goes in the clear.
+///
+/// Dropped, in this order and with nothing changed: the refusals of [`inner`] (E21, E22, E39); for a flow that is to be
+/// protected [`PacketFault::UnknownAssociation`] (E28) where no Live pair carries it, and
+/// [`EspFault::Exhausted`](esp::EspFault::Exhausted) (E12) where that pair has no number left.
+///
+/// An error is for want of memory alone, with nothing changed. Only a packet that a pair carries takes memory: once, for the ESP
+/// packet.
+pub fn send<'a>(
+    alloc: Global,
+    table: &mut Table,
+    policy: &Policy,
+    packet: &'a [u8],
+) -> Result<Departure<'a>, AllocError>
+    ensures sent { IfOk result (λ departure.
+        Sends table.old policy.now packet.now (outcome_of_departure departure) table.new) }
+    ensures memory { IfErr result (λ _. IsToBeSealed table.old policy.now packet.now × (table.new ≡ table.old)) }
+{
+    let flow = match inner(packet) {
+        Ok(flow) => flow,
+        Err(fault) => return Ok(Departure::Dropped(PacketFault::Inner(fault))),
+    };
+    match policy.decide(&flow, Direction::Outward) {
+        Decision::Protect => protect(alloc, table, &flow, packet),
+        Decision::Bypass => Ok(Departure::Clear(packet)),
+        Decision::Discard => Ok(Departure::Discarded),
+    }
+}
+
+/// Seals a packet by the pair that carries its flow.
+fn protect<'a>(
+    alloc: Global,
+    table: &mut Table,
+    flow: &Flow,
+    packet: &'a [u8],
+) -> Result<Departure<'a>, AllocError>
+    requires { IsFlowOf packet.now flow.now }
+    ensures sent { IfOk result (λ departure.
+        Protects table.old flow.now packet.now (outcome_of_departure departure) table.new) }
+    ensures memory { IfErr result (λ _. HasCarrier table.old flow.now × (table.new ≡ table.old)) }
+{
+    let Some(child) = table.outbound(flow) else {
+        return Ok(Departure::Dropped(PacketFault::UnknownAssociation));
+    };
+    let mut octets = Vec::with_capacity(alloc, packet.len() + MOST_OVERHEAD)?;
+    match table.seal(child, next_header_of(flow.family()), packet, &mut octets) {
+        Ok(number) => Ok(Departure::Sealed {
+            child,
+            number,
+            octets: Items::from_vec(octets),
+        }),
+        Err(fault) => Ok(Departure::Dropped(PacketFault::Esp(fault))),
+    }
+}

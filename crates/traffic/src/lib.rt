@@ -1,0 +1,41 @@
+//! The path of packets (RFC 4301, sections 5.1 and 5.2): what a gateway does with a packet that comes protected, with one on its
+//! way out, and with one that comes in unprotected. No message of IKE is known here.
+//!
+//! [`receive`] finds the pair of an ESP packet by its SPI, opens the packet, and hands up what it carried where the pair's
+//! selectors hold it. [`send`] asks the policy about a packet, and seals what is to be protected by the pair that carries its
+//! flow. [`admit`] asks the policy about a packet that came in the clear. Only [`send`] takes memory. A [`PacketFault`] says why
+//! a packet is dropped.
+//!
+//! What becomes of a packet is an `Outcome`, plain data (`specs/Outcomes`); which one it is stands in `specs/Receiving`,
+//! `specs/Sending` and `specs/Admitting`, and the verdict on what was opened in `specs/Verdicts`. What follows from these
+//! definitions alone is in [`laws`].
+//!
+//! ```text
+//! match send(alloc, &mut table, &policy, packet)? {
+//!     Departure::Sealed { octets, .. } => transmit(octets.as_slice()),
+//!     Departure::Clear(packet) => transmit(packet),
+//!     Departure::Discarded | Departure::Dropped(_) => {}
+//! }
+//!
+//! match receive(&mut table, datagram) {
+//!     Arrival::Up { packet, .. } => forward(packet),
+//!     Arrival::Dummy { .. } | Arrival::Dropped(_) => {}
+//! }
+//! ```
+#![tactic(auto)]
+
+mod admission;
+mod arrival;
+mod departure;
+mod fault;
+pub mod laws;
+mod next_header;
+mod verdict;
+
+pub use admission::{Admission, admit};
+pub use arrival::{Arrival, receive};
+pub use departure::{Departure, send};
+pub use fault::PacketFault;
+
+#[cfg(test)]
+mod tests;

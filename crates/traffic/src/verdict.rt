@@ -1,0 +1,40 @@
+//! The verdict on what an association opened (RFC 4301, section 5.2, step 4).
+ghost use Rattle.traffic.specs.Verdicts.{IsVerdict, verdict_of};
+ghost use Rattle.traffic.specs.declared.fault.PacketFault.{PacketFault};
+
+use crate::PacketFault;
+use crate::next_header::{NO_NEXT_HEADER, family_under};
+use esp::Opened;
+use policy::{InnerFault, covers, family_of_packet, inner};
+use sadb::Pair;
+
+/// What was carried, and is no reason to drop the packet.
+#[derive(Clone, Copy, Debug, PartialEq, Eq)]
+pub enum Carried<'a> {
+    /// A packet of the association's traffic.
+    Packet(&'a [u8]),
+    /// Nothing: a dummy packet.
+    Nothing,
+}
+
+/// Judges what was opened by a pair: by its next header, by what it is as a packet, and by the pair's selectors.
+///
+/// Refused, in this order: [`InnerFault::BadInner`] (E21) for a next header that names no packet, or where the payload is not of
+/// the family that it names; the refusals of [`inner`]; [`PacketFault::OutsideSelectors`].
+pub fn judge<'a>(pair: &Pair, opened: Opened<'a>) -> Result<Carried<'a>, PacketFault>
+    ensures { IsVerdict opened.entry.next opened.entry.payload.now pair.now.remote pair.now.local (verdict_of result) }
+{
+    if opened.next == NO_NEXT_HEADER {
+        return Ok(Carried::Nothing);
+    }
+    let family = family_under(opened.next).ok_or(InnerFault::BadInner)?;
+    if family_of_packet(opened.payload) != Some(family) {
+        return Err(PacketFault::Inner(InnerFault::BadInner));
+    }
+    let flow = inner(opened.payload)?;
+    if covers(pair.remote.as_slice(), pair.local.as_slice(), &flow) {
+        Ok(Carried::Packet(opened.payload))
+    } else {
+        Err(PacketFault::OutsideSelectors)
+    }
+}
