@@ -8,7 +8,7 @@ use Rattle.sadb.specs.Database.{ChangesAt, Database, HasInbound, IsInbound, Open
 use Rattle.sadb.specs.declared.pair.Pair.{Pair}
 use Rattle.traffic.specs.Faults.{is_after_judging}
 use Rattle.traffic.specs.Outcomes.{Outcome, Up, Dummy, Sealed, Clear, Discarded, Dropped}
-use Rattle.traffic.specs.Receiving.{HasAddressee, IsAddressedTo, IsAddressedToNone, IsNotOpened, IsOpened, IsRejected, IsUnopened, Receives, TakesOneNumber, spi_of}
+use Rattle.traffic.specs.Receiving.{HasAddressee, IsAddressedTo, IsAddressedToNone, IsNotOpened, IsOpened, IsRejected, IsUnopened, Receives, TakesNumberAt, TakesOneNumber, spi_of}
 use Rattle.traffic.specs.Verdicts.{IsVerdict, Verdict, Packet, Nothing, Refused}
 use Rattle.traffic.specs.declared.fault.PacketFault.{PacketFault}
 use Rattle.traffic.specs.declared.fault.PacketFault.TheVariants.{UnknownAssociation, Esp, Inner, OutsideSelectors}
@@ -141,7 +141,7 @@ module _ (facts : FlowFacts) (old : Database) (packet : Octets) where
 
 -- a packet that is opened takes its number
 opening_takes_one : (old : Database) (packet : Octets) (child number : ℕ) (verdict : Verdict) (new : Database)
-    → IsOpened old packet child number verdict new → TakesOneNumber old packet new
+    → IsOpened old packet child number verdict new → TakesNumberAt old packet child number new
 opening_takes_one old packet child number verdict new is =
     let opened : OpensAt old is.pair.serial packet number is.next is.payload new =
     subst (λ serial. OpensAt old serial packet number is.next is.payload new) is.child_is is.opened in
@@ -149,7 +149,7 @@ opening_takes_one old packet child number verdict new is =
     record {
       pair = opened.pair;
       addressed = subst (λ (p : Pair). IsAddressedTo old packet p) (sym pair) is.addressed;
-      number = number;
+      child_is = is.child_is ∙ ap (λ (p : Pair). p.serial) (sym pair);
       judged = opened.opened.judged;
       inbound = opened.inbound;
       taken = opened.opened.taken;
@@ -161,21 +161,25 @@ padding_takes_one : (old : Database) (packet : Octets) (new : Database) → IsNo
 padding_takes_one old packet new is =
     let pair : is.refused.pair ≡ is.pair = same_pair is.refused.pair is.pair (sym is.refused.changed.there ∙ is.addressed.inbound.there) in
     record {
-      pair = is.refused.pair;
-      addressed = subst (λ (p : Pair). IsAddressedTo old packet p) (sym pair) is.addressed;
+      child = is.refused.pair.serial;
       number = is.refused.refused.0;
-      judged = is.refused.refused.1.judged;
-      inbound = is.refused.inbound;
-      taken = is.refused.refused.1.taken;
-      changed = subst (λ (p : Pair). ChangesAt old p.serial is.refused.pair (record is.refused.pair { inbound = is.refused.inbound }) new) (sym pair) is.refused.changed;
+      takes = record {
+        pair = is.refused.pair;
+        addressed = subst (λ (p : Pair). IsAddressedTo old packet p) (sym pair) is.addressed;
+        child_is = refl;
+        judged = is.refused.refused.1.judged;
+        inbound = is.refused.inbound;
+        taken = is.refused.refused.1.taken;
+        changed = subst (λ (p : Pair). ChangesAt old p.serial is.refused.pair (record is.refused.pair { inbound = is.refused.inbound }) new) (sym pair) is.refused.changed;
+      };
     }
 
 pub carrying_takes_one : (old : Database) (packet : Octets) (child number : ℕ) (inner : Octets) (new : Database)
-    → Receives old packet (Up child number inner) new → TakesOneNumber old packet new
+    → Receives old packet (Up child number inner) new → TakesNumberAt old packet child number new
 carrying_takes_one old packet child number inner new is = opening_takes_one old packet child number (Packet inner) new is
 
 pub dummies_take_one : (old : Database) (packet : Octets) (child number : ℕ) (new : Database)
-    → Receives old packet (Dummy child number) new → TakesOneNumber old packet new
+    → Receives old packet (Dummy child number) new → TakesNumberAt old packet child number new
 dummies_take_one old packet child number new is = opening_takes_one old packet child number Nothing new is
 
 rejected_after : (old : Database) (packet : Octets) (fault : PacketFault) (new : Database) → IsRejected old packet fault new → is_after_judging fault ≡ true
@@ -228,4 +232,5 @@ pub refused_after : (old : Database) (packet : Octets) (fault : PacketFault) (ne
     → Receives old packet (Dropped fault) new → is_after_judging fault ≡ true → TakesOneNumber old packet new
 refused_after old packet fault new (inl is) after = absurd (both_ways _ (missed_before old packet fault is.0) after)
 refused_after old packet fault new (inr (inl is)) after = unopened_after old packet fault new is after
-refused_after old packet fault new (inr (inr is)) after = opening_takes_one old packet is.child is.number (Refused fault) new is.opened
+refused_after old packet fault new (inr (inr is)) after =
+    record { child = is.child; number = is.number; takes = opening_takes_one old packet is.child is.number (Refused fault) new is.opened }

@@ -92,12 +92,18 @@ abbrev pub reception_of : Result Arrival PacketFault → Outcome
 reception_of (Ok arrival) = outcome_of_arrival arrival
 reception_of (Err fault) = Dropped fault
 
--- exactly one number was taken: the packet's, by the pair that it is addressed to
-pub record TakesOneNumber (old : Database) (packet : Octets) (new : Database) : Type 0 where
+-- this number was taken, the packet's, by this pair, to which it is addressed, and nothing else changed
+pub record TakesNumberAt (old : Database) (packet : Octets) (child number : ℕ) (new : Database) : Type 0 where
   pub pair : Pair
   pub addressed : IsAddressedTo old packet pair
-  pub number : ℕ
+  pub child_is : child ≡ pair.serial
   pub judged : Judges pair.inbound.association pair.inbound.window packet number
   pub inbound : Receiving
   pub taken : TakesNumber pair.inbound number inbound
   pub changed : ChangesAt old pair.serial pair (record pair { inbound = inbound }) new
+
+-- exactly one number was taken
+pub record TakesOneNumber (old : Database) (packet : Octets) (new : Database) : Type 0 where
+  pub child : ℕ
+  pub number : ℕ
+  pub takes : TakesNumberAt old packet child number new

@@ -14,7 +14,7 @@ ghost use Rattle.traffic.specs.Admitting.{Admits};
 ghost use Rattle.traffic.specs.Faults.{is_after_judging};
 ghost use Rattle.traffic.specs.Mirroring.{IsDue};
 ghost use Rattle.traffic.specs.Outcomes.{Outcome, Up, Dummy, Sealed, Clear, Dropped};
-ghost use Rattle.traffic.specs.Receiving.{Receives, TakesOneNumber};
+ghost use Rattle.traffic.specs.Receiving.{Receives, TakesNumberAt, TakesOneNumber};
 ghost use Rattle.traffic.specs.Sending.{IsDecided, Protects, Sends};
 ghost use Rattle.traffic.specs.declared.fault.PacketFault.{PacketFault};
 
@@ -35,7 +35,7 @@ pub fn outcomes_are_determined()
     answers_are_determined();
 }
 
-/// What is to be protected never goes in the clear, outward or inward, and is never left out by the policy's decision: outward it is
+/// What is to be protected never goes in the clear, outward or inward, and is never discarded: outward it is
 /// sealed, or dropped for want of an association or of a number. Only what the policy bypasses goes as it is.
 pub fn only_the_bypassed_goes_in_the_clear()
     ensures outward { (old new : Database) (policy : List Entry) (packet : Octets) (flow : Flow) (action : Action) (octets : Octets)
@@ -52,13 +52,13 @@ pub fn only_the_bypassed_goes_in_the_clear()
     policies_are_determined();
 }
 
-/// Each ESP packet that is opened takes exactly one number, its own, and nothing else is changed: also where it is dropped for its
+/// Each ESP packet that is opened takes exactly one number, its own at the pair that it is addressed to, and nothing else is changed: also where it is dropped for its
 /// padding (E19) or for what it carried (E21, E22, E23, E39). By every other refusal nothing is changed.
 pub fn a_packet_takes_one_number()
     ensures up { (old new : Database) (packet inner : Octets) (child number : ℕ)
-        → Receives old packet (Up child number inner) new → TakesOneNumber old packet new }
+        → Receives old packet (Up child number inner) new → TakesNumberAt old packet child number new }
     ensures dummy { (old new : Database) (packet : Octets) (child number : ℕ)
-        → Receives old packet (Dummy child number) new → TakesOneNumber old packet new }
+        → Receives old packet (Dummy child number) new → TakesNumberAt old packet child number new }
     ensures refused_after_judging { (old new : Database) (packet : Octets) (fault : PacketFault)
         → Receives old packet (Dropped fault) new → is_after_judging fault ≡ true → TakesOneNumber old packet new }
     ensures refused_before { (old new : Database) (packet : Octets) (fault : PacketFault)
