@@ -1,3 +1,4 @@
+use crate::tests::none_differs;
 use std::alloc::{AllocError, Global};
 use std::test::Fail;
 use suite::{Chosen, Wanted, choose};
@@ -33,72 +34,20 @@ const ESP: Wanted = Wanted::Esp { extended: false };
 
 const ESP_EXTENDED: Wanted = Wanted::Esp { extended: true };
 
-// A transform by its type, its ID and its short attributes.
-type Offer<'a> = (u8, u16, &'a [(u16, u16)]);
+// What is chosen of the first proposal, of number 1, without extended numbers and with them.
+const FIRST: Option<Chosen> = Some(Chosen {
+    place: 0,
+    number: 1,
+    extended: false,
+});
 
-const RIGHT_IKE: [Offer<'static>; 4] = [
-    (1, 65001, &[]),
-    (2, 5, &[]),
-    (3, 12, &[]),
-    (4, 65002, &[]),
-];
+const FIRST_EXTENDED: Option<Chosen> = Some(Chosen {
+    place: 0,
+    number: 1,
+    extended: true,
+});
 
-fn transform(alloc: Global, (kind, id, values): Offer) -> Result<Transform, AllocError> {
-    let mut attributes = Items::new(alloc);
-    for (kind, value) in values {
-        attributes.push(Attribute::Short {
-            kind: *kind,
-            value: *value,
-        })?;
-    }
-    Ok(Transform {
-        kind,
-        id,
-        attributes,
-    })
-}
-
-fn proposal(
-    alloc: Global,
-    number: u8,
-    protocol: u8,
-    spi: &[u8],
-    offers: &[Offer],
-) -> Result<Proposal, AllocError> {
-    let mut transforms = Items::new(alloc);
-    for offer in offers {
-        transforms.push(transform(alloc, *offer)?)?;
-    }
-    Ok(Proposal {
-        number,
-        protocol,
-        spi: Items::from_slice(alloc, spi)?,
-        transforms,
-    })
-}
-
-// What is chosen of one proposal with the number 1.
-fn of_ike(alloc: Global, wanted: &Wanted, offers: &[Offer]) -> Result<Option<Chosen>, AllocError> {
-    Ok(choose(&[proposal(alloc, 1, 1, &[], offers)?], wanted))
-}
-
-fn of_esp(
-    alloc: Global,
-    wanted: &Wanted,
-    spi: &[u8],
-    offers: &[Offer],
-) -> Result<Option<Chosen>, AllocError> {
-    Ok(choose(&[proposal(alloc, 1, 3, spi, offers)?], wanted))
-}
-
-fn chosen(place: usize, number: u8, extended: bool) -> Option<Chosen> {
-    Some(Chosen {
-        place,
-        number,
-        extended,
-    })
-}
-
+/// What is chosen of the payload's proposals.
 fn of_payload(alloc: Global, octets: &[u8], wanted: &Wanted) -> Result<Option<Chosen>, Fail> {
     let payloads = decode_chain(alloc, 33, octets)?;
     match payloads.as_slice() {
@@ -107,104 +56,294 @@ fn of_payload(alloc: Global, octets: &[u8], wanted: &Wanted) -> Result<Option<Ch
     }
 }
 
+fn first_payload_differing(
+    alloc: Global,
+    octets: &[u8],
+    rows: &[(Wanted, Option<Chosen>)],
+) -> Result<Option<usize>, Fail> {
+    for (place, (wanted, answer)) in rows.iter().enumerate() {
+        if of_payload(alloc, octets, wanted)? != *answer {
+            return Ok(Some(place));
+        }
+    }
+    Ok(None)
+}
+
+const OF_ESP: [(Wanted, Option<Chosen>); 3] = [(ESP, FIRST), (ESP_EXTENDED, FIRST), (IKE, None)];
+
+const OF_IKE: [(Wanted, Option<Chosen>); 3] = [
+    (IKE, FIRST),
+    (IKE_WITH_KEY_LENGTH, None),
+    (ESP, None),
+];
+
 #[test]
 fn payloads_of_both_kinds(rt: HostRuntime) -> Result<(), Fail> {
-    let rows: [(&[u8], Wanted, Option<Chosen>); 6] = [
-        (&OFFERED_ESP, ESP, chosen(0, 1, false)),
-        (&OFFERED_ESP, ESP_EXTENDED, chosen(0, 1, false)),
-        (&OFFERED_ESP, IKE, None),
-        (&OFFERED_IKE, IKE, chosen(0, 1, false)),
-        (&OFFERED_IKE, IKE_WITH_KEY_LENGTH, None),
-        (&OFFERED_IKE, ESP, None),
-    ];
-    for (octets, wanted, answer) in rows {
-        assert_eq!(rt;
-            of_payload(rt.alloc(), octets, &wanted)?,
-            answer,
-            "{wanted:?}"
-        );
-    }
+    let of_esp = first_payload_differing(rt.alloc(), &OFFERED_ESP, &OF_ESP)?;
+    none_differs(&rt, of_esp);
+    let of_ike = first_payload_differing(rt.alloc(), &OFFERED_IKE, &OF_IKE)?;
+    none_differs(&rt, of_ike);
     Ok(())
 }
 
-const ANOTHER_IKE: [Offer<'static>; 4] = [
-    (1, 65001, &[]),
-    (2, 2, &[]),
-    (3, 12, &[]),
-    (4, 65002, &[]),
+/// A transform by its type and its ID.
+type Part = (u8, u16);
+
+const PARTS_OF_IKE: [Part; 5] = [(1, 65001), (2, 5), (3, 12), (4, 65002), (5, 0)];
+
+const PARTS_OF_ESP: [Part; 4] = [(1, 11), (3, 12), (5, 0), (4, 65002)];
+
+const MIXED_PARTS: [Part; 6] = [(4, 14), (1, 20), (4, 65002), (3, 12), (1, 65001), (2, 5)];
+
+const ANOTHER_PRF: [Part; 4] = [(1, 65001), (2, 2), (3, 12), (4, 65002)];
+
+/// Transforms without attributes, but for these at the one of a place.
+fn transforms(
+    alloc: Global,
+    parts: &[Part],
+    place: usize,
+    values: &[(u16, u16)],
+) -> Result<Items<Transform>, AllocError> {
+    let mut transforms = Items::new(alloc);
+    for (at, (kind, id)) in parts.iter().enumerate() {
+        let attributes = attributes(alloc, if at == place { values } else { &[] })?;
+        transforms.push(Transform {
+            kind: *kind,
+            id: *id,
+            attributes,
+        })?;
+    }
+    Ok(transforms)
+}
+
+fn attributes(alloc: Global, values: &[(u16, u16)]) -> Result<Items<Attribute>, AllocError> {
+    let mut attributes = Items::new(alloc);
+    for (kind, value) in values {
+        attributes.push(Attribute::Short {
+            kind: *kind,
+            value: *value,
+        })?;
+    }
+    Ok(attributes)
+}
+
+/// The transforms of a proposal, as a table names them.
+#[derive(Clone, Copy)]
+enum Offer {
+    /// Those of IKE; the one at this place has one attribute or two.
+    Ike(usize, (u16, u16)),
+    IkeWithTwo(usize, [(u16, u16); 2]),
+    /// The first of those of IKE and one of extended numbers, so many.
+    FirstOfIke(usize),
+    AnotherPrf,
+    /// Several of some types, of which the second has a key of 256 bits.
+    Mixed,
+    /// Those of ESP; the one at this place has a key of 128 bits.
+    Esp(usize),
+    /// The first of those of ESP and one of a group, so many.
+    FirstOfEsp(usize),
+    /// Those of ESP, with these for the extension.
+    Extension(u16),
+    Extensions(u16, u16),
+}
+
+/// All transforms of IKE, and those of ESP without extension, without attributes.
+const RIGHT_IKE: Offer = Offer::FirstOfIke(4);
+
+const RIGHT_ESP: Offer = Offer::FirstOfEsp(3);
+
+fn offered(alloc: Global, offer: Offer) -> Result<Items<Transform>, AllocError> {
+    match offer {
+        Offer::Ike(place, value) => transforms(alloc, &PARTS_OF_IKE[..4], place, &[value]),
+        Offer::IkeWithTwo(place, values) => {
+            transforms(alloc, &PARTS_OF_IKE[..4], place, &values)
+        }
+        Offer::FirstOfIke(count) => transforms(alloc, &PARTS_OF_IKE[..count.min(5)], 0, &[]),
+        Offer::AnotherPrf => transforms(alloc, &ANOTHER_PRF, 0, &[]),
+        Offer::Mixed => transforms(alloc, &MIXED_PARTS, 1, &[(14, 256)]),
+        Offer::Esp(place) => transforms(alloc, &PARTS_OF_ESP[..3], place, &[(14, 128)]),
+        Offer::FirstOfEsp(count) => transforms(alloc, &PARTS_OF_ESP[..count.min(4)], 0, &[]),
+        Offer::Extension(id) => transforms(alloc, &[(1, 11), (3, 12), (5, id)], 0, &[]),
+        Offer::Extensions(one, other) => {
+            transforms(alloc, &[(1, 11), (3, 12), (5, one), (5, other)], 0, &[])
+        }
+    }
+}
+
+fn proposal(
+    alloc: Global,
+    number: u8,
+    protocol: u8,
+    spi: &[u8],
+    offer: Offer,
+) -> Result<Proposal, AllocError> {
+    let transforms = offered(alloc, offer)?;
+    let spi = Items::from_slice(alloc, spi)?;
+    Ok(Proposal {
+        number,
+        protocol,
+        spi,
+        transforms,
+    })
+}
+
+/// What is offered in one proposal of number 1, what is wanted, and what is chosen.
+type Row = (Offer, Wanted, Option<Chosen>);
+
+/// The first row of which another proposal is chosen, where they have this protocol and this SPI.
+fn first_differing(
+    alloc: Global,
+    protocol: u8,
+    spi: &[u8],
+    rows: &[Row],
+) -> Result<Option<usize>, AllocError> {
+    for (place, (offer, wanted, answer)) in rows.iter().enumerate() {
+        let proposals = [proposal(alloc, 1, protocol, spi, *offer)?];
+        if choose(&proposals, wanted) != *answer {
+            return Ok(Some(place));
+        }
+    }
+    Ok(None)
+}
+
+const ROWS_OF_IKE: [Row; 20] = [
+    // the first of a type that is acceptable
+    (Offer::Mixed, IKE, FIRST),
+    // exactly the wanted key length
+    (RIGHT_IKE, IKE, FIRST),
+    (RIGHT_IKE, IKE_WITH_KEY_LENGTH, None),
+    (Offer::Ike(0, (14, 256)), IKE, None),
+    (Offer::Ike(0, (14, 256)), IKE_WITH_KEY_LENGTH, FIRST),
+    (Offer::Ike(0, (14, 128)), IKE, None),
+    (Offer::Ike(0, (14, 128)), IKE_WITH_KEY_LENGTH, None),
+    (Offer::IkeWithTwo(0, [(14, 256), (14, 256)]), IKE, None),
+    (
+        Offer::IkeWithTwo(0, [(14, 256), (14, 256)]),
+        IKE_WITH_KEY_LENGTH,
+        None,
+    ),
+    (Offer::IkeWithTwo(0, [(14, 256), (15, 256)]), IKE, None),
+    (
+        Offer::IkeWithTwo(0, [(14, 256), (15, 256)]),
+        IKE_WITH_KEY_LENGTH,
+        None,
+    ),
+    (Offer::Ike(0, (15, 256)), IKE, None),
+    (Offer::Ike(0, (15, 256)), IKE_WITH_KEY_LENGTH, None),
+    // no attribute elsewhere
+    (Offer::Ike(0, (99, 1)), IKE, None),
+    (Offer::Ike(1, (99, 1)), IKE, None),
+    (Offer::Ike(2, (99, 1)), IKE, None),
+    (Offer::Ike(3, (99, 1)), IKE, None),
+    // a type too many or too few
+    (Offer::FirstOfIke(5), IKE, None),
+    (Offer::FirstOfIke(4), IKE, FIRST),
+    (Offer::FirstOfIke(3), IKE, None),
 ];
 
-// What is chosen of proposals of these numbers.
-fn of_several(alloc: Global, offers: &[(u8, [Offer; 4])]) -> Result<Option<Chosen>, AllocError> {
+#[test]
+fn one_of_each_type_and_the_key_length_for_ike(rt: HostRuntime) -> Result<(), Fail> {
+    none_differs(&rt, first_differing(rt.alloc(), 1, &[], &ROWS_OF_IKE)?);
+    Ok(())
+}
+
+const ROWS_OF_ESP: [Row; 13] = [
+    // no attribute
+    (Offer::Esp(0), ESP, None),
+    (Offer::Esp(2), ESP, None),
+    // a type too many or too few
+    (Offer::FirstOfEsp(4), ESP, None),
+    (Offer::FirstOfEsp(3), ESP, FIRST),
+    (Offer::FirstOfEsp(2), ESP, None),
+    // extended numbers
+    (Offer::Extension(1), ESP, None),
+    (Offer::Extension(1), ESP_EXTENDED, FIRST_EXTENDED),
+    (Offer::Extension(0), ESP, FIRST),
+    (Offer::Extension(0), ESP_EXTENDED, FIRST),
+    (Offer::Extensions(1, 0), ESP, FIRST),
+    (Offer::Extensions(1, 0), ESP_EXTENDED, FIRST_EXTENDED),
+    (Offer::Extensions(0, 1), ESP, FIRST),
+    (Offer::Extensions(0, 1), ESP_EXTENDED, FIRST),
+];
+
+#[test]
+fn one_of_each_type_and_extended_numbers_for_esp(rt: HostRuntime) -> Result<(), Fail> {
+    none_differs(
+        &rt,
+        first_differing(rt.alloc(), 3, &[0, 0, 1, 0], &ROWS_OF_ESP)?,
+    );
+    Ok(())
+}
+
+/// The first protocol and SPI, filled up to 8 octets behind its length, with which the offer is chosen otherwise.
+fn first_spi_differing(
+    alloc: Global,
+    offer: Offer,
+    wanted: Wanted,
+    rows: &[(u8, usize, [u8; 8], bool)],
+) -> Result<Option<usize>, AllocError> {
+    for (place, (protocol, length, spi, right)) in rows.iter().enumerate() {
+        let spi = &spi[..(*length).min(8)];
+        let proposals = [proposal(alloc, 1, *protocol, spi, offer)?];
+        if choose(&proposals, &wanted).is_some() != *right {
+            return Ok(Some(place));
+        }
+    }
+    Ok(None)
+}
+
+const SPIS_OF_ESP: [(u8, usize, [u8; 8], bool); 7] = [
+    (3, 4, [0, 0, 0, 255, 0, 0, 0, 0], false),
+    (3, 4, [0, 0, 1, 0, 0, 0, 0, 0], true),
+    (3, 4, [255, 255, 255, 255, 0, 0, 0, 0], true),
+    (3, 3, [1, 0, 0, 0, 0, 0, 0, 0], false),
+    (3, 5, [0, 0, 1, 0, 0, 0, 0, 0], false),
+    (3, 0, [0; 8], false),
+    // another protocol
+    (2, 4, [0, 0, 1, 0, 0, 0, 0, 0], false),
+];
+
+// Another protocol, and an SPI where there is to be none.
+const SPIS_OF_IKE: [(u8, usize, [u8; 8], bool); 2] = [(3, 0, [0; 8], false), (1, 8, [0; 8], false)];
+
+#[test]
+fn spis_and_protocols(rt: HostRuntime) -> Result<(), Fail> {
+    none_differs(
+        &rt,
+        first_spi_differing(rt.alloc(), RIGHT_ESP, ESP, &SPIS_OF_ESP)?,
+    );
+    none_differs(
+        &rt,
+        first_spi_differing(rt.alloc(), RIGHT_IKE, IKE, &SPIS_OF_IKE)?,
+    );
+    Ok(())
+}
+
+/// What is chosen of proposals of these numbers.
+fn of_several(alloc: Global, offers: &[(u8, Offer)]) -> Result<Option<Chosen>, AllocError> {
     let mut proposals = Items::new(alloc);
     for (number, offer) in offers {
-        proposals.push(proposal(alloc, *number, 1, &[], offer)?)?;
+        proposals.push(proposal(alloc, *number, 1, &[], *offer)?)?;
     }
     Ok(choose(proposals.as_slice(), &IKE))
 }
 
+fn chosen(place: usize, number: u8) -> Option<Chosen> {
+    Some(Chosen {
+        place,
+        number,
+        extended: false,
+    })
+}
+
+const THREE: [(u8, Offer); 3] = [(1, Offer::AnotherPrf), (2, RIGHT_IKE), (3, RIGHT_IKE)];
+
 #[test]
 fn the_first_that_is_acceptable(rt: HostRuntime) -> Result<(), Fail> {
-    let rows: [(&[(u8, [Offer; 4])], Option<Chosen>); 3] = [
-        (
-            &[(1, ANOTHER_IKE), (2, RIGHT_IKE), (3, RIGHT_IKE)],
-            chosen(1, 2, false),
-        ),
-        (&[], None),
-        (&[(7, RIGHT_IKE)], chosen(0, 7, false)),
-    ];
-    for (offers, answer) in rows {
-        assert_eq!(rt; of_several(rt.alloc(), offers)?, answer);
-    }
-    Ok(())
-}
-
-#[test]
-fn the_first_of_a_type_that_is_acceptable(rt: HostRuntime) -> Result<(), Fail> {
-    let several: [Offer; 6] = [
-        (4, 14, &[]),
-        (1, 20, &[(14, 256)]),
-        (4, 65002, &[]),
-        (3, 12, &[]),
-        (1, 65001, &[]),
-        (2, 5, &[]),
-    ];
-    assert_eq!(rt; of_ike(rt.alloc(), &IKE, &several)?, chosen(0, 1, false));
-    Ok(())
-}
-
-#[test]
-fn exactly_the_wanted_key_length(rt: HostRuntime) -> Result<(), Fail> {
-    let rows: [(&[(u16, u16)], bool, bool); 6] = [
-        (&[], true, false),
-        (&[(14, 256)], false, true),
-        (&[(14, 128)], false, false),
-        (&[(14, 256), (14, 256)], false, false),
-        (&[(14, 256), (15, 256)], false, false),
-        (&[(15, 256)], false, false),
-    ];
-    for (attributes, without, with) in rows {
-        let offers: [Offer; 4] = [
-            (1, 65001, attributes),
-            (2, 5, &[]),
-            (3, 12, &[]),
-            (4, 65002, &[]),
-        ];
-        let plain = of_ike(rt.alloc(), &IKE, &offers)?;
-        let long = of_ike(rt.alloc(), &IKE_WITH_KEY_LENGTH, &offers)?;
-        assert_eq!(rt; (plain.is_some(), long.is_some()), (without, with));
-    }
-    Ok(())
-}
-
-#[test]
-fn no_attribute_elsewhere(rt: HostRuntime) -> Result<(), Fail> {
-    let unknown: [(u16, u16); 1] = [(99, 1)];
-    for place in 0..4 {
-        let mut offers: [Offer; 4] = RIGHT_IKE;
-        offers[place].2 = &unknown;
-        assert_eq!(rt; of_ike(rt.alloc(), &IKE, &offers)?, None, "at {place}");
-    }
+    let of_three = of_several(rt.alloc(), &THREE)?;
+    let of_none = of_several(rt.alloc(), &[])?;
+    let of_one = of_several(rt.alloc(), &[(7, RIGHT_IKE)])?;
+    assert!(rt; of_three == chosen(1, 2) && of_none == None && of_one == chosen(0, 7));
     Ok(())
 }
 
@@ -212,8 +351,13 @@ fn no_attribute_elsewhere(rt: HostRuntime) -> Result<(), Fail> {
 fn of_the_long_form(alloc: Global) -> Result<Proposal, AllocError> {
     let mut transforms = Items::new(alloc);
     transforms.push(long_transform(alloc)?)?;
-    for offer in [(2, 5, &[][..]), (3, 12, &[]), (4, 65002, &[])] {
-        transforms.push(transform(alloc, offer)?)?;
+    for (kind, id) in [(2, 5), (3, 12), (4, 65002)] {
+        let attributes = Items::new(alloc);
+        transforms.push(Transform {
+            kind,
+            id,
+            attributes,
+        })?;
     }
     Ok(Proposal {
         number: 1,
@@ -239,122 +383,6 @@ fn long_transform(alloc: Global) -> Result<Transform, AllocError> {
 #[test]
 fn no_attribute_of_the_long_form(rt: HostRuntime) -> Result<(), Fail> {
     let proposals = [of_the_long_form(rt.alloc())?];
-    assert_eq!(rt; choose(&proposals, &IKE_WITH_KEY_LENGTH), None);
-    Ok(())
-}
-
-#[test]
-fn no_attribute_for_esp(rt: HostRuntime) -> Result<(), Fail> {
-    let rows: [[Offer; 3]; 2] = [
-        [(1, 11, &[(14, 128)]), (3, 12, &[]), (5, 0, &[])],
-        [(1, 11, &[]), (3, 12, &[]), (5, 0, &[(14, 128)])],
-    ];
-    for offers in &rows {
-        assert_eq!(rt; of_esp(rt.alloc(), &ESP, &[0, 0, 1, 0], offers)?, None);
-    }
-    Ok(())
-}
-
-#[test]
-fn a_type_too_many_or_too_few(rt: HostRuntime) -> Result<(), Fail> {
-    let more: [Offer; 5] = [
-        (1, 65001, &[]),
-        (2, 5, &[]),
-        (3, 12, &[]),
-        (4, 65002, &[]),
-        (5, 0, &[]),
-    ];
-    let right = chosen(0, 1, false);
-    for (count, answer) in [(5, None), (4, right), (3, None)] {
-        assert_eq!(rt;
-            of_ike(rt.alloc(), &IKE, &more[..count])?,
-            answer,
-            "{count} types"
-        );
-    }
-    Ok(())
-}
-
-#[test]
-fn a_type_too_many_or_too_few_for_esp(rt: HostRuntime) -> Result<(), Fail> {
-    let more: [Offer; 4] = [(1, 11, &[]), (3, 12, &[]), (5, 0, &[]), (4, 65002, &[])];
-    let right = chosen(0, 1, false);
-    for (count, answer) in [(4, None), (3, right), (2, None)] {
-        let found = of_esp(rt.alloc(), &ESP, &[0, 0, 1, 0], &more[..count])?;
-        assert_eq!(rt; found, answer, "{count} types");
-    }
-    Ok(())
-}
-
-const RIGHT_ESP: [Offer<'static>; 3] = [(1, 11, &[]), (3, 12, &[]), (5, 0, &[])];
-
-#[test]
-fn spis_of_esp(rt: HostRuntime) -> Result<(), Fail> {
-    let rows: [(&[u8], bool); 6] = [
-        (&[0, 0, 0, 255], false),
-        (&[0, 0, 1, 0], true),
-        (&[255, 255, 255, 255], true),
-        (&[1, 0, 0], false),
-        (&[0, 0, 1, 0, 0], false),
-        (&[], false),
-    ];
-    for (spi, right) in rows {
-        let found = of_esp(rt.alloc(), &ESP, spi, &RIGHT_ESP)?;
-        assert_eq!(rt; found.is_some(), right, "{spi:?}");
-    }
-    Ok(())
-}
-
-// Whether anything is chosen of one proposal of this protocol.
-fn is_chosen(
-    alloc: Global,
-    protocol: u8,
-    spi: &[u8],
-    offers: &[Offer],
-    wanted: &Wanted,
-) -> Result<bool, AllocError> {
-    let proposals = [proposal(alloc, 1, protocol, spi, offers)?];
-    Ok(choose(&proposals, wanted).is_some())
-}
-
-// Another protocol, and an SPI where there is to be none.
-#[test]
-fn protocols(rt: HostRuntime) -> Result<(), Fail> {
-    assert!(rt; !is_chosen(rt.alloc(), 2, &[0, 0, 1, 0], &RIGHT_ESP, &ESP)?);
-    assert!(rt; !is_chosen(rt.alloc(), 3, &[], &RIGHT_IKE, &IKE)?);
-    assert!(rt; !is_chosen(rt.alloc(), 1, &[0; 8], &RIGHT_IKE, &IKE)?);
-    Ok(())
-}
-
-#[test]
-fn extended_numbers(rt: HostRuntime) -> Result<(), Fail> {
-    let rows: [(&[Offer], Option<Chosen>, Option<Chosen>); 4] = [
-        (
-            &[(1, 11, &[]), (3, 12, &[]), (5, 1, &[])],
-            None,
-            chosen(0, 1, true),
-        ),
-        (
-            &[(1, 11, &[]), (3, 12, &[]), (5, 0, &[])],
-            chosen(0, 1, false),
-            chosen(0, 1, false),
-        ),
-        (
-            &[(1, 11, &[]), (3, 12, &[]), (5, 1, &[]), (5, 0, &[])],
-            chosen(0, 1, false),
-            chosen(0, 1, true),
-        ),
-        (
-            &[(1, 11, &[]), (3, 12, &[]), (5, 0, &[]), (5, 1, &[])],
-            chosen(0, 1, false),
-            chosen(0, 1, false),
-        ),
-    ];
-    for (offers, plain, extended) in rows {
-        let found = of_esp(rt.alloc(), &ESP, &[0, 0, 1, 0], offers)?;
-        assert_eq!(rt; found, plain);
-        let found = of_esp(rt.alloc(), &ESP_EXTENDED, &[0, 0, 1, 0], offers)?;
-        assert_eq!(rt; found, extended);
-    }
+    assert!(rt; choose(&proposals, &IKE_WITH_KEY_LENGTH).is_none());
     Ok(())
 }

@@ -83,49 +83,45 @@ fn families_are_written(rt: HostRuntime) -> Result<(), Fail> {
     Ok(())
 }
 
-#[test]
-fn malformed_selectors(rt: HostRuntime) -> Result<(), Fail> {
-    let refused = (6, Some(4));
-    for (place, value, wanted) in [
-        (1, 255, (0, None)),
-        // no selector, too many of them, another count than there are
-        (0, 0, refused),
-        (0, 2, refused),
-        (0, 17, refused),
-        // another type, and the type and the length of the other family
-        (4, 9, refused),
-        (4, 8, refused),
-        (7, 40, refused),
-        (7, 15, refused),
-        // a start above its end
-        (9, 21, refused),
-        (12, 11, refused),
-    ] {
-        let mut body = IPV4_RANGE;
-        set(&mut body, place, value);
-        let answer = refusal_of_body(rt.alloc(), TS_I_TYPE, &body)?;
-        assert!(rt; answer == wanted, "{value} at {place}");
-    }
-    Ok(())
-}
+const IPV4_CHANGES: [Change; 10] = [
+    (1, 255, 0, None),
+    // no selector, too many of them, another count than there are
+    (0, 0, 6, Some(4)),
+    (0, 2, 6, Some(4)),
+    (0, 17, 6, Some(4)),
+    // another type, and the type and the length of the other family
+    (4, 9, 6, Some(4)),
+    (4, 8, 6, Some(4)),
+    (7, 40, 6, Some(4)),
+    (7, 15, 6, Some(4)),
+    // a start above its end
+    (9, 21, 6, Some(4)),
+    (12, 11, 6, Some(4)),
+];
+
+const IPV6_CHANGES: [Change; 7] = [
+    (1, 255, 0, None),
+    (0, 2, 6, Some(4)),
+    (4, 7, 6, Some(4)),
+    (7, 16, 6, Some(4)),
+    (9, 21, 6, Some(4)),
+    (12, 0x21, 6, Some(4)),
+    (27, 1, 0, None),
+];
 
 #[test]
-fn malformed_selectors_of_ipv6(rt: HostRuntime) -> Result<(), Fail> {
-    let refused = (6, Some(4));
-    for (place, value, wanted) in [
-        (1, 255, (0, None)),
-        (0, 2, refused),
-        (4, 7, refused),
-        (7, 16, refused),
-        (9, 21, refused),
-        (12, 0x21, refused),
-        (27, 1, (0, None)),
-    ] {
-        let mut body = IPV6_RANGE;
-        set(&mut body, place, value);
-        let answer = refusal_of_body(rt.alloc(), TS_R_TYPE, &body)?;
-        assert!(rt; answer == wanted, "{value} at {place}");
-    }
+fn malformed_selectors(rt: HostRuntime) -> Result<(), Fail> {
+    let alloc = rt.alloc();
+    let reading = Reading::Body(TS_I_TYPE);
+    none_differs(
+        &rt,
+        first_change_differing(alloc, reading, &IPV4_RANGE, &IPV4_CHANGES)?,
+    );
+    let reading = Reading::Body(TS_R_TYPE);
+    none_differs(
+        &rt,
+        first_change_differing(alloc, reading, &IPV6_RANGE, &IPV6_CHANGES)?,
+    );
     Ok(())
 }
 

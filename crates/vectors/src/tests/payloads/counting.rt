@@ -172,23 +172,6 @@ fn has(found: Option<(u8, &[u8])>, octet: u8) -> bool {
     }
 }
 
-#[test]
-fn each_type_by_itself(rt: HostRuntime) -> Result<(), Fail> {
-    let payloads = payloads(rt.alloc(), &ONE_OF_EACH)?;
-    assert!(rt; has(only_id_i(payloads.as_slice()), 2));
-    assert!(rt; has(only_id_r(payloads.as_slice()), 3));
-    assert!(rt; has(only_auth(payloads.as_slice()), 4));
-    Ok(())
-}
-
-#[test]
-fn a_public_key_by_itself(rt: HostRuntime) -> Result<(), Fail> {
-    let payloads = payloads(rt.alloc(), &ONE_OF_EACH)?;
-    let (group, octets) = only_ke(payloads.as_slice()).ok_or("no public key")?;
-    assert!(rt; group == 14 && octets == [1].as_slice());
-    Ok(())
-}
-
 /// How many items are found, none where nothing is.
 fn count<T>(found: Option<&[T]>) -> usize {
     match found {
@@ -197,22 +180,38 @@ fn count<T>(found: Option<&[T]>) -> usize {
     }
 }
 
-#[test]
-fn lists_by_themselves(rt: HostRuntime) -> Result<(), Fail> {
-    let payloads = payloads(rt.alloc(), &ONE_OF_EACH)?;
-    assert!(rt; count(only_sa(payloads.as_slice())) == 1);
-    assert!(rt; count(only_ts_i(payloads.as_slice())) == 1);
-    assert!(rt; count(only_ts_r(payloads.as_slice())) == 2);
-    Ok(())
+/// Whether each type that stands once is found by itself, with what it holds, and no other type is.
+fn has_each(payloads: &[Payload]) -> bool {
+    has(only_id_i(payloads), 2)
+        && has(only_id_r(payloads), 3)
+        && has(only_auth(payloads), 4)
+        && matches!(only_ke(payloads), Some((14, [1])))
+        && has_ke(payloads)
+        && !offers_ike(payloads)
 }
 
 #[test]
-fn what_is_there(rt: HostRuntime) -> Result<(), Fail> {
+fn each_type_by_itself(rt: HostRuntime) -> Result<(), Fail> {
     let payloads = payloads(rt.alloc(), &ONE_OF_EACH)?;
-    assert!(rt; has_ke(payloads.as_slice()));
-    assert!(rt; !offers_ike(payloads.as_slice()));
+    assert!(rt; has_each(payloads.as_slice()));
     let nonce = [payload(rt.alloc(), Sample::Nonce(1))?];
     assert!(rt; !has_ke(&nonce));
+    Ok(())
+}
+
+/// How many proposals and selectors of each side are found.
+fn counts(payloads: &[Payload]) -> [usize; 3] {
+    [
+        count(only_sa(payloads)),
+        count(only_ts_i(payloads)),
+        count(only_ts_r(payloads)),
+    ]
+}
+
+#[test]
+fn lists_by_themselves(rt: HostRuntime) -> Result<(), Fail> {
+    let payloads = payloads(rt.alloc(), &ONE_OF_EACH)?;
+    assert!(rt; counts(payloads.as_slice()) == [1, 1, 2]);
     Ok(())
 }
 

@@ -1,4 +1,5 @@
 // The octets are those of RFC 7296, section 3.3, written out.
+use crate::tests::none_differs;
 use exchange::laws::{ends_agree, offers_are_answered};
 use exchange::{accept, answer, offer, offers_ike};
 use std::alloc::{AllocError, Global};
@@ -58,18 +59,19 @@ fn payload_of(alloc: Global, proposal: Proposal) -> Result<Vec<u8>, Fail> {
     Ok(Vec::from_slice(alloc, &octets[28..])?)
 }
 
+/// Whether the payload of an offer has these octets.
+fn is_offered(alloc: Global, wanted: Wanted, spi: &[u8], octets: &[u8]) -> Result<bool, Fail> {
+    let sent = payload_of(alloc, offer(alloc, &wanted, spi)?)?;
+    Ok(sent.as_slice() == octets)
+}
+
 #[test]
 fn offers(rt: HostRuntime) -> Result<(), Fail> {
     let alloc = rt.alloc();
-    let rows: [(Wanted, &[u8], &[u8]); 3] = [
-        (IKE, &[], &OFFERED_IKE),
-        (ESP, &[0, 0, 1, 0], &OFFERED_ESP),
-        (ESP_EXTENDED, &[0, 0, 1, 0], &OFFERED_EXTENDED),
-    ];
-    for (wanted, spi, octets) in rows {
-        let sent = payload_of(alloc, offer(alloc, &wanted, spi)?)?;
-        assert_eq!(rt; sent.as_slice(), octets, "{wanted:?}");
-    }
+    let ike = is_offered(alloc, IKE, &[], &OFFERED_IKE)?;
+    let esp = is_offered(alloc, ESP, &[0, 0, 1, 0], &OFFERED_ESP)?;
+    let extended = is_offered(alloc, ESP_EXTENDED, &[0, 0, 1, 0], &OFFERED_EXTENDED)?;
+    assert!(rt; ike && esp && extended, "{ike}, {esp}, {extended}");
     Ok(())
 }
 
@@ -96,41 +98,56 @@ fn laws_can_be_called() {
     ends_agree();
 }
 
-// What is chosen of an offer for the one, where the other is wanted.
-fn choice(alloc: Global, ours: &Wanted, theirs: &Wanted) -> Result<Option<Chosen>, AllocError> {
-    Ok(choose(&[offer(alloc, ours, &[0, 0, 1, 0])?], theirs))
-}
-
 const WISHES: [(Wanted, Wanted, bool); 3] = [
     (ESP_EXTENDED, ESP_EXTENDED, true),
     (ESP_EXTENDED, ESP, false),
     (ESP, ESP_EXTENDED, false),
 ];
 
-#[test]
-fn choices(rt: HostRuntime) -> Result<(), Fail> {
-    for (ours, theirs, extended) in WISHES {
-        let wanted = Chosen {
-            place: 0,
-            number: 1,
-            extended,
-        };
-        assert_eq!(rt; choice(rt.alloc(), &ours, &theirs)?, Some(wanted));
-    }
-    Ok(())
+// What is chosen of an offer for the one, where the other is wanted.
+fn choice(alloc: Global, ours: &Wanted, theirs: &Wanted) -> Result<Option<Chosen>, AllocError> {
+    Ok(choose(&[offer(alloc, ours, &[0, 0, 1, 0])?], theirs))
+}
+
+// Whether what one end offered and the other answers is accepted, with this use of extended numbers and the SPI of the answer.
+fn is_agreed(
+    alloc: Global,
+    ours: &Wanted,
+    theirs: &Wanted,
+    chosen: &Chosen,
+) -> Result<bool, AllocError> {
+    let back = [answer(alloc, theirs, chosen, &[0, 0, 2, 0])?];
+    Ok(match accept(&back, ours) {
+        Some(accepted) => {
+            accepted.extended == chosen.extended
+                && back[0].spi.as_slice() == [0, 0, 2, 0].as_slice()
+        }
+        None => false,
+    })
 }
 
 // What one end offers and the other answers, both see alike.
-#[test]
-fn answers(rt: HostRuntime) -> Result<(), Fail> {
-    let alloc = rt.alloc();
-    for (ours, theirs, extended) in WISHES {
-        let chosen = choice(alloc, &ours, &theirs)?.ok_or("not chosen")?;
-        let back = [answer(alloc, &theirs, &chosen, &[0, 0, 2, 0])?];
-        let accepted = accept(&back, &ours).ok_or("not accepted")?;
-        assert_eq!(rt; accepted.extended, extended);
-        assert_eq!(rt; back[0].spi.as_slice(), [0, 0, 2, 0].as_slice());
+fn first_wish_differing(
+    alloc: Global,
+    rows: &[(Wanted, Wanted, bool)],
+) -> Result<Option<usize>, AllocError> {
+    for (index, (ours, theirs, extended)) in rows.iter().enumerate() {
+        let wanted = Chosen {
+            place: 0,
+            number: 1,
+            extended: *extended,
+        };
+        let is_chosen = choice(alloc, ours, theirs)? == Some(wanted);
+        if !is_chosen || !is_agreed(alloc, ours, theirs, &wanted)? {
+            return Ok(Some(index));
+        }
     }
+    Ok(None)
+}
+
+#[test]
+fn choices_and_answers(rt: HostRuntime) -> Result<(), Fail> {
+    none_differs(&rt, first_wish_differing(rt.alloc(), &WISHES)?);
     Ok(())
 }
 
@@ -144,46 +161,48 @@ fn answer_of(alloc: Global, number: u8, spi: &[u8]) -> Result<Proposal, AllocErr
     answer(alloc, &ESP_EXTENDED, &chosen, spi)
 }
 
-// Whether such an answer is accepted where this was offered.
-fn is_accepted(
-    alloc: Global,
-    number: u8,
-    spi: &[u8],
-    offered: &Wanted,
-) -> Result<bool, AllocError> {
-    let back = [answer_of(alloc, number, spi)?];
-    Ok(accept(&back, offered).is_some())
+/// The number and the SPI of such an answer, what was offered, and whether the answer is accepted.
+type Row = (u8, [u8; 4], Wanted, bool);
+
+fn first_answer_differing(alloc: Global, rows: &[Row]) -> Result<Option<usize>, AllocError> {
+    for (index, (number, spi, offered, wanted)) in rows.iter().enumerate() {
+        let back = [answer_of(alloc, *number, spi)?];
+        if accept(&back, offered).is_some() != *wanted {
+            return Ok(Some(index));
+        }
+    }
+    Ok(None)
 }
+
+const ANSWERS: [Row; 5] = [
+    (1, [0, 0, 2, 0], ESP_EXTENDED, true),
+    (2, [0, 0, 2, 0], ESP_EXTENDED, false),
+    // not offered
+    (1, [0, 0, 2, 0], ESP, false),
+    // a reserved SPI, and another protocol
+    (1, [0, 0, 0, 255], ESP_EXTENDED, false),
+    (1, [0, 0, 2, 0], IKE, false),
+];
 
 // An answer is one proposal of number 1, with one transform of each type.
 #[test]
 fn answers_that_are_accepted(rt: HostRuntime) -> Result<(), Fail> {
-    let spi: [u8; 4] = [0, 0, 2, 0];
-    for (number, spi, offered, wanted) in [
-        (1, spi, ESP_EXTENDED, true),
-        (2, spi, ESP_EXTENDED, false),
-        // not offered
-        (1, spi, ESP, false),
-        // a reserved SPI, and another protocol
-        (1, [0, 0, 0, 255], ESP_EXTENDED, false),
-        (1, spi, IKE, false),
-    ] {
-        let answer = is_accepted(rt.alloc(), number, &spi, &offered)?;
-        assert!(rt; answer == wanted, "{number}, {offered:?}");
-    }
+    none_differs(&rt, first_answer_differing(rt.alloc(), &ANSWERS)?);
     Ok(())
+}
+
+// Whether an answer with both sequence numbers is accepted, or one of two proposals.
+fn accepts_more_than_one(alloc: Global) -> Result<bool, AllocError> {
+    let spi = [0, 0, 2, 0];
+    let both = [offer(alloc, &ESP_EXTENDED, &spi)?];
+    let two = [answer_of(alloc, 1, &spi)?, answer_of(alloc, 2, &spi)?];
+    Ok(accept(&both, &ESP_EXTENDED).is_some() || accept(&two, &ESP_EXTENDED).is_some())
 }
 
 #[test]
 fn no_answers(rt: HostRuntime) -> Result<(), Fail> {
-    let alloc = rt.alloc();
-    let spi = [0, 0, 2, 0];
-    assert_eq!(rt; accept(&[], &ESP_EXTENDED), None);
-    // both sequence numbers
-    let both = [offer(alloc, &ESP_EXTENDED, &spi)?];
-    assert_eq!(rt; accept(&both, &ESP_EXTENDED), None);
-    let two = [answer_of(alloc, 1, &spi)?, answer_of(alloc, 2, &spi)?];
-    assert_eq!(rt; accept(&two, &ESP_EXTENDED), None);
+    assert!(rt; accept(&[], &ESP_EXTENDED).is_none());
+    assert!(rt; !accepts_more_than_one(rt.alloc())?);
     Ok(())
 }
 
