@@ -1,0 +1,3 @@
+mod PacketLemmas
+mod LawLemmas
+mod RunLemmas

@@ -1,0 +1,7 @@
+use Rattle.traffic.specs.Outcomes.{outcome_of_arrival}
+use Rattle.gateway.proofs.PacketLemmas.{receiving_keeps}
+use Rattle.gateway.proofs.stepping.receive_packet.Goals as goal
+
+pub returns-clause-reserved : goal.returns-clause-reserved
+returns-clause-reserved c =
+    receiving_keeps c.args.table.now c.args.packet.now (outcome_of_arrival c.receive.result) c.receive.new.table c.receive.ensures

@@ -1,0 +1,16 @@
+use Rattle.std.proofs.Common.{◌≡◌, true, sym, subst}
+use Rattle.std.specs.Ordering.{nat_cmp}
+use Rattle.std.specs.FinSet as set
+use Rattle.gateway.proofs.stepping.take.Goals as goal
+
+pub returns-in-Esp-clause-sound : goal.returns-in-Esp-clause-sound
+returns-in-Esp-clause-sound g c =
+    c.soundness_asks_for_reservations.ensures c.args.ike.now c.args.table.now c.receive_packet.new.table
+    (λ spi h. subst (λ (r : set.FinSet nat_cmp). set.contains r spi ≡ true) (sym c.receive_packet.ensures.reserved) h)
+    c.requires.sound
+
+pub returns-in-Outward-clause-sound : goal.returns-in-Outward-clause-sound
+returns-in-Outward-clause-sound g c =
+    c.soundness_asks_for_reservations.ensures c.args.ike.now c.args.table.now c.send_packet.new.table
+    (λ spi h. subst (λ (r : set.FinSet nat_cmp). set.contains r spi ≡ true) (sym c.send_packet.ensures.reserved) h)
+    c.requires.sound

@@ -1,0 +1,17 @@
+-- The numbers of this crate's refusals, and which of them leave a number taken.
+use Rattle.std.specs.Prelude.{ℕ, Bool, false}
+use Rattle.ike.specs.Faults.{code_of_ike_fault}
+use Rattle.traffic.specs.Faults.{code_of_packet_fault, is_after_judging}
+use Rattle.gateway.specs.declared.fault.Reason.{Reason}
+use Rattle.gateway.specs.declared.fault.Reason.TheVariants.{Ike, Packet, Memory}
+
+abbrev pub code_of_reason : Reason → ℕ
+code_of_reason (Ike fault) = code_of_ike_fault fault
+code_of_reason (Packet fault) = code_of_packet_fault fault
+code_of_reason Memory = 20
+
+-- an ESP packet that is dropped so was judged before
+abbrev pub is_after_judging_packet : Reason → Bool
+is_after_judging_packet (Packet fault) = is_after_judging fault
+is_after_judging_packet (Ike fault) = false
+is_after_judging_packet Memory = false

@@ -1,0 +1,5 @@
+pub mod Faults
+pub mod Outputs
+pub mod States
+pub mod Steps
+pub mod Runs

@@ -1,0 +1,59 @@
+-- What comes of an input, as plain data.
+use Rattle.std.specs.Prelude.{ℕ, Option}
+use Rattle.base.specs.Octets.{Octets}
+use Rattle.ike.specs.declared.output.IkeOutput.{IkeOutput}
+use Rattle.ike.specs.declared.output.IkeOutput.TheVariants as ike
+use Rattle.traffic.specs.Outcomes as traffic
+use Rattle.gateway.specs.declared.fault.Reason.{Reason}
+use Rattle.gateway.specs.declared.fault.Reason.TheVariants as reason
+use Rattle.gateway.specs.declared.output.Output.{Output}
+use Rattle.gateway.specs.declared.output.Output.TheVariants as output
+
+-- IKE associations and children are told by their serials
+pub data Said : Type 0 where
+  -- an answer of IKE, and the association that it closed
+  Reply : Octets → Option ℕ → Said
+  Repeat : Octets → Said
+  Request : (ike : ℕ) → Octets → Said
+  -- by a response to this association a child was made, or the association closed
+  Counted : (ike : ℕ) → Option ℕ → Option ℕ → Said
+  Done : Said
+  Up : (child number : ℕ) → Octets → Said
+  Dummy : (child number : ℕ) → Said
+  Sealed : (child number : ℕ) → Octets → Said
+  Clear : Octets → Said
+  Discarded : Said
+  Dropped : Reason → Said
+  Refused : Reason → Said
+
+abbrev pub said : Output → Said
+said (output.Reply octets closed) = Reply octets closed
+said (output.Repeat octets) = Repeat octets
+said (output.Request serial octets) = Request serial octets
+said (output.Counted serial child closed) = Counted serial child closed
+said output.Done = Done
+said (output.Up child number packet) = Up child number packet.now
+said (output.Dummy child number) = Dummy child number
+said (output.Sealed child number octets) = Sealed child number octets
+said (output.Clear packet) = Clear packet.now
+said output.Discarded = Discarded
+said (output.Dropped why) = Dropped why
+said (output.Refused why) = Refused why
+
+-- what the machine of IKE answers
+abbrev pub said_by_ike : IkeOutput → Said
+said_by_ike (ike.Reply octets closed) = Reply octets closed
+said_by_ike (ike.Repeat octets) = Repeat octets
+said_by_ike (ike.Request serial octets) = Request serial octets
+said_by_ike (ike.Counted serial child closed) = Counted serial child closed
+said_by_ike ike.Done = Done
+said_by_ike (ike.Dropped fault) = Dropped (reason.Ike fault)
+
+-- what becomes of a packet
+abbrev pub said_of_outcome : traffic.Outcome → Said
+said_of_outcome (traffic.Up child number packet) = Up child number packet
+said_of_outcome (traffic.Dummy child number) = Dummy child number
+said_of_outcome (traffic.Sealed child number octets) = Sealed child number octets
+said_of_outcome (traffic.Clear packet) = Clear packet
+said_of_outcome traffic.Discarded = Discarded
+said_of_outcome (traffic.Dropped fault) = Dropped (reason.Packet fault)

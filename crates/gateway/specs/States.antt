@@ -1,0 +1,28 @@
+-- What a gateway holds.
+use Rattle.std.specs.Prelude.{ℕ, List, refl}
+use Rattle.std.specs.Coded.{Coded, code_by, coded×}
+use Rattle.policy.specs.declared.entry.Entry.{Entry}
+use Rattle.sadb.specs.Database.{empty_table, Database}
+use Rattle.initial.specs.declared.config.Config.{Config}
+use Rattle.ike.specs.Machines.{new_machine, Machine}
+
+pub record State (C : Type 0) : Type 0 where
+  -- the machine of IKE
+  pub machine : Machine
+  -- the associations for ESP
+  pub table : Database
+  -- the policy
+  pub entries : List Entry
+  pub caller : C
+
+abbrev pub state_code : {C : Type 0} → Coded Machine → Coded Database → Coded (List Entry) → Coded C → Coded (State C)
+state_code {C} machine table entries caller =
+    code_by (Machine × (Database × (List Entry × C))) (coded× machine (coded× table (coded× entries caller)))
+    (λ s. (s.machine, (s.table, (s.entries, s.caller))))
+    (λ c. record { machine = c.0; table = c.1.0; entries = c.1.1.0; caller = c.1.1.1 })
+    (λ _. refl)
+
+-- no association, and no SPI given
+abbrev pub new_gateway : {C : Type 0} → Config → List Entry → ℕ → C → State C
+new_gateway config entries start caller =
+    record { machine = new_machine config; table = empty_table start; entries = entries; caller = caller }

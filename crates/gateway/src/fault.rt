@@ -1,0 +1,56 @@
+//! The refusals of this crate.
+ghost use Rattle.std.specs.Prelude.{◌≡◌};
+ghost use Rattle.gateway.specs.Faults.{code_of_reason};
+
+use ike::IkeFault;
+use thiserror::Error;
+use traffic::PacketFault;
+
+/// Why an input is refused, or what came is dropped.
+#[derive(Clone, Copy, Debug, PartialEq, Eq, Error)]
+pub enum Reason {
+    /// The machine of IKE says so.
+    #[error("{0}")]
+    Ike(IkeFault),
+    /// The path of packets says so.
+    #[error("{0}")]
+    Packet(PacketFault),
+    /// There was no memory for the ESP packet of a packet on its way out.
+    #[error("E20: no memory for the packet")]
+    Memory,
+}
+
+impl Reason {
+    /// The refusal's number, as programs print it behind `E`.
+    pub fn code(self) -> u8
+        ensures { result ≡ code_of_reason self }
+    {
+        match self {
+            Reason::Ike(fault) => fault.code(),
+            Reason::Packet(fault) => fault.code(),
+            Reason::Memory => 20,
+        }
+    }
+}
+
+/// Why a list of inputs was not taken to its end.
+#[derive(Clone, Copy, Debug, PartialEq, Eq, Error)]
+pub enum RunFault {
+    /// There was no memory for one more output.
+    #[error("E38: no room for an output after {done} inputs")]
+    NoRoom {
+        /// So many inputs were taken, each with its output, and none after them.
+        done: usize,
+    },
+}
+
+impl RunFault {
+    /// The refusal's number, as programs print it behind `E`.
+    pub fn code(self) -> u8
+        ensures { result ≡ 38 }
+    {
+        match self {
+            RunFault::NoRoom { .. } => 38,
+        }
+    }
+}

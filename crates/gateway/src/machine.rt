@@ -1,0 +1,119 @@
+//! A gateway, and one step of it.
+ghost use Rattle.std.specs.Prelude.{◌≡◌};
+ghost use Rattle.sadb.specs.Database.{IsStart};
+ghost use Rattle.initial.specs.Configs.{IsConfig};
+ghost use Rattle.gateway.specs.Outputs.{said};
+ghost use Rattle.gateway.specs.States.{new_gateway};
+ghost use Rattle.gateway.specs.Steps.{Steps, Traces};
+
+use crate::stepping::take;
+use crate::{Input, Output, Traced};
+use ike::Ike;
+use initial::Config;
+use policy::Policy;
+use sadb::Table;
+use std::alloc::Global;
+use std::marker::Model;
+use suite::{Agreement, Proof, Sealer};
+
+/// A gateway: the machine of IKE, the table of associations for ESP that goes with it, the policy, and the caller.
+#[derive(Drop)]
+pub struct Gateway<C> {
+    ike: Ike,
+    table: Table,
+    policy: Policy,
+    caller: C,
+}
+
+impl<C> Model for Gateway<C> {
+    ghost use Rattle.std.specs.Coded.{codes};
+    ghost use Rattle.association.specs.contracts.phase.Association as association;
+    ghost use Rattle.ike.specs.Soundness.{IsSoundMachine};
+    ghost use Rattle.sadb.specs.Database.{database_code};
+    ghost use Rattle.gateway.specs.States.{State, state_code};
+
+    ghost Value = { State C };
+
+    ghost coded = { state_code (Prim.hlevel (codes, association.the_row.coded)) database_code (Prim.hlevel codes) C.code };
+
+    ghost view = { λ g. record { machine = g.ike; table = g.table; entries = g.policy; caller = g.caller } };
+
+    ghost invariant = { λ g. IsSoundMachine g.ike g.table };
+}
+
+impl<C: Sealer + Agreement + Proof> Gateway<C> {
+    /// A gateway with no association, at the moment 0. Takes no memory. The caller gives a configuration whose identities fit
+    /// payloads, with a window of 1 to 16 and a count of blocks that [`replay::is_block_count`] allows. The first inbound SPI for
+    /// ESP is `start`, from 256 to 2^32 - 65,536.
+    pub fn new(alloc: Global, config: Config, policy: Policy, start: u32, caller: C) -> Gateway<C>
+        requires config { IsConfig config }
+        requires start { IsStart start }
+        ensures { result ≡ new_gateway config policy start caller }
+    {
+        Gateway {
+            ike: Ike::new(alloc, config),
+            table: Table::new(alloc, start),
+            policy,
+            caller,
+        }
+    }
+
+    /// The associations for ESP.
+    pub fn table(&self) -> &Table
+        ensures { result.now ≡ self.now.table }
+    {
+        &self.table
+    }
+
+    /// One step: takes an input, and answers its output.
+    ///
+    /// Datagrams of IKE and orders are refused or dropped as [`Ike::step`] says, packets dropped as [`traffic::receive`],
+    /// [`traffic::send`] and [`traffic::admit`] say. A packet on its way out is refused ([`Reason::Memory`](crate::Reason), E20) for want of
+    /// memory for its ESP packet; an ESP packet that came takes none.
+    ///
+    /// What is refused changes nothing but the table's room.
+    pub fn step<'a>(&mut self, alloc: Global, input: &'a Input) -> Output<'a>
+        ensures { Steps
+            (record {
+              cipher = C.cipher;
+              body_of = C.body_of;
+              plain_of = C.plain_of;
+              group = C.group_number;
+              public_value = C.public_value;
+              shared_secret = C.shared_secret;
+              own_method = C.own_method self.old.caller;
+              proof_of = C.proof_of self.old.caller;
+              accepts = C.accepts self.old.caller;
+            })
+            input.now self.old (said result) self.new }
+    {
+        self.traced_step(alloc, input).output
+    }
+
+    /// One step as [`step`](Gateway::step), that also answers which message it sent under which keys of IKE, and which keys and which
+    /// child it made.
+    pub fn traced_step<'a>(&mut self, alloc: Global, input: &'a Input) -> Traced<'a>
+        ensures { Traces
+            (record {
+              cipher = C.cipher;
+              body_of = C.body_of;
+              plain_of = C.plain_of;
+              group = C.group_number;
+              public_value = C.public_value;
+              shared_secret = C.shared_secret;
+              own_method = C.own_method self.old.caller;
+              proof_of = C.proof_of self.old.caller;
+              accepts = C.accepts self.old.caller;
+            })
+            input.now self.old (said result.output) result.trace self.new }
+    {
+        take(
+            alloc,
+            input,
+            &mut self.ike,
+            &mut self.table,
+            &self.policy,
+            &self.caller,
+        )
+    }
+}

@@ -1,0 +1,56 @@
+//! A list of inputs.
+ghost use Rattle.std.specs.Prelude.{◌≡◌, ◌+◌, ◌≤◌, OnOk, IfErr, IsOk, length, vec_len};
+ghost use Rattle.std.specs.Vec.{vec_capacity};
+ghost use Rattle.gateway.specs.Runs.{RunsFirst, Stops};
+
+use crate::{Gateway, Input, Output, RunFault};
+use std::alloc::Global;
+use suite::{Agreement, Proof, Sealer};
+
+/// Takes inputs in order, and appends an output for each.
+///
+/// [`RunFault::NoRoom`] (E38) with the number of inputs that were taken, where there was no memory for the place of the next output.
+/// The place of an output is reserved before its input is taken: none is taken without its output.
+pub fn run<'a, C: Sealer + Agreement + Proof>(
+    alloc: Global,
+    gateway: &mut Gateway<C>,
+    inputs: &'a [Input],
+    outputs: &mut Vec<Output<'a>>,
+) -> Result<(), RunFault>
+    ensures all { OnOk result (RunsFirst
+        (record {
+          cipher = C.cipher;
+          body_of = C.body_of;
+          plain_of = C.plain_of;
+          group = C.group_number;
+          public_value = C.public_value;
+          shared_secret = C.shared_secret;
+          own_method = C.own_method gateway.old.caller;
+          proof_of = C.proof_of gateway.old.caller;
+          accepts = C.accepts gateway.old.caller;
+        })
+        (length inputs.now) inputs.now gateway.old outputs.old.items gateway.new outputs.new.items) }
+    ensures stopped { IfErr result (λ fault. Stops
+        (record {
+          cipher = C.cipher;
+          body_of = C.body_of;
+          plain_of = C.plain_of;
+          group = C.group_number;
+          public_value = C.public_value;
+          shared_secret = C.shared_secret;
+          own_method = C.own_method gateway.old.caller;
+          proof_of = C.proof_of gateway.old.caller;
+          accepts = C.accepts gateway.old.caller;
+        })
+        inputs.now gateway.old outputs.old.items fault gateway.new outputs.new.items) }
+    ensures room { vec_len outputs.old + length inputs.now ≤ vec_capacity outputs.old → IsOk result }
+{
+    for (done, input) in inputs.iter().enumerate() {
+        if outputs.reserve(1).is_err() {
+            return Err(RunFault::NoRoom { done });
+        }
+        let output = gateway.step(alloc, input);
+        outputs.push_reserved(output);
+    }
+    Ok(())
+}

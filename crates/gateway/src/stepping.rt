@@ -1,0 +1,139 @@
+//! One input of each kind.
+ghost use Rattle.std.specs.Prelude.{◌≡◌};
+ghost use Rattle.ike.specs.Soundness.{IsSoundMachine};
+ghost use Rattle.ike.specs.Steps.{input_view};
+ghost use Rattle.gateway.specs.Outputs.{said};
+ghost use Rattle.gateway.specs.Steps.{AdmitsPacket, DoesInput, ReceivesPacket, SendsPacket, StepsIke};
+
+use crate::{Input, Output, Reason, Traced};
+use ike::laws::soundness_asks_for_reservations;
+use ike::{Ike, IkeInput};
+use policy::Policy;
+use sadb::Table;
+use std::alloc::Global;
+use suite::{Agreement, Proof, Sealer};
+use traffic::{admit, receive, send};
+
+/// Takes an input of any kind.
+pub(crate) fn take<'a, C: Sealer + Agreement + Proof>(
+    alloc: Global,
+    input: &'a Input,
+    ike: &mut Ike,
+    table: &mut Table,
+    policy: &Policy,
+    caller: &C,
+) -> Traced<'a>
+    requires sound { IsSoundMachine ike.old table.old }
+    ensures done { DoesInput
+        (record {
+          cipher = C.cipher;
+          body_of = C.body_of;
+          plain_of = C.plain_of;
+          group = C.group_number;
+          public_value = C.public_value;
+          shared_secret = C.shared_secret;
+          own_method = C.own_method caller.now;
+          proof_of = C.proof_of caller.now;
+          accepts = C.accepts caller.now;
+        })
+        policy.now input.now ike.old table.old (said result.output) result.trace ike.new table.new }
+    ensures sound { IsSoundMachine ike.new table.new }
+{
+    soundness_asks_for_reservations();
+    match input {
+        Input::Ike {
+            from,
+            octets,
+            fresh,
+        } => {
+            let message = IkeInput::Message {
+                from: *from,
+                octets: octets.as_slice(),
+                fresh,
+            };
+            step_ike(alloc, &message, ike, table, policy, caller)
+        }
+        Input::Start {
+            ike: serial,
+            entry,
+            fresh,
+        } => {
+            let order = IkeInput::Start {
+                ike: *serial,
+                entry: *entry,
+                fresh,
+            };
+            step_ike(alloc, &order, ike, table, policy, caller)
+        }
+        Input::Secret { secret } => {
+            step_ike(alloc, &IkeInput::Secret(secret), ike, table, policy, caller)
+        }
+        Input::Esp { octets } => Traced::plain(receive_packet(table, octets.as_slice())),
+        Input::Outward { packet } => {
+            Traced::plain(send_packet(alloc, table, policy, packet.as_slice()))
+        }
+        Input::Inward { packet } => Traced::plain(admit_packet(policy, packet.as_slice())),
+    }
+}
+
+fn step_ike<'a, C: Sealer + Agreement + Proof>(
+    alloc: Global,
+    input: &IkeInput<'_>,
+    ike: &mut Ike,
+    table: &mut Table,
+    policy: &Policy,
+    caller: &C,
+) -> Traced<'a>
+    requires sound { IsSoundMachine ike.old table.old }
+    ensures stepped { StepsIke
+        (record {
+          cipher = C.cipher;
+          body_of = C.body_of;
+          plain_of = C.plain_of;
+          group = C.group_number;
+          public_value = C.public_value;
+          shared_secret = C.shared_secret;
+          own_method = C.own_method caller.now;
+          proof_of = C.proof_of caller.now;
+          accepts = C.accepts caller.now;
+        })
+        policy.now (input_view input.now) ike.old table.old (said result.output) result.trace ike.new table.new }
+    ensures sound { IsSoundMachine ike.new table.new }
+{
+    match ike.step(alloc, input, table, policy, caller) {
+        Ok(stepped) => Traced::by_ike(stepped),
+        Err(fault) => Traced::plain(Output::Refused {
+            reason: Reason::Ike(fault),
+        }),
+    }
+}
+
+fn receive_packet<'a>(table: &mut Table, packet: &'a [u8]) -> Output<'a>
+    ensures received { ReceivesPacket table.old packet.now (said result) table.new }
+    ensures reserved { table.new.reserved ≡ table.old.reserved }
+{
+    Output::of_arrival(receive(table, packet))
+}
+
+fn send_packet<'a>(
+    alloc: Global,
+    table: &mut Table,
+    policy: &Policy,
+    packet: &'a [u8],
+) -> Output<'a>
+    ensures sent { SendsPacket policy.now table.old packet.now (said result) table.new }
+    ensures reserved { table.new.reserved ≡ table.old.reserved }
+{
+    match send(alloc, table, policy, packet) {
+        Ok(departure) => Output::of_departure(departure),
+        Err(_) => Output::Refused {
+            reason: Reason::Memory,
+        },
+    }
+}
+
+fn admit_packet<'a>(policy: &Policy, packet: &'a [u8]) -> Output<'a>
+    ensures { AdmitsPacket policy.now packet.now (said result) }
+{
+    Output::of_admission(admit(policy, packet))
+}
