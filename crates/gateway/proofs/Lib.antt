@@ -1,3 +1,4 @@
 mod PacketLemmas
 mod LawLemmas
 mod RunLemmas
+mod QuietLemmas

@@ -57,3 +57,9 @@ said_of_outcome (traffic.Sealed child number octets) = Sealed child number octet
 said_of_outcome (traffic.Clear packet) = Clear packet
 said_of_outcome traffic.Discarded = Discarded
 said_of_outcome (traffic.Dropped fault) = Dropped (reason.Packet fault)
+
+-- what comes of a datagram of IKE that is passed over, or that took effect before
+abbrev pub IsQuiet : Said → Type 0
+IsQuiet (Dropped why) = Unit {0}
+IsQuiet (Repeat octets) = Unit {0}
+IsQuiet _ = ⊥

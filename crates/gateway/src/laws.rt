@@ -5,12 +5,13 @@ ghost use Rattle.policy.specs.declared.entry.Action.{Action};
 ghost use Rattle.policy.specs.declared.entry.Action.TheVariants.{Bypass, Protect};
 ghost use Rattle.policy.specs.declared.flow.Flow.{Flow};
 ghost use Rattle.policy.specs.declared.policy.Direction.TheVariants as direction;
+ghost use Rattle.suite.specs.declared.fresh.Fresh.{Fresh};
 ghost use Rattle.initial.specs.Taking.{Meaning};
 ghost use Rattle.sadb.specs.Database.{IsAsBefore};
 ghost use Rattle.traffic.specs.Receiving.{TakesOneNumber};
 ghost use Rattle.traffic.specs.Sending.{IsDecided};
 ghost use Rattle.gateway.specs.Faults.{is_after_judging_packet};
-ghost use Rattle.gateway.specs.Outputs.{Clear, Dropped, Refused, Said};
+ghost use Rattle.gateway.specs.Outputs.{Clear, Dropped, IsQuiet, Refused, Said};
 ghost use Rattle.gateway.specs.States.{State};
 ghost use Rattle.gateway.specs.Steps.{Steps};
 ghost use Rattle.gateway.specs.declared.fault.Reason.{Reason};
@@ -39,6 +40,14 @@ pub fn refusals_change_nothing<C>()
         → Steps meaning given old (Refused reason) new
         → (new ≡ record old { table = new.table }) × IsAsBefore old.table new.table }
 {}
+
+/// A datagram of IKE that is dropped, or is a request that took effect before, changes nothing.
+pub fn what_is_quiet_changes_nothing<C>()
+    ensures { (meaning : Meaning) (from octets : Octets) (fresh : Fresh) (said : Said) (old new : State C)
+        → Steps meaning (input.Ike from octets fresh) old said new → IsQuiet said → new ≡ old }
+{
+    ike::laws::what_is_quiet_changes_nothing();
+}
 
 /// An ESP packet that is dropped changes nothing where it was not judged; else exactly one number was taken, its own (E19, and E21,
 /// E22, E23, E39 for what it carried). Any other packet that is dropped changes nothing.

@@ -4,3 +4,4 @@ mod RepeatLemmas
 mod CountLemmas
 mod SoundLemmas
 mod StepLemmas
+mod QuietLemmas

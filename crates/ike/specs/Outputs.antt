@@ -1,5 +1,6 @@
 -- What comes of a step: its output, and which messages were sent under which keys, which keys and which child were made.
 use Rattle.std.specs.Prelude.{ℕ, Bool, true, false, Option, Some, None}
+use Rattle.base.specs.Octets.{Octets}
 use Rattle.initial.specs.declared.taking.Effect.{Effect}
 use Rattle.initial.specs.declared.taking.Effect.TheVariants as effect
 use Rattle.ike.specs.declared.fault.IkeFault.{IkeFault}
@@ -55,3 +56,12 @@ stepped_of ike number (effect.Counted ended) = record {
   output = Counted ike ended.child (closed_of ike ended.closed);
   trace = record { sent = None; keyed = None; child = child_of ike number true ended.child };
 }
+
+abbrev pub half_open_step : ℕ → Octets → Stepped
+half_open_step ike octets = record { output = Reply octets None; trace = record { sent = None; keyed = Some ike; child = None } }
+
+-- what comes of a datagram that is passed over, or that took effect before
+abbrev pub IsQuiet : IkeOutput → Type 0
+IsQuiet (Dropped f) = Unit {0}
+IsQuiet (Repeat octets) = Unit {0}
+IsQuiet _ = ⊥

@@ -27,7 +27,7 @@ use Rattle.initial.specs.Taking.{Meaning, TakesMessage}
 use Rattle.initial.specs.declared.beginning.Admitted.{Admitted}
 use Rattle.initial.specs.declared.taking.Effect.{Effect}
 use Rattle.ike.specs.Machines.{half_open_count, is_bad_spi, Held, SERIAL_END}
-use Rattle.ike.specs.Outputs.{passed_over, plain_step, stepped_of}
+use Rattle.ike.specs.Outputs.{half_open_step, passed_over, plain_step, stepped_of}
 use Rattle.ike.specs.declared.fault.IkeFault.{IkeFault}
 use Rattle.ike.specs.declared.fault.IkeFault.TheVariants as fault
 use Rattle.ike.specs.declared.output.IkeOutput.TheVariants.{Reply, Repeat}
@@ -84,9 +84,6 @@ pub record CanMake (old : Held) (spi : ℕ) : Type 0 where
 -- one more association, under the next serial
 abbrev pub with_next : Held → Association → Held
 with_next held association = record { next = held.next + 1; associations = held.associations ++ association ∷ [] }
-
-abbrev pub half_open_step : ℕ → Octets → Stepped
-half_open_step ike octets = record { output = Reply octets None; trace = record { sent = None; keyed = Some ike; child = None } }
 
 -- an association is half open from then on
 pub record AdmitsNext (meaning : Meaning) (setup : Setup) (offer : OfferView) (spi_i : ℕ) (octets : Octets) (old : Held) (stepped : Stepped) (new : Held) : Type 0 where

@@ -1,15 +1,17 @@
 //! What follows from the definitions alone. No function here does anything.
-ghost use Rattle.std.specs.Prelude.{List, ℕ};
+ghost use Rattle.std.specs.Prelude.{◌≡◌, List, ℕ};
 ghost use Rattle.policy.specs.declared.entry.Entry.{Entry};
 ghost use Rattle.sadb.specs.Database.{Database, IsReserved, IsSoundTable};
 ghost use Rattle.initial.specs.Taking.{Meaning};
 ghost use Rattle.ike.specs.Machines.{Machine};
+ghost use Rattle.ike.specs.Outputs.{IsQuiet};
 ghost use Rattle.ike.specs.Soundness.{IsSoundMachine};
 ghost use Rattle.ike.specs.Steps.{InputView, Steps};
 ghost use Rattle.ike.specs.declared.output.Stepped.{Stepped};
 
 use initial::laws::{
-    associations_stay_themselves, no_spi_comes, spis_stay_reserved, what_others_hold_stays,
+    associations_stay_themselves, no_spi_comes, spis_stay_reserved,
+    what_is_passed_over_changes_nothing, what_others_hold_stays,
 };
 use sa_init::laws::acceptance_is_limited;
 
@@ -26,6 +28,16 @@ pub fn soundness_stays()
     no_spi_comes();
     associations_stay_themselves();
     acceptance_is_limited();
+}
+
+/// A datagram that is dropped, or that took effect before, changes nothing.
+pub fn what_is_quiet_changes_nothing()
+    ensures { (meaning : Meaning) (entries : List Entry) (input : InputView) (old : Machine) (table : Database)
+        (stepped : Stepped) (new : Machine) (new_table : Database)
+        → Steps meaning entries input old table stepped new new_table → IsQuiet stepped.output
+        → (new ≡ old) × (new_table ≡ table) }
+{
+    what_is_passed_over_changes_nothing();
 }
 
 /// Another table does as well, in which all is reserved that was.

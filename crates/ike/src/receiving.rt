@@ -8,7 +8,8 @@ ghost use Rattle.sa_init.specs.Judging.{judgement_view, offer_view, IsJudgement}
 ghost use Rattle.association.specs.Finding.{found};
 ghost use Rattle.initial.specs.Configs.{setup_of, IsConfig};
 ghost use Rattle.ike.specs.Machines.{half_open_count, SERIAL_END};
-ghost use Rattle.ike.specs.Receiving.{half_open_step, is_answered, is_initial_request, is_sound_initial, sender_of, with_next, CannotMake, RefusesDatagram, RefusesNew, Repeats, SaysNotice, TakesAt, TakesDatagram, TakesFound, TakesNew, TakesOffer, TakesRead, TakesSound};
+ghost use Rattle.ike.specs.Outputs.{half_open_step};
+ghost use Rattle.ike.specs.Receiving.{is_answered, is_initial_request, is_sound_initial, sender_of, with_next, CannotMake, RefusesDatagram, RefusesNew, Repeats, SaysNotice, TakesAt, TakesDatagram, TakesFound, TakesNew, TakesOffer, TakesRead, TakesSound};
 ghost use Rattle.ike.specs.Soundness.{AreSound};
 
 use crate::held::{Held, answered_place, half_open_count, is_bad_spi};

@@ -10,6 +10,7 @@ use Rattle.sa_init.specs.declared.response.Response.TheVariants as response
 use Rattle.association.specs.Closing.{HoldsSpi}
 use Rattle.association.specs.Phases.{established_of, keys_in, spi_in}
 use Rattle.association.specs.Receiving.{Answers, AnswersInitial, Reception, Refused, Repeat, TakesEffect}
+use Rattle.association.specs.declared.fault.MessageFault.{MessageFault}
 use Rattle.association.specs.declared.phase.Association.{Association}
 use Rattle.association.specs.declared.phase.AuthSent.{AuthSent}
 use Rattle.association.specs.declared.phase.HalfOpen.{HalfOpen}
@@ -22,7 +23,7 @@ use Rattle.initial.specs.Concluding.{established, widened, ConcludesBy}
 use Rattle.initial.specs.Configs.{Setup}
 use Rattle.initial.specs.Ending.{EndsAuth}
 use Rattle.initial.specs.Reading.{Asker, Continues, IsInitSent}
-use Rattle.initial.specs.Taking.{asker_of, prover_of, Does, DoesRequest, DoesResponse, IsPassedOver, Meaning, StaysItself, TakesMessage}
+use Rattle.initial.specs.Taking.{asker_of, prover_of, Does, DoesRequest, DoesResponse, IsPassedOver, Meaning, Says, StaysItself, TakesMessage}
 use Rattle.initial.specs.declared.answering.Answered.{Answered}
 use Rattle.initial.specs.declared.concluding.Outcome.{Outcome}
 use Rattle.initial.specs.declared.concluding.Outcome.TheVariants as outcome
@@ -62,8 +63,46 @@ continued_same asker setup old sent number m octets response.Unfit (continued.Ag
 continued_same asker setup old sent number m octets response.Unfit (continued.Identity next) new was is = absurd is
 continued_same asker setup old sent number m octets response.Unfit continued.Unfit new was is = ap held_by is
 
+-- a message that is passed over, or comes again, changes nothing
+abbrev pub Idle : Effect → Association → Database → Association → Database → Type 0
+Idle (effect.Refused fault) old table new new_table = IsPassedOver old table new new_table
+Idle (effect.Repeated octets) old table new new_table = IsPassedOver old table new new_table
+Idle (effect.Replied answered) old table new new_table = Unit {0}
+Idle (effect.Again octets) old table new new_table = Unit {0}
+Idle (effect.Identified octets) old table new new_table = Unit {0}
+Idle (effect.Counted ended) old table new new_table = Unit {0}
+
+idle_by : (e : Effect) (old new : Association) (table new_table : Database) → IsPassedOver old table new new_table → Idle e old table new new_table
+idle_by (effect.Refused fault) old new table new_table same = same
+idle_by (effect.Repeated octets) old new table new_table same = same
+idle_by (effect.Replied answered) old new table new_table same = tt
+idle_by (effect.Again octets) old new table new_table same = tt
+idle_by (effect.Identified octets) old new table new_table same = tt
+idle_by (effect.Counted ended) old new table new_table same = tt
+
+unfit_same : (asker : Asker) (setup : Setup) (old : Association) (sent : InitSent) (number : ℕ) (m : Message) (octets : Octets) (r : Response) (new : Association)
+    → Continues asker setup old sent number m octets r continued.Unfit new → new ≡ old
+unfit_same asker setup old sent number m octets (response.Cookie cookie) new is = absurd is
+unfit_same asker setup old sent number m octets (response.Keys keys) new is = absurd is
+unfit_same asker setup old sent number m octets response.Unfit new is = is
+
+initial_idle : (e : Effect) (asker : Asker) (setup : Setup) (old : Association) (sent : InitSent) (number : ℕ) (m : Message) (octets : Octets) (r : Response) (c : Continued) (new : Association) (table new_table : Database)
+    → Says e c → Continues asker setup old sent number m octets r c new → new_table ≡ table → Idle e old table new new_table
+initial_idle (effect.Refused fault) asker setup old sent number m octets r (continued.Again next) new table new_table says is same = absurd says
+initial_idle (effect.Refused fault) asker setup old sent number m octets r (continued.Identity next) new table new_table says is same = absurd says
+initial_idle (effect.Refused fault) asker setup old sent number m octets r continued.Unfit new table new_table says is same =
+    record { association = unfit_same asker setup old sent number m octets r new is; pairs = same }
+initial_idle (effect.Repeated said) asker setup old sent number m octets r (continued.Again next) new table new_table says is same = absurd says
+initial_idle (effect.Repeated said) asker setup old sent number m octets r (continued.Identity next) new table new_table says is same = absurd says
+initial_idle (effect.Repeated said) asker setup old sent number m octets r continued.Unfit new table new_table says is same = absurd says
+initial_idle (effect.Replied answered) asker setup old sent number m octets r c new table new_table says is same = tt
+initial_idle (effect.Again next) asker setup old sent number m octets r c new table new_table says is same = tt
+initial_idle (effect.Identified next) asker setup old sent number m octets r c new table new_table says is same = tt
+initial_idle (effect.Counted ended) asker setup old sent number m octets r c new table new_table says is same = tt
+
 -- What a message leaves of an association: it stays itself, and holds its SPI no more, or still, and then the table is as it was.
-record Leaves (old : Association) (table : Database) (new : Association) (new_table : Database) : Type 0 where
+record Leaves (e : Effect) (old : Association) (table : Database) (new : Association) (new_table : Database) : Type 0 where
+  idle : Idle e old table new new_table
   spi : (held_by new ≡ None) ⊎ ((held_by new ≡ held_by old) × (new_table ≡ table))
   itself : StaysItself old new
 
@@ -73,8 +112,8 @@ itself_by old is new same itself = subst (λ (a : Association). StaysItself old 
 all_itself : (old : Association) → StaysItself old old
 all_itself old = record { serial = refl; role = refl; spi_i = refl; spi_r = inl refl; waiting = λ w. w; half_open = λ h. h }
 
-leaves_all : (old new : Association) (table new_table : Database) → IsPassedOver old table new new_table → Leaves old table new new_table
-leaves_all old new table new_table same = record { spi = inr (ap held_by same.association, same.pairs); itself = itself_by old old new same.association (all_itself old) }
+leaves_all : (e : Effect) (old new : Association) (table new_table : Database) → IsPassedOver old table new new_table → Leaves e old table new new_table
+leaves_all e old new table new_table same = record { idle = idle_by e old new table new_table same; spi = inr (ap held_by same.association, same.pairs); itself = itself_by old old new same.association (all_itself old) }
 
 closed_waits : (keys : Option KeyRecord) (at : ℕ) (sent : InitSent) → phase.Closed keys at ≡ phase.InitSent sent → ⊥
 closed_waits keys at sent is = cc
@@ -132,18 +171,20 @@ like is old new serial role spi_i spi_r phase_is stays =
     }
 
 answered_leaves : (prover : Prover) (setup : Setup) (old : Association) (table : Database) (number : ℕ) (plain : Plain) (a : Answered) (new : Association) (new_table : Database)
-    → AnswersAuth prover setup old table number plain a new new_table → Leaves old table new new_table
+    → AnswersAuth prover setup old table number plain a new new_table → Leaves (effect.Replied a) old table new new_table
 answered_leaves prover setup old table number plain a new new_table is =
     record {
+      idle = tt;
       spi = inl (answered_none prover setup old table number plain a new new_table is);
       itself = like (record old { incoming = is.incoming }) old new refl refl refl refl refl
           (concluded_itself setup (record old { incoming = is.incoming }) is.between (outcome_of is.decision) a.child new new_table is.opened.keys (ap established_of is.was) is.concluded);
     }
 
 ended_leaves : (accepts : Accepts) (setup : Setup) (old : Association) (table : Database) (number : ℕ) (plain : Plain) (e : Ended) (new : Association) (new_table : Database)
-    → EndsAuth accepts setup old table number plain e new new_table → Leaves old table new new_table
+    → EndsAuth accepts setup old table number plain e new new_table → Leaves (effect.Counted e) old table new new_table
 ended_leaves accepts setup old table number plain e new new_table is =
     record {
+      idle = tt;
       spi = inl (ended_none accepts setup old table number plain e new new_table is);
       itself = like (record old { outgoing = is.outgoing }) old new refl refl refl refl refl
           (concluded_itself setup (record old { outgoing = is.outgoing }) table is.verdict e.child new new_table is.sent.keys (ap established_of is.was) is.concluded);
@@ -180,14 +221,14 @@ continued_itself asker setup old sent number m octets response.Unfit (continued.
 continued_itself asker setup old sent number m octets response.Unfit continued.Unfit new was is = itself_by old old new is (all_itself old)
 
 request_leaves : (meaning : Meaning) (setup : Setup) (p : Phase) (old : Association) (table : Database) (number : ℕ) (plain : Plain) (e : Effect) (new : Association) (new_table : Database)
-    → DoesRequest meaning setup p old table number plain e new new_table → Leaves old table new new_table
-request_leaves meaning setup (phase.InitSent sent) old table number plain (effect.Refused fault) new new_table is = leaves_all old new table new_table is.1
+    → DoesRequest meaning setup p old table number plain e new new_table → Leaves e old table new new_table
+request_leaves meaning setup (phase.InitSent sent) old table number plain (effect.Refused fault) new new_table is = leaves_all (effect.Refused fault) old new table new_table is.1
 request_leaves meaning setup (phase.InitSent sent) old table number plain (effect.Repeated said) new new_table is = absurd is
 request_leaves meaning setup (phase.InitSent sent) old table number plain (effect.Replied answered) new new_table is = absurd is
 request_leaves meaning setup (phase.InitSent sent) old table number plain (effect.Again next) new new_table is = absurd is
 request_leaves meaning setup (phase.InitSent sent) old table number plain (effect.Identified next) new new_table is = absurd is
 request_leaves meaning setup (phase.InitSent sent) old table number plain (effect.Counted ended) new new_table is = absurd is
-request_leaves meaning setup (phase.AuthSent sent) old table number plain (effect.Refused fault) new new_table is = leaves_all old new table new_table is.1
+request_leaves meaning setup (phase.AuthSent sent) old table number plain (effect.Refused fault) new new_table is = leaves_all (effect.Refused fault) old new table new_table is.1
 request_leaves meaning setup (phase.AuthSent sent) old table number plain (effect.Repeated said) new new_table is = absurd is
 request_leaves meaning setup (phase.AuthSent sent) old table number plain (effect.Replied answered) new new_table is = absurd is
 request_leaves meaning setup (phase.AuthSent sent) old table number plain (effect.Again next) new new_table is = absurd is
@@ -199,13 +240,13 @@ request_leaves meaning setup (phase.HalfOpen opened) old table number plain (eff
 request_leaves meaning setup (phase.HalfOpen opened) old table number plain (effect.Again next) new new_table is = absurd is
 request_leaves meaning setup (phase.HalfOpen opened) old table number plain (effect.Identified next) new new_table is = absurd is
 request_leaves meaning setup (phase.HalfOpen opened) old table number plain (effect.Counted ended) new new_table is = absurd is
-request_leaves meaning setup (phase.Established keys) old table number plain (effect.Refused fault) new new_table is = leaves_all old new table new_table is.1
+request_leaves meaning setup (phase.Established keys) old table number plain (effect.Refused fault) new new_table is = leaves_all (effect.Refused fault) old new table new_table is.1
 request_leaves meaning setup (phase.Established keys) old table number plain (effect.Repeated said) new new_table is = absurd is
 request_leaves meaning setup (phase.Established keys) old table number plain (effect.Replied answered) new new_table is = absurd is
 request_leaves meaning setup (phase.Established keys) old table number plain (effect.Again next) new new_table is = absurd is
 request_leaves meaning setup (phase.Established keys) old table number plain (effect.Identified next) new new_table is = absurd is
 request_leaves meaning setup (phase.Established keys) old table number plain (effect.Counted ended) new new_table is = absurd is
-request_leaves meaning setup (phase.Closed keys at) old table number plain (effect.Refused fault) new new_table is = leaves_all old new table new_table is.1
+request_leaves meaning setup (phase.Closed keys at) old table number plain (effect.Refused fault) new new_table is = leaves_all (effect.Refused fault) old new table new_table is.1
 request_leaves meaning setup (phase.Closed keys at) old table number plain (effect.Repeated said) new new_table is = absurd is
 request_leaves meaning setup (phase.Closed keys at) old table number plain (effect.Replied answered) new new_table is = absurd is
 request_leaves meaning setup (phase.Closed keys at) old table number plain (effect.Again next) new new_table is = absurd is
@@ -213,8 +254,8 @@ request_leaves meaning setup (phase.Closed keys at) old table number plain (effe
 request_leaves meaning setup (phase.Closed keys at) old table number plain (effect.Counted ended) new new_table is = absurd is
 
 response_leaves : (meaning : Meaning) (setup : Setup) (p : Phase) (old : Association) (table : Database) (number : ℕ) (plain : Plain) (e : Effect) (new : Association) (new_table : Database)
-    → DoesResponse meaning setup p old table number plain e new new_table → Leaves old table new new_table
-response_leaves meaning setup (phase.InitSent sent) old table number plain (effect.Refused fault) new new_table is = leaves_all old new table new_table is.1
+    → DoesResponse meaning setup p old table number plain e new new_table → Leaves e old table new new_table
+response_leaves meaning setup (phase.InitSent sent) old table number plain (effect.Refused fault) new new_table is = leaves_all (effect.Refused fault) old new table new_table is.1
 response_leaves meaning setup (phase.InitSent sent) old table number plain (effect.Repeated said) new new_table is = absurd is
 response_leaves meaning setup (phase.InitSent sent) old table number plain (effect.Replied answered) new new_table is = absurd is
 response_leaves meaning setup (phase.InitSent sent) old table number plain (effect.Again next) new new_table is = absurd is
@@ -226,19 +267,19 @@ response_leaves meaning setup (phase.AuthSent sent) old table number plain (effe
 response_leaves meaning setup (phase.AuthSent sent) old table number plain (effect.Again next) new new_table is = absurd is
 response_leaves meaning setup (phase.AuthSent sent) old table number plain (effect.Identified next) new new_table is = absurd is
 response_leaves meaning setup (phase.AuthSent sent) old table number plain (effect.Counted ended) new new_table is = ended_leaves meaning.accepts setup old table number plain ended new new_table is
-response_leaves meaning setup (phase.HalfOpen opened) old table number plain (effect.Refused fault) new new_table is = leaves_all old new table new_table is.1
+response_leaves meaning setup (phase.HalfOpen opened) old table number plain (effect.Refused fault) new new_table is = leaves_all (effect.Refused fault) old new table new_table is.1
 response_leaves meaning setup (phase.HalfOpen opened) old table number plain (effect.Repeated said) new new_table is = absurd is
 response_leaves meaning setup (phase.HalfOpen opened) old table number plain (effect.Replied answered) new new_table is = absurd is
 response_leaves meaning setup (phase.HalfOpen opened) old table number plain (effect.Again next) new new_table is = absurd is
 response_leaves meaning setup (phase.HalfOpen opened) old table number plain (effect.Identified next) new new_table is = absurd is
 response_leaves meaning setup (phase.HalfOpen opened) old table number plain (effect.Counted ended) new new_table is = absurd is
-response_leaves meaning setup (phase.Established keys) old table number plain (effect.Refused fault) new new_table is = leaves_all old new table new_table is.1
+response_leaves meaning setup (phase.Established keys) old table number plain (effect.Refused fault) new new_table is = leaves_all (effect.Refused fault) old new table new_table is.1
 response_leaves meaning setup (phase.Established keys) old table number plain (effect.Repeated said) new new_table is = absurd is
 response_leaves meaning setup (phase.Established keys) old table number plain (effect.Replied answered) new new_table is = absurd is
 response_leaves meaning setup (phase.Established keys) old table number plain (effect.Again next) new new_table is = absurd is
 response_leaves meaning setup (phase.Established keys) old table number plain (effect.Identified next) new new_table is = absurd is
 response_leaves meaning setup (phase.Established keys) old table number plain (effect.Counted ended) new new_table is = absurd is
-response_leaves meaning setup (phase.Closed keys at) old table number plain (effect.Refused fault) new new_table is = leaves_all old new table new_table is.1
+response_leaves meaning setup (phase.Closed keys at) old table number plain (effect.Refused fault) new new_table is = leaves_all (effect.Refused fault) old new table new_table is.1
 response_leaves meaning setup (phase.Closed keys at) old table number plain (effect.Repeated said) new new_table is = absurd is
 response_leaves meaning setup (phase.Closed keys at) old table number plain (effect.Replied answered) new new_table is = absurd is
 response_leaves meaning setup (phase.Closed keys at) old table number plain (effect.Again next) new new_table is = absurd is
@@ -246,22 +287,24 @@ response_leaves meaning setup (phase.Closed keys at) old table number plain (eff
 response_leaves meaning setup (phase.Closed keys at) old table number plain (effect.Counted ended) new new_table is = absurd is
 
 does_leave : (meaning : Meaning) (setup : Setup) (old : Association) (table : Database) (octets : Octets) (m : Message) (r : Reception) (e : Effect) (new : Association) (new_table : Database)
-    → Does meaning setup old table octets m r e new new_table → Leaves old table new new_table
-does_leave meaning setup old table octets m (Refused f) (effect.Refused fault) new new_table is = leaves_all old new table new_table is.1
+    → Does meaning setup old table octets m r e new new_table → Leaves e old table new new_table
+does_leave meaning setup old table octets m (Refused f) (effect.Refused fault) new new_table is = leaves_all (effect.Refused fault) old new table new_table is.1
 does_leave meaning setup old table octets m (Repeat reply) (effect.Refused fault) new new_table is = absurd is
 does_leave meaning setup old table octets m (TakesEffect plain) (effect.Refused fault) new new_table is = request_leaves meaning setup old.phase old table m.header.id plain (effect.Refused fault) new new_table is
 does_leave meaning setup old table octets m (Answers plain) (effect.Refused fault) new new_table is = response_leaves meaning setup old.phase old table m.header.id plain (effect.Refused fault) new new_table is
 does_leave meaning setup old table octets m AnswersInitial (effect.Refused fault) new new_table is =
     record {
+      idle = initial_idle (effect.Refused fault) (asker_of meaning) setup old is.0.read.sent m.header.id m octets is.0.read.response is.0.continued new table new_table is.0.said is.0.read.continues is.1;
       spi = inr (continued_same (asker_of meaning) setup old is.0.read.sent m.header.id m octets is.0.read.response is.0.continued new is.0.read.was is.0.read.continues, is.1);
       itself = continued_itself (asker_of meaning) setup old is.0.read.sent m.header.id m octets is.0.read.response is.0.continued new is.0.read.was is.0.read.continues;
     }
 does_leave meaning setup old table octets m (Refused f) (effect.Repeated said) new new_table is = absurd is
-does_leave meaning setup old table octets m (Repeat reply) (effect.Repeated said) new new_table is = leaves_all old new table new_table is.1
+does_leave meaning setup old table octets m (Repeat reply) (effect.Repeated said) new new_table is = leaves_all (effect.Repeated said) old new table new_table is.1
 does_leave meaning setup old table octets m (TakesEffect plain) (effect.Repeated said) new new_table is = request_leaves meaning setup old.phase old table m.header.id plain (effect.Repeated said) new new_table is
 does_leave meaning setup old table octets m (Answers plain) (effect.Repeated said) new new_table is = response_leaves meaning setup old.phase old table m.header.id plain (effect.Repeated said) new new_table is
 does_leave meaning setup old table octets m AnswersInitial (effect.Repeated said) new new_table is =
     record {
+      idle = initial_idle (effect.Repeated said) (asker_of meaning) setup old is.0.read.sent m.header.id m octets is.0.read.response is.0.continued new table new_table is.0.said is.0.read.continues is.1;
       spi = inr (continued_same (asker_of meaning) setup old is.0.read.sent m.header.id m octets is.0.read.response is.0.continued new is.0.read.was is.0.read.continues, is.1);
       itself = continued_itself (asker_of meaning) setup old is.0.read.sent m.header.id m octets is.0.read.response is.0.continued new is.0.read.was is.0.read.continues;
     }
@@ -271,6 +314,7 @@ does_leave meaning setup old table octets m (TakesEffect plain) (effect.Replied 
 does_leave meaning setup old table octets m (Answers plain) (effect.Replied answered) new new_table is = response_leaves meaning setup old.phase old table m.header.id plain (effect.Replied answered) new new_table is
 does_leave meaning setup old table octets m AnswersInitial (effect.Replied answered) new new_table is =
     record {
+      idle = initial_idle (effect.Replied answered) (asker_of meaning) setup old is.0.read.sent m.header.id m octets is.0.read.response is.0.continued new table new_table is.0.said is.0.read.continues is.1;
       spi = inr (continued_same (asker_of meaning) setup old is.0.read.sent m.header.id m octets is.0.read.response is.0.continued new is.0.read.was is.0.read.continues, is.1);
       itself = continued_itself (asker_of meaning) setup old is.0.read.sent m.header.id m octets is.0.read.response is.0.continued new is.0.read.was is.0.read.continues;
     }
@@ -284,11 +328,13 @@ does_leave meaning setup old table octets m (Answers plain) (effect.Again next) 
 does_leave meaning setup old table octets m (Answers plain) (effect.Identified next) new new_table is = response_leaves meaning setup old.phase old table m.header.id plain (effect.Identified next) new new_table is
 does_leave meaning setup old table octets m AnswersInitial (effect.Again next) new new_table is =
     record {
+      idle = initial_idle (effect.Again next) (asker_of meaning) setup old is.0.read.sent m.header.id m octets is.0.read.response is.0.continued new table new_table is.0.said is.0.read.continues is.1;
       spi = inr (continued_same (asker_of meaning) setup old is.0.read.sent m.header.id m octets is.0.read.response is.0.continued new is.0.read.was is.0.read.continues, is.1);
       itself = continued_itself (asker_of meaning) setup old is.0.read.sent m.header.id m octets is.0.read.response is.0.continued new is.0.read.was is.0.read.continues;
     }
 does_leave meaning setup old table octets m AnswersInitial (effect.Identified next) new new_table is =
     record {
+      idle = initial_idle (effect.Identified next) (asker_of meaning) setup old is.0.read.sent m.header.id m octets is.0.read.response is.0.continued new table new_table is.0.said is.0.read.continues is.1;
       spi = inr (continued_same (asker_of meaning) setup old is.0.read.sent m.header.id m octets is.0.read.response is.0.continued new is.0.read.was is.0.read.continues, is.1);
       itself = continued_itself (asker_of meaning) setup old is.0.read.sent m.header.id m octets is.0.read.response is.0.continued new is.0.read.was is.0.read.continues;
     }
@@ -298,6 +344,7 @@ does_leave meaning setup old table octets m (TakesEffect plain) (effect.Counted 
 does_leave meaning setup old table octets m (Answers plain) (effect.Counted ended) new new_table is = response_leaves meaning setup old.phase old table m.header.id plain (effect.Counted ended) new new_table is
 does_leave meaning setup old table octets m AnswersInitial (effect.Counted ended) new new_table is =
     record {
+      idle = initial_idle (effect.Counted ended) (asker_of meaning) setup old is.0.read.sent m.header.id m octets is.0.read.response is.0.continued new table new_table is.0.said is.0.read.continues is.1;
       spi = inr (continued_same (asker_of meaning) setup old is.0.read.sent m.header.id m octets is.0.read.response is.0.continued new is.0.read.was is.0.read.continues, is.1);
       itself = continued_itself (asker_of meaning) setup old is.0.read.sent m.header.id m octets is.0.read.response is.0.continued new is.0.read.was is.0.read.continues;
     }
@@ -326,3 +373,13 @@ none_comes meaning setup old table octets m e new new_table spi held is =
 pub stays_itself : (meaning : Meaning) (setup : Setup) (old : Association) (table : Database) (octets : Octets) (m : Message) (e : Effect) (new : Association) (new_table : Database)
     → TakesMessage meaning setup old table octets m e new new_table → StaysItself old new
 stays_itself meaning setup old table octets m e new new_table is = (does_leave meaning setup old table octets m is.reception e new new_table is.done).itself
+
+pub passed_over : (meaning : Meaning) (setup : Setup) (old : Association) (table : Database) (octets : Octets) (m : Message) (fault : MessageFault) (new : Association) (new_table : Database)
+    → TakesMessage meaning setup old table octets m (effect.Refused fault) new new_table → (new ≡ old) × (new_table ≡ table)
+passed_over meaning setup old table octets m fault new new_table is =
+    let idle = (does_leave meaning setup old table octets m is.reception (effect.Refused fault) new new_table is.done).idle in (idle.association, idle.pairs)
+
+pub repeated : (meaning : Meaning) (setup : Setup) (old : Association) (table : Database) (octets : Octets) (m : Message) (reply : Octets) (new : Association) (new_table : Database)
+    → TakesMessage meaning setup old table octets m (effect.Repeated reply) new new_table → (new ≡ old) × (new_table ≡ table)
+repeated meaning setup old table octets m reply new new_table is =
+    let idle = (does_leave meaning setup old table octets m is.reception (effect.Repeated reply) new new_table is.done).idle in (idle.association, idle.pairs)

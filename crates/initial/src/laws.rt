@@ -8,7 +8,9 @@ ghost use Rattle.association.specs.Phases.{spi_in};
 ghost use Rattle.association.specs.declared.phase.Association.{Association};
 ghost use Rattle.initial.specs.Configs.{Setup};
 ghost use Rattle.initial.specs.Taking.{Meaning, StaysItself, TakesMessage};
+ghost use Rattle.association.specs.declared.fault.MessageFault.{MessageFault};
 ghost use Rattle.initial.specs.declared.taking.Effect.{Effect};
+ghost use Rattle.initial.specs.declared.taking.Effect.TheVariants.{Refused, Repeated};
 
 /// The SPI that is reserved for an association's first child stays reserved as long as the association holds it.
 pub fn spis_stay_reserved()
@@ -24,6 +26,18 @@ pub fn associations_stay_themselves()
     ensures { (meaning : Meaning) (setup : Setup) (old : Association) (table : Database) (octets : Octets) (m : Message)
         (effect : Effect) (new : Association) (new_table : Database)
         → TakesMessage meaning setup old table octets m effect new new_table → StaysItself old new }
+{}
+
+/// A message that is passed over, or a request that comes again, changes nothing.
+pub fn what_is_passed_over_changes_nothing()
+    ensures refused { (meaning : Meaning) (setup : Setup) (old : Association) (table : Database) (octets : Octets)
+        (m : Message) (fault : MessageFault) (new : Association) (new_table : Database)
+        → TakesMessage meaning setup old table octets m (Refused fault) new new_table
+        → (new ≡ old) × (new_table ≡ table) }
+    ensures repeated { (meaning : Meaning) (setup : Setup) (old : Association) (table : Database) (octets : Octets)
+        (m : Message) (reply : Octets) (new : Association) (new_table : Database)
+        → TakesMessage meaning setup old table octets m (Repeated reply) new new_table
+        → (new ≡ old) × (new_table ≡ table) }
 {}
 
 /// An association comes to no SPI by a message: what it holds for its first child it held before.

@@ -1,7 +1,7 @@
 use Rattle.std.proofs.Common.{◌≡◌, MatchOption, None, ap, inr, rules, subst, ◌∙◌}
 use Rattle.sa_init.specs.Judging.{offer_view}
 use Rattle.initial.specs.Beginning.{Admits}
-use Rattle.ike.specs.Receiving.{half_open_step}
+use Rattle.ike.specs.Outputs.{half_open_step}
 use Rattle.ike.proofs.receiving.take_offer.Goals as goal
 
 pub returns-in_ok-hold_admitted-in-Some-2-clause-taken : goal.returns-in_ok-hold_admitted-in-Some-2-clause-taken
