@@ -14,13 +14,16 @@ use Rattle.traffic.specs.Admitting.{Admits}
 use Rattle.traffic.specs.Faults.{is_after_judging}
 use Rattle.traffic.specs.Outcomes as traffic
 use Rattle.traffic.specs.Receiving.{Receives, TakesOneNumber}
-use Rattle.traffic.specs.Sending.{Sends}
+use Rattle.policy.specs.declared.entry.Action.TheVariants.{Protect}
+use Rattle.policy.specs.declared.flow.Flow.{Flow}
+use Rattle.policy.specs.declared.policy.Direction.TheVariants as direction
+use Rattle.traffic.specs.Sending.{IsDecided, Protects, Sends}
 use Rattle.traffic.specs.declared.fault.PacketFault.{PacketFault}
 use Rattle.traffic.specs.declared.fault.PacketFault.TheVariants.{UnknownAssociation, Esp, Inner, OutsideSelectors}
 use Rattle.gateway.specs.Faults.{is_after_judging_packet}
 use Rattle.gateway.specs.Outputs.{Said, Clear, Dropped, Refused, said_by_ike, said_of_outcome}
 use Rattle.gateway.specs.States.{State}
-use Rattle.gateway.specs.Steps.{AdmitsPacket, DoesInput, SendsPacket, Steps, StepsIke}
+use Rattle.gateway.specs.Steps.{AdmitsPacket, DoesInput, GoesSealed, SendsPacket, Steps, StepsIke}
 use Rattle.gateway.specs.declared.fault.Reason.{Reason}
 use Rattle.gateway.specs.declared.fault.Reason.TheVariants as reason
 use Rattle.gateway.specs.declared.input.Input.{Input}
@@ -191,3 +194,14 @@ dropped_outward {C} meaning packet why old new s =
 
 pub inward_keeps : {C : Type 0} (meaning : Meaning) (packet : Octets) (said : Said) (old new : State C) → Steps meaning (input.Inward packet) old said new → new ≡ old
 inward_keeps {C} meaning packet said old new s = all_kept old new s.traces.kept s.traces.does.0.machine s.traces.does.2
+
+-- a packet that is to be protected
+pub protected_goes_sealed : {C : Type 0} → ((old new : Database) (policy : List Entry) (packet : Octets) (flow : Flow) (outcome : traffic.Outcome)
+    → IsDecided policy direction.Outward packet flow Protect → Sends old policy packet outcome new → Protects old flow packet outcome new)
+    → (meaning : Meaning) (packet : Octets) (flow : Flow) (said : Said) (old new : State C) → IsDecided old.entries direction.Outward packet flow Protect
+    → Steps meaning (input.Outward packet) old said new → GoesSealed flow packet old said new
+protected_goes_sealed {C} law meaning packet flow said old new decided is =
+    elim is.traces.does.1 [
+      | inl sent ↦ inl (sent.outcome, law old.table new.table old.entries packet flow sent.outcome decided sent.sends, sent.output)
+      | inr lacks ↦ inr lacks.output
+    ]

@@ -2,6 +2,7 @@
 use Rattle.std.specs.Prelude.{◌≡◌, ◌⊎◌, List}
 use Rattle.base.specs.Octets.{Octets}
 use Rattle.policy.specs.declared.entry.Entry.{Entry}
+use Rattle.policy.specs.declared.flow.Flow.{Flow}
 use Rattle.sadb.specs.Database.{Database, IsAsBefore}
 use Rattle.initial.specs.Taking.{Meaning}
 use Rattle.ike.specs.Machines.{Machine}
@@ -13,7 +14,7 @@ use Rattle.ike.specs.declared.output.Trace.{Trace}
 use Rattle.traffic.specs.Admitting.{Admits}
 use Rattle.traffic.specs.Outcomes.{Outcome}
 use Rattle.traffic.specs.Receiving.{Receives}
-use Rattle.traffic.specs.Sending.{IsToBeSealed, Sends}
+use Rattle.traffic.specs.Sending.{IsToBeSealed, Protects, Sends}
 use Rattle.gateway.specs.Outputs.{Said, Refused, said_by_ike, said_of_outcome}
 use Rattle.gateway.specs.States.{State}
 use Rattle.gateway.specs.declared.fault.Reason.TheVariants as reason
@@ -97,3 +98,8 @@ pub record Traces {C : Type 0} (meaning : Meaning) (given : Input) (old : State 
 pub record Steps {C : Type 0} (meaning : Meaning) (given : Input) (old : State C) (said : Said) (new : State C) : Type 0 where
   pub trace : Trace
   pub traces : Traces meaning given old said trace new
+
+-- a packet that is to be protected goes so, or it is refused for want of memory
+abbrev pub GoesSealed : {C : Type 0} → Flow → Octets → State C → Said → State C → Type 0
+GoesSealed {C} flow packet old said new =
+    ((outcome : Outcome) × (Protects old.table flow packet outcome new.table) × (said ≡ said_of_outcome outcome)) ⊎ (said ≡ Refused reason.Memory)

@@ -13,18 +13,22 @@ ghost use Rattle.traffic.specs.Sending.{IsDecided};
 ghost use Rattle.gateway.specs.Faults.{is_after_judging_packet};
 ghost use Rattle.gateway.specs.Outputs.{Clear, Dropped, IsQuiet, Refused, Said};
 ghost use Rattle.gateway.specs.States.{State};
-ghost use Rattle.gateway.specs.Steps.{Steps};
+ghost use Rattle.gateway.specs.Steps.{GoesSealed, Steps};
 ghost use Rattle.gateway.specs.declared.fault.Reason.{Reason};
 ghost use Rattle.gateway.specs.declared.input.Input.{Input};
 ghost use Rattle.gateway.specs.declared.input.Input.TheVariants as input;
 
 use traffic::laws::{a_packet_takes_one_number, only_the_bypassed_goes_in_the_clear};
 
-/// What is to be protected never goes in the clear, outward or inward. Only what the policy bypasses goes on as it is.
+/// What is to be protected never goes in the clear, outward or inward: outward it goes sealed or, for want of an association, of a
+/// number (E28, E12) or of memory, not at all. Only what the policy bypasses goes on as it is.
 pub fn the_protected_never_goes_in_the_clear<C>()
     ensures outward { (meaning : Meaning) (packet octets : Octets) (flow : Flow) (action : Action) (old new : State C)
         → IsDecided old.entries direction.Outward packet flow action
         → Steps meaning (input.Outward packet) old (Clear octets) new → (action ≡ Bypass) × (octets ≡ packet) }
+    ensures protected { (meaning : Meaning) (packet : Octets) (flow : Flow) (said : Said) (old new : State C)
+        → IsDecided old.entries direction.Outward packet flow Protect
+        → Steps meaning (input.Outward packet) old said new → GoesSealed flow packet old said new }
     ensures inward { (meaning : Meaning) (packet octets : Octets) (flow : Flow) (action : Action) (old new : State C)
         → IsDecided old.entries direction.Inward packet flow action
         → Steps meaning (input.Inward packet) old (Clear octets) new → (action ≡ Bypass) × (octets ≡ packet) }

@@ -1,7 +1,8 @@
 //! A gateway, and one step of it.
 ghost use Rattle.std.specs.Prelude.{◌≡◌};
-ghost use Rattle.sadb.specs.Database.{IsStart};
+ghost use Rattle.sadb.specs.Database.{IsSoundTable, IsStart};
 ghost use Rattle.initial.specs.Configs.{IsConfig};
+ghost use Rattle.ike.specs.Soundness.{IsSoundMachine};
 ghost use Rattle.gateway.specs.Outputs.{said};
 ghost use Rattle.gateway.specs.States.{new_gateway};
 ghost use Rattle.gateway.specs.Steps.{Steps, Traces};
@@ -63,6 +64,14 @@ impl<C: Sealer + Agreement + Proof> Gateway<C> {
         ensures { result.now ≡ self.now.table }
     {
         &self.table
+    }
+
+    /// What holds of every gateway: its machine is sound with its table, and so is the table. Does nothing.
+    pub fn invariants_hold(&self)
+        ensures machine { IsSoundMachine self.now.machine self.now.table }
+        ensures table { IsSoundTable self.now.table }
+    {
+        self.table.invariants_hold();
     }
 
     /// One step: takes an input, and answers its output.
