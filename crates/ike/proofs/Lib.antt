@@ -5,3 +5,4 @@ mod CountLemmas
 mod SoundLemmas
 mod StepLemmas
 mod QuietLemmas
+mod PairLemmas

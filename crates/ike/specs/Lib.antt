@@ -5,3 +5,4 @@ pub mod Receiving
 pub mod Starting
 pub mod Steps
 pub mod Soundness
+pub mod Pairs

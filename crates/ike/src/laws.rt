@@ -5,6 +5,7 @@ ghost use Rattle.sadb.specs.Database.{Database, IsReserved, IsSoundTable};
 ghost use Rattle.initial.specs.Taking.{Meaning};
 ghost use Rattle.ike.specs.Machines.{Machine};
 ghost use Rattle.ike.specs.Outputs.{IsQuiet};
+ghost use Rattle.ike.specs.Pairs.{LeavesPairsOfOthers};
 ghost use Rattle.ike.specs.Soundness.{IsSoundMachine};
 ghost use Rattle.ike.specs.Steps.{InputView, Steps};
 ghost use Rattle.ike.specs.declared.output.Stepped.{Stepped};
@@ -28,6 +29,16 @@ pub fn soundness_stays()
     no_spi_comes();
     associations_stay_themselves();
     acceptance_is_limited();
+}
+
+/// Whatever a step does, each pair in the table is as it was, or came by it, under the next serial and with no number sent or taken;
+/// and pairs of one IKE association at most come or go.
+pub fn pairs_stay_as_they_were()
+    ensures { (meaning : Meaning) (entries : List Entry) (input : InputView) (old : Machine) (table : Database)
+        (stepped : Stepped) (new : Machine) (new_table : Database)
+        → Steps meaning entries input old table stepped new new_table → LeavesPairsOfOthers table new_table }
+{
+    initial::laws::pairs_stay_as_they_were();
 }
 
 /// A datagram that is dropped, or that took effect before, changes nothing.

@@ -1,3 +1,4 @@
+mod PairLemmas
 mod ChildLemmas
 mod SpiLemmas
 mod OtherLemmas

@@ -22,6 +22,7 @@ use Rattle.initial.specs.Answering.{outcome_of, AnswersAuth, IsHalfOpen, Prover}
 use Rattle.initial.specs.Concluding.{established, widened, ConcludesBy}
 use Rattle.initial.specs.Configs.{Setup}
 use Rattle.initial.specs.Ending.{EndsAuth}
+use Rattle.initial.specs.Pairs.{LeavesPairs}
 use Rattle.initial.specs.Reading.{Asker, Continues, IsInitSent}
 use Rattle.initial.specs.Taking.{asker_of, prover_of, Does, DoesRequest, DoesResponse, IsPassedOver, Meaning, Says, StaysItself, TakesMessage}
 use Rattle.initial.specs.declared.answering.Answered.{Answered}
@@ -32,6 +33,7 @@ use Rattle.initial.specs.declared.reading.Continued.{Continued}
 use Rattle.initial.specs.declared.reading.Continued.TheVariants as continued
 use Rattle.initial.specs.declared.taking.Effect.{Effect}
 use Rattle.initial.specs.declared.taking.Effect.TheVariants as effect
+use Rattle.initial.proofs.PairLemmas.{answer_unused, concluded_leaves, end_unused, itself_same, room_same, same_leaves, HasSamePairs}
 
 abbrev pub held_by : Association → Option ℕ
 held_by a = spi_in a.phase
@@ -105,6 +107,7 @@ record Leaves (e : Effect) (old : Association) (table : Database) (new : Associa
   idle : Idle e old table new new_table
   spi : (held_by new ≡ None) ⊎ ((held_by new ≡ held_by old) × (new_table ≡ table))
   itself : StaysItself old new
+  pairs : LeavesPairs table old.serial new_table
 
 itself_by : (old is new : Association) → new ≡ is → StaysItself old is → StaysItself old new
 itself_by old is new same itself = subst (λ (a : Association). StaysItself old a) (sym same) itself
@@ -112,8 +115,11 @@ itself_by old is new same itself = subst (λ (a : Association). StaysItself old 
 all_itself : (old : Association) → StaysItself old old
 all_itself old = record { serial = refl; role = refl; spi_i = refl; spi_r = inl refl; waiting = λ w. w; half_open = λ h. h }
 
+unchanged_leaves : (table : Database) (ike : ℕ) (new_table : Database) → new_table ≡ table → LeavesPairs table ike new_table
+unchanged_leaves table ike new_table same = same_leaves table ike new_table (subst (λ (d : Database). HasSamePairs table d) (sym same) (itself_same table))
+
 leaves_all : (e : Effect) (old new : Association) (table new_table : Database) → IsPassedOver old table new new_table → Leaves e old table new new_table
-leaves_all e old new table new_table same = record { idle = idle_by e old new table new_table same; spi = inr (ap held_by same.association, same.pairs); itself = itself_by old old new same.association (all_itself old) }
+leaves_all e old new table new_table same = record { idle = idle_by e old new table new_table same; spi = inr (ap held_by same.association, same.pairs); itself = itself_by old old new same.association (all_itself old); pairs = unchanged_leaves table old.serial new_table same.pairs }
 
 closed_waits : (keys : Option KeyRecord) (at : ℕ) (sent : InitSent) → phase.Closed keys at ≡ phase.InitSent sent → ⊥
 closed_waits keys at sent is = cc
@@ -178,6 +184,8 @@ answered_leaves prover setup old table number plain a new new_table is =
       spi = inl (answered_none prover setup old table number plain a new new_table is);
       itself = like (record old { incoming = is.incoming }) old new refl refl refl refl refl
           (concluded_itself setup (record old { incoming = is.incoming }) is.between (outcome_of is.decision) a.child new new_table is.opened.keys (ap established_of is.was) is.concluded);
+      pairs = concluded_leaves setup (record old { incoming = is.incoming }) table is.between (outcome_of is.decision) a.child new new_table (room_same table is.between is.room)
+          (answer_unused prover.accepts setup old.serial is.opened table plain is.decision is.decided) is.concluded;
     }
 
 ended_leaves : (accepts : Accepts) (setup : Setup) (old : Association) (table : Database) (number : ℕ) (plain : Plain) (e : Ended) (new : Association) (new_table : Database)
@@ -188,6 +196,8 @@ ended_leaves accepts setup old table number plain e new new_table is =
       spi = inl (ended_none accepts setup old table number plain e new new_table is);
       itself = like (record old { outgoing = is.outgoing }) old new refl refl refl refl refl
           (concluded_itself setup (record old { outgoing = is.outgoing }) table is.verdict e.child new new_table is.sent.keys (ap established_of is.was) is.concluded);
+      pairs = concluded_leaves setup (record old { outgoing = is.outgoing }) table table is.verdict e.child new new_table (itself_same table)
+          (end_unused accepts setup old.serial is.sent plain is.verdict is.judged) is.concluded;
     }
 
 continued_itself : (asker : Asker) (setup : Setup) (old : Association) (sent : InitSent) (number : ℕ) (m : Message) (octets : Octets) (r : Response) (c : Continued) (new : Association)
@@ -297,6 +307,7 @@ does_leave meaning setup old table octets m AnswersInitial (effect.Refused fault
       idle = initial_idle (effect.Refused fault) (asker_of meaning) setup old is.0.read.sent m.header.id m octets is.0.read.response is.0.continued new table new_table is.0.said is.0.read.continues is.1;
       spi = inr (continued_same (asker_of meaning) setup old is.0.read.sent m.header.id m octets is.0.read.response is.0.continued new is.0.read.was is.0.read.continues, is.1);
       itself = continued_itself (asker_of meaning) setup old is.0.read.sent m.header.id m octets is.0.read.response is.0.continued new is.0.read.was is.0.read.continues;
+      pairs = unchanged_leaves table old.serial new_table is.1;
     }
 does_leave meaning setup old table octets m (Refused f) (effect.Repeated said) new new_table is = absurd is
 does_leave meaning setup old table octets m (Repeat reply) (effect.Repeated said) new new_table is = leaves_all (effect.Repeated said) old new table new_table is.1
@@ -307,6 +318,7 @@ does_leave meaning setup old table octets m AnswersInitial (effect.Repeated said
       idle = initial_idle (effect.Repeated said) (asker_of meaning) setup old is.0.read.sent m.header.id m octets is.0.read.response is.0.continued new table new_table is.0.said is.0.read.continues is.1;
       spi = inr (continued_same (asker_of meaning) setup old is.0.read.sent m.header.id m octets is.0.read.response is.0.continued new is.0.read.was is.0.read.continues, is.1);
       itself = continued_itself (asker_of meaning) setup old is.0.read.sent m.header.id m octets is.0.read.response is.0.continued new is.0.read.was is.0.read.continues;
+      pairs = unchanged_leaves table old.serial new_table is.1;
     }
 does_leave meaning setup old table octets m (Refused f) (effect.Replied answered) new new_table is = absurd is
 does_leave meaning setup old table octets m (Repeat reply) (effect.Replied answered) new new_table is = absurd is
@@ -317,6 +329,7 @@ does_leave meaning setup old table octets m AnswersInitial (effect.Replied answe
       idle = initial_idle (effect.Replied answered) (asker_of meaning) setup old is.0.read.sent m.header.id m octets is.0.read.response is.0.continued new table new_table is.0.said is.0.read.continues is.1;
       spi = inr (continued_same (asker_of meaning) setup old is.0.read.sent m.header.id m octets is.0.read.response is.0.continued new is.0.read.was is.0.read.continues, is.1);
       itself = continued_itself (asker_of meaning) setup old is.0.read.sent m.header.id m octets is.0.read.response is.0.continued new is.0.read.was is.0.read.continues;
+      pairs = unchanged_leaves table old.serial new_table is.1;
     }
 does_leave meaning setup old table octets m (Refused f) (effect.Again next) new new_table is = absurd is
 does_leave meaning setup old table octets m (Refused f) (effect.Identified next) new new_table is = absurd is
@@ -331,12 +344,14 @@ does_leave meaning setup old table octets m AnswersInitial (effect.Again next) n
       idle = initial_idle (effect.Again next) (asker_of meaning) setup old is.0.read.sent m.header.id m octets is.0.read.response is.0.continued new table new_table is.0.said is.0.read.continues is.1;
       spi = inr (continued_same (asker_of meaning) setup old is.0.read.sent m.header.id m octets is.0.read.response is.0.continued new is.0.read.was is.0.read.continues, is.1);
       itself = continued_itself (asker_of meaning) setup old is.0.read.sent m.header.id m octets is.0.read.response is.0.continued new is.0.read.was is.0.read.continues;
+      pairs = unchanged_leaves table old.serial new_table is.1;
     }
 does_leave meaning setup old table octets m AnswersInitial (effect.Identified next) new new_table is =
     record {
       idle = initial_idle (effect.Identified next) (asker_of meaning) setup old is.0.read.sent m.header.id m octets is.0.read.response is.0.continued new table new_table is.0.said is.0.read.continues is.1;
       spi = inr (continued_same (asker_of meaning) setup old is.0.read.sent m.header.id m octets is.0.read.response is.0.continued new is.0.read.was is.0.read.continues, is.1);
       itself = continued_itself (asker_of meaning) setup old is.0.read.sent m.header.id m octets is.0.read.response is.0.continued new is.0.read.was is.0.read.continues;
+      pairs = unchanged_leaves table old.serial new_table is.1;
     }
 does_leave meaning setup old table octets m (Refused f) (effect.Counted ended) new new_table is = absurd is
 does_leave meaning setup old table octets m (Repeat reply) (effect.Counted ended) new new_table is = absurd is
@@ -347,6 +362,7 @@ does_leave meaning setup old table octets m AnswersInitial (effect.Counted ended
       idle = initial_idle (effect.Counted ended) (asker_of meaning) setup old is.0.read.sent m.header.id m octets is.0.read.response is.0.continued new table new_table is.0.said is.0.read.continues is.1;
       spi = inr (continued_same (asker_of meaning) setup old is.0.read.sent m.header.id m octets is.0.read.response is.0.continued new is.0.read.was is.0.read.continues, is.1);
       itself = continued_itself (asker_of meaning) setup old is.0.read.sent m.header.id m octets is.0.read.response is.0.continued new is.0.read.was is.0.read.continues;
+      pairs = unchanged_leaves table old.serial new_table is.1;
     }
 
 still_held : (old new : Association) (table new_table : Database) → HoldsSpi (held_by old) table → (held_by new ≡ None) ⊎ ((held_by new ≡ held_by old) × (new_table ≡ table))
@@ -383,3 +399,7 @@ pub repeated : (meaning : Meaning) (setup : Setup) (old : Association) (table : 
     → TakesMessage meaning setup old table octets m (effect.Repeated reply) new new_table → (new ≡ old) × (new_table ≡ table)
 repeated meaning setup old table octets m reply new new_table is =
     let idle = (does_leave meaning setup old table octets m is.reception (effect.Repeated reply) new new_table is.done).idle in (idle.association, idle.pairs)
+
+pub pairs_left : (meaning : Meaning) (setup : Setup) (old : Association) (table : Database) (octets : Octets) (m : Message) (e : Effect) (new : Association) (new_table : Database)
+    → TakesMessage meaning setup old table octets m e new new_table → LeavesPairs table old.serial new_table
+pairs_left meaning setup old table octets m e new new_table is = (does_leave meaning setup old table octets m is.reception e new new_table is.done).pairs

@@ -7,3 +7,4 @@ pub mod Issuing
 pub mod Beginning
 pub mod Reading
 pub mod Taking
+pub mod Pairs

@@ -7,6 +7,7 @@ ghost use Rattle.association.specs.Closing.{HoldsSpi};
 ghost use Rattle.association.specs.Phases.{spi_in};
 ghost use Rattle.association.specs.declared.phase.Association.{Association};
 ghost use Rattle.initial.specs.Configs.{Setup};
+ghost use Rattle.initial.specs.Pairs.{LeavesPairs};
 ghost use Rattle.initial.specs.Taking.{Meaning, StaysItself, TakesMessage};
 ghost use Rattle.association.specs.declared.fault.MessageFault.{MessageFault};
 ghost use Rattle.initial.specs.declared.taking.Effect.{Effect};
@@ -26,6 +27,14 @@ pub fn associations_stay_themselves()
     ensures { (meaning : Meaning) (setup : Setup) (old : Association) (table : Database) (octets : Octets) (m : Message)
         (effect : Effect) (new : Association) (new_table : Database)
         → TakesMessage meaning setup old table octets m effect new new_table → StaysItself old new }
+{}
+
+/// Each pair in the table is as it was, or came by this message for its association, under the next serial and with no number sent or
+/// taken; and the pairs of other associations stay.
+pub fn pairs_stay_as_they_were()
+    ensures { (meaning : Meaning) (setup : Setup) (old : Association) (table : Database) (octets : Octets) (m : Message)
+        (effect : Effect) (new : Association) (new_table : Database)
+        → TakesMessage meaning setup old table octets m effect new new_table → LeavesPairs table old.serial new_table }
 {}
 
 /// A message that is passed over, or a request that comes again, changes nothing.
