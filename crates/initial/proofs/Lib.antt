@@ -2,3 +2,4 @@ mod PairLemmas
 mod ChildLemmas
 mod SpiLemmas
 mod OtherLemmas
+mod ProvingLemmas

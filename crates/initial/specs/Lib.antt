@@ -8,3 +8,4 @@ pub mod Beginning
 pub mod Reading
 pub mod Taking
 pub mod Pairs
+pub mod Proving

@@ -6,12 +6,23 @@ ghost use Rattle.sadb.specs.Database.{Database, IsReserved};
 ghost use Rattle.association.specs.Closing.{HoldsSpi};
 ghost use Rattle.association.specs.Phases.{spi_in};
 ghost use Rattle.association.specs.declared.phase.Association.{Association};
+ghost use Rattle.suite.specs.declared.key_record.KeyRecord.{KeyRecord};
+ghost use Rattle.exchange.specs.declared.sealed.Plain.{Plain};
+ghost use Rattle.association.specs.declared.phase.Phase.TheVariants.{Established};
+ghost use Rattle.auth.specs.Proofs.{Accepts};
+ghost use Rattle.initial.specs.Answering.{AnswersAuth, Prover};
 ghost use Rattle.initial.specs.Configs.{Setup};
+ghost use Rattle.initial.specs.Ending.{EndsAuth};
+ghost use Rattle.initial.specs.Proving.{ProvesByRequest, ProvesByResponse};
+ghost use Rattle.initial.specs.declared.answering.Answered.{Answered};
+ghost use Rattle.initial.specs.declared.ending.Ended.{Ended};
 ghost use Rattle.initial.specs.Pairs.{LeavesPairs};
 ghost use Rattle.initial.specs.Taking.{Meaning, StaysItself, TakesMessage};
 ghost use Rattle.association.specs.declared.fault.MessageFault.{MessageFault};
 ghost use Rattle.initial.specs.declared.taking.Effect.{Effect};
 ghost use Rattle.initial.specs.declared.taking.Effect.TheVariants.{Refused, Repeated};
+
+use auth::laws::who_is_accepted_proved_itself;
 
 /// The SPI that is reserved for an association's first child stays reserved as long as the association holds it.
 pub fn spis_stay_reserved()
@@ -63,3 +74,19 @@ pub fn what_others_hold_stays()
         → IsReserved table spi → spi < table.start + table.given
         → TakesMessage meaning setup old table octets m effect new new_table → IsReserved new_table spi }
 {}
+
+/// An association is established by IKE_AUTH only where the caller accepted, of the configured peer's identity, the method and the proof
+/// in the only AUTH payload, over what the peer has to prove (RFC 7296, section 2.15): at a responder of the request's payloads, at
+/// an initiator of the response's.
+pub fn the_established_proved_themselves()
+    ensures request { (prover : Prover) (setup : Setup) (old : Association) (table : Database) (number : ℕ) (plain : Plain)
+        (answered : Answered) (new : Association) (new_table : Database) (keys : KeyRecord)
+        → AnswersAuth prover setup old table number plain answered new new_table → new.phase ≡ Established keys
+        → ProvesByRequest prover.accepts setup old.phase plain }
+    ensures response { (accepts : Accepts) (setup : Setup) (old : Association) (table : Database) (number : ℕ)
+        (plain : Plain) (ended : Ended) (new : Association) (new_table : Database) (keys : KeyRecord)
+        → EndsAuth accepts setup old table number plain ended new new_table → new.phase ≡ Established keys
+        → ProvesByResponse accepts setup old.phase plain }
+{
+    who_is_accepted_proved_itself();
+}
