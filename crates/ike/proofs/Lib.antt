@@ -6,3 +6,4 @@ mod SoundLemmas
 mod StepLemmas
 mod QuietLemmas
 mod PairLemmas
+mod ReachLemmas

@@ -6,3 +6,4 @@ pub mod Starting
 pub mod Steps
 pub mod Soundness
 pub mod Pairs
+pub mod Reaching

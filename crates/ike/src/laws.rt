@@ -1,13 +1,17 @@
 //! What follows from the definitions alone. No function here does anything.
-ghost use Rattle.std.specs.Prelude.{◌≡◌, List, ℕ};
+ghost use Rattle.std.specs.Prelude.{◌≡◌, ◌<◌, ◌≤◌, List, ℕ, length};
 ghost use Rattle.policy.specs.declared.entry.Entry.{Entry};
 ghost use Rattle.sadb.specs.Database.{Database, IsReserved, IsSoundTable};
+ghost use Rattle.base.specs.Octets.{Octets};
+ghost use Rattle.suite.specs.declared.fresh.Fresh.{Fresh};
+ghost use Rattle.sa_init.specs.Judging.{COOKIE_THRESHOLD};
 ghost use Rattle.initial.specs.Taking.{Meaning};
-ghost use Rattle.ike.specs.Machines.{Machine};
+ghost use Rattle.ike.specs.Machines.{half_open_count, Machine};
 ghost use Rattle.ike.specs.Outputs.{IsQuiet};
 ghost use Rattle.ike.specs.Pairs.{LeavesPairsOfOthers};
+ghost use Rattle.ike.specs.Reaching.{WasReached};
 ghost use Rattle.ike.specs.Soundness.{IsSoundMachine};
-ghost use Rattle.ike.specs.Steps.{InputView, Steps};
+ghost use Rattle.ike.specs.Steps.{InputView, Message, Steps};
 ghost use Rattle.ike.specs.declared.output.Stepped.{Stepped};
 
 use initial::laws::{
@@ -28,6 +32,18 @@ pub fn soundness_stays()
     what_others_hold_stays();
     no_spi_comes();
     associations_stay_themselves();
+    acceptance_is_limited();
+}
+
+/// While 8 or more associations are half open, no datagram makes another one but with a right cookie of its sender (RFC 7296, section
+/// 2.6).
+pub fn no_association_without_a_cookie()
+    ensures { (meaning : Meaning) (entries : List Entry) (from octets : Octets) (fresh : Fresh) (old : Machine)
+        (table : Database) (stepped : Stepped) (new : Machine) (new_table : Database)
+        → Steps meaning entries (Message from octets fresh) old table stepped new new_table
+        → COOKIE_THRESHOLD ≤ half_open_count old.held.associations
+        → length old.held.associations < length new.held.associations → WasReached old.cookies from octets }
+{
     acceptance_is_limited();
 }
 
