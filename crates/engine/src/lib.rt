@@ -13,6 +13,21 @@
 //! deliver 1                  E16
 //! ```
 //!
+//! A script of kind `two` has two gateways, A and B, and what goes between them. Its opening lines say what each protects, and
+//! how many requests it takes at once; then one line begins an IKE association (RFC 7296), or brings a datagram or a packet to an
+//! end.
+//!
+//! ```text
+//! two
+//! entry A protect 0 10.0.0.0-10.0.0.255 0-65535 10.1.0.0-10.1.0.255 0-65535
+//! entry B protect 0 10.1.0.0-10.1.0.255 0-65535 10.0.0.0-10.0.0.255 0-65535
+//! start A 0                  request 1 ike 1 length 148
+//! deliver 1                  reply 2 length 148
+//! deliver 2                  request 3 ike 1 length 202
+//! deliver 3                  reply 4 length 194
+//! deliver 4                  counted ike 1 child 1
+//! ```
+//!
 //! [`show`] prints an IKE message (RFC 7296 section 3) whose octets the file has as hexadecimal digits.
 //!
 //! Each answers the exit status, and prints why it stopped ([`Stop`]).

@@ -1,7 +1,7 @@
 //! Playing a script.
 ghost use Rattle.std.specs.Prelude.{◌≤◌};
 
-use crate::script::{Kind, One, Player, first_line, is_directive, is_line_end};
+use crate::script::{Kind, One, Player, Two, first_line, is_directive, is_line_end};
 use crate::stop::{Stop, end};
 use console::{read_whole, write_whole};
 use std::alloc::Global;
@@ -31,6 +31,7 @@ fn play_script<R: Read, W: Write>(
     let script = read_whole(alloc, reader)?;
     match Kind::named(first_line(&script)) {
         Some(Kind::One) => play_directives(&mut One::new(alloc), &script, writer),
+        Some(Kind::Two) => play_directives(&mut Two::new(alloc), &script, writer),
         None => Err(Stop::Line(1)),
     }
 }

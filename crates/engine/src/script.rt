@@ -4,6 +4,7 @@ mod kind;
 mod lines;
 mod one;
 pub mod player;
+mod two;
 mod words;
 
 pub use fault::LineFault;
@@ -11,3 +12,4 @@ pub use kind::Kind;
 pub use lines::{first_line, is_directive, is_line_end};
 pub use one::One;
 pub use player::Player;
+pub use two::Two;

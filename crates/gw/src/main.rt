@@ -17,6 +17,9 @@
 //! E16
 //! ```
 //!
+//! A script of kind `two` has two gateways, A and B: they make IKE associations (RFC 7296) and children of ESP, and packets go
+//! between them. Each datagram that one sends reaches the other only where a line of the script says so, whole or damaged.
+//!
 //! `gw show FILE` prints an IKE message (RFC 7296 section 3) whose octets the file has as hexadecimal digits.
 //!
 //! A refusal in a script is printed as its number and is no fault. The exit status is 0 where all was done, 1 where input

@@ -39,6 +39,3 @@ pub use ending::{Ended, end_auth};
 pub use reading::{Continued, read_response};
 pub use step::Step;
 pub use taking::{Effect, take_message};
-
-#[cfg(test)]
-mod tests;

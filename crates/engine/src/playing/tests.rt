@@ -2,6 +2,8 @@
 mod failures;
 mod refusals;
 mod runs;
+mod two;
+mod two_refusals;
 
 use super::play;
 use std::process::Abort;

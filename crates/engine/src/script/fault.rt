@@ -1,5 +1,6 @@
 //! Why a line of a script stops the program.
 use crate::stop::Stop;
+use gateway::RunFault;
 use replay::ReplayFault;
 use std::alloc::AllocError;
 
@@ -32,6 +33,14 @@ impl From<ReplayFault> for LineFault {
     fn from(fault: ReplayFault) -> LineFault {
         match fault {
             ReplayFault::Memory => LineFault::Memory,
+        }
+    }
+}
+
+impl From<RunFault> for LineFault {
+    fn from(fault: RunFault) -> LineFault {
+        match fault {
+            RunFault::NoRoom { .. } => LineFault::Memory,
         }
     }
 }

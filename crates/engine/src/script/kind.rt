@@ -5,6 +5,8 @@
 pub enum Kind {
     /// `one`: the two ends of one association.
     One,
+    /// `two`: two gateways.
+    Two,
 }
 
 impl Kind {
@@ -12,6 +14,7 @@ impl Kind {
     pub fn named(line: &[u8]) -> Option<Kind> {
         match line {
             b"one" => Some(Kind::One),
+            b"two" => Some(Kind::Two),
             _ => None,
         }
     }

@@ -2,8 +2,11 @@
 ghost use Rattle.std.specs.Prelude.{◌≤◌, IfOk};
 
 use super::LineFault;
+use base::{Address, Range};
+use console::read_address;
 use hex::{FromHex, FromHexError};
 use std::alloc::Global;
+use std::str;
 
 /// The words of a line that were not read yet. They are parted by one space each.
 #[derive(Drop)]
@@ -67,6 +70,31 @@ impl<'a> Words<'a> {
         Ok(octet)
     }
 
+    /// The next word as `yes` or `no`.
+    pub fn yes_or_no(&mut self) -> Result<bool, LineFault> {
+        match self.word()? {
+            b"yes" => Ok(true),
+            b"no" => Ok(false),
+            _ => Err(LineFault::Refused),
+        }
+    }
+
+    /// The next word as two addresses of one family, parted by a hyphen. Their order is not judged.
+    pub fn addresses(&mut self) -> Result<Range, LineFault> {
+        let (start, end) = parts(self.word()?)?;
+        match (address(start)?, address(end)?) {
+            (Address::V4(start), Address::V4(end)) => Ok(Range::V4(start, end)),
+            (Address::V6(start), Address::V6(end)) => Ok(Range::V6(start, end)),
+            _ => Err(LineFault::Refused),
+        }
+    }
+
+    /// The next word as two ports, parted by a hyphen. Their order is not judged.
+    pub fn ports(&mut self) -> Result<(u16, u16), LineFault> {
+        let (start, end) = parts(self.word()?)?;
+        Ok((port(start)?, port(end)?))
+    }
+
     /// Refused unless all words were read.
     pub fn end(&self) -> Result<(), LineFault> {
         match self.rest {
@@ -74,6 +102,25 @@ impl<'a> Words<'a> {
             None => Ok(()),
         }
     }
+}
+
+/// The parts of a word before its first hyphen and behind it.
+fn parts(word: &[u8]) -> Result<(&[u8], &[u8]), LineFault> {
+    let hyphen = word
+        .iter()
+        .position(|octet| *octet == b'-')
+        .ok_or(LineFault::Refused)?;
+    Ok((&word[..hyphen], &word[hyphen + 1..]))
+}
+
+fn address(word: &[u8]) -> Result<Address, LineFault> {
+    let text = str::from_utf8(word).map_err(|_| LineFault::Refused)?;
+    read_address(text).ok_or(LineFault::Refused)
+}
+
+fn port(digits: &[u8]) -> Result<u16, LineFault> {
+    let number = decimal(digits).ok_or(LineFault::Refused)?;
+    u16::try_from(number).map_err(|_| LineFault::Refused)
 }
 
 /// The number that the digits spell, if it has 64 bits.

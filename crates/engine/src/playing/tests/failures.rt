@@ -129,7 +129,7 @@ fn after_a_failed_write_nothing_is_printed(rt: HostRuntime) {
 fn a_refusal_that_is_not_written(rt: HostRuntime) {
     for room in 0..14 {
         let mut writer = Narrow::new(rt.alloc(), room, false);
-        assert_eq!(rt; play(rt.alloc(), &mut &b"two"[..], &mut writer), 1);
+        assert_eq!(rt; play(rt.alloc(), &mut &b"three"[..], &mut writer), 1);
         assert_eq!(rt; writer.written.as_slice(), &b"line 1 refused\n"[..room]);
     }
 }

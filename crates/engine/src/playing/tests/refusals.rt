@@ -6,7 +6,7 @@ use std::test::Fail;
 
 /// First lines that name no kind, parted by bars.
 const KINDS: &str =
-    "|\n|\none\n|# one\none\n|two\n|ONE\n| one\n|one \n|one\r\n|one two\n|on\u{e9}\n|#";
+    "|\n|\none\n|# one\none\n|three\n|ONE\n|TWO\n| one\n|one \n|one\r\n|one two\n|two \n|two one\n|on\u{e9}\n|#";
 
 /// Terms that no association has, parted by bars. K stands for a key.
 const TERMS: &str =

@@ -93,11 +93,7 @@ impl Terms {
         let spi = words.number(u64::from(u32::MAX))? as u32;
         let key = words.array()?;
         let blocks = words.number(u64::from(u32::MAX))? as u32;
-        let extended = match words.word()? {
-            b"yes" => true,
-            b"no" => false,
-            _ => return Err(LineFault::Refused),
-        };
+        let extended = words.yes_or_no()?;
         if spi < Terms::LEAST_SPI {
             return Err(LineFault::Refused);
         }

@@ -1,0 +1,56 @@
+//! Scripts of kind `two`: two gateways, and the datagrams between them.
+mod directive;
+mod ends;
+mod fresh;
+mod report;
+mod setup;
+mod side;
+
+use super::{LineFault, Player};
+use directive::{Act, Directive};
+use ends::Ends;
+use setup::Setup;
+use std::alloc::Global;
+
+/// Plays a script of kind `two`. Its first directives, as long as they set an end up, are what the gateways are made with; the
+/// first other one makes them.
+#[derive(Drop)]
+pub struct Two {
+    alloc: Global,
+    setup: Setup,
+    ends: Option<Ends>,
+}
+
+impl Two {
+    /// Before the first directive.
+    pub fn new(alloc: Global) -> Two {
+        Two {
+            alloc,
+            setup: Setup::new(alloc),
+            ends: None,
+        }
+    }
+
+    fn act(&mut self, act: Act) -> Result<String, LineFault> {
+        if let Some(ends) = &mut self.ends {
+            return ends.follow(act);
+        }
+        let mut ends = Ends::new(self.alloc, &self.setup)?;
+        let text = ends.follow(act)?;
+        self.ends = Some(ends);
+        Ok(text)
+    }
+}
+
+impl Player for Two {
+    fn play(&mut self, line: &[u8]) -> Result<String, LineFault> {
+        match Directive::read(self.alloc, line)? {
+            Directive::Set(_) if self.ends.is_some() => Err(LineFault::Refused),
+            Directive::Set(term) => {
+                self.setup.take(self.alloc, term)?;
+                Ok(String::new(self.alloc))
+            }
+            Directive::Act(act) => self.act(act),
+        }
+    }
+}

@@ -1,0 +1,224 @@
+//! The directives of a script of kind `two`.
+use super::side::Side;
+use crate::script::LineFault;
+use crate::script::words::Words;
+use base::Items;
+use policy::{Action, Entry};
+use std::alloc::Global;
+
+/// What one line asks for.
+#[derive(Debug, Drop)]
+pub enum Directive {
+    /// An end is set up, or both are.
+    Set(Term),
+    /// The gateways are given something, or asked for something.
+    Act(Act),
+}
+
+/// What the gateways are made with.
+#[derive(Clone, Copy, Debug)]
+pub enum Term {
+    /// `extended yes|no`: whether the ends allow extended sequence numbers.
+    Extended(bool),
+    /// `window END N`: how many requests an end takes at once (RFC 7296 section 2.3), 1 to 16.
+    Window { side: Side, requests: u8 },
+    /// `entry END ACTION PROTO LO-HI PORT-PORT LO-HI PORT-PORT`: one more entry of an end's policy.
+    Entry { side: Side, entry: Entry },
+}
+
+/// What is done with the gateways. Datagrams are named by their places among all that were sent, from 1.
+#[derive(Debug, Drop)]
+pub enum Act {
+    /// `start END ENTRY`: a new IKE association, with a child by an entry of the policy.
+    Start {
+        side: Side,
+        entry: u32,
+    },
+    /// `secret END HEX`: another secret of cookies.
+    Secret {
+        side: Side,
+        secret: [u8; 32],
+    },
+    /// `deliver K`: a datagram comes to the end that didn't send it.
+    Deliver(Delivery),
+    /// `raw END ike|esp HEX`: these octets come to an end.
+    Raw {
+        side: Side,
+        protocol: Protocol,
+        octets: Items<u8>,
+    },
+    /// `out END HEX`: a packet is on its way out.
+    Out {
+        side: Side,
+        packet: Items<u8>,
+    },
+    /// `in END HEX`: a packet came in unprotected.
+    In {
+        side: Side,
+        packet: Items<u8>,
+    },
+    /// `table END`: the pairs of an end are printed.
+    Table {
+        side: Side,
+    },
+    /// `same J K`: two datagrams are compared.
+    Same {
+        one: u64,
+        other: u64,
+    },
+}
+
+/// What a datagram belongs to.
+#[derive(Clone, Copy, Debug, PartialEq, Eq)]
+pub enum Protocol {
+    Ike,
+    Esp,
+}
+
+/// A datagram that was sent comes to an end.
+#[derive(Clone, Copy, Debug)]
+pub struct Delivery {
+    /// The datagram's place.
+    pub datagram: u64,
+    /// What became of it on its way.
+    pub way: Way,
+}
+
+/// What becomes of a datagram on its way.
+#[derive(Clone, Copy, Debug)]
+pub enum Way {
+    /// `deliver K`: it comes as it was sent.
+    Straight,
+    /// `reflect K`: it comes back to the end that sent it.
+    Back,
+    /// `damage K OFFSET XOR`: one octet of it is changed.
+    Damaged {
+        /// Which octet, from 0.
+        offset: u64,
+        /// The bits of it that are changed.
+        change: u8,
+    },
+    /// `cut K LENGTH`: only its first octets come.
+    Cut {
+        /// How many come.
+        length: u64,
+    },
+}
+
+impl Directive {
+    /// The directive that a line spells.
+    pub fn read(alloc: Global, line: &[u8]) -> Result<Directive, LineFault> {
+        let mut words = Words::of(line);
+        let directive = match words.word()? {
+            b"extended" => Directive::Set(Term::Extended(words.yes_or_no()?)),
+            b"window" => Directive::Set(read_window(&mut words)?),
+            b"entry" => Directive::Set(read_entry(&mut words)?),
+            name => Directive::Act(read_act(alloc, name, &mut words)?),
+        };
+        words.end()?;
+        Ok(directive)
+    }
+}
+
+fn read_window(words: &mut Words) -> Result<Term, LineFault> {
+    let side = read_side(words)?;
+    let requests = words.number(u64::from(u8::MAX))? as u8;
+    Ok(Term::Window { side, requests })
+}
+
+fn read_entry(words: &mut Words) -> Result<Term, LineFault> {
+    let side = read_side(words)?;
+    let action = match words.word()? {
+        b"protect" => Action::Protect,
+        b"bypass" => Action::Bypass,
+        b"discard" => Action::Discard,
+        _ => return Err(LineFault::Refused),
+    };
+    let protocol = words.number(u64::from(u8::MAX))? as u8;
+    let local = words.addresses()?;
+    let local_ports = words.ports()?;
+    let remote = words.addresses()?;
+    let remote_ports = words.ports()?;
+    let entry = Entry {
+        protocol,
+        local,
+        remote,
+        local_ports,
+        remote_ports,
+        action,
+    };
+    Ok(Term::Entry { side, entry })
+}
+
+fn read_act(alloc: Global, name: &[u8], words: &mut Words) -> Result<Act, LineFault> {
+    match name {
+        b"start" => {
+            let side = read_side(words)?;
+            let entry = words.number(u64::from(u32::MAX))? as u32;
+            Ok(Act::Start { side, entry })
+        }
+        b"secret" => {
+            let side = read_side(words)?;
+            let secret = words.array()?;
+            Ok(Act::Secret { side, secret })
+        }
+        b"raw" => read_raw(alloc, words),
+        b"out" => {
+            let side = read_side(words)?;
+            let packet = Items::from_vec(words.octets(alloc)?);
+            Ok(Act::Out { side, packet })
+        }
+        b"in" => {
+            let side = read_side(words)?;
+            let packet = Items::from_vec(words.octets(alloc)?);
+            Ok(Act::In { side, packet })
+        }
+        b"table" => Ok(Act::Table {
+            side: read_side(words)?,
+        }),
+        b"same" => {
+            let one = words.number(u64::MAX)?;
+            let other = words.number(u64::MAX)?;
+            Ok(Act::Same { one, other })
+        }
+        name => Ok(Act::Deliver(read_delivery(name, words)?)),
+    }
+}
+
+fn read_raw(alloc: Global, words: &mut Words) -> Result<Act, LineFault> {
+    let side = read_side(words)?;
+    let protocol = match words.word()? {
+        b"ike" => Protocol::Ike,
+        b"esp" => Protocol::Esp,
+        _ => return Err(LineFault::Refused),
+    };
+    let octets = Items::from_vec(words.octets(alloc)?);
+    Ok(Act::Raw {
+        side,
+        protocol,
+        octets,
+    })
+}
+
+fn read_delivery(name: &[u8], words: &mut Words) -> Result<Delivery, LineFault> {
+    let datagram = words.number(u64::MAX)?;
+    let way = match name {
+        b"deliver" => Way::Straight,
+        b"reflect" => Way::Back,
+        b"damage" => {
+            let offset = words.number(u64::MAX)?;
+            let change = words.octet()?;
+            Way::Damaged { offset, change }
+        }
+        b"cut" => {
+            let length = words.number(u64::MAX)?;
+            Way::Cut { length }
+        }
+        _ => return Err(LineFault::Refused),
+    };
+    Ok(Delivery { datagram, way })
+}
+
+fn read_side(words: &mut Words) -> Result<Side, LineFault> {
+    Side::named(words.word()?).ok_or(LineFault::Refused)
+}
