@@ -66,6 +66,20 @@ impl<W: Window> Inbound<W> {
         self.association.spi
     }
 
+    /// The key of its check values.
+    pub fn key(&self) -> [u8; 32]
+        ensures { result ≡ self.now.association.key }
+    {
+        self.association.key.octets()
+    }
+
+    /// Whether its numbers have 64 bits, of which 32 are sent (RFC 4303 section 2.2.1), or 32.
+    pub fn is_extended(&self) -> bool
+        ensures { result ≡ self.now.association.extended }
+    {
+        self.association.extended
+    }
+
     /// What holds of the replay window at all times. Does nothing.
     pub fn window_is_sound(&self)
         ensures { IsSoundWindow self.now.window }

@@ -54,6 +54,20 @@ impl Outbound {
         self.association.spi
     }
 
+    /// The key of its check values.
+    pub fn key(&self) -> [u8; 32]
+        ensures { result ≡ self.now.association.key }
+    {
+        self.association.key.octets()
+    }
+
+    /// Whether its numbers have 64 bits, of which 32 are sent (RFC 4303 section 2.2.1), or 32.
+    pub fn is_extended(&self) -> bool
+        ensures { result ≡ self.now.association.extended }
+    {
+        self.association.extended
+    }
+
     /// Appends to `out` the packet that carries `payload` under the next header `next`, with the number after the last and
     /// the least padding, and answers its number (RFC 4303 section 3.3).
     ///

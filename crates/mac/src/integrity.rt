@@ -38,6 +38,13 @@ impl IcvKey {
         }
     }
 
+    /// The key's octets.
+    pub fn octets(&self) -> [u8; 32]
+        ensures { result ≡ self.now }
+    {
+        self.key.first_octets()
+    }
+
     /// The integrity check value of the parts, joined to one message: the first 16 octets of
     /// HMAC-SHA-256 (RFC 4868, section 2.3).
     #[tactic(auto, unfolding(crate::specs::Hmac::hmac_sha256, crate::specs::Hmac::icv_sha256))]

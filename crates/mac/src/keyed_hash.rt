@@ -1,5 +1,5 @@
 //! HMAC (RFC 2104) over SHA-256.
-ghost use Rattle.std.specs.Prelude.{◌≡◌, ◌≤◌, ⊤, ℕ, List, [], ◌∷◌, ◌++◌, length};
+ghost use Rattle.std.specs.Prelude.{◌≡◌, ◌≤◌, ⊤, ℕ, List, [], ◌∷◌, ◌++◌, length, take};
 ghost use Rattle.std.specs.List.{flat_map};
 ghost use Rattle.sha2.specs.Hashers.{Holds256};
 ghost use Rattle.sha2.specs.Sha256.{sha256};
@@ -55,6 +55,15 @@ impl HmacKey {
             outer: Sha256::new_with_prefix(padded(&block, OUTER_PAD)),
             block,
         }
+    }
+
+    /// The first 32 octets of the block that the key fills: the whole key, where it has so many.
+    pub(crate) fn first_octets(&self) -> [u8; 32]
+        ensures { result ≡ take 32 self.now }
+    {
+        let mut octets = [0; 32];
+        octets.copy_from_slice(&self.block[..32]);
+        octets
     }
 
     /// HMAC-SHA-256 of the parts, joined to one message (RFC 2104, section 2).

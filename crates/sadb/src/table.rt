@@ -3,6 +3,7 @@ ghost use Rattle.std.specs.Prelude.{◌≡◌, ◌≢◌, ◌+◌, ◌<◌, ◌�
 ghost use Rattle.sadb.specs.Database.{IsStart, empty_table, IsFull, IsSpent, IsTableRefusal, IsAsBefore, Reserves, IsReserved, Releases, Installs};
 ghost use Rattle.sadb.specs.Database.{pair_at, IsThere, Removes, IsLive, Marks, HasInbound, IsInbound, IsSoundTable, IsAfter, Carries, IsOutbound};
 ghost use Rattle.sadb.specs.Database.{BelongsTo, IsFor, IsNextOf, IsSenderUnder, OpensAt, RefusesAt, RemovesAllOf, SealsAt, SealRefusalAt, SendsUnder};
+ghost use Rattle.std.specs.Option.{option_copied};
 ghost use Rattle.std.specs.Vec.{vec_capacity};
 ghost use Rattle.sadb.specs.Storage.{RemovesIfOf};
 ghost use Rattle.esp.specs.declared.fault.EspFault.{EspFault};
@@ -172,6 +173,13 @@ impl Table {
         ensures none { IfNone result ((serial : ℕ) → ¬ Carries self.now.pairs flow.now serial) }
     {
         self.pairs.outbound(flow)
+    }
+
+    /// The pair with this serial. Takes no memory.
+    pub fn get(&self, serial: u32) -> Option<&Pair>
+        ensures { option_copied result ≡ pair_at self.now.pairs serial }
+    {
+        self.pairs.get(serial)
     }
 
     /// The next pair by serial; from 0 on, one after the other, all are found. Takes no memory.
