@@ -1,1 +1,3 @@
 mod ReceivingLemmas
+mod RepeatingLemmas
+mod DeterminedAssociations

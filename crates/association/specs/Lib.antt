@@ -4,3 +4,4 @@ pub mod Phases
 pub mod Finding
 pub mod Receiving
 pub mod Closing
+pub mod Contents

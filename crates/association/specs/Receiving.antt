@@ -14,6 +14,7 @@ use Rattle.exchange.specs.Sealed.{lone_body, plain_of_message}
 use Rattle.exchange.specs.declared.headers.Role.{Role}
 use Rattle.exchange.specs.declared.sealed.Plain.{Plain}
 use Rattle.requests.specs.Incoming.{IsFreshRequest, IsJudgement}
+use Rattle.requests.specs.Numbers.{HasNumber}
 use Rattle.requests.specs.declared.incoming.Judgement.{Judgement}
 use Rattle.requests.specs.declared.incoming.Judgement.TheVariants as judged
 use Rattle.association.specs.Finding.{is_waiting}
@@ -150,6 +151,14 @@ pub record IsEffective (plain_of : Opening) (a : Association) (octets : Octets) 
   pub request : m.header.flags.response ≡ false
   pub fresh : IsFreshRequest a.incoming m.header.id
   pub admitted : admits a.phase m.header.exchange ≡ true
+  pub opened : opened_by plain_of a octets m.payloads ≡ Some plain
+
+-- One that comes again: it took effect, its reply is kept, and it opens under the peer's keys.
+pub record IsRepeating (plain_of : Opening) (a : Association) (octets : Octets) (m : Message) (reply : Octets) : Type 0 where
+  pub request : m.header.flags.response ≡ false
+  pub in_effect : HasNumber a.incoming.in_effect m.header.id
+  pub kept : map.get a.incoming.kept m.header.id ≡ Some reply
+  pub plain : Plain
   pub opened : opened_by plain_of a octets m.payloads ≡ Some plain
 
 -- The response to an outstanding request of its number and its exchange.

@@ -19,7 +19,7 @@ use Rattle.policy.specs.Narrowing.{AnswersOffer, IsNarrowing, LieInsidePolicy}
 use Rattle.policy.specs.declared.entry.Entry.{Entry}
 use Rattle.sadb.specs.Database.{Database, IsAsBefore}
 use Rattle.sadb.specs.declared.pair.Pair.{Pair}
-use Rattle.children.specs.Accepting.{AreAcceptedTerms, IsAcceptedChild}
+use Rattle.children.specs.Accepting.{AreAcceptedTerms, IsAcceptedChild, KeepsToRequest}
 use Rattle.children.specs.Asking.{asked_proposal, child_request, HasChildPayloads}
 use Rattle.children.specs.Pairs.{IsChild}
 use Rattle.children.specs.Responding.{next_spi, IsMadeChild, TakesProposal}
@@ -188,6 +188,18 @@ pub extension_allowed : (setting : Setting) (extended : Bool) (entries : List En
 extension_allowed setting extended entries table offer made m is =
     allowed_if extended m.chosen.extended m.due.choice.numbers.acceptable.1
     (sym m.due.extension ∙ sym (ap (λ (x : Made). x.pair.inbound.association.extended) m.whole) ∙ is)
+
+pub request_kept : (setting : Setting) (asked : Asked) (answer : List Payload) (pair : Pair) → IsAcceptedChild setting asked answer pair → KeepsToRequest asked pair
+request_kept setting asked answer pair a =
+    let d = a.due in
+    record {
+      spi = ap (λ (x : Pair). x.inbound.association.spi) a.made ∙ d.own;
+      local = subst (λ (x : Pair). AnswersOffer x.local (asked.local ∷ [])) (sym a.made) d.inside_i;
+      remote = subst (λ (x : Pair). AnswersOffer x.remote (asked.remote ∷ [])) (sym a.made) d.inside_r;
+      extension = λ is.
+          allowed_if asked.extended d.chosen.extended d.accepted.choice.numbers.acceptable.1
+          (sym d.extension ∙ sym (ap (λ (x : Pair). x.inbound.association.extended) a.made) ∙ is);
+    }
 
 pub pair_inside : LieInOffers → (setting : Setting) (extended : Bool) (entries : List Entry) (table : Database) (offer : ChildPayloads) (made : Made) → IsMadeChild setting extended entries table offer made
     → AnswersOffer made.pair.remote offer.ts_i × AnswersOffer made.pair.local offer.ts_r

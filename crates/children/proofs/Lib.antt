@@ -3,3 +3,5 @@ mod TermLemmas
 mod ChildLemmas
 mod SameLemmas
 mod FitLemmas
+mod FewLemmas
+mod DeterminedChildren

@@ -1,5 +1,5 @@
 -- What an initiator accepts of the answer to what it asked (RFC 7296 sections 2.7 and 2.9).
-use Rattle.std.specs.Prelude.{◌≡◌, List, [], ◌∷◌, Some}
+use Rattle.std.specs.Prelude.{◌≡◌, true, List, [], ◌∷◌, Some}
 use Rattle.byteorder.specs.Endian.{big_number}
 use Rattle.wire.specs.declared.payload.Payload.{Payload}
 use Rattle.wire.specs.declared.proposal.Proposal.{Proposal}
@@ -40,3 +40,11 @@ pub record IsAcceptedChild (setting : Setting) (asked : Asked) (answer : List Pa
 -- no terms are acceptable
 abbrev pub IsUnacceptable : Asked → List Payload → Type 0
 IsUnacceptable asked answer = (terms : Terms) → ¬ AreAcceptedTerms asked answer terms
+
+-- The pair keeps to what was asked: it receives under the SPI that was given, its selectors lie inside those asked for, and its
+-- numbers are extended only where that was allowed.
+pub record KeepsToRequest (asked : Asked) (pair : Pair) : Type 0 where
+  pub spi : pair.inbound.association.spi ≡ asked.spi
+  pub local : AnswersOffer pair.local (asked.local ∷ [])
+  pub remote : AnswersOffer pair.remote (asked.remote ∷ [])
+  pub extension : pair.inbound.association.extended ≡ true → asked.extended ≡ true

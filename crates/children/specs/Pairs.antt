@@ -1,6 +1,7 @@
 -- The pair of associations that an end has of a child (RFC 7296 sections 1.2 and 2.17, RFC 4301 section 4.4.2).
-use Rattle.std.specs.Prelude.{◌≡◌, ℕ, List, [], ◌∷◌}
+use Rattle.std.specs.Prelude.{◌≡◌, ◌≤◌, ℕ, List, [], ◌∷◌, length}
 use Rattle.base.specs.declared.selector.Selector.{Selector}
+use Rattle.wire.specs.Numbers.{SELECTOR_LIMIT}
 use Rattle.wire.specs.declared.payload.Payload.{Payload}
 use Rattle.exchange.specs.Headers.{other_role}
 use Rattle.exchange.specs.declared.headers.Role.{Role}
@@ -61,6 +62,11 @@ new_pair role setting terms = record {
   remote = remote_of role terms;
   state = Live;
 }
+
+-- both sides have at most so many selectors as a payload may (a limit of this implementation)
+pub record HasFewSelectors (pair : Pair) : Type 0 where
+  pub local : length pair.local ≤ SELECTOR_LIMIT
+  pub remote : length pair.remote ≤ SELECTOR_LIMIT
 
 -- The pair is what the end of this role has of the child that a request and its reply made, under these keys.
 pub record IsChild (role : Role) (keys : List (List ℕ)) (request reply : List Payload) (pair : Pair)

@@ -1,7 +1,9 @@
 //! Facts about the definitions, each the contract of a function that does nothing: the two ends' pairs mirror each other, what a
 //! responder answers is acceptable, keeps to its offer and can be sent, and answers are determined.
 ghost use Rattle.std.specs.Prelude.{◌≡◌, ◌<◌, ◌≤◌, ◌^◌, ◌∷◌, [], ℕ, Bool, true, List, Some, length};
+ghost use Rattle.std.specs.List.{AllByRecursion};
 ghost use Rattle.base.specs.declared.selector.Selector.{Selector};
+ghost use Rattle.wire.specs.Numbers.{SELECTOR_LIMIT};
 ghost use Rattle.wire.specs.Sizes.{FitsFields};
 ghost use Rattle.wire.specs.declared.payload.Payload.{Payload};
 ghost use Rattle.wire.specs.declared.payload.Payload.TheVariants.{Sa};
@@ -11,20 +13,22 @@ ghost use Rattle.exchange.specs.declared.child.ChildPayloads.{ChildPayloads};
 ghost use Rattle.exchange.specs.declared.headers.Role.TheVariants.{Initiator, Responder};
 ghost use Rattle.policy.specs.Narrowing.{AnswersOffer, IsSendableSelector, LieInsidePolicy};
 ghost use Rattle.policy.specs.declared.entry.Entry.{Entry};
+ghost use Rattle.sadb.specs.Contents.{table_content};
 ghost use Rattle.sadb.specs.Database.{Database};
 ghost use Rattle.sadb.specs.Mirrors.{Mirrors};
 ghost use Rattle.sadb.specs.declared.pair.Pair.{Pair};
-ghost use Rattle.children.specs.Accepting.{AreAcceptedTerms, IsAcceptedChild};
+ghost use Rattle.children.specs.Accepting.{AreAcceptedTerms, IsAcceptedChild, KeepsToRequest, IsUnacceptable};
 ghost use Rattle.children.specs.Asking.{asked_proposal, child_request, FitMessages, HasChildPayloads};
-ghost use Rattle.children.specs.Pairs.{IsChild};
-ghost use Rattle.children.specs.Responding.{IsChildResponse, IsMadeChild, TakesProposal};
+ghost use Rattle.children.specs.Pairs.{HasFewSelectors, IsChild};
+ghost use Rattle.children.specs.Responding.{IsChildResponse, IsMadeChild, TakesProposal, AddsNext};
 ghost use Rattle.children.specs.declared.asking.Asked.{Asked};
 ghost use Rattle.children.specs.declared.responding.Made.{Made};
 ghost use Rattle.children.specs.declared.responding.Response.{Response};
 ghost use Rattle.children.specs.declared.setting.Setting.{Setting};
 
-use exchange::laws::ends_agree;
+use exchange::laws::{ends_agree, what_counts_fits};
 use policy::laws::{answers_can_be_sent, answers_lie_inside, narrowing_is_determined};
+use sadb::laws::later_tables_are_determined;
 
 /// The pairs that the two ends have of the child of one request, which offered one proposal, and its reply mirror each other:
 /// what one sends the other receives, under one SPI and one key, and what is local to one is remote to the other. Does nothing.
@@ -86,6 +90,26 @@ pub fn responses_keep_to_their_offers()
     answers_lie_inside();
 }
 
+/// An accepted pair keeps to what was asked (RFC 7296, sections 2.7 and 2.9): it receives under the SPI that was given, its selectors
+/// lie inside those asked for, and its numbers are extended only where that was allowed. Does nothing.
+pub fn what_is_accepted_was_asked()
+    ensures { (setting : Setting) (asked : Asked) (answer : List Payload) (pair : Pair)
+        → IsAcceptedChild setting asked answer pair → KeepsToRequest asked pair }
+{}
+
+/// A pair has at most 16 selectors on either side, as the payloads that it is made of: one that is made, where the offer has no more,
+/// and one that is accepted. Does nothing.
+pub fn pairs_have_few_selectors()
+    ensures made { (setting : Setting) (extended : Bool) (entries : List Entry) (table : Database)
+        (offer : ChildPayloads) (made : Made) → length offer.ts_i ≤ SELECTOR_LIMIT → length offer.ts_r ≤ SELECTOR_LIMIT
+        → IsMadeChild setting extended entries table offer made → HasFewSelectors made.pair }
+    ensures accepted { (setting : Setting) (asked : Asked) (answer : List Payload) (pair : Pair)
+        → AllByRecursion FitsFields answer → IsAcceptedChild setting asked answer pair → HasFewSelectors pair }
+{
+    answers_can_be_sent();
+    what_counts_fits();
+}
+
 /// What [`respond`](crate::respond) and [`accept`](crate::accept) answer is determined. Does nothing.
 pub fn answers_are_determined()
     ensures response { (setting : Setting) (extended : Bool) (entries : List Entry) (table : Database)
@@ -108,4 +132,20 @@ pub fn payloads_fit()
         → IsMadeChild setting extended entries table offer made → FitMessages made.payloads }
 {
     answers_can_be_sent();
+}
+
+/// An answer is acceptable or it isn't. What is answered goes by what the table holds, whatever room there is, and so do the table
+/// and the serial of a pair after [`install`](crate::install). Does nothing.
+pub fn children_are_determined()
+    ensures acceptable { (setting : Setting) (asked : Asked) (answer : List Payload) (pair : Pair)
+        → IsAcceptedChild setting asked answer pair → ¬ IsUnacceptable asked answer }
+    ensures answered { (setting : Setting) (extended : Bool) (entries : List Entry) (table other : Database)
+        (offer : ChildPayloads) (answer : Response) → table_content table ≡ table_content other
+        → IsChildResponse setting extended entries table offer answer
+        → IsChildResponse setting extended entries other offer answer }
+    ensures added { (old other a b : Database) (pair : Pair) (serial number : ℕ) → table_content old ≡ table_content other
+        → AddsNext old pair serial a → AddsNext other pair number b
+        → (serial ≡ number) × (table_content a ≡ table_content b) }
+{
+    later_tables_are_determined();
 }

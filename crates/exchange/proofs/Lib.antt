@@ -3,3 +3,4 @@ mod CountingLemmas
 mod OfferLemmas
 mod LawLemmas
 mod FittingLemmas
+mod DeterminedSealing

@@ -47,10 +47,10 @@ cut a t l p first sixteen seven four =
       long = omega (arith, length-append (a ++ first ∷ t) (l ++ p), length-append l p);
     }
 
-abbrev ids_of : Header → List ℕ
+abbrev pub ids_of : Header → List ℕ
 ids_of h = big_bytes 8 h.spi_i ++ big_bytes 8 h.spi_r
 
-abbrev middle_of : Header → ℕ → List ℕ
+abbrev pub middle_of : Header → ℕ → List ℕ
 middle_of h flags = (32 + h.minor) ∷ h.exchange ∷ flags ∷ big_bytes 4 h.id
 
 length-ids : (h : Header) → length (ids_of h) ≡ 16
@@ -59,7 +59,7 @@ length-ids h = omega (arith, length-append (big_bytes 8 h.spi_i) (big_bytes 8 h.
 length-middle : (h : Header) (flags : ℕ) → length (middle_of h flags) ≡ 7
 length-middle h flags = omega (arith, length-big 4 h.id)
 
-clear_is : (m : Message) (clear : List ℕ) → (s : SpellsPlainly m clear) → clear ≡ (ids_of m.header ++ s.first ∷ middle_of m.header s.head.flags) ++ (big_bytes 4 (length clear) ++ s.payloads)
+pub clear_is : (m : Message) (clear : List ℕ) → (s : SpellsPlainly m clear) → clear ≡ (ids_of m.header ++ s.first ∷ middle_of m.header s.head.flags) ++ (big_bytes 4 (length clear) ++ s.payloads)
 clear_is m clear s =
     s.whole ∙ ap (λ (x : List ℕ). x ++ big_bytes 4 (length clear) ++ s.payloads) (s.head.spelled ∙ sym (append_assoc (big_bytes 8 m.header.spi_i) (big_bytes 8 m.header.spi_r) (s.first ∷ middle_of m.header s.head.flags)))
 
@@ -68,14 +68,14 @@ clear_cut m clear s =
     subst (λ (x : List ℕ). Cut x (ids_of m.header) (middle_of m.header s.head.flags) s.payloads s.first) (sym (clear_is m clear s))
     (cut (ids_of m.header) (middle_of m.header s.head.flags) (big_bytes 4 (length clear)) s.payloads s.first (length-ids m.header) (length-middle m.header s.head.flags) (length-big 4 (length clear)))
 
-regroup : (a t l x body : List ℕ) (k : ℕ) → (a ++ k ∷ (t ++ (l ++ x))) ++ body ≡ (a ++ k ∷ t) ++ (l ++ (x ++ body))
+pub regroup : (a t l x body : List ℕ) (k : ℕ) → (a ++ k ∷ (t ++ (l ++ x))) ++ body ≡ (a ++ k ∷ t) ++ (l ++ (x ++ body))
 regroup a t l x body k =
     append_assoc a (k ∷ (t ++ (l ++ x))) body
     ∙ ap (λ (y : List ℕ). a ++ k ∷ y) (append_assoc t (l ++ x) body ∙ ap (λ (y : List ℕ). t ++ y) (append_assoc l x body))
     ∙ sym (append_assoc a (k ∷ t) (l ++ (x ++ body)))
 
 -- the head before a body of n octets, in the words of the message
-abbrev head_with : Header → ℕ → ℕ → ℕ → List ℕ
+abbrev pub head_with : Header → ℕ → ℕ → ℕ → List ℕ
 head_with h flags first n = ids_of h ++ 46 ∷ (middle_of h flags ++ (big_bytes 4 (32 + n) ++ (first ∷ 0 ∷ big_bytes 2 (4 + n))))
 
 head_is : (m : Message) (clear : List ℕ) (n : ℕ) → (s : SpellsPlainly m clear) → sealed_head clear n ≡ head_with m.header s.head.flags s.first n
@@ -85,7 +85,7 @@ head_is m clear n s =
     ∙ ap (λ (x : List ℕ). ids_of m.header ++ 46 ∷ x ++ big_bytes 4 (32 + n) ++ slice_index clear 16 ∷ 0 ∷ big_bytes 2 (4 + n)) c.middle
     ∙ ap (λ (k : ℕ). ids_of m.header ++ 46 ∷ middle_of m.header s.head.flags ++ big_bytes 4 (32 + n) ++ k ∷ 0 ∷ big_bytes 2 (4 + n)) c.first_type
 
-length-head : (h : Header) (flags first n : ℕ) → length (head_with h flags first n) ≡ 32
+pub length-head : (h : Header) (flags first n : ℕ) → length (head_with h flags first n) ≡ 32
 length-head h flags first n =
     omega (arith, length-append (ids_of h) (46 ∷ (middle_of h flags ++ (big_bytes 4 (32 + n) ++ (first ∷ 0 ∷ big_bytes 2 (4 + n))))), length-ids h, length-append (middle_of h flags) (big_bytes 4 (32 + n) ++ (first ∷ 0 ∷ big_bytes 2 (4 + n))), length-middle h flags, length-append (big_bytes 4 (32 + n)) (first ∷ 0 ∷ big_bytes 2 (4 + n)), length-big 4 (32 + n), length-big 2 (4 + n))
 

@@ -27,6 +27,11 @@ pub record IsSealed (body_of : Keys → List ℕ → List ℕ → List ℕ → L
   pub octets : AreOctets plain
   pub whole : SpellsPlainly (record { header = m.header; payloads = Sealed first (body_of keys (head_of b) plain fresh) ∷ [] }) b
 
+-- Under these keys and with these fresh octets a body is as long whatever its head is: its length follows from its plain text, as
+-- the law of a cipher says.
+pub record TellsLength (body_of : Keys → List ℕ → List ℕ → List ℕ → List ℕ) (keys : Keys) (fresh : List ℕ) : Type 0 where
+  pub told : (head other plain : List ℕ) → AreOctets head → AreOctets other → AreOctets plain → length (body_of keys head plain fresh) ≡ length (body_of keys other plain fresh)
+
 -- The header of the message in clear, with the type of an encrypted payload and the length of the whole, and that payload's
 -- header, before a body of so many octets.
 abbrev pub sealed_head : List ℕ → ℕ → List ℕ

@@ -1,6 +1,9 @@
 //! What follows from the definitions alone.
 ghost use Rattle.std.specs.Prelude.{◌≡◌, ◌≤◌, List, ℕ, ◌∷◌, [], Some, All, Contains, length, slice_get};
 ghost use Rattle.std.specs.List.{AllByRecursion, sum_by};
+ghost use Rattle.base.specs.Octets.{AreOctets};
+ghost use Rattle.suite.specs.Sealing.{AreKeys};
+ghost use Rattle.suite.specs.declared.keys.Keys.{Keys};
 ghost use Rattle.wire.specs.declared.proposal.Proposal.{Proposal};
 ghost use Rattle.suite.specs.declared.choice.Chosen.{Chosen};
 ghost use Rattle.suite.specs.declared.choice.Wanted.{Wanted};
@@ -13,10 +16,11 @@ ghost use Rattle.wire.specs.declared.payload.Payload.TheVariants.{Sa, TsI, TsR};
 ghost use Rattle.exchange.specs.Counting.{only_sa, only_ts_i, only_ts_r};
 ghost use Rattle.exchange.specs.Notices.{asked_cookie, payload_of_notice, FitsNotice};
 ghost use Rattle.exchange.specs.declared.notices.Notice.{Notice};
-ghost use Rattle.exchange.specs.Sealed.{CanBeSealed};
+ghost use Rattle.exchange.specs.Sealed.{CanBeSealed, IsSealed, TellsLength};
 ghost use Rattle.exchange.specs.Offers.{answer_of, offer_of, IsAcceptableAnswer, IsTakenFrom};
 
-use wire::laws::messages_that_fit_are_spelled;
+use suite::Sealer;
+use wire::laws::{messages_that_fit_are_spelled, plain_spellings_are_determined};
 
 /// What is offered is acceptable to an end that wants the same. What answers a proposal of number 1 is an answer to the one who
 /// wanted the same, with the sequence numbers that were chosen. Does nothing.
@@ -69,3 +73,18 @@ pub fn cookies_are_short()
     ensures some { (payloads : List Payload) (octets : List ℕ) → asked_cookie payloads ≡ Some octets → 1 ≤ length octets }
     ensures few { (payloads : List Payload) (octets : List ℕ) → asked_cookie payloads ≡ Some octets → length octets ≤ 64 }
 {}
+
+/// A cipher tells the length of a body by that of its plain text, under keys and with 16 fresh octets. Does nothing.
+pub fn ciphers_tell_lengths<S: Sealer>(sealer: &S)
+    ensures { (keys : Keys) (fresh : List ℕ) → AreKeys keys → AreOctets fresh → length fresh ≡ 16 → TellsLength S.body_of keys fresh }
+{
+    let _ = sealer;
+}
+
+/// A message is sealed in one way, under the same keys and with the same fresh octets, where lengths are told. Does nothing.
+pub fn sealed_messages_are_determined()
+    ensures { (body_of : Keys → List ℕ → List ℕ → List ℕ → List ℕ) (keys : Keys) (fresh : List ℕ) (m : Message) (a b : List ℕ)
+        → TellsLength body_of keys fresh → IsSealed body_of keys fresh m a → IsSealed body_of keys fresh m b → a ≡ b }
+{
+    plain_spellings_are_determined();
+}

@@ -7,3 +7,14 @@ mod StepLemmas
 mod QuietLemmas
 mod PairLemmas
 mod ReachLemmas
+mod WayLemmas
+mod SerialLemmas
+mod ChangeLemmas
+mod TraceLemmas
+mod MirrorLemmas
+mod FewLemmas
+mod ContentLemmas
+mod DeterminedLaws
+mod DeterminedSteps
+mod DeterminedRefusals
+mod WholeKeyLemmas

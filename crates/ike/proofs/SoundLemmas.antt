@@ -47,6 +47,7 @@ still_sound old place b next table new_table sound joins k c (inr (other, there)
       own = was.own;
       initiator = was.initiator;
       reserved = other_holds table new_table (held_by c) (λ spi held reserved. joins.others k c spi other there held reserved) was.reserved;
+      short = was.short;
     }
 
 still_apart : (old : Held) (place : ℕ) (b : Association) (next : ℕ) (table new_table : Database) → AreSound old table → Joins old place b next table new_table
@@ -104,6 +105,7 @@ sound_with old table new_table stays sound =
             own = was.own;
             initiator = was.initiator;
             reserved = other_holds table new_table (held_by c) (λ spi held. stays spi) was.reserved;
+            short = was.short;
           };
       apart = sound.apart;
     }

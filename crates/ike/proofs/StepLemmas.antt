@@ -10,12 +10,14 @@ use Rattle.base.specs.Octets.{Octets}
 use Rattle.wire.specs.declared.message.Message.{Message}
 use Rattle.wire.specs.declared.payload.Payload.{Payload}
 use Rattle.policy.specs.declared.entry.Entry.{Entry}
+use Rattle.suite.specs.declared.fresh.Fresh.{Fresh}
 use Rattle.suite.specs.declared.sealer.Cipher.{Cipher}
 use Rattle.sadb.specs.Database.{Database, IsAsBefore, IsReserved, IsSoundTable, Reserves}
 use Rattle.sa_init.specs.Cookies.{CookieSecrets}
 use Rattle.sa_init.specs.Judging.{Accepted, Answered, Full, Incomplete, ASSOCIATION_LIMIT, HALF_OPEN_LIMIT, IsJudgement, JudgementView, OfferView}
 use Rattle.sa_init.specs.declared.judging.Sender.{Sender}
 use Rattle.association.specs.Closing.{HoldsSpi}
+use Rattle.association.specs.FirstChildren.{FirstChildView}
 use Rattle.association.specs.Phases.{spi_in}
 use Rattle.association.specs.declared.fault.MessageFault.{MessageFault}
 use Rattle.association.specs.declared.phase.Association.{Association}
@@ -28,7 +30,10 @@ use Rattle.initial.specs.Reading.{IsInitSent}
 use Rattle.initial.specs.Taking.{Meaning, StaysItself, TakesMessage}
 use Rattle.initial.specs.declared.taking.Effect.{Effect}
 use Rattle.association.specs.Finding.{found}
-use Rattle.initial.specs.Beginning.{begun, half_open as half_open_association}
+use Rattle.initial.specs.Beginning.{begun, half_open as half_open_association, Admits, Begins}
+use Rattle.initial.specs.Keeping.{IsShort, KeepsShort}
+use Rattle.initial.specs.declared.beginning.Admitted.{Admitted}
+use Rattle.initial.specs.declared.beginning.Beginning.{Beginning}
 use Rattle.ike.specs.Machines.{half_open_count, is_bad_spi, own_spi, setup_at, Held, Machine, SERIAL_END}
 use Rattle.ike.specs.Receiving.{is_initial_request, is_sound_initial, is_answered, with_next, AdmitsNext, CanMake, DoesJudgement, TakesAt, TakesDatagram, TakesFound, TakesOffer, TakesRead, TakesRequestAt, TakesSound}
 use Rattle.ike.specs.Soundness.{AreSound, IsSoundMachine}
@@ -51,6 +56,12 @@ pub record Laws : Type 0 where
       → spi_in new.phase ≡ Some spi → TakesMessage meaning setup old table octets m effect new new_table → spi_in old.phase ≡ Some spi
   pub itself : (meaning : Meaning) (setup : Setup) (old : Association) (table : Database) (octets : Octets) (m : Message) (effect : Effect) (new : Association) (new_table : Database)
       → TakesMessage meaning setup old table octets m effect new new_table → StaysItself old new
+  pub short : (meaning : Meaning) (setup : Setup) (old : Association) (table : Database) (octets : Octets) (m : Message) (effect : Effect) (new : Association) (new_table : Database)
+      → KeepsShort old → TakesMessage meaning setup old table octets m effect new new_table → KeepsShort new
+  pub begins : (cipher : Cipher) (group : ℕ) (public_value : Octets → Octets) (fresh : Fresh) (moment serial : ℕ) (beginning : Beginning) (child : FirstChildView)
+      → Begins cipher group public_value fresh moment beginning → KeepsShort (begun serial beginning child) × IsShort beginning.octets
+  pub admits : (cipher : Cipher) (group : ℕ) (public_value : Octets → Octets) (shared_secret : Octets → Octets → Option Octets) (fresh : Fresh) (moment serial : ℕ) (offer : OfferView) (spi_i : ℕ) (request : Octets) (admitted : Admitted)
+      → Admits cipher group public_value shared_secret fresh moment serial offer spi_i request admitted → KeepsShort admitted.association × IsShort admitted.octets
   pub room : (cipher : Cipher) (group : ℕ) (secrets : CookieSecrets) (sender : Sender) (half_open held : ℕ) (payloads : List Payload) (offer : OfferView)
       → IsJudgement cipher group secrets sender half_open held payloads (Accepted offer) → (half_open < HALF_OPEN_LIMIT) × (held < ASSOCIATION_LIMIT)
 
@@ -77,6 +88,7 @@ taken_joins laws place meaning setup octets m old table stepped new new_table so
         own = λ e. was.own (sym own ∙ e);
         initiator = λ w. stays.role ∙ was.initiator (stays.waiting w);
         reserved = laws.stays meaning setup is.association table octets m is.effect is.changed new_table was.reserved is.takes;
+        short = laws.short meaning setup is.association table octets m is.effect is.changed new_table was.short is.takes;
       };
       more = omega arith;
       others = λ k c spi other there held reserved.
@@ -104,10 +116,10 @@ found_sound laws (Err f) meaning setup octets m old table stepped new new_table 
 
 -- what comes last has the next serial, and an SPI that isn't in use
 last_joins : (old : Held) (b : Association) (table new_table : Database) → AreSound old table → is_bad_spi (own_spi b) old.associations ≡ false → b.serial ≡ old.next
-    → (IsInitSent b.phase → b.role ≡ Initiator) → HoldsSpi (held_by b) new_table
+    → (IsInitSent b.phase → b.role ≡ Initiator) → KeepsShort b → HoldsSpi (held_by b) new_table
     → ((spi : ℕ) → IsReserved table spi → IsReserved new_table spi) → ((spi : ℕ) → IsReserved table spi → held_by b ≢ Some spi)
     → Joins old (length old.associations) b (old.next + 1) table new_table
-last_joins old b table new_table sound usable serial initiator holds stays apart =
+last_joins old b table new_table sound usable serial initiator short holds stays apart =
     record {
       sound = record {
         serial_least = subst (λ n. 1 ≤ n) (sym serial) sound.first;
@@ -115,6 +127,7 @@ last_joins old b table new_table sound usable serial initiator holds stays apart
         own = not_zero (own_spi b) old.associations usable;
         initiator = initiator;
         reserved = holds;
+        short = short;
       };
       more = omega arith;
       others = λ k c spi other there held reserved. stays spi reserved;
@@ -141,12 +154,14 @@ admitted_sound : (laws : Laws) (meaning : Meaning) (setup : Setup) (offer : Offe
     → AdmitsNext meaning setup offer spi_i octets old stepped new → AreSound new table
 admitted_sound laws meaning setup offer spi_i octets old stepped new table half_open few sound can made =
     let b : Association = half_open_association old.next spi_i setup.fresh.spi made.admits.agreed.record octets made.admits.agreed.octets setup.moment in
+    let short : KeepsShort b = subst (λ (a : Association). KeepsShort a) made.admits.content
+    (laws.admits meaning.cipher meaning.group meaning.public_value meaning.shared_secret setup.fresh setup.moment old.next offer spi_i octets made.admitted made.admits).0 in
     subst (λ (h : Held). AreSound h table) (sym made.content)
     (subst (λ (a : Association). AreSound (with_next old a) table) (sym made.admits.content)
     (sound_grown old b table table few can.serial
     (let more = count_grown old.associations b in let one = weight_most b in omega (arith, more, one, half_open))
     sound
-    (last_joins old b table table sound can.usable refl (λ w. absurd (opened_waits _ w.sent w.is)) tt (λ spi there. there) (λ spi there. none_held None spi refl))))
+    (last_joins old b table table sound can.usable refl (λ w. absurd (opened_waits _ w.sent w.is)) short tt (λ spi there. there) (λ spi there. none_held None spi refl))))
 
 offer_sound : (laws : Laws) (meaning : Meaning) (setup : Setup) (offer : OfferView) (spi_i : ℕ) (octets : Octets) (old : Held) (stepped : Stepped) (new : Held) (table : Database)
     → half_open_count old.associations < HALF_OPEN_LIMIT → length old.associations < ASSOCIATION_LIMIT → AreSound old table → TakesOffer meaning setup offer spi_i octets old stepped new → AreSound new table
@@ -267,6 +282,7 @@ start_sound laws meaning setup ike place old table stepped new new_table sound_t
     (let more = count_grown old.associations b in omega (arith, more, sound.few_half_open))
     sound
     (last_joins old b table new_table sound (subst (λ n. is_bad_spi n old.associations ≡ false) (sym is.begins.spi) free.usable) refl (λ w. refl)
+    (laws.begins meaning.cipher meaning.group meaning.public_value setup.fresh setup.moment old.next is.beginning (child_by is.entry is.done.spi setup.config.extended) is.begins).0
     (now_reserved is.between is.done.spi new_table is.done.reserved)
     (λ spi there. still_reserved is.between is.done.spi new_table spi is.done.reserved (between_reserved spi there))
     (λ spi there e.

@@ -1,5 +1,5 @@
 -- The numbers of this crate's refusals.
-use Rattle.std.specs.Prelude.{ℕ}
+use Rattle.std.specs.Prelude.{ℕ, Bool, true, false}
 use Rattle.wire.specs.Fault.{fault_number}
 use Rattle.association.specs.Faults.{code_of_message_fault}
 use Rattle.children.specs.Faults.{code_of_child_fault}
@@ -17,3 +17,8 @@ code_of_ike_fault fault.HalfOpenFull = 34
 code_of_ike_fault fault.NumbersSpent = 36
 code_of_ike_fault fault.BadFresh = 37
 code_of_ike_fault (fault.Memory f) = code_of_child_fault f
+
+-- there was no memory, of which nothing else tells
+abbrev pub is_want_of_memory : IkeFault → Bool
+is_want_of_memory (fault.Memory f) = true
+is_want_of_memory f = false

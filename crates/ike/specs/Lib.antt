@@ -7,3 +7,7 @@ pub mod Steps
 pub mod Soundness
 pub mod Pairs
 pub mod Reaching
+pub mod Tracing
+pub mod Children
+pub mod Contents
+pub mod Lengths

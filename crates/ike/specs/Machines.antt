@@ -1,11 +1,13 @@
 -- What an end holds of all its IKE associations (RFC 7296 sections 1.2, 2.6 and 3.1).
-use Rattle.std.specs.Prelude.{◌==◌, ◌||◌, ◌^◌, ℕ, Bool, true, false, List, []}
-use Rattle.std.specs.List.{count_by, list_any}
+use Rattle.std.specs.Prelude.{◌==◌, ◌||◌, ◌^◌, ℕ, Bool, true, false, not, Option, List, [], option_and_then}
+use Rattle.std.specs.List.{count_by, filter, find, list_any}
 use Rattle.policy.specs.declared.entry.Entry.{Entry}
 use Rattle.suite.specs.declared.fresh.Fresh.{Fresh}
+use Rattle.suite.specs.declared.key_record.KeyRecord.{KeyRecord}
 use Rattle.exchange.specs.declared.headers.Role.{Role}
 use Rattle.exchange.specs.declared.headers.Role.TheVariants.{Initiator, Responder}
 use Rattle.sa_init.specs.Cookies.{first_secret, CookieSecrets}
+use Rattle.association.specs.Phases.{keys_in}
 use Rattle.association.specs.declared.phase.Association.{Association}
 use Rattle.association.specs.declared.phase.Phase.{Phase}
 use Rattle.association.specs.declared.phase.Phase.TheVariants.{HalfOpen}
@@ -53,6 +55,18 @@ is_bad_spi spi associations = spi == 0 || list_any (has_own_spi spi) association
 
 abbrev pub has_serial : ℕ → Association → Bool
 has_serial serial a = a.serial == serial
+
+-- the association with this serial; serials rise, so there is one at most
+abbrev pub association_of : ℕ → List Association → Option Association
+association_of serial associations = find (has_serial serial) associations
+
+-- its keys, where it has them
+abbrev pub keys_of_serial : ℕ → List Association → Option KeyRecord
+keys_of_serial serial associations = option_and_then (λ a. keys_in a.phase) (association_of serial associations)
+
+-- all others, in their order
+abbrev pub others_than : ℕ → List Association → List Association
+others_than serial associations = filter (λ a. not (has_serial serial a)) associations
 
 abbrev pub is_half_open_phase : Phase → Bool
 is_half_open_phase (HalfOpen opened) = true

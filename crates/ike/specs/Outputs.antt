@@ -6,11 +6,20 @@ use Rattle.initial.specs.declared.taking.Effect.TheVariants as effect
 use Rattle.ike.specs.declared.fault.IkeFault.{IkeFault}
 use Rattle.ike.specs.declared.fault.IkeFault.TheVariants as fault
 use Rattle.ike.specs.declared.output.IkeOutput.{IkeOutput}
-use Rattle.ike.specs.declared.output.IkeOutput.TheVariants.{Reply, Repeat, Request, Counted, Dropped}
+use Rattle.ike.specs.declared.output.IkeOutput.TheVariants.{Reply, Repeat, Request, Counted, Done, Dropped}
 use Rattle.ike.specs.declared.output.MadeChild.{MadeChild}
 use Rattle.ike.specs.declared.output.Mark.{Mark}
 use Rattle.ike.specs.declared.output.Stepped.{Stepped}
 use Rattle.ike.specs.declared.output.Trace.{Trace}
+
+-- the octets that go out
+abbrev pub octets_in : IkeOutput → Option Octets
+octets_in (Reply octets closed) = Some octets
+octets_in (Repeat octets) = Some octets
+octets_in (Request ike octets) = Some octets
+octets_in (Counted ike child closed) = None
+octets_in Done = None
+octets_in (Dropped f) = None
 
 abbrev pub no_trace : Trace
 no_trace = record { sent = None; keyed = None; child = None }

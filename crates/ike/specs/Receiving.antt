@@ -23,6 +23,7 @@ use Rattle.association.specs.declared.phase.Phase.{Phase}
 use Rattle.association.specs.declared.phase.Phase.TheVariants.{HalfOpen}
 use Rattle.initial.specs.Beginning.{Admits}
 use Rattle.initial.specs.Configs.{Setup}
+use Rattle.initial.specs.Keeping.{kept_reply}
 use Rattle.initial.specs.Taking.{Meaning, TakesMessage}
 use Rattle.initial.specs.declared.beginning.Admitted.{Admitted}
 use Rattle.initial.specs.declared.taking.Effect.{Effect}
@@ -56,11 +57,6 @@ is_answered_phase octets _ = false
 -- the octets are those of the request that made a half-open association
 abbrev pub is_answered : Octets → Association → Bool
 is_answered octets a = is_answered_phase octets a.phase
-
--- the reply that a half-open association keeps
-abbrev pub kept_reply : Phase → Option Octets
-kept_reply (HalfOpen opened) = Some opened.reply
-kept_reply _ = None
 
 -- the reply of the association at this place goes out again
 pub record Repeats (place : ℕ) (associations : List Association) (stepped : Stepped) : Type 0 where

@@ -66,8 +66,10 @@ pub record IsAllowed (entries : List Entry) (ike : Option ℕ) (place : ℕ) (fr
   pub next : serial ≡ old.next
   pub left : old.next < SERIAL_END
 
--- The next SPI is reserved for the child, and the first request goes out.
+-- The table has a place and an SPI left. The next SPI is reserved for the child, and the first request goes out.
 pub record BeginsNext (entry : Entry) (extended : Bool) (beginning : Beginning) (old : Held) (table : Database) (stepped : Stepped) (new : Held) (new_table : Database) : Type 0 where
+  pub not_full : ¬ IsFull table
+  pub not_spent : ¬ IsSpent table
   pub spi : ℕ
   pub reserved : Reserves table spi new_table
   pub said : stepped ≡ plain_step (Request old.next beginning.octets)

@@ -1,7 +1,8 @@
 //! The associations that an end holds.
 ghost use Rattle.std.specs.Prelude.{◌≡◌, ◌<◌, ◌++◌, ◌∷◌, [], ◌+◌, IfOk, IfErr, MatchOption};
 ghost use Rattle.std.specs.List.{list_any, position};
-ghost use Rattle.ike.specs.Machines.{half_open_count, has_own_spi, has_serial, is_bad_spi, is_half_open, none_held, spi_by_role, SERIAL_END};
+ghost use Rattle.std.specs.Option.{option_copied};
+ghost use Rattle.ike.specs.Machines.{association_of, half_open_count, has_own_spi, has_serial, is_bad_spi, is_half_open, none_held, spi_by_role, SERIAL_END};
 ghost use Rattle.ike.specs.Receiving.{is_answered, with_next};
 
 use association::{Association, Phase};
@@ -103,6 +104,13 @@ pub(crate) fn has_serial(serial: u32, associations: &[Association]) -> bool
     ensures { result ≡ list_any (has_serial serial) associations.now }
 {
     associations.iter().any(|a| a.serial == serial)
+}
+
+/// The association with this serial.
+pub(crate) fn association_of(serial: u32, associations: &[Association]) -> Option<&Association>
+    ensures { option_copied result ≡ association_of serial associations.now }
+{
+    associations.iter().find(|a| a.serial == serial)
 }
 
 /// How many associations are half open.

@@ -1,24 +1,54 @@
 //! What follows from the definitions alone. No function here does anything.
-ghost use Rattle.std.specs.Prelude.{◌≡◌, ◌<◌, ◌≤◌, List, ℕ, length};
+ghost use Rattle.std.specs.Prelude.{◌≡◌, ◌<◌, ◌≤◌, List, Some, ℕ, length, true, false, ◌⊎◌};
 ghost use Rattle.policy.specs.declared.entry.Entry.{Entry};
-ghost use Rattle.sadb.specs.Database.{Database, IsReserved, IsSoundTable};
+ghost use Rattle.sadb.specs.Database.{pair_at, Database, IsReserved, IsSoundTable};
+ghost use Rattle.sadb.specs.Contents.{table_content};
 ghost use Rattle.base.specs.Octets.{Octets};
 ghost use Rattle.suite.specs.declared.fresh.Fresh.{Fresh};
 ghost use Rattle.sa_init.specs.Judging.{COOKIE_THRESHOLD};
+ghost use Rattle.suite.specs.declared.key_record.KeyRecord.{KeyRecord};
+ghost use Rattle.wire.specs.declared.payload.Payload.{Payload};
+ghost use Rattle.sadb.specs.Mirrors.{Mirrors};
+ghost use Rattle.sadb.specs.declared.pair.Pair.{Pair};
+ghost use Rattle.association.specs.FirstChildren.{asked_of, FirstChildView};
+ghost use Rattle.association.specs.declared.phase.Association.{Association};
+ghost use Rattle.association.specs.declared.phase.AuthSent.{AuthSent};
+ghost use Rattle.association.specs.declared.phase.Phase.TheVariants as phase;
+ghost use Rattle.children.specs.Asking.{child_request, HasChildPayloads};
+ghost use Rattle.children.specs.Pairs.{HasFewSelectors};
+ghost use Rattle.initial.specs.Children.{IsAnsweredChild, IsAskedChild};
+ghost use Rattle.initial.specs.Configs.{Setup};
+ghost use Rattle.initial.specs.Keeping.{IsShort};
 ghost use Rattle.initial.specs.Taking.{Meaning};
-ghost use Rattle.ike.specs.Machines.{half_open_count, Machine};
-ghost use Rattle.ike.specs.Outputs.{IsQuiet};
-ghost use Rattle.ike.specs.Pairs.{LeavesPairsOfOthers};
+ghost use Rattle.ike.specs.Children.{AsksFirstChild, MakesFirstChild, AsksNow, WaitedBefore};
+ghost use Rattle.ike.specs.Machines.{half_open_count, keys_of_serial, setup_at, Machine, new_machine, association_of};
+ghost use Rattle.ike.specs.Outputs.{octets_in, IsQuiet};
+ghost use Rattle.ike.specs.Pairs.{ChangesOne, LeavesPairsOfOthers};
 ghost use Rattle.ike.specs.Reaching.{WasReached};
 ghost use Rattle.ike.specs.Soundness.{IsSoundMachine};
-ghost use Rattle.ike.specs.Steps.{InputView, Message, Steps};
+ghost use Rattle.ike.specs.Steps.{InputView, Message, Steps, Refuses};
+ghost use Rattle.ike.specs.Tracing.{IsTraced};
+ghost use Rattle.ike.specs.declared.output.IkeOutput.TheVariants.{Request};
+ghost use Rattle.ike.specs.declared.output.MadeChild.{MadeChild};
+ghost use Rattle.initial.specs.declared.config.Config.{Config};
+ghost use Rattle.ike.specs.Contents.{machine_content};
+ghost use Rattle.ike.specs.Faults.{is_want_of_memory};
+ghost use Rattle.ike.specs.Lengths.{HoldWholeKeys, IsTold};
+ghost use Rattle.ike.specs.declared.fault.IkeFault.{IkeFault};
 ghost use Rattle.ike.specs.declared.output.Stepped.{Stepped};
 
+use children::laws::children_mirror;
 use initial::laws::{
-    associations_stay_themselves, no_spi_comes, spis_stay_reserved,
+    associations_stay_themselves, beginnings_are_determined, children_are_made_of_their_messages,
+    effects_are_determined, keys_stay, no_spi_comes, spis_stay_reserved, what_is_kept_is_short,
     what_is_passed_over_changes_nothing, what_others_hold_stays,
 };
-use sa_init::laws::acceptance_is_limited;
+use sa_init::laws::{acceptance_is_limited, judgements_are_determined};
+use sadb::laws::later_tables_are_determined;
+use wire::laws::{
+    first_faults_are_determined, octets_spell_one_message, plain_spellings_are_determined,
+    what_is_spelled_has_no_fault,
+};
 
 /// Whatever a step does, the machine is sound with its table from then on: at most 128 associations, 32 of them half open, by rising
 /// serial, each under an SPI of its own that is not zero; and what they hold for their first children is reserved in the table, each
@@ -32,7 +62,93 @@ pub fn soundness_stays()
     what_others_hold_stays();
     no_spi_comes();
     associations_stay_themselves();
+    what_is_kept_is_short();
     acceptance_is_limited();
+}
+
+/// What goes out of a step has at most 3000 octets, as a message may have: an answer, a request that goes out, or what goes out again.
+pub fn what_is_sent_is_short()
+    ensures { (meaning : Meaning) (entries : List Entry) (input : InputView) (old : Machine) (table : Database)
+        (stepped : Stepped) (new : Machine) (new_table : Database) (octets : Octets) → IsSoundMachine old table
+        → Steps meaning entries input old table stepped new new_table → octets_in stepped.output ≡ Some octets → IsShort octets }
+{
+    what_is_kept_is_short();
+}
+
+/// What the trace of a step names is held by the machine from then on: an association under whose keys something was sent, or whose keys
+/// were made, with its keys, and a child that was made, with its pair. An association that had keys before has them still.
+pub fn traces_name_what_is_held()
+    ensures traced { (meaning : Meaning) (entries : List Entry) (input : InputView) (old : Machine) (table : Database)
+        (stepped : Stepped) (new : Machine) (new_table : Database) → IsSoundTable table → IsSoundMachine old table
+        → Steps meaning entries input old table stepped new new_table → IsTraced table stepped new.held new_table }
+    ensures keys { (meaning : Meaning) (entries : List Entry) (input : InputView) (old : Machine) (table : Database)
+        (stepped : Stepped) (new : Machine) (new_table : Database) (serial : ℕ) (keys : KeyRecord) → IsSoundTable table
+        → IsSoundMachine old table → Steps meaning entries input old table stepped new new_table
+        → keys_of_serial serial old.held.associations ≡ Some keys → keys_of_serial serial new.held.associations ≡ Some keys }
+{
+    soundness_stays();
+    associations_stay_themselves();
+    keys_stay();
+    children_are_made_of_their_messages();
+}
+
+/// A step changes one association at most, and pairs of no other.
+pub fn one_association_is_changed()
+    ensures { (meaning : Meaning) (entries : List Entry) (input : InputView) (old : Machine) (table : Database)
+        (stepped : Stepped) (new : Machine) (new_table : Database)
+        → Steps meaning entries input old table stepped new new_table → ChangesOne old.held new.held table new_table }
+{
+    associations_stay_themselves();
+    initial::laws::pairs_stay_as_they_were();
+}
+
+/// A first child that a step made is what the payloads of IKE_AUTH say (RFC 7296, sections 1.2, 2.9 and 2.17): those of the datagram, and
+/// at a responder those that its answer seals, at an initiator those of the request that asked for the child. And an initiator whose
+/// keys a step made asks for its child by the request that goes out: who waits for the response waited before, or asks now.
+pub fn first_children_are_made_of_their_messages()
+    ensures made { (meaning : Meaning) (entries : List Entry) (from octets : Octets) (fresh : Fresh) (old : Machine)
+        (table : Database) (stepped : Stepped) (made : MadeChild) (new : Machine) (new_table : Database)
+        → IsSoundTable table → IsSoundMachine old table
+        → Steps meaning entries (Message from octets fresh) old table stepped new new_table
+        → stepped.trace.child ≡ Some made
+        → MakesFirstChild meaning (setup_at old entries fresh) octets old.held table stepped made new.held new_table }
+    ensures asked { (meaning : Meaning) (entries : List Entry) (from octets : Octets) (fresh : Fresh) (old : Machine)
+        (table : Database) (stepped : Stepped) (ike : ℕ) (next : Octets) (new : Machine) (new_table : Database)
+        → IsSoundTable table → IsSoundMachine old table
+        → Steps meaning entries (Message from octets fresh) old table stepped new new_table
+        → stepped.output ≡ Request ike next → stepped.trace.keyed ≡ Some ike
+        → AsksFirstChild meaning (setup_at old entries fresh) ike next new.held }
+    ensures waits { (meaning : Meaning) (entries : List Entry) (input : InputView) (old : Machine) (table : Database)
+        (stepped : Stepped) (new : Machine) (new_table : Database) (ike : ℕ) (a : Association) (sent : AuthSent)
+        → IsSoundTable table → IsSoundMachine old table
+        → Steps meaning entries input old table stepped new new_table
+        → association_of ike new.held.associations ≡ Some a → a.phase ≡ phase.AuthSent sent
+        → WaitedBefore ike sent old.held ⊎ AsksNow ike stepped }
+{
+    soundness_stays();
+    associations_stay_themselves();
+    keys_stay();
+    children_are_made_of_their_messages();
+}
+
+/// A child that a step makes has at most 16 selectors on either side (RFC 7296, section 3.13; a limit of this implementation).
+pub fn children_have_few_selectors()
+    ensures { (meaning : Meaning) (entries : List Entry) (input : InputView) (old : Machine) (table : Database)
+        (stepped : Stepped) (new : Machine) (new_table : Database) (made : MadeChild) (pair : Pair) → IsSoundTable table
+        → IsSoundMachine old table → Steps meaning entries input old table stepped new new_table
+        → stepped.trace.child ≡ Some made → pair_at new_table.pairs made.serial ≡ Some pair → HasFewSelectors pair }
+{
+    first_children_are_made_of_their_messages();
+}
+
+/// The two ends' pairs of one first child mirror each other: the initiator's, of the reply, and the responder's, of that reply and of a
+/// request that asked for the initiator's child, under equal keys.
+pub fn first_children_mirror()
+    ensures { (setup : Setup) (keys others : KeyRecord) (child : FirstChildView) (request reply : List Payload) (a b : Pair)
+        → keys ≡ others → HasChildPayloads request (child_request (asked_of child)) → IsAskedChild child keys reply a
+        → IsAnsweredChild setup others request reply b → Mirrors a b }
+{
+    children_mirror();
 }
 
 /// While 8 or more associations are half open, no datagram makes another one but with a right cookie of its sender (RFC 7296, section
@@ -73,3 +189,44 @@ pub fn soundness_asks_for_reservations()
         → ((spi : ℕ) → IsReserved table spi → IsReserved other spi)
         → IsSoundMachine machine table → IsSoundMachine machine other }
 {}
+
+/// The keys of all associations have 32 octets each: a new machine holds none, and whatever a step does, they stay so.
+pub fn keys_stay_whole()
+    ensures begun { (config : Config) → HoldWholeKeys (new_machine config).held }
+    ensures stepped { (meaning : Meaning) (entries : List Entry) (input : InputView) (old : Machine) (table : Database)
+        (stepped : Stepped) (new : Machine) (new_table : Database) → HoldWholeKeys old.held
+        → Steps meaning entries input old table stepped new new_table → HoldWholeKeys new.held }
+{
+    initial::laws::keys_stay_whole();
+}
+
+/// A step does one thing. What comes of it, what the machine holds then and what the table holds go by what both held before,
+/// whatever room there is; what is done is not refused, but for want of memory, and every other refusal has one reason. Of the input
+/// it is asked that a datagram is of octets and that a cipher tells lengths, as its law says; of the machine that the keys are whole,
+/// as they stay ([`keys_stay_whole`]).
+pub fn steps_are_determined()
+    ensures steps { (meaning : Meaning) (entries : List Entry) (input : InputView) (old other a b : Machine)
+        (table another a_table b_table : Database) (one two : Stepped) → IsTold meaning input → HoldWholeKeys old.held
+        → machine_content old ≡ machine_content other → table_content table ≡ table_content another
+        → Steps meaning entries input old table one a a_table → Steps meaning entries input other another two b b_table
+        → (one ≡ two) × (machine_content a ≡ machine_content b) × (table_content a_table ≡ table_content b_table) }
+    ensures steps_or_refusals { (meaning : Meaning) (entries : List Entry) (input : InputView) (old other new : Machine)
+        (table another new_table : Database) (stepped : Stepped) (reason : IkeFault)
+        → machine_content old ≡ machine_content other → table_content table ≡ table_content another
+        → Steps meaning entries input old table stepped new new_table → Refuses meaning entries input other another reason
+        → is_want_of_memory reason ≡ true }
+    ensures refusals { (meaning : Meaning) (entries : List Entry) (input : InputView) (old other : Machine)
+        (table another : Database) (one two : IkeFault)
+        → machine_content old ≡ machine_content other → table_content table ≡ table_content another
+        → is_want_of_memory one ≡ false → is_want_of_memory two ≡ false
+        → Refuses meaning entries input old table one → Refuses meaning entries input other another two → one ≡ two }
+{
+    beginnings_are_determined();
+    effects_are_determined();
+    first_faults_are_determined();
+    judgements_are_determined();
+    later_tables_are_determined();
+    octets_spell_one_message();
+    plain_spellings_are_determined();
+    what_is_spelled_has_no_fault();
+}

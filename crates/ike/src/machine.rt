@@ -1,14 +1,15 @@
 //! The machine, and one step of it.
 ghost use Rattle.std.specs.Prelude.{◌≡◌, ◌+◌, ◌<◌, ◌^◌, IfOk, IfErr};
+ghost use Rattle.std.specs.Option.{option_copied};
 ghost use Rattle.sadb.specs.Database.{Database, IsAsBefore};
 ghost use Rattle.initial.specs.Configs.{IsConfig};
-ghost use Rattle.ike.specs.Machines.{new_machine};
+ghost use Rattle.ike.specs.Machines.{keys_of_serial, new_machine};
 ghost use Rattle.ike.specs.Outputs.{plain_step};
 ghost use Rattle.sa_init.specs.Cookies.{changed};
 ghost use Rattle.ike.specs.Soundness.{IsSoundMachine};
 ghost use Rattle.ike.specs.Steps.{input_view, Refuses, Steps};
 
-use crate::held::Held;
+use crate::held::{Held, association_of};
 use crate::laws::soundness_stays;
 use crate::receiving::take_datagram;
 use crate::starting::start;
@@ -20,7 +21,7 @@ use sa_init::{Cookies, SecretsSpent};
 use sadb::Table;
 use std::alloc::Global;
 use std::marker::Model;
-use suite::{Agreement, Proof, Sealer};
+use suite::{Agreement, KeyRecord, Proof, Sealer};
 
 /// The IKE machine of one end: its associations with one peer, of which at most 128 are held.
 ///
@@ -70,6 +71,13 @@ impl Ike {
         ensures { result.now ≡ self.now.held.associations }
     {
         self.held.associations()
+    }
+
+    /// The keys of the association with this serial, where both ends have come to them.
+    pub fn keys_of(&self, serial: u32) -> Option<&KeyRecord>
+        ensures { option_copied result ≡ keys_of_serial serial self.now.held.associations }
+    {
+        association_of(serial, self.held.associations())?.keys()
     }
 
     /// One step: what a datagram or an order does, and what goes out.

@@ -9,3 +9,7 @@ pub mod Reading
 pub mod Taking
 pub mod Pairs
 pub mod Proving
+pub mod Keeping
+pub mod Children
+pub mod Offers
+pub mod Lengths

@@ -22,6 +22,7 @@ mod fault;
 mod integrity;
 mod key_material;
 mod keyed_hash;
+pub mod laws;
 #[cfg(test)]
 mod tests;
 

@@ -70,12 +70,12 @@ taken_once a b c d first second reply other one between two same =
     let took : HasNumber b.in_effect first = ap (λ (s : NumberSet). set.contains s first) one.in_effect ∙ member_here a.in_effect first first refl in
     not_both c.in_effect second (ap (set.contains c.in_effect) (sym same) ∙ between.in_effect first took) two.fresh.not_in_effect
 
-same_option : {X : Type 0} (o p : Option X) → ((x : X) → o ≡ Some x → p ≡ Some x) → ((x : X) → p ≡ Some x → o ≡ Some x) → o ≡ p
+pub same_option : {X : Type 0} (o p : Option X) → ((x : X) → o ≡ Some x → p ≡ Some x) → ((x : X) → p ≡ Some x → o ≡ Some x) → o ≡ p
 same_option None None there back = refl
 same_option None (Some x) there back = back x refl
 same_option (Some x) p there back = sym (there x refl)
 
-behind_too : (a b : PeerRequests) (n : ℕ) → a.in_effect ≡ b.in_effect → a.size ≡ b.size → IsLeftBehind a n → IsLeftBehind b n
+pub behind_too : (a b : PeerRequests) (n : ℕ) → a.in_effect ≡ b.in_effect → a.size ≡ b.size → IsLeftBehind a n → IsLeftBehind b n
 behind_too a b n same_numbers same_size is = record {
   later = is.later;
   in_effect = ap (λ (s : NumberSet). set.contains s is.later) (sym same_numbers) ∙ is.in_effect;

@@ -4,3 +4,4 @@ mod CountLemmas
 mod IncomingLemmas
 mod OutgoingLemmas
 mod FollowingLemmas
+mod DeterminedNumbers

@@ -2,3 +2,4 @@ mod FittingLemmas
 mod PartLemmas
 mod JudgementLemmas
 mod AgreementLemmas
+mod DeterminedAnswers

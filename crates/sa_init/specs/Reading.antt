@@ -59,3 +59,10 @@ IsResponse cipher group shared_secret sent m (Cookie octets) = AsksCookie sent m
 IsResponse cipher group shared_secret sent m (Keys keys) = GivesKeys cipher group shared_secret sent m keys
 IsResponse cipher group shared_secret sent m Unfit =
     ((octets : Octets) → ¬ AsksCookie sent m octets) × ((keys : KeyRecord) → ¬ GivesKeys cipher group shared_secret sent m keys)
+
+-- two meanings of a response that say the same, a cookie by its octets
+abbrev pub IsSameResponse : Response → Response → Type 0
+IsSameResponse (Cookie one) (Cookie other) = one.now ≡ other.now
+IsSameResponse (Keys one) (Keys other) = one ≡ other
+IsSameResponse Unfit Unfit = Unit {0}
+IsSameResponse _ _ = ⊥

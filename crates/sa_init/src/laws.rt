@@ -1,5 +1,6 @@
 //! What follows from the definitions alone.
-ghost use Rattle.std.specs.Prelude.{◌≡◌, ◌≢◌, ◌≤◌, ◌<◌, ◌∷◌, [], ℕ, List, Some, slice_get};
+ghost use Rattle.std.specs.Prelude.{◌≡◌, ◌≢◌, ◌≤◌, ◌<◌, ◌∷◌, [], ℕ, List, Option, Some, slice_get};
+ghost use Rattle.base.specs.Octets.{Octets};
 ghost use Rattle.wire.specs.Messages.{Spells};
 ghost use Rattle.wire.specs.declared.message.Message.{Message};
 ghost use Rattle.wire.specs.declared.payload.Payload.{Payload};
@@ -17,13 +18,16 @@ ghost use Rattle.sa_init.specs.Cookies.{CookieSecrets};
 ghost use Rattle.sa_init.specs.Fitting.{FitsOffer, IsSpelled};
 ghost use Rattle.sa_init.specs.Judging.{Accepted, ASSOCIATION_LIMIT, BringsRightCookie, COOKIE_THRESHOLD, HALF_OPEN_LIMIT, IsJudgement, JudgementView, OfferView};
 ghost use Rattle.sa_init.specs.Parts.{HasParts, PartsView};
-ghost use Rattle.sa_init.specs.Reading.{GivesKeys, WaitingView};
+ghost use Rattle.sa_init.specs.Reading.{GivesKeys, IsResponse, IsSameResponse, WaitingView};
 ghost use Rattle.sa_init.specs.declared.answers.Agreed.{Agreed};
 ghost use Rattle.sa_init.specs.declared.judging.Sender.{Sender};
+ghost use Rattle.sa_init.specs.declared.response.Response.{Response};
 
 use exchange::laws::ends_agree;
 use suite::Agreement;
-use wire::laws::{octets_spell_one_message, plain_spellings_are_spellings};
+use wire::laws::{
+    octets_spell_one_message, plain_spellings_are_determined, plain_spellings_are_spellings,
+};
 
 /// The nonce of a message that was decoded has 16 to 256 octets, and its proposals are numbered from 1. Does nothing.
 pub fn spelled_parts_fit()
@@ -86,4 +90,17 @@ pub fn both_ends_have_one_record<C: Agreement>(caller: &C)
     octets_spell_one_message();
     plain_spellings_are_spellings();
     ends_agree();
+}
+
+/// A response means one thing, a cookie told by its octets; and an offer has one answer and one record of keys. Does nothing.
+pub fn answers_are_determined()
+    ensures response { (cipher : Cipher) (group : ℕ) (shared_secret : Octets → Octets → Option Octets) (sent : WaitingView)
+        (m : Message) (one other : Response) → IsResponse cipher group shared_secret sent m one
+        → IsResponse cipher group shared_secret sent m other → IsSameResponse one other }
+    ensures answer { (cipher : Cipher) (group : ℕ) (public_value : Octets → Octets)
+        (shared_secret : Octets → Octets → Option Octets) (offer : OfferView) (spi_i : ℕ) (fresh : Fresh) (a b : Agreed)
+        → IsAnswer cipher group public_value shared_secret offer spi_i fresh a
+        → IsAnswer cipher group public_value shared_secret offer spi_i fresh b → a ≡ b }
+{
+    plain_spellings_are_determined();
 }

@@ -7,3 +7,4 @@ mod FollowingLemmas
 mod LookupLemmas
 mod AssociationLemmas
 mod ReadyLemmas
+mod DeterminedTables

@@ -5,3 +5,4 @@ pub mod Numbered
 pub mod Storage
 pub mod Following
 pub mod Mirrors
+pub mod Contents

@@ -3,6 +3,7 @@
 ghost use Rattle.std.specs.Prelude.{◌≡◌, ◌≢◌, ℕ, List};
 ghost use Rattle.esp.specs.declared.fault.EspFault.{EspFault};
 ghost use Rattle.policy.specs.declared.flow.Flow.{Flow};
+ghost use Rattle.sadb.specs.Contents.{table_content};
 ghost use Rattle.sadb.specs.Database.{Database, HasInbound, IsReady, Installs, IsAfter, IsAsBefore, IsInbound, IsOutbound, IsTableRefusal, IsSoundTable};
 ghost use Rattle.sadb.specs.Database.{Marks, OpensAt, PairMap, RefusesAt, Releases, RemovesAllOf, Removes, Reserves, SealsAt};
 ghost use Rattle.sadb.specs.Following.{Follows};
@@ -74,4 +75,18 @@ pub fn mirroring_is_symmetric()
 /// A pair whose two associations have numbers of one length has a mirror: what the other end would hold.
 pub fn mirrors_exist()
     ensures { (a : Pair) → a.inbound.association.extended ≡ a.outbound.association.extended → Mirrors a (reflection a) }
+{}
+
+/// What a table holds after a call, and what the call gave, goes by what the table held before, whatever room there is.
+pub fn later_tables_are_determined()
+    ensures prepared { (old new : Database) → IsAsBefore old new → table_content new ≡ table_content old }
+    ensures reserved { (old other a b : Database) (spi mark : ℕ) → table_content old ≡ table_content other
+        → Reserves old spi a → Reserves other mark b → (spi ≡ mark) × (table_content a ≡ table_content b) }
+    ensures released { (old other a b : Database) (spi : ℕ) → table_content old ≡ table_content other
+        → Releases old spi a → Releases other spi b → table_content a ≡ table_content b }
+    ensures installed { (old other a b : Database) (spi mark : ℕ) (pair : Pair) (serial number : ℕ)
+        → table_content old ≡ table_content other → Installs old spi pair serial a → Installs other mark pair number b
+        → (serial ≡ number) × (table_content a ≡ table_content b) }
+    ensures emptied { (old other a b : Database) (ike : ℕ) → table_content old ≡ table_content other
+        → RemovesAllOf old ike a → RemovesAllOf other ike b → table_content a ≡ table_content b }
 {}

@@ -1,1 +1,2 @@
 mod ChoiceLemmas
+mod KeyLemmas

@@ -24,6 +24,7 @@ mod fault;
 mod fresh;
 mod key_record;
 mod keys;
+pub mod laws;
 mod nonce;
 mod proof;
 mod sealer;

@@ -5,3 +5,4 @@ mod ReceptionLemmas
 mod SendingLemmas
 mod FollowingLemmas
 mod MirrorLemmas
+mod ContentLemmas

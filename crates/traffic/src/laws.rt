@@ -6,6 +6,7 @@ ghost use Rattle.policy.specs.declared.entry.Action.TheVariants.{Protect, Bypass
 ghost use Rattle.policy.specs.declared.entry.Entry.{Entry};
 ghost use Rattle.policy.specs.declared.flow.Flow.{Flow};
 ghost use Rattle.policy.specs.declared.policy.Direction.TheVariants.{Outward, Inward};
+ghost use Rattle.sadb.specs.Contents.{table_content};
 ghost use Rattle.sadb.specs.Database.{Database, IsReady, IsSoundTable, pair_at};
 ghost use Rattle.sadb.specs.Following.{Follows};
 ghost use Rattle.sadb.specs.Mirrors.{Mirrors};
@@ -97,3 +98,13 @@ pub fn what_one_end_seals_the_other_hands_up()
 {
     flows_are_determined();
 }
+
+/// What becomes of a packet goes by what the table holds: with other room the same does, and that room is left.
+pub fn outcomes_go_by_content()
+    ensures received { (old other new : Database) (packet : Octets) (outcome : Outcome)
+        → table_content old ≡ table_content other → Receives old packet outcome new
+        → Receives other packet outcome (record new { room = other.room }) }
+    ensures sent { (old other new : Database) (policy : List Entry) (packet : Octets) (outcome : Outcome)
+        → table_content old ≡ table_content other → Sends old policy packet outcome new
+        → Sends other policy packet outcome (record new { room = other.room }) }
+{}

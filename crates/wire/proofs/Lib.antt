@@ -21,3 +21,4 @@ mod Encoding
 mod SizeLemmas
 mod LawLemmas
 mod FittingLemmas
+mod DeterminedSpellings

@@ -59,3 +59,15 @@ pub fn what_is_read_fits()
     ensures { (first : ℕ) (ps : List Payload) (b : Octets)
         → SpellsChain first ps b → AllByRecursion FitsFields ps }
 {}
+
+/// With zeros in all that is reserved a message has one spelling at most, and a chain of payloads one, of one first type.
+pub fn plain_spellings_are_determined()
+    ensures message { (m : Message) (a b : Octets) → SpellsPlainly m a → SpellsPlainly m b → a ≡ b }
+    ensures payloads { (first other : ℕ) (ps : List Payload) (a b : Octets)
+        → SpellsPayloads IsZero first ps a → SpellsPayloads IsZero other ps b → (first ≡ other) × (a ≡ b) }
+{}
+
+/// A datagram that spells a message has no fault.
+pub fn what_is_spelled_has_no_fault()
+    ensures { (m : Message) (b : Octets) (f : WireFault) → Spells m b → ¬ IsFaultOf b f }
+{}

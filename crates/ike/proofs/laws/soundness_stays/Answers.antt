@@ -8,5 +8,8 @@ returns c =
       others = c.what_others_hold_stays.ensures;
       none = c.no_spi_comes.ensures;
       itself = c.associations_stay_themselves.ensures;
+      short = c.what_is_kept_is_short.ensures.stays;
+      begins = c.what_is_kept_is_short.ensures.begun;
+      admits = c.what_is_kept_is_short.ensures.admitted;
       room = c.acceptance_is_limited.ensures.room;
     })

@@ -1,0 +1,56 @@
+-- What a message is to an association goes by what is held of it, and so does what its end leaves.
+use Rattle.std.proofs.Common.{◌≡◌, ℕ, Bool, true, false, Option, Some, None, sym, ap, subst, ◌∙◌}
+use Rattle.base.specs.Octets.{Octets}
+use Rattle.wire.specs.declared.message.Message.{Message}
+use Rattle.requests.specs.Contents.{incoming_content, outgoing_content}
+use Rattle.requests.specs.Incoming.{IsJudgement, PeerRequests}
+use Rattle.requests.specs.Outgoing.{GivesUpRequests, OwnRequests}
+use Rattle.requests.specs.declared.incoming.Judgement.{Judgement}
+use Rattle.sadb.specs.Contents.{table_content}
+use Rattle.sadb.specs.Database.{Database, Releases, RemovesAllOf}
+use Rattle.association.specs.Closing.{Closes, GivesUpSpi}
+use Rattle.association.specs.Contents.{association_content}
+use Rattle.association.specs.Phases.{keys_in, spi_in}
+use Rattle.association.specs.Receiving.{judged_reception, opened_by, reception_of_response, IsReceivedBy, Opening, Reception}
+use Rattle.association.specs.declared.phase.Association.{Association}
+use Rattle.association.specs.declared.phase.Phase.TheVariants.{Closed}
+use Rattle.association.specs.declared.phase.Request.{Request}
+
+abbrev pub JudgesByContent : Type 0
+JudgesByContent = (old other : PeerRequests) (n : ℕ) (judgement : Judgement) → incoming_content old ≡ incoming_content other → IsJudgement old n judgement → IsJudgement other n judgement
+
+pub received_by_content : JudgesByContent → (response : Bool) (plain_of : Opening) (a b : Association) (octets : Octets) (m : Message) (reception : Reception) → association_content a ≡ association_content b
+    → IsReceivedBy response plain_of a octets m reception → IsReceivedBy response plain_of b octets m reception
+received_by_content judges true plain_of a b octets m reception same is =
+    is ∙ ap (λ (x : Association). reception_of_response plain_of x octets m) same
+received_by_content judges false plain_of a b octets m reception same is = record {
+  judgement = is.judgement;
+  number = judges a.incoming b.incoming m.header.id is.judgement (ap (λ (x : Association). x.incoming) same) is.number;
+  whole = is.whole ∙ ap (λ (x : Association). judged_reception x.phase m.header.exchange (opened_by plain_of x octets m.payloads) is.judgement) same;
+}
+
+-- what lower laws say of tables and requests after a call
+pub record Laws : Type 0 where
+  pub released : (old other a b : Database) (spi : ℕ) → table_content old ≡ table_content other → Releases old spi a → Releases other spi b → table_content a ≡ table_content b
+  pub emptied : (old other a b : Database) (ike : ℕ) → table_content old ≡ table_content other → RemovesAllOf old ike a → RemovesAllOf other ike b → table_content a ≡ table_content b
+  pub given_up : (old other a b : OwnRequests Request) → outgoing_content old ≡ outgoing_content other → GivesUpRequests old a → GivesUpRequests other b → outgoing_content a ≡ outgoing_content b
+
+same_after_giving_up : Laws → (spi : Option ℕ) (old other a b : Database) → table_content old ≡ table_content other → GivesUpSpi spi old a → GivesUpSpi spi other b → table_content a ≡ table_content b
+same_after_giving_up laws None old other a b same one two = ap table_content one ∙ same ∙ sym (ap table_content two)
+same_after_giving_up laws (Some spi) old other a b same one two = laws.released old other a b spi same one two
+
+pub same_after_closing : Laws → (old other a b : Association) (old_table other_table a_table b_table : Database) (moment : ℕ) → association_content old ≡ association_content other → table_content old_table ≡ table_content other_table
+    → Closes old old_table moment a a_table → Closes other other_table moment b b_table → (association_content a ≡ association_content b) × (table_content a_table ≡ table_content b_table)
+same_after_closing laws old other a b old_table other_table a_table b_table moment same alike one two =
+    let spis : spi_in other.phase ≡ spi_in old.phase = sym (ap (λ (x : Association). spi_in x.phase) same) in
+    let serials : other.serial ≡ old.serial = sym (ap (λ (x : Association). x.serial) same) in
+    let released : GivesUpSpi (spi_in old.phase) other_table two.between = subst (λ (spi : Option ℕ). GivesUpSpi spi other_table two.between) spis two.released in
+    let removed : RemovesAllOf two.between old.serial b_table = subst (λ (ike : ℕ). RemovesAllOf two.between ike b_table) serials two.removed in
+    let between = same_after_giving_up laws (spi_in old.phase) old_table other_table one.between two.between alike one.released released in
+    let requests : outgoing_content a.outgoing ≡ outgoing_content b.outgoing = laws.given_up old.outgoing other.outgoing a.outgoing b.outgoing (ap (λ (x : Association). x.outgoing) same) one.requests two.requests in (
+      ap association_content one.content
+          ∙ ap (λ (x : Association). record x { outgoing = outgoing_content a.outgoing; phase = Closed (keys_in x.phase) moment }) same
+          ∙ ap (λ (o : OwnRequests Request). record (association_content other) { outgoing = o; phase = Closed (keys_in other.phase) moment }) requests
+          ∙ sym (ap association_content two.content),
+      laws.emptied one.between two.between a_table b_table old.serial between one.removed removed,
+    )

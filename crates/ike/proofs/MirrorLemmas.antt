@@ -1,0 +1,26 @@
+-- The two ends' pairs of one first child.
+use Rattle.std.proofs.Common.{◌≡◌, ℕ, ◌∷◌, [], List, Some, subst, sym}
+use Rattle.wire.specs.declared.payload.Payload.{Payload}
+use Rattle.wire.specs.declared.proposal.Proposal.{Proposal}
+use Rattle.suite.specs.Keys.{first_child_keys}
+use Rattle.suite.specs.declared.key_record.KeyRecord.{KeyRecord}
+use Rattle.exchange.specs.Counting.{only_sa}
+use Rattle.exchange.specs.declared.headers.Role.TheVariants.{Initiator, Responder}
+use Rattle.sadb.specs.Mirrors.{Mirrors}
+use Rattle.sadb.specs.declared.pair.Pair.{Pair}
+use Rattle.association.specs.FirstChildren.{asked_of, FirstChildView}
+use Rattle.children.specs.Asking.{asked_proposal, child_request, HasChildPayloads}
+use Rattle.children.specs.Pairs.{IsChild}
+use Rattle.initial.specs.Children.{IsAnsweredChild, IsAskedChild}
+use Rattle.initial.specs.Configs.{Setup}
+
+-- what is known of the two ends' pairs of a child
+pub record MirrorFacts : Type 0 where
+  pub mirror : (keys : List (List ℕ)) (request reply : List Payload) (proposal : Proposal) (a b : Pair)
+      → only_sa request ≡ Some (proposal ∷ []) → IsChild Initiator keys request reply a → IsChild Responder keys request reply b → Mirrors a b
+
+pub first_mirror : MirrorFacts → (setup : Setup) (keys others : KeyRecord) (child : FirstChildView) (request reply : List Payload) (a b : Pair)
+    → keys ≡ others → HasChildPayloads request (child_request (asked_of child)) → IsAskedChild child keys reply a → IsAnsweredChild setup others request reply b → Mirrors a b
+first_mirror facts setup keys others child request reply a b same asks asked answered =
+    facts.mirror (first_child_keys keys) request reply (asked_proposal (asked_of child)) a b asks.sa (asked.made request asks)
+    (subst (λ (k : KeyRecord). IsChild Responder (first_child_keys k) request reply b) (sym same) answered.child)

@@ -1,0 +1,159 @@
+-- What a step did, by the ways in which it can do something.
+use Rattle.std.proofs.Common.{◌≡◌, inl, inr, ℕ, Bool, true, false, [], List, Option, Some, None, Result, Ok, Err, ap}
+use Rattle.std.specs.List.{position, slice_get}
+use Rattle.base.specs.Octets.{Octets}
+use Rattle.wire.specs.Messages.{Spells}
+use Rattle.wire.specs.declared.message.Message.{Message}
+use Rattle.policy.specs.declared.entry.Entry.{Entry}
+use Rattle.suite.specs.declared.fresh.Fresh.{Fresh}
+use Rattle.sadb.specs.Database.{Database}
+use Rattle.sa_init.specs.Cookies.{CookieSecrets}
+use Rattle.sa_init.specs.Judging.{Accepted, Answered, Full, Incomplete, JudgementView, OfferView}
+use Rattle.association.specs.Finding.{found}
+use Rattle.association.specs.declared.fault.MessageFault.{MessageFault}
+use Rattle.association.specs.declared.phase.Association.{Association}
+use Rattle.initial.specs.Configs.{Setup}
+use Rattle.initial.specs.Keeping.{kept_reply, IsShort}
+use Rattle.initial.specs.Taking.{Meaning}
+use Rattle.ike.specs.Machines.{setup_at, Held, Machine}
+use Rattle.ike.specs.Outputs.{plain_step}
+use Rattle.ike.specs.Receiving.{is_answered, is_initial_request, is_sound_initial, AdmitsNext, DoesJudgement, PassesOver, TakesAt, TakesDatagram, TakesFound, TakesRead, TakesRequestAt, TakesSound}
+use Rattle.ike.specs.Starting.{Starts}
+use Rattle.ike.specs.Steps.{InputView, Steps}
+use Rattle.ike.specs.Steps as steps
+use Rattle.ike.specs.declared.fault.IkeFault.{IkeFault}
+use Rattle.ike.specs.declared.output.IkeOutput.{IkeOutput}
+use Rattle.ike.specs.declared.output.IkeOutput.TheVariants as output
+use Rattle.ike.specs.declared.output.Stepped.{Stepped}
+
+-- a half-open association keeps this reply
+pub record IsKept (old : Held) (octets : Octets) : Type 0 where
+  pub place : ℕ
+  pub association : Association
+  pub there : slice_get old.associations place ≡ Some association
+  pub kept : kept_reply association.phase ≡ Some octets
+
+-- what goes out where nothing changes: a notice, a reply that is kept, or nothing
+abbrev pub GoesOut : Held → IkeOutput → Type 0
+GoesOut old (output.Reply octets closed) = IsShort octets
+GoesOut old (output.Repeat octets) = IsKept old octets
+GoesOut old (output.Request ike octets) = ⊥
+GoesOut old (output.Counted ike child closed) = Unit {0}
+GoesOut old output.Done = Unit {0}
+GoesOut old (output.Dropped f) = Unit {0}
+
+pub record Rests (old : Held) (table : Database) (stepped : Stepped) (new : Held) (new_table : Database) : Type 0 where
+  pub said : IkeOutput
+  pub is : stepped ≡ plain_step said
+  pub goes : GoesOut old said
+  pub same : new ≡ old
+  pub pairs : new_table ≡ table
+
+-- an association that is held takes a message
+pub record Takes (meaning : Meaning) (setup : Setup) (octets : Octets) (old : Held) (table : Database) (stepped : Stepped) (new : Held) (new_table : Database) : Type 0 where
+  pub message : Message
+  pub spelled : Spells message octets
+  pub place : ℕ
+  pub takes : TakesAt place meaning setup octets message old table stepped new new_table
+
+-- an association is half open from then on
+pub record AdmitsOne (meaning : Meaning) (setup : Setup) (octets : Octets) (old : Held) (table : Database) (stepped : Stepped) (new : Held) (new_table : Database) : Type 0 where
+  pub offer : OfferView
+  pub spi_i : ℕ
+  pub admits : AdmitsNext meaning setup offer spi_i octets old stepped new
+  pub pairs : new_table ≡ table
+
+-- an association is begun
+pub record StartsOne (meaning : Meaning) (setup : Setup) (old : Held) (table : Database) (stepped : Stepped) (new : Held) (new_table : Database) : Type 0 where
+  pub ike : Option ℕ
+  pub place : ℕ
+  pub starts : Starts meaning setup ike place old table stepped new new_table
+
+pub data Way (meaning : Meaning) (setup : Setup) (octets : Octets) (old : Held) (table : Database) (stepped : Stepped) (new : Held) (new_table : Database) : Type 0 where
+  rested : Rests old table stepped new new_table → Way meaning setup octets old table stepped new new_table
+  took : Takes meaning setup octets old table stepped new new_table → Way meaning setup octets old table stepped new new_table
+  admitted : AdmitsOne meaning setup octets old table stepped new new_table → Way meaning setup octets old table stepped new new_table
+  started : StartsOne meaning setup old table stepped new new_table → Way meaning setup octets old table stepped new new_table
+
+passed_way : (meaning : Meaning) (setup : Setup) (octets : Octets) (reason : IkeFault) (old : Held) (table : Database) (stepped : Stepped) (new : Held) (new_table : Database)
+    → PassesOver reason old stepped new → new_table ≡ table → Way meaning setup octets old table stepped new new_table
+passed_way meaning setup octets reason old table stepped new new_table is same =
+    rested (record { said = output.Dropped reason; is = is.said; goes = tt; same = is.unchanged; pairs = same })
+
+judged_way : (meaning : Meaning) (setup : Setup) (octets : Octets) (m : Message) (j : JudgementView) (old : Held) (table : Database) (stepped : Stepped) (new : Held) (new_table : Database)
+    → DoesJudgement meaning setup m.header.spi_i octets j old stepped new → new_table ≡ table → Way meaning setup octets old table stepped new new_table
+judged_way meaning setup octets m (Answered notice) old table stepped new new_table is same =
+    rested (record { said = output.Reply is.0.octets None; is = is.0.said; goes = is.0.spelled.limit; same = is.1; pairs = same })
+judged_way meaning setup octets m Incomplete old table stepped new new_table is same = passed_way meaning setup octets _ old table stepped new new_table is same
+judged_way meaning setup octets m Full old table stepped new new_table is same = passed_way meaning setup octets _ old table stepped new new_table is same
+judged_way meaning setup octets m (Accepted offer) old table stepped new new_table is same =
+    elim is.done [
+      | inl refused ↦ passed_way meaning setup octets _ old table stepped new new_table refused.1 same
+      | inr made ↦ admitted (record { offer = offer; spi_i = m.header.spi_i; admits = made; pairs = same })
+    ]
+
+request_way : (o : Option ℕ) (meaning : Meaning) (setup : Setup) (cookies : CookieSecrets) (from octets : Octets) (m : Message) (old : Held) (table : Database) (stepped : Stepped) (new : Held) (new_table : Database)
+    → TakesRequestAt o meaning setup cookies from octets m old stepped new → new_table ≡ table → Way meaning setup octets old table stepped new new_table
+request_way (Some place) meaning setup cookies from octets m old table stepped new new_table is same =
+    rested (record {
+      said = output.Repeat is.0.reply;
+      is = is.0.said;
+      goes = record { place = place; association = is.0.association; there = is.0.there; kept = is.0.kept };
+      same = is.1;
+      pairs = same;
+    })
+request_way None meaning setup cookies from octets m old table stepped new new_table is same =
+    judged_way meaning setup octets m is.judgement old table stepped new new_table is.done same
+
+initial_way : (b : Bool) (meaning : Meaning) (setup : Setup) (cookies : CookieSecrets) (from octets : Octets) (m : Message) (old : Held) (table : Database) (stepped : Stepped) (new : Held) (new_table : Database)
+    → TakesSound b meaning setup cookies from octets m old stepped new → new_table ≡ table → Way meaning setup octets old table stepped new new_table
+initial_way true meaning setup cookies from octets m old table stepped new new_table is same =
+    request_way (position (is_answered octets) old.associations) meaning setup cookies from octets m old table stepped new new_table is same
+initial_way false meaning setup cookies from octets m old table stepped new new_table is same = passed_way meaning setup octets _ old table stepped new new_table is same
+
+found_way : (r : Result ℕ MessageFault) (meaning : Meaning) (setup : Setup) (octets : Octets) (m : Message) (old : Held) (table : Database) (stepped : Stepped) (new : Held) (new_table : Database)
+    → Spells m octets → TakesFound r meaning setup octets m old table stepped new new_table → Way meaning setup octets old table stepped new new_table
+found_way (Ok place) meaning setup octets m old table stepped new new_table spelled is = took (record { message = m; spelled = spelled; place = place; takes = is })
+found_way (Err f) meaning setup octets m old table stepped new new_table spelled is = passed_way meaning setup octets _ old table stepped new new_table is.0 is.1
+
+read_way : (b : Bool) (meaning : Meaning) (setup : Setup) (cookies : CookieSecrets) (from octets : Octets) (m : Message) (old : Held) (table : Database) (stepped : Stepped) (new : Held) (new_table : Database)
+    → Spells m octets → TakesRead b meaning setup cookies from octets m old table stepped new new_table → Way meaning setup octets old table stepped new new_table
+read_way true meaning setup cookies from octets m old table stepped new new_table spelled is =
+    initial_way (is_sound_initial m.header) meaning setup cookies from octets m old table stepped new new_table is.0 is.1
+read_way false meaning setup cookies from octets m old table stepped new new_table spelled is =
+    found_way (found m.header old.associations) meaning setup octets m old table stepped new new_table spelled is
+
+pub datagram_way : (meaning : Meaning) (setup : Setup) (cookies : CookieSecrets) (from octets : Octets) (old : Held) (table : Database) (stepped : Stepped) (new : Held) (new_table : Database)
+    → TakesDatagram meaning setup cookies from octets old table stepped new new_table → Way meaning setup octets old table stepped new new_table
+datagram_way meaning setup cookies from octets old table stepped new new_table is =
+    elim is [
+      | inl unread ↦ passed_way meaning setup octets _ old table stepped new new_table unread.passed unread.unchanged
+      | inr read ↦ read_way (is_initial_request read.message.header) meaning setup cookies from octets read.message old table stepped new new_table read.spelled read.done
+    ]
+
+-- what is not asked for
+abbrev pub no_fresh : Fresh
+no_fresh = record { spi = 0; nonce = []; secret = []; seal = [] }
+
+-- some way, by what the step had to hand
+pub record SomeWay (meaning : Meaning) (old : Held) (table : Database) (stepped : Stepped) (new : Held) (new_table : Database) : Type 0 where
+  pub setup : Setup
+  pub octets : Octets
+  pub way : Way meaning setup octets old table stepped new new_table
+
+pub step_way : (meaning : Meaning) (entries : List Entry) (input : InputView) (old : Machine) (table : Database) (stepped : Stepped) (new : Machine) (new_table : Database)
+    → Steps meaning entries input old table stepped new new_table → SomeWay meaning old.held table stepped new.held new_table
+step_way meaning entries (steps.Message from octets fresh) old table stepped new new_table is =
+    record {
+      setup = setup_at old entries fresh;
+      octets = octets;
+      way = datagram_way meaning (setup_at old entries fresh) old.cookies from octets old.held table stepped new.held new_table is.1;
+    }
+step_way meaning entries (steps.Start ike place fresh) old table stepped new new_table is =
+    record { setup = setup_at old entries fresh; octets = []; way = started (record { ike = ike; place = place; starts = is.1 }) }
+step_way meaning entries (steps.Secret secret) old table stepped new new_table is =
+    record {
+      setup = setup_at old entries no_fresh;
+      octets = [];
+      way = rested (record { said = output.Done; is = is.said; goes = tt; same = ap (λ (m : Machine). m.held) is.content; pairs = is.unchanged });
+    }

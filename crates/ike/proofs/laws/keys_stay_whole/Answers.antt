@@ -1,0 +1,8 @@
+use Rattle.ike.proofs.WholeKeyLemmas.{new_whole, stepped_whole}
+use Rattle.ike.proofs.laws.keys_stay_whole.Goals as goal
+
+pub returns-clause-begun : goal.returns-clause-begun
+returns-clause-begun c = new_whole
+
+pub returns-clause-stepped : goal.returns-clause-stepped
+returns-clause-stepped c = stepped_whole (record { admitted = c.keys_stay_whole.ensures.admitted; taken = c.keys_stay_whole.ensures.taken })

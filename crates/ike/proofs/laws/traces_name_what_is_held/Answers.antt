@@ -1,0 +1,26 @@
+use Rattle.ike.proofs.TraceLemmas.{step_keys, step_traced}
+use Rattle.ike.proofs.laws.traces_name_what_is_held.Goals as goal
+
+pub returns-clause-traced : goal.returns-clause-traced
+returns-clause-traced c =
+    step_traced (record {
+      itself = c.associations_stay_themselves.ensures;
+      keyed = c.keys_stay.ensures.keyed;
+      stay = c.keys_stay.ensures.stay;
+      made = c.children_are_made_of_their_messages.ensures.made;
+      asks = c.children_are_made_of_their_messages.ensures.asked;
+      waits = c.children_are_made_of_their_messages.ensures.waits;
+      sound = c.soundness_stays.ensures;
+    })
+
+pub returns-clause-keys : goal.returns-clause-keys
+returns-clause-keys c =
+    step_keys (record {
+      itself = c.associations_stay_themselves.ensures;
+      keyed = c.keys_stay.ensures.keyed;
+      stay = c.keys_stay.ensures.stay;
+      made = c.children_are_made_of_their_messages.ensures.made;
+      asks = c.children_are_made_of_their_messages.ensures.asked;
+      waits = c.children_are_made_of_their_messages.ensures.waits;
+      sound = c.soundness_stays.ensures;
+    })

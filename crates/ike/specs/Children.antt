@@ -1,0 +1,50 @@
+-- Which messages a first child is made of (RFC 7296 sections 1.2 and 2.17).
+use Rattle.std.specs.Prelude.{◌≡◌, ℕ, Some}
+use Rattle.base.specs.Octets.{Octets}
+use Rattle.wire.specs.Messages.{Spells}
+use Rattle.wire.specs.declared.message.Message.{Message}
+use Rattle.sadb.specs.Database.{Database}
+use Rattle.association.specs.declared.phase.Association.{Association}
+use Rattle.association.specs.declared.phase.AuthSent.{AuthSent}
+use Rattle.association.specs.declared.phase.Phase.TheVariants as phase
+use Rattle.initial.specs.Children.{AsksForChild, MakesChild}
+use Rattle.initial.specs.Configs.{Setup}
+use Rattle.initial.specs.Taking.{Meaning}
+use Rattle.initial.specs.declared.taking.Effect.{Effect}
+use Rattle.ike.specs.Machines.{association_of, Held}
+use Rattle.ike.specs.Outputs.{stepped_of}
+use Rattle.ike.specs.declared.output.IkeOutput.TheVariants.{Request}
+use Rattle.ike.specs.declared.output.MadeChild.{MadeChild}
+use Rattle.ike.specs.declared.output.Stepped.{Stepped}
+
+-- the datagram is a message that made this child, of the association with its serial
+pub record MakesFirstChild (meaning : Meaning) (setup : Setup) (octets : Octets) (old : Held) (table : Database) (stepped : Stepped) (made : MadeChild) (new : Held) (new_table : Database) : Type 0 where
+  pub message : Message
+  pub spelled : Spells message octets
+  pub number : made.number ≡ message.header.id
+  pub was : Association
+  pub serial : was.serial ≡ made.ike
+  pub stood : association_of made.ike old.associations ≡ Some was
+  pub is : Association
+  pub stands : association_of made.ike new.associations ≡ Some is
+  pub effect : Effect
+  pub said : stepped ≡ stepped_of made.ike message.header.id effect
+  pub makes : MakesChild meaning setup was table octets message effect made.serial is new_table
+
+-- the association with this serial asks for its first child by these octets
+pub record AsksFirstChild (meaning : Meaning) (setup : Setup) (ike : ℕ) (next : Octets) (new : Held) : Type 0 where
+  pub is : Association
+  pub stands : association_of ike new.associations ≡ Some is
+  pub asks : AsksForChild meaning setup next is
+
+-- it waited for the response of IKE_AUTH before, with the same content
+pub record WaitedBefore (ike : ℕ) (sent : AuthSent) (old : Held) : Type 0 where
+  pub was : Association
+  pub stood : association_of ike old.associations ≡ Some was
+  pub waited : was.phase ≡ phase.AuthSent sent
+
+-- or its keys are made, and its request goes out, now
+pub record AsksNow (ike : ℕ) (stepped : Stepped) : Type 0 where
+  pub next : Octets
+  pub said : stepped.output ≡ Request ike next
+  pub keyed : stepped.trace.keyed ≡ Some ike

@@ -1,0 +1,19 @@
+-- What is asked of a machine, of an input and of a cipher, so that a step seals in one way (RFC 7296 section 3.14).
+use Rattle.std.specs.Prelude.{ℕ}
+use Rattle.base.specs.Octets.{AreOctets}
+use Rattle.association.specs.declared.phase.Association.{Association}
+use Rattle.initial.specs.Lengths.{HoldsWholeKeys, TellsLengths}
+use Rattle.initial.specs.Taking.{Meaning}
+use Rattle.ike.specs.Machines.{Held}
+use Rattle.ike.specs.Soundness.{At}
+use Rattle.ike.specs.Steps.{InputView, Message, Start, Secret}
+
+-- the keys of each association are whole
+abbrev pub HoldWholeKeys : Held → Type 0
+HoldWholeKeys held = (place : ℕ) (a : Association) → At held place a → HoldsWholeKeys a.phase
+
+-- A datagram is of octets, and a cipher tells how long bodies are with the octets that are fresh, as its law says of 16 of them.
+abbrev pub IsTold : Meaning → InputView → Type 0
+IsTold meaning (Message from octets fresh) = AreOctets octets × TellsLengths meaning.body_of fresh.seal
+IsTold meaning (Start ike place fresh) = Unit {0}
+IsTold meaning (Secret secret) = Unit {0}

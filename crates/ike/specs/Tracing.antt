@@ -1,0 +1,36 @@
+-- What the trace of a step names (RFC 7296 section 2.14, RFC 4301 section 4.4.2).
+use Rattle.std.specs.Prelude.{◌≡◌, ℕ, Some, None, IsSome}
+use Rattle.suite.specs.declared.key_record.KeyRecord.{KeyRecord}
+use Rattle.sadb.specs.Database.{pair_at, Database}
+use Rattle.sadb.specs.declared.pair.Pair.{Pair}
+use Rattle.association.specs.Phases.{keys_in}
+use Rattle.association.specs.declared.phase.Association.{Association}
+use Rattle.initial.specs.Pairs.{IsUnused}
+use Rattle.ike.specs.Machines.{association_of, Held}
+use Rattle.ike.specs.Outputs.{octets_in}
+use Rattle.ike.specs.declared.output.MadeChild.{MadeChild}
+use Rattle.ike.specs.declared.output.Mark.{Mark}
+use Rattle.ike.specs.declared.output.Stepped.{Stepped}
+
+-- an association with this serial is held, and has keys
+pub record HoldsKeys (held : Held) (serial : ℕ) : Type 0 where
+  pub association : Association
+  pub there : association_of serial held.associations ≡ Some association
+  pub keys : KeyRecord
+  pub are : keys_in association.phase ≡ Some keys
+
+-- a child came, of an association that is held and has keys: its pair, with no number sent or taken, stands under the next serial
+pub record HoldsChild (table : Database) (made : MadeChild) (held : Held) (new_table : Database) : Type 0 where
+  pub keyed : HoldsKeys held made.ike
+  pub pair : Pair
+  pub in_order : made.serial ≡ table.next
+  pub was_none : pair_at table.pairs made.serial ≡ None
+  pub there : pair_at new_table.pairs made.serial ≡ Some pair
+  pub unused : IsUnused made.ike pair
+
+-- what was sent under keys has octets and is of an association that has them, and so is what keys and which child were made
+pub record IsTraced (table : Database) (stepped : Stepped) (new : Held) (new_table : Database) : Type 0 where
+  pub octets : (mark : Mark) → stepped.trace.sent ≡ Some mark → IsSome (octets_in stepped.output)
+  pub sent : (mark : Mark) → stepped.trace.sent ≡ Some mark → HoldsKeys new mark.ike
+  pub keyed : (ike : ℕ) → stepped.trace.keyed ≡ Some ike → HoldsKeys new ike
+  pub child : (made : MadeChild) → stepped.trace.child ≡ Some made → HoldsChild table made new new_table

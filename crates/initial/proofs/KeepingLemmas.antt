@@ -1,0 +1,307 @@
+-- What an association keeps is short, and its keys stay.
+use Rattle.std.proofs.Common.{◌≡◌, inl, inr, ℕ, ◌+◌, cond, List, Option, Some, None, ap, refl, subst, sym, ◌∙◌}
+use Rattle.std.specs.Cmp.{nat_cmp_total, unsigned_tied}
+use Rattle.std.specs.FinMap as map
+use Rattle.std.specs.Ordering.{nat_cmp}
+use Rattle.std.proofs.lemmas.Bool.Decides.{eqb_tells}
+use Rattle.base.specs.Octets.{Octets}
+use Rattle.wire.specs.Numbers.{IKE_AUTH, IKE_SA_INIT}
+use Rattle.wire.specs.declared.message.Message.{Message}
+use Rattle.wire.specs.declared.payload.Payload.{Payload}
+use Rattle.suite.specs.declared.fresh.Fresh.{Fresh}
+use Rattle.suite.specs.declared.key_record.KeyRecord.{KeyRecord}
+use Rattle.suite.specs.declared.sealer.Cipher.{Cipher}
+use Rattle.exchange.specs.declared.headers.Role.{Role}
+use Rattle.exchange.specs.declared.sealed.Plain.{Plain}
+use Rattle.requests.specs.Incoming.{PeerRequests}
+use Rattle.requests.specs.Outgoing.{none_issued, number_0_answered, OwnRequests}
+use Rattle.sadb.specs.Database.{Database}
+use Rattle.sa_init.specs.Judging.{OfferView}
+use Rattle.association.specs.FirstChildren.{FirstChildView}
+use Rattle.association.specs.Phases.{established_of, keys_in}
+use Rattle.association.specs.Receiving.{opened_under, IsReceived, IsRepeating, Opening, Repeat}
+use Rattle.association.specs.declared.phase.Association.{Association}
+use Rattle.association.specs.declared.phase.InitSent.{InitSent}
+use Rattle.association.specs.declared.phase.Phase.{Phase}
+use Rattle.association.specs.declared.phase.Phase.TheVariants as phase
+use Rattle.association.specs.declared.phase.Request.{Request}
+use Rattle.initial.specs.Answering.{outcome_of}
+use Rattle.initial.specs.Beginning.{begun, half_open, Admits, Begins}
+use Rattle.initial.specs.Concluding.{established, widened, ConcludesBy}
+use Rattle.initial.specs.Configs.{Setup}
+use Rattle.initial.specs.Issuing.{new_request, IssuesNext}
+use Rattle.initial.specs.Keeping.{kept_reply, sent_by, HasKeys, IsShort, KeepsShort, KeyedBy}
+use Rattle.initial.specs.Taking.{Meaning, TakesMessage}
+use Rattle.initial.specs.declared.answering.Answered.{Answered}
+use Rattle.initial.specs.declared.beginning.Admitted.{Admitted}
+use Rattle.initial.specs.declared.beginning.Beginning.{Beginning}
+use Rattle.initial.specs.declared.concluding.Outcome.{Outcome}
+use Rattle.initial.specs.declared.concluding.Outcome.TheVariants as outcome
+use Rattle.initial.specs.declared.ending.Ended.{Ended}
+use Rattle.initial.specs.declared.taking.Effect.{Effect}
+use Rattle.initial.specs.declared.taking.Effect.TheVariants as effect
+use Rattle.initial.proofs.WayLemmas.{way_of, Way, WasAsked, WasCounted, WasIdentified, WasRepeated, WasReplied}
+
+-- what is known of a request that comes again
+pub record RepeatFacts : Type 0 where
+  pub why : (plain_of : Opening) (a : Association) (octets : Octets) (m : Message) (reply : Octets) → IsReceived plain_of a octets m (Repeat reply) → IsRepeating plain_of a octets m reply
+
+-- ---- maps of what is short
+
+abbrev pub AllShort : {T : Type 0} → (T → Octets) → map.FinMap nat_cmp T → Type 0
+AllShort {T} octets_in m = (number : ℕ) (x : T) → map.get m number ≡ Some x → IsShort (octets_in x)
+
+some_none : {T : Type 0} (x : T) → None ≡ Some x → ⊥
+some_none x is = cc
+
+same_item : {T : Type 0} (x y : T) → Some x ≡ Some y → x ≡ y
+same_item x y is = cc
+
+empty_short : {T : Type 0} (octets_in : T → Octets) → AllShort octets_in map.empty
+empty_short {T} octets_in = λ number x is. absurd (some_none x (sym (map.get-empty {X = T} nat_cmp number) ∙ is))
+
+same_short : {T : Type 0} (octets_in : T → Octets) (m n : map.FinMap nat_cmp T) → n ≡ m → AllShort octets_in m → AllShort octets_in n
+same_short {T} octets_in m n same short = subst (λ (x : map.FinMap nat_cmp T). AllShort octets_in x) (sym same) short
+
+insert_short : {T : Type 0} (octets_in : T → Octets) (m : map.FinMap nat_cmp T) (k : ℕ) (v : T) → IsShort (octets_in v) → AllShort octets_in m → AllShort octets_in (map.insert m k v)
+insert_short {T} octets_in m k v new short = λ number x is.
+    elim (eqb_tells number k) [
+      | inl (one, same) ↦ subst (λ (y : T). IsShort (octets_in y))
+          (same_item v x (sym (map.get-insert nat_cmp_total m k v number ∙ ap (λ b. cond b (Some v) (map.get m number)) (unsigned_tied number k ∙ one)) ∙ is)) new
+      | inr (none, other) ↦ short number x (sym (map.get-insert nat_cmp_total m k v number ∙ ap (λ b. cond b (Some v) (map.get m number)) (unsigned_tied number k ∙ none)) ∙ is)
+    ]
+
+remove_short : {T : Type 0} (octets_in : T → Octets) (m : map.FinMap nat_cmp T) (k : ℕ) → AllShort octets_in m → AllShort octets_in (map.remove m k)
+remove_short {T} octets_in m k short = λ number x is.
+    elim (eqb_tells number k) [
+      | inl (one, same) ↦ absurd (some_none x (sym (map.get-remove nat_cmp_total m k number ∙ ap (λ b. cond b None (map.get m number)) (unsigned_tied number k ∙ one)) ∙ is))
+      | inr (none, other) ↦ short number x (sym (map.get-remove nat_cmp_total m k number ∙ ap (λ b. cond b None (map.get m number)) (unsigned_tied number k ∙ none)) ∙ is)
+    ]
+
+abbrev pub itself : Octets → Octets
+itself octets = octets
+
+abbrev pub octets_of : Request → Octets
+octets_of request = request.octets
+
+-- ---- one association
+
+short_as : (a b : Association) → b ≡ a → KeepsShort a → KeepsShort b
+short_as a b same short = subst (λ (x : Association). KeepsShort x) (sym same) short
+
+keys_as : (a b : Association) → b ≡ a → keys_in b.phase ≡ keys_in a.phase
+keys_as a b same = ap (λ (x : Association). keys_in x.phase) same
+
+established_keys : (p : Phase) → keys_in (established_of p) ≡ keys_in p
+established_keys (phase.InitSent sent) = refl
+established_keys (phase.AuthSent sent) = refl
+established_keys (phase.HalfOpen opened) = refl
+established_keys (phase.Established keys) = refl
+established_keys (phase.Closed keys at) = refl
+
+-- an association that IKE_AUTH established keeps no reply beside those by number
+none_first : (p : Phase) (keys : KeyRecord) → established_of p ≡ phase.Established keys → (reply : Octets) → kept_reply (established_of p) ≡ Some reply → IsShort reply
+none_first p keys was reply is = absurd (some_none reply (sym (ap kept_reply was) ∙ is))
+
+closed_first : (keys : Option KeyRecord) (at : ℕ) (reply : Octets) → kept_reply (phase.Closed keys at) ≡ Some reply → IsShort reply
+closed_first keys at reply is = absurd (some_none reply is)
+
+-- what is left of an association when IKE_AUTH is done
+record IsDone (a : Association) (new : Association) : Type 0 where
+  short : AllShort itself a.incoming.kept → AllShort octets_of a.outgoing.outstanding → KeepsShort new
+  keys : keys_in new.phase ≡ keys_in a.phase
+
+concluded_done : (setup : Setup) (a : Association) (table : Database) (o : Outcome) (child : Option ℕ) (new : Association) (new_table : Database) (keys : KeyRecord)
+    → established_of a.phase ≡ phase.Established keys → ConcludesBy setup a table o child new new_table → IsDone a new
+concluded_done setup a table outcome.Closes child new new_table keys was c =
+    record {
+      short = λ replies requests.
+          short_as (record a { outgoing = new.outgoing; phase = phase.Closed (keys_in a.phase) setup.moment }) new c.over.content
+          (record {
+            replies = replies;
+            requests = same_short octets_of map.empty new.outgoing.outstanding (ap (λ (r : OwnRequests Request). r.outstanding) c.over.requests.content) (empty_short octets_of);
+            first = closed_first (keys_in a.phase) setup.moment;
+          });
+      keys = ap (λ (x : Association). keys_in x.phase) c.over.content;
+    }
+concluded_done setup a table (outcome.Establishes pair window) child new new_table keys was c =
+    record {
+      short = λ replies requests.
+          short_as (widened setup.config.window window (established a)) new c.content
+          (record { replies = replies; requests = requests; first = none_first a.phase keys was });
+      keys = ap (λ (x : Association). keys_in x.phase) c.content ∙ established_keys a.phase;
+    }
+
+-- ---- what a message leaves
+
+record Leaves (e : Effect) (old new : Association) : Type 0 where
+  short : KeepsShort old → KeepsShort new
+  sent : KeepsShort old → (octets : Octets) → sent_by e ≡ Some octets → IsShort octets
+  keys : (keys : KeyRecord) → keys_in old.phase ≡ Some keys → keys_in new.phase ≡ Some keys
+  keyed : KeyedBy e new.phase
+
+same_keys : (old new : Association) → keys_in new.phase ≡ keys_in old.phase → (keys : KeyRecord) → keys_in old.phase ≡ Some keys → keys_in new.phase ≡ Some keys
+same_keys old new same keys is = same ∙ is
+
+none_sent : (octets : Octets) → None ≡ Some octets → IsShort octets
+none_sent octets is = absurd (some_none octets is)
+
+sent_short : (said octets : Octets) → IsShort said → Some said ≡ Some octets → IsShort octets
+sent_short said octets short is = subst (λ (o : Octets). IsShort o) (same_item said octets is) short
+
+opened_keys : (plain_of : Opening) (role : Role) (keys : Option KeyRecord) (octets : Octets) (payloads : List Payload) (plain : Plain)
+    → opened_under plain_of role keys octets payloads ≡ Some plain → (k : KeyRecord) × (keys ≡ Some k)
+opened_keys plain_of role None octets payloads plain is = absurd (some_none plain is)
+opened_keys plain_of role (Some keys) octets payloads plain is = (keys, refl)
+
+keys_from : (p : Phase) (k : KeyRecord) → keys_in p ≡ Some k → HasKeys p
+keys_from p k are = record { keys = k; are = are }
+
+repeated_leaves : (facts : RepeatFacts) (meaning : Meaning) (old : Association) (table : Database) (octets : Octets) (m : Message) (reply : Octets) (new : Association) (new_table : Database)
+    → WasRepeated meaning old table octets m reply new new_table → Leaves (effect.Repeated reply) old new
+repeated_leaves facts meaning old table octets m reply new new_table is =
+    let why : IsRepeating meaning.plain_of old octets m reply = facts.why meaning.plain_of old octets m reply is.received in
+    let keyed = opened_keys meaning.plain_of old.role (keys_in old.phase) octets m.payloads why.plain why.opened in
+    let same = keys_as old new is.same.association in
+    record {
+      short = λ short. short_as old new is.same.association short;
+      sent = λ short said e. sent_short reply said (short.replies m.header.id reply why.kept) e;
+      keys = same_keys old new same;
+      keyed = keys_from new.phase keyed.0 (same ∙ keyed.1);
+    }
+
+replied_leaves : (meaning : Meaning) (setup : Setup) (old : Association) (table : Database) (octets : Octets) (m : Message) (answered : Answered) (new : Association) (new_table : Database)
+    → WasReplied meaning setup old table octets m answered new new_table → Leaves (effect.Replied answered) old new
+replied_leaves meaning setup old table octets m answered new new_table is =
+    let d = is.done in
+    let done = concluded_done setup (record old { incoming = d.incoming }) d.between (outcome_of d.decision) answered.child new new_table d.opened.keys (ap established_of d.was) d.concluded in
+    let replies : KeepsShort old → AllShort itself d.incoming.kept = λ short n reply there.
+    insert_short itself d.ready.kept m.header.id answered.octets d.sealed.whole.limit
+    (same_short itself old.incoming.kept d.ready.kept (ap (λ (r : PeerRequests). r.kept) d.prepared.content) short.replies) n reply ((d.taken.kept n reply).0 there).0 in
+    record {
+      short = λ short. done.short (replies short) short.requests;
+      sent = λ short said e. sent_short answered.octets said d.sealed.whole.limit e;
+      keys = same_keys old new done.keys;
+      keyed = keys_from new.phase d.opened.keys (done.keys ∙ ap keys_in d.was);
+    }
+
+counted_leaves : (meaning : Meaning) (setup : Setup) (old : Association) (table : Database) (octets : Octets) (m : Message) (ended : Ended) (new : Association) (new_table : Database)
+    → WasCounted meaning setup old table octets m ended new new_table → Leaves (effect.Counted ended) old new
+counted_leaves meaning setup old table octets m ended new new_table is =
+    let d = is.done in
+    let done = concluded_done setup (record old { outgoing = d.outgoing }) table d.verdict ended.child new new_table d.sent.keys (ap established_of d.was) d.concluded in
+    record {
+      short = λ short. done.short short.replies
+          (same_short octets_of (map.remove old.outgoing.outstanding m.header.id) d.outgoing.outstanding
+          (ap (λ (r : OwnRequests Request). r.outstanding) d.counted.content) (remove_short octets_of old.outgoing.outstanding m.header.id short.requests));
+      sent = λ short. none_sent;
+      keys = same_keys old new done.keys;
+      keyed = keys_from new.phase d.sent.keys (done.keys ∙ ap keys_in d.was);
+    }
+
+-- an association that waits for the response to IKE_SA_INIT has no keys
+no_keys : (old : Association) (p : Phase) (sent : InitSent) (keys : KeyRecord) → old.phase ≡ phase.InitSent sent → keys_in old.phase ≡ Some keys → keys_in p ≡ Some keys
+no_keys old p sent keys was is = absurd (some_none keys (sym (ap keys_in was) ∙ is))
+
+asked_leaves : (meaning : Meaning) (setup : Setup) (old : Association) (table : Database) (m : Message) (next : Octets) (new : Association) (new_table : Database)
+    → WasAsked meaning setup old table m next new new_table → Leaves (effect.Again next) old new
+asked_leaves meaning setup old table m next new new_table is =
+    let d = is.done in
+    record {
+      short = λ short.
+          short_as (record old { outgoing = new.outgoing; phase = phase.InitSent (record is.sent { cookie = Some is.cookie; cookies_taken = is.sent.cookies_taken + 1 }) }) new d.content
+          (record {
+            replies = short.replies;
+            requests = same_short octets_of (map.insert old.outgoing.outstanding m.header.id (new_request next IKE_SA_INIT setup.moment)) new.outgoing.outstanding
+                (ap (λ (r : OwnRequests Request). r.outstanding) d.replaced.content)
+                (insert_short octets_of old.outgoing.outstanding m.header.id (new_request next IKE_SA_INIT setup.moment) d.spelled.limit short.requests);
+            first = none_sent;
+          });
+      sent = λ short said e. sent_short next said d.spelled.limit e;
+      keys = λ keys are. no_keys old new.phase is.sent keys is.was are;
+      keyed = tt;
+    }
+
+issued_short : (old : OwnRequests Request) (request : Request) (new : OwnRequests Request) → AllShort octets_of old.outstanding → IsShort request.octets → IssuesNext old request new → AllShort octets_of new.outstanding
+issued_short old request new before short is =
+    same_short octets_of (map.insert is.ready.outstanding old.next request) new.outstanding (ap (λ (r : OwnRequests Request). r.outstanding) is.issued.content)
+    (insert_short octets_of is.ready.outstanding old.next request short
+    (same_short octets_of old.outstanding is.ready.outstanding (ap (λ (r : OwnRequests Request). r.outstanding) is.prepared.content) before))
+
+identified_leaves : (meaning : Meaning) (setup : Setup) (old : Association) (table : Database) (octets : Octets) (m : Message) (next : Octets) (new : Association) (new_table : Database)
+    → WasIdentified meaning setup old table octets m next new new_table → Leaves (effect.Identified next) old new
+identified_leaves meaning setup old table octets m next new new_table is =
+    let d = is.done in
+    record {
+      short = λ short.
+          short_as (record old { spi_r = m.header.spi_r; outgoing = new.outgoing; phase = phase.AuthSent (record { keys = is.keys; first = octets; child = is.sent.child }) }) new d.content
+          (record {
+            replies = short.replies;
+            requests = issued_short number_0_answered (new_request next IKE_AUTH setup.moment) new.outgoing (empty_short octets_of) d.sealed.whole.limit d.issued;
+            first = none_sent;
+          });
+      sent = λ short said e. sent_short next said d.sealed.whole.limit e;
+      keys = λ keys are. no_keys old new.phase is.sent keys is.was are;
+      keyed = keys_from new.phase is.keys (ap (λ (x : Association). keys_in x.phase) d.content);
+    }
+
+way_leaves : (facts : RepeatFacts) (meaning : Meaning) (setup : Setup) (old : Association) (table : Database) (octets : Octets) (m : Message) (e : Effect) (new : Association) (new_table : Database)
+    → Way meaning setup old table octets m e new new_table → Leaves e old new
+way_leaves facts meaning setup old table octets m (effect.Refused fault) new new_table is =
+    record {
+      short = λ short. short_as old new is.association short;
+      sent = λ short. none_sent;
+      keys = same_keys old new (keys_as old new is.association);
+      keyed = tt;
+    }
+way_leaves facts meaning setup old table octets m (effect.Repeated reply) new new_table is = repeated_leaves facts meaning old table octets m reply new new_table is
+way_leaves facts meaning setup old table octets m (effect.Replied answered) new new_table is = replied_leaves meaning setup old table octets m answered new new_table is
+way_leaves facts meaning setup old table octets m (effect.Again next) new new_table is = asked_leaves meaning setup old table m next new new_table is
+way_leaves facts meaning setup old table octets m (effect.Identified next) new new_table is = identified_leaves meaning setup old table octets m next new new_table is
+way_leaves facts meaning setup old table octets m (effect.Counted ended) new new_table is = counted_leaves meaning setup old table octets m ended new new_table is
+
+leaves : (facts : RepeatFacts) (meaning : Meaning) (setup : Setup) (old : Association) (table : Database) (octets : Octets) (m : Message) (e : Effect) (new : Association) (new_table : Database)
+    → TakesMessage meaning setup old table octets m e new new_table → Leaves e old new
+leaves facts meaning setup old table octets m e new new_table is =
+    way_leaves facts meaning setup old table octets m e new new_table (way_of meaning setup old table octets m e new new_table is)
+
+-- ---- the laws
+
+pub short_stays : RepeatFacts → (meaning : Meaning) (setup : Setup) (old : Association) (table : Database) (octets : Octets) (m : Message) (e : Effect) (new : Association) (new_table : Database)
+    → KeepsShort old → TakesMessage meaning setup old table octets m e new new_table → KeepsShort new
+short_stays facts meaning setup old table octets m e new new_table short is = (leaves facts meaning setup old table octets m e new new_table is).short short
+
+pub sent_is_short : RepeatFacts → (meaning : Meaning) (setup : Setup) (old : Association) (table : Database) (octets : Octets) (m : Message) (e : Effect) (new : Association) (new_table : Database) (said : Octets)
+    → KeepsShort old → TakesMessage meaning setup old table octets m e new new_table → sent_by e ≡ Some said → IsShort said
+sent_is_short facts meaning setup old table octets m e new new_table said short is named = (leaves facts meaning setup old table octets m e new new_table is).sent short said named
+
+pub keys_remain : RepeatFacts → (meaning : Meaning) (setup : Setup) (old : Association) (table : Database) (octets : Octets) (m : Message) (e : Effect) (new : Association) (new_table : Database) (keys : KeyRecord)
+    → keys_in old.phase ≡ Some keys → TakesMessage meaning setup old table octets m e new new_table → keys_in new.phase ≡ Some keys
+keys_remain facts meaning setup old table octets m e new new_table keys are is = (leaves facts meaning setup old table octets m e new new_table is).keys keys are
+
+pub keys_there : RepeatFacts → (meaning : Meaning) (setup : Setup) (old : Association) (table : Database) (octets : Octets) (m : Message) (e : Effect) (new : Association) (new_table : Database)
+    → TakesMessage meaning setup old table octets m e new new_table → KeyedBy e new.phase
+keys_there facts meaning setup old table octets m e new new_table is = (leaves facts meaning setup old table octets m e new new_table is).keyed
+
+pub begun_short : (cipher : Cipher) (group : ℕ) (public_value : Octets → Octets) (fresh : Fresh) (moment serial : ℕ) (beginning : Beginning) (child : FirstChildView)
+    → Begins cipher group public_value fresh moment beginning → KeepsShort (begun serial beginning child) × IsShort beginning.octets
+begun_short cipher group public_value fresh moment serial beginning child is = (
+  record {
+    replies = empty_short itself;
+    requests = issued_short none_issued (new_request beginning.octets IKE_SA_INIT moment) beginning.outgoing (empty_short octets_of) is.spelled.limit is.issued;
+    first = none_sent;
+  },
+  is.spelled.limit,
+)
+
+pub admitted_short : (cipher : Cipher) (group : ℕ) (public_value : Octets → Octets) (shared_secret : Octets → Octets → Option Octets) (fresh : Fresh) (moment serial : ℕ) (offer : OfferView) (spi_i : ℕ) (request : Octets) (admitted : Admitted)
+    → Admits cipher group public_value shared_secret fresh moment serial offer spi_i request admitted → KeepsShort admitted.association × IsShort admitted.octets
+admitted_short cipher group public_value shared_secret fresh moment serial offer spi_i request admitted is = (
+  short_as (half_open serial spi_i fresh.spi is.agreed.record request is.agreed.octets moment) admitted.association is.content
+      (record {
+        replies = empty_short itself;
+        requests = empty_short octets_of;
+        first = λ reply e. sent_short is.agreed.octets reply is.answer.spelled.limit e;
+      }),
+  subst (λ (o : Octets). IsShort o) (sym is.octets) is.answer.spelled.limit,
+)

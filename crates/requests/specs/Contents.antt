@@ -1,0 +1,9 @@
+-- What the numbers of an association say. For how many more replies or requests there is room is no part of it.
+use Rattle.requests.specs.Incoming.{PeerRequests}
+use Rattle.requests.specs.Outgoing.{OwnRequests}
+
+abbrev pub incoming_content : PeerRequests → PeerRequests
+incoming_content r = record r { room = 0 }
+
+abbrev pub outgoing_content : {T : Type 0} → OwnRequests T → OwnRequests T
+outgoing_content r = record r { room = 0 }
