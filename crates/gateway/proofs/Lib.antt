@@ -2,3 +2,6 @@ mod PacketLemmas
 mod LawLemmas
 mod RunLemmas
 mod QuietLemmas
+mod WorldLemmas
+mod FittingLemmas
+mod DeterminedSteps

@@ -3,3 +3,8 @@ pub mod Outputs
 pub mod States
 pub mod Steps
 pub mod Runs
+pub mod Worlds
+pub mod WorldRuns
+pub mod Storing
+pub mod Contents
+pub mod Lengths

@@ -1,9 +1,10 @@
 -- What comes of an input, as plain data.
-use Rattle.std.specs.Prelude.{ℕ, Option}
+use Rattle.std.specs.Prelude.{◌≤◌, ℕ, Option, length, Bool, false}
 use Rattle.base.specs.Octets.{Octets}
 use Rattle.ike.specs.declared.output.IkeOutput.{IkeOutput}
 use Rattle.ike.specs.declared.output.IkeOutput.TheVariants as ike
 use Rattle.traffic.specs.Outcomes as traffic
+use Rattle.gateway.specs.Faults.{is_lack_of_memory}
 use Rattle.gateway.specs.declared.fault.Reason.{Reason}
 use Rattle.gateway.specs.declared.fault.Reason.TheVariants as reason
 use Rattle.gateway.specs.declared.output.Output.{Output}
@@ -63,3 +64,27 @@ abbrev pub IsQuiet : Said → Type 0
 IsQuiet (Dropped why) = Unit {0}
 IsQuiet (Repeat octets) = Unit {0}
 IsQuiet _ = ⊥
+
+-- no datagram has more octets: a message of IKE has fewer, and no ESP packet is longer (a limit of this implementation)
+abbrev pub DATAGRAM_LIMIT : ℕ
+DATAGRAM_LIMIT = 16664
+
+-- what is sent is no longer
+abbrev pub FitsDatagram : Said → Type 0
+FitsDatagram (Reply octets closed) = length octets ≤ DATAGRAM_LIMIT
+FitsDatagram (Repeat octets) = length octets ≤ DATAGRAM_LIMIT
+FitsDatagram (Request serial octets) = length octets ≤ DATAGRAM_LIMIT
+FitsDatagram (Sealed child number octets) = length octets ≤ DATAGRAM_LIMIT
+FitsDatagram (Counted serial child closed) = Unit {0}
+FitsDatagram Done = Unit {0}
+FitsDatagram (Up child number packet) = Unit {0}
+FitsDatagram (Dummy child number) = Unit {0}
+FitsDatagram (Clear packet) = Unit {0}
+FitsDatagram Discarded = Unit {0}
+FitsDatagram (Dropped why) = Unit {0}
+FitsDatagram (Refused why) = Unit {0}
+
+-- an input was refused for want of memory
+abbrev pub lacks_memory : Said → Bool
+lacks_memory (Refused why) = is_lack_of_memory why
+lacks_memory _ = false

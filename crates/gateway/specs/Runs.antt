@@ -1,4 +1,4 @@
--- A list of inputs, and their outputs in order.
+-- A list of inputs, and their outputs in order: of a gateway, or of events at two ends.
 use Rattle.std.specs.Prelude.{◌≡◌, ◌<◌, ◌++◌, ℕ, List, [], ◌∷◌, length, take}
 use Rattle.initial.specs.Taking.{Meaning}
 use Rattle.gateway.specs.Outputs.{said}
@@ -9,22 +9,24 @@ use Rattle.gateway.specs.declared.fault.RunFault.TheVariants.{NoRoom}
 use Rattle.gateway.specs.declared.input.Input.{Input}
 use Rattle.gateway.specs.declared.output.Output.{Output}
 
--- each input in order, and its output
-abbrev pub Runs : {C : Type 0} → Meaning → List Input → List Output → State C → State C → Type 0
-Runs {C} meaning [] [] old new = new ≡ old
-Runs {C} meaning (i ∷ is) (o ∷ os) old new =
-    (between : State C) × Steps meaning i old (said o) between × Runs meaning is os between new
-Runs {C} meaning [] (o ∷ os) old new = ⊥
-Runs {C} meaning (i ∷ is) [] old new = ⊥
+-- each in order, by such a step, and its output
+abbrev pub Runs : {I O S : Type 0} → (I → S → O → S → Type 0) → List I → List O → S → S → Type 0
+Runs {I} {O} {S} step [] [] old new = new ≡ old
+Runs {I} {O} {S} step (i ∷ is) (o ∷ os) old new = (between : S) × step i old o between × Runs step is os between new
+Runs {I} {O} {S} step [] (o ∷ os) old new = ⊥
+Runs {I} {O} {S} step (i ∷ is) [] old new = ⊥
 
--- the first so many inputs were taken, and their outputs appended
-pub record RunsFirst {C : Type 0} (meaning : Meaning) (count : ℕ) (inputs : List Input) (old : State C) (before : List Output) (new : State C) (after : List Output) : Type 0 where
-  pub outputs : List Output
+-- the first so many were taken, and their outputs appended
+pub record RunsFirst {I O S : Type 0} (step : I → S → O → S → Type 0) (count : ℕ) (inputs : List I) (old : S) (before : List O) (new : S) (after : List O) : Type 0 where
+  pub outputs : List O
   pub appended : after ≡ before ++ outputs
-  pub each : length outputs ≡ count
-  pub runs : Runs meaning (take count inputs) outputs old new
+  pub runs : Runs step (take count inputs) outputs old new
 
--- there was no room for one more output: the list was left after some of its inputs, and not at its end
-abbrev pub Stops : {C : Type 0} → Meaning → List Input → State C → List Output → RunFault → State C → List Output → Type 0
-Stops meaning inputs old before (NoRoom count) new after =
-    (count < length inputs) × RunsFirst meaning count inputs old before new after
+-- there was no room for what comes of one more: the list was left after some, and not at its end
+abbrev pub Stops : {I O S : Type 0} → (I → S → O → S → Type 0) → List I → S → List O → RunFault → S → List O → Type 0
+Stops {I} {O} {S} step inputs old before (NoRoom count) new after =
+    (count < length inputs) × RunsFirst step count inputs old before new after
+
+-- a step of a gateway as its caller means it
+abbrev pub StepsAs : {C : Type 0} → (C → Meaning) → Input → State C → Output → State C → Type 0
+StepsAs {C} meaning_of i old o new = Steps (meaning_of old.caller) i old (said o) new

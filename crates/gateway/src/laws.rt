@@ -1,5 +1,6 @@
 //! What follows from the definitions alone. No function here does anything.
-ghost use Rattle.std.specs.Prelude.{◌≡◌, true, false};
+ghost use Rattle.std.specs.Prelude.{◌≡◌, List, true, false, map};
+ghost use Rattle.std.specs.List.{AllByRecursion};
 ghost use Rattle.base.specs.Octets.{Octets};
 ghost use Rattle.policy.specs.declared.entry.Action.{Action};
 ghost use Rattle.policy.specs.declared.entry.Action.TheVariants.{Bypass, Protect};
@@ -7,18 +8,36 @@ ghost use Rattle.policy.specs.declared.flow.Flow.{Flow};
 ghost use Rattle.policy.specs.declared.policy.Direction.TheVariants as direction;
 ghost use Rattle.suite.specs.declared.fresh.Fresh.{Fresh};
 ghost use Rattle.initial.specs.Taking.{Meaning};
-ghost use Rattle.sadb.specs.Database.{IsAsBefore};
+ghost use Rattle.sadb.specs.Database.{IsAsBefore, IsSoundTable};
 ghost use Rattle.traffic.specs.Receiving.{TakesOneNumber};
 ghost use Rattle.traffic.specs.Sending.{IsDecided};
+ghost use Rattle.ike.specs.Lengths.{HoldWholeKeys};
+ghost use Rattle.ike.specs.declared.output.Trace.{Trace};
+ghost use Rattle.gateway.specs.Contents.{state_content};
 ghost use Rattle.gateway.specs.Faults.{is_after_judging_packet};
-ghost use Rattle.gateway.specs.Outputs.{Clear, Dropped, IsQuiet, Refused, Said};
+ghost use Rattle.ike.specs.Soundness.{IsSoundMachine};
+ghost use Rattle.gateway.specs.Outputs.{Clear, Dropped, FitsDatagram, IsQuiet, Refused, Said, lacks_memory, said};
+ghost use Rattle.gateway.specs.Runs.{Runs, StepsAs};
 ghost use Rattle.gateway.specs.States.{State};
-ghost use Rattle.gateway.specs.Steps.{GoesSealed, Steps};
+ghost use Rattle.gateway.specs.Steps.{GoesSealed, Steps, Traces};
+ghost use Rattle.gateway.specs.Storing.{FitsChild};
+ghost use Rattle.gateway.specs.WorldRuns.{inputs_at, outputs_at, HappensAs, IsLater};
+ghost use Rattle.gateway.specs.Worlds.{gateway_at, WorldState};
+ghost use Rattle.gateway.specs.declared.output.Output.{Output};
+ghost use Rattle.gateway.specs.declared.world.stored.End.{End};
+ghost use Rattle.gateway.specs.declared.world.stored.Event.{Event};
+ghost use Rattle.gateway.specs.Lengths.{IsGiven};
 ghost use Rattle.gateway.specs.declared.fault.Reason.{Reason};
 ghost use Rattle.gateway.specs.declared.input.Input.{Input};
 ghost use Rattle.gateway.specs.declared.input.Input.TheVariants as input;
 
-use traffic::laws::{a_packet_takes_one_number, only_the_bypassed_goes_in_the_clear};
+use esp::laws::sealed_packets_open;
+use ike::laws::{children_have_few_selectors, what_is_sent_is_short};
+use sadb::laws::later_tables_are_determined;
+use traffic::laws::{
+    a_packet_takes_one_number, only_the_bypassed_goes_in_the_clear, outcomes_are_determined,
+    outcomes_go_by_content,
+};
 
 /// What is to be protected never goes in the clear, outward or inward: outward it goes sealed or, for want of an association, of a
 /// number (E28, E12) or of memory, not at all. Only what the policy bypasses goes on as it is.
@@ -67,4 +86,65 @@ pub fn a_dropped_packet_takes_one_number_at_most<C>()
         → Steps meaning (input.Inward packet) old said new → new ≡ old }
 {
     a_packet_takes_one_number();
+}
+
+/// What goes out has at most 16,664 octets: a message of IKE at most 3000, an ESP packet at most what the other end opens.
+pub fn what_is_sent_fits<C>()
+    ensures { (meaning : Meaning) (given : Input) (said : Said) (trace : Trace) (old new : State C)
+        → IsSoundMachine old.machine old.table → Traces meaning given old said trace new → FitsDatagram said }
+{
+    what_is_sent_is_short();
+    sealed_packets_open();
+}
+
+/// A child that a step makes has at most 16 selectors on either side (RFC 7296, section 3.13; a limit of this implementation).
+pub fn what_is_made_fits<C>()
+    ensures { (meaning : Meaning) (given : Input) (said : Said) (trace : Trace) (old new : State C) → IsSoundTable old.table
+        → IsSoundMachine old.machine old.table → Traces meaning given old said trace new → FitsChild trace.child new.table.pairs }
+{
+    children_have_few_selectors();
+}
+
+/// Each end of a world has its own events in order, whatever happens at the other: what becomes of it is a run of its gateway alone.
+pub fn each_end_has_its_events<C>()
+    ensures { (meaning_of : C → Meaning) (end : End) (events : List Event) (outputs : List Output) (old new : WorldState C)
+        → Runs (HappensAs meaning_of) events outputs old new
+        → Runs (StepsAs meaning_of) (inputs_at end events) (outputs_at end events outputs) (gateway_at end old) (gateway_at end new) }
+{}
+
+/// What is stored of a world is never forgotten: it is stored from then on, before what comes later.
+pub fn what_is_stored_stays<C>()
+    ensures { (meaning_of : C → Meaning) (events : List Event) (outputs : List Output) (old new : WorldState C)
+        → Runs (HappensAs meaning_of) events outputs old new → IsLater old.stored new.stored }
+{}
+
+/// A step does one thing, and a run of steps: what is said, what is told of IKE, and what the gateway holds then go by the inputs and
+/// by what it held before, whatever room there is, where no input is refused for want of memory. Of an input it is asked that a
+/// datagram is of octets and that a cipher tells lengths, as its law says; of the gateway that the keys of its IKE associations are
+/// whole, as they stay.
+pub fn steps_are_determined<C>()
+    ensures traces { (meaning : Meaning) (given : Input) (old other a b : State C) (one two : Said) (trace another : Trace)
+        → IsGiven meaning given → HoldWholeKeys old.machine.held → state_content old ≡ state_content other
+        → lacks_memory one ≡ false → lacks_memory two ≡ false
+        → Traces meaning given old one trace a → Traces meaning given other two another b
+        → (one ≡ two) × (trace ≡ another) × (state_content a ≡ state_content b) }
+    ensures steps { (meaning : Meaning) (given : Input) (old other a b : State C) (one two : Said)
+        → IsGiven meaning given → HoldWholeKeys old.machine.held → state_content old ≡ state_content other
+        → lacks_memory one ≡ false → lacks_memory two ≡ false
+        → Steps meaning given old one a → Steps meaning given other two b
+        → (one ≡ two) × (state_content a ≡ state_content b) }
+    ensures runs { (meaning_of : C → Meaning) (inputs : List Input) (ones twos : List Output) (old other a b : State C)
+        → AllByRecursion (IsGiven (meaning_of old.caller)) inputs → AllByRecursion (λ output. lacks_memory (said output) ≡ false) ones
+        → AllByRecursion (λ output. lacks_memory (said output) ≡ false) twos → HoldWholeKeys old.machine.held
+        → state_content old ≡ state_content other → Runs (StepsAs meaning_of) inputs ones old a
+        → Runs (StepsAs meaning_of) inputs twos other b
+        → (map said ones ≡ map said twos) × (state_content a ≡ state_content b) }
+    ensures whole { (meaning : Meaning) (given : Input) (old new : State C) (said : Said) → HoldWholeKeys old.machine.held
+        → Steps meaning given old said new → HoldWholeKeys new.machine.held }
+{
+    ike::laws::keys_stay_whole();
+    ike::laws::steps_are_determined();
+    later_tables_are_determined();
+    outcomes_are_determined();
+    outcomes_go_by_content();
 }

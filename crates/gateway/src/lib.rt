@@ -23,9 +23,11 @@ mod machine;
 mod output;
 mod running;
 mod stepping;
+mod world;
 
 pub use fault::{Reason, RunFault};
 pub use input::Input;
 pub use machine::Gateway;
 pub use output::{Output, Traced};
 pub use running::run;
+pub use world::{Child, Datagram, End, Event, Keyed, Mark, Simplex, World, run_world};

@@ -1,7 +1,9 @@
 //! A gateway, and one step of it.
 ghost use Rattle.std.specs.Prelude.{◌≡◌};
+ghost use Rattle.std.specs.Option.{option_copied};
 ghost use Rattle.sadb.specs.Database.{IsSoundTable, IsStart};
 ghost use Rattle.initial.specs.Configs.{IsConfig};
+ghost use Rattle.ike.specs.Machines.{keys_of_serial};
 ghost use Rattle.ike.specs.Soundness.{IsSoundMachine};
 ghost use Rattle.gateway.specs.Outputs.{said};
 ghost use Rattle.gateway.specs.States.{new_gateway};
@@ -9,13 +11,14 @@ ghost use Rattle.gateway.specs.Steps.{Steps, Traces};
 
 use crate::stepping::take;
 use crate::{Input, Output, Traced};
+use association::Association;
 use ike::Ike;
 use initial::Config;
 use policy::Policy;
 use sadb::Table;
 use std::alloc::Global;
 use std::marker::Model;
-use suite::{Agreement, Proof, Sealer};
+use suite::{Agreement, KeyRecord, Proof, Sealer};
 
 /// A gateway: the machine of IKE, the table of associations for ESP that goes with it, the policy, and the caller.
 #[derive(Drop)]
@@ -42,7 +45,7 @@ impl<C> Model for Gateway<C> {
     ghost invariant = { λ g. IsSoundMachine g.ike g.table };
 }
 
-impl<C: Sealer + Agreement + Proof> Gateway<C> {
+impl<C> Gateway<C> {
     /// A gateway with no association, at the moment 0. Takes no memory. The caller gives a configuration whose identities fit
     /// payloads, with a window of 1 to 16 and a count of blocks that [`replay::is_block_count`] allows. The first inbound SPI for
     /// ESP is `start`, from 256 to 2^32 - 65,536.
@@ -66,6 +69,20 @@ impl<C: Sealer + Agreement + Proof> Gateway<C> {
         &self.table
     }
 
+    /// The IKE associations, by rising serial.
+    pub fn associations(&self) -> &[Association]
+        ensures { result.now ≡ self.now.machine.held.associations }
+    {
+        self.ike.associations()
+    }
+
+    /// The keys of the IKE association with this serial, where both ends have come to them.
+    pub fn keys_of(&self, serial: u32) -> Option<&KeyRecord>
+        ensures { option_copied result ≡ keys_of_serial serial self.now.machine.held.associations }
+    {
+        self.ike.keys_of(serial)
+    }
+
     /// What holds of every gateway: its machine is sound with its table, and so is the table. Does nothing.
     pub fn invariants_hold(&self)
         ensures machine { IsSoundMachine self.now.machine self.now.table }
@@ -73,7 +90,9 @@ impl<C: Sealer + Agreement + Proof> Gateway<C> {
     {
         self.table.invariants_hold();
     }
+}
 
+impl<C: Sealer + Agreement + Proof> Gateway<C> {
     /// One step: takes an input, and answers its output.
     ///
     /// Datagrams of IKE and orders are refused or dropped as [`Ike::step`] says, packets dropped as [`traffic::receive`],

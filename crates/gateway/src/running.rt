@@ -1,7 +1,7 @@
 //! A list of inputs.
 ghost use Rattle.std.specs.Prelude.{◌≡◌, ◌+◌, ◌≤◌, OnOk, IfErr, IsOk, length, vec_len};
 ghost use Rattle.std.specs.Vec.{vec_capacity};
-ghost use Rattle.gateway.specs.Runs.{RunsFirst, Stops};
+ghost use Rattle.gateway.specs.Runs.{RunsFirst, StepsAs, Stops};
 
 use crate::{Gateway, Input, Output, RunFault};
 use std::alloc::Global;
@@ -18,30 +18,30 @@ pub fn run<'a, C: Sealer + Agreement + Proof>(
     outputs: &mut Vec<Output<'a>>,
 ) -> Result<(), RunFault>
     ensures all { OnOk result (RunsFirst
-        (record {
+        (StepsAs (λ caller. record {
           cipher = C.cipher;
           body_of = C.body_of;
           plain_of = C.plain_of;
           group = C.group_number;
           public_value = C.public_value;
           shared_secret = C.shared_secret;
-          own_method = C.own_method gateway.old.caller;
-          proof_of = C.proof_of gateway.old.caller;
-          accepts = C.accepts gateway.old.caller;
-        })
+          own_method = C.own_method caller;
+          proof_of = C.proof_of caller;
+          accepts = C.accepts caller;
+        }))
         (length inputs.now) inputs.now gateway.old outputs.old.items gateway.new outputs.new.items) }
     ensures stopped { IfErr result (λ fault. Stops
-        (record {
+        (StepsAs (λ caller. record {
           cipher = C.cipher;
           body_of = C.body_of;
           plain_of = C.plain_of;
           group = C.group_number;
           public_value = C.public_value;
           shared_secret = C.shared_secret;
-          own_method = C.own_method gateway.old.caller;
-          proof_of = C.proof_of gateway.old.caller;
-          accepts = C.accepts gateway.old.caller;
-        })
+          own_method = C.own_method caller;
+          proof_of = C.proof_of caller;
+          accepts = C.accepts caller;
+        }))
         inputs.now gateway.old outputs.old.items fault gateway.new outputs.new.items) }
     ensures room { vec_len outputs.old + length inputs.now ≤ vec_capacity outputs.old → IsOk result }
 {

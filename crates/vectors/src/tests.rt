@@ -1,6 +1,7 @@
 use std::process::Abort;
 
 mod flows;
+mod gateways;
 mod keying;
 mod long;
 mod messages;

@@ -1,5 +1,5 @@
 //! The directives of a script of kind `two`.
-use super::side::Side;
+use super::side::{Side, named};
 use crate::script::LineFault;
 use crate::script::words::Words;
 use base::Items;
@@ -220,5 +220,5 @@ fn read_delivery(name: &[u8], words: &mut Words) -> Result<Delivery, LineFault> 
 }
 
 fn read_side(words: &mut Words) -> Result<Side, LineFault> {
-    Side::named(words.word()?).ok_or(LineFault::Refused)
+    named(words.word()?).ok_or(LineFault::Refused)
 }

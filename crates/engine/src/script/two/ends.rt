@@ -3,30 +3,20 @@ use super::directive::{Act, Delivery, Protocol, Way};
 use super::fresh::fresh;
 use super::report;
 use super::setup::Setup;
-use super::side::Side;
+use super::side::{Side, address};
 use crate::script::LineFault;
 use base::Items;
 use caller::ScriptCaller;
-use gateway::{Gateway, Input, Output, run};
-use std::alloc::{AllocError, Global};
+use gateway::{Datagram, Event, Input, Mark, World, run_world};
+use std::alloc::Global;
 
 /// The two gateways, and all datagrams that they sent.
 #[derive(Drop)]
 pub struct Ends {
     alloc: Global,
-    a: Gateway<ScriptCaller>,
-    b: Gateway<ScriptCaller>,
-    datagrams: Vec<Datagram>,
+    world: World<ScriptCaller>,
     /// The number of the next input, from 1, over both ends.
     input: u64,
-}
-
-/// A datagram that was sent.
-#[derive(Drop)]
-struct Datagram {
-    sender: Side,
-    protocol: Protocol,
-    octets: Items<u8>,
 }
 
 impl Ends {
@@ -36,9 +26,7 @@ impl Ends {
         let b = setup.gateway(alloc, Side::B)?;
         Ok(Ends {
             alloc,
-            a,
-            b,
-            datagrams: Vec::new(alloc),
+            world: World::new(alloc, a, b),
             input: 1,
         })
     }
@@ -70,10 +58,10 @@ impl Ends {
     fn deliver(&mut self, delivery: Delivery) -> Result<String, LineFault> {
         let datagram = self.datagram(delivery.datagram)?;
         let receiver = match delivery.way {
-            Way::Back => datagram.sender,
-            Way::Straight | Way::Damaged { .. } | Way::Cut { .. } => datagram.sender.other(),
+            Way::Back => datagram.end,
+            Way::Straight | Way::Damaged { .. } | Way::Cut { .. } => datagram.end.other(),
         };
-        let protocol = datagram.protocol;
+        let protocol = protocol_of(&datagram.mark);
         let octets = travelled(self.alloc, datagram.octets.as_slice(), delivery.way)?;
         self.bring(receiver, protocol, octets)
     }
@@ -88,7 +76,7 @@ impl Ends {
         match protocol {
             Protocol::Esp => self.give(side, Input::Esp { octets }),
             Protocol::Ike => {
-                let from = side.other().address();
+                let from = address(side.other());
                 let fresh = fresh(self.alloc, self.input)?;
                 let input = Input::Ike {
                     from,
@@ -100,66 +88,46 @@ impl Ends {
         }
     }
 
-    /// Gives an end an input, and keeps what it sends.
+    /// Gives an end an input.
     fn give(&mut self, side: Side, input: Input) -> Result<String, LineFault> {
         self.input = self.input.saturating_add(1);
         let alloc = self.alloc;
-        let inputs = [input];
+        let place = self.world.datagrams().len() + 1;
+        let events = [Event { end: side, input }];
         let mut outputs = Vec::new(alloc);
-        let gateway = match side {
-            Side::A => &mut self.a,
-            Side::B => &mut self.b,
-        };
-        run(alloc, gateway, &inputs, &mut outputs)?;
+        run_world(alloc, &mut self.world, &events, &mut outputs)?;
         let mut text = String::new(alloc);
-        for output in outputs {
-            let place = self.datagrams.len() + 1;
-            let lines = report::of_output(alloc, &output, place)?;
+        for output in &outputs {
+            let lines = report::of_output(alloc, output, place)?;
             text.push_str(lines.as_str())?;
-            self.keep(side, output)?;
         }
         Ok(text)
     }
 
-    /// Keeps the datagram that an output sends, if it sends one.
-    fn keep(&mut self, sender: Side, output: Output<'_>) -> Result<(), AllocError> {
-        let (protocol, octets) = match output {
-            Output::Request { ike: _, octets }
-            | Output::Reply { octets, closed: _ }
-            | Output::Repeat { octets } => (Protocol::Ike, octets),
-            Output::Sealed {
-                child: _,
-                number: _,
-                octets,
-            } => (Protocol::Esp, octets),
-            _ => return Ok(()),
-        };
-        let datagram = Datagram {
-            sender,
-            protocol,
-            octets,
-        };
-        self.datagrams.push(datagram).map_err(AllocError::from)
-    }
-
     fn table(&self, side: Side) -> Result<String, LineFault> {
-        let gateway = match side {
-            Side::A => &self.a,
-            Side::B => &self.b,
-        };
-        Ok(report::of_table(self.alloc, gateway.table())?)
+        let table = self.world.gateway(side).table();
+        Ok(report::of_table(self.alloc, table)?)
     }
 
     fn compare(&self, one: u64, other: u64) -> Result<String, LineFault> {
-        let one = self.datagram(one)?.octets.as_slice();
-        let other = self.datagram(other)?.octets.as_slice();
+        let one = self.world.datagram(one).ok_or(LineFault::Refused)?;
+        let other = self.world.datagram(other).ok_or(LineFault::Refused)?;
         Ok(report::of_comparison(self.alloc, one == other)?)
     }
 
     /// The datagram at this place, from 1. Refused where there is none.
     fn datagram(&self, place: u64) -> Result<&Datagram, LineFault> {
         let index = place.checked_sub(1).ok_or(LineFault::Refused)?;
-        self.datagrams.get(index as usize).ok_or(LineFault::Refused)
+        let datagrams = self.world.datagrams();
+        datagrams.get(index as usize).ok_or(LineFault::Refused)
+    }
+}
+
+/// What a datagram that was sent belongs to.
+fn protocol_of(mark: &Mark) -> Protocol {
+    match mark {
+        Mark::Esp { .. } => Protocol::Esp,
+        Mark::Plain | Mark::Ike { .. } => Protocol::Ike,
     }
 }
 

@@ -3,9 +3,10 @@ ghost use Rattle.std.specs.Prelude.{◌≡◌, IfOk};
 ghost use Rattle.auth.specs.Proofs.{IsIdentity};
 ghost use Rattle.auth.specs.Windows.{IsWindow};
 ghost use Rattle.initial.specs.Configs.{IsConfig};
+ghost use Rattle.gateway.specs.Worlds.{HoldsNothing};
 
 use super::directive::Term;
-use super::side::Side;
+use super::side::{Side, address, name};
 use crate::script::LineFault;
 use auth::Identity;
 use base::Items;
@@ -59,7 +60,9 @@ impl Setup {
     }
 
     /// The gateway of an end.
-    pub fn gateway(&self, alloc: Global, side: Side) -> Result<Gateway<ScriptCaller>, LineFault> {
+    pub fn gateway(&self, alloc: Global, side: Side) -> Result<Gateway<ScriptCaller>, LineFault>
+        ensures { IfOk result HoldsNothing }
+    {
         let (terms, start) = match side {
             Side::A => (&self.a, 4096),
             Side::B => (&self.b, 8192),
@@ -133,10 +136,10 @@ impl Terms {
 fn end(alloc: Global, side: Side) -> Result<End, AllocError>
     ensures { IfOk result (λ end. IsIdentity end.identity) }
 {
-    let identity = identity(alloc, &side.name())?;
+    let identity = identity(alloc, &name(side))?;
     Ok(End {
         identity,
-        address: side.address(),
+        address: address(side),
     })
 }
 

@@ -1,16 +1,14 @@
 use Rattle.std.proofs.Common.{◌≡◌, ℕ, ◌+◌, List, [], ◌∷◌, ◌++◌, length, sym, ap, ◌∙◌, subst, arith}
-use Rattle.std.proofs.lemmas.List.{length_push}
 use Rattle.initial.specs.Taking.{Meaning}
-use Rattle.gateway.specs.Outputs.{said}
-use Rattle.gateway.specs.Runs.{Runs, RunsFirst}
+use Rattle.gateway.specs.Runs.{Runs, RunsFirst, StepsAs}
 use Rattle.gateway.specs.declared.input.Input.{Input}
-use Rattle.gateway.proofs.RunLemmas.{pushed_after, run_more, step_by, step_keeps, take_next}
+use Rattle.gateway.proofs.RunLemmas.{pushed_after, run_more, take_next}
 use Rattle.gateway.proofs.running.run.Goals as goal
 
 pub returns-then-is_err-clause-stopped : goal.returns-then-is_err-clause-stopped
 returns-then-is_err-clause-stopped g c =
     let i = c.loop-done.invariant in
-    (c.loop-done-test.true, record { outputs = i.answers; appended = c.reserve.ensures.items ∙ i.appended; each = i.count; runs = i.runs })
+    (c.loop-done-test.true, record { outputs = i.answers; appended = c.reserve.ensures.items ∙ i.appended; runs = i.runs })
 
 pub loop-done-preserved : goal.loop-done-preserved
 loop-done-preserved g c =
@@ -28,15 +26,12 @@ loop-done-preserved g c =
     } in
     let o = c.step-output.result in
     let input = c.index-inputs-done.result in
-    let step = step_by meaning_of input c.loop-done.gateway (said o) c.step-output.new.self c.args.gateway.now.caller i.caller c.step-output.ensures in
     let more = take_next c.args.inputs.now c.loop-done.done input c.loop-done-test.true c.index-inputs-done.is in
     record {
       answers = i.answers ++ o ∷ [];
       appended = pushed_after c.args.outputs.now.items i.answers c.reserve.new.self.items c.push_reserved.new.self.items o c.push_reserved.ensures.items (c.reserve.ensures.items ∙ i.appended);
-      count = length_push i.answers o ∙ ap (λ (n : ℕ). n + 1) i.count;
-      runs = subst (λ (is : List Input). Runs (meaning_of c.args.gateway.now.caller) is (i.answers ++ o ∷ []) c.args.gateway.now c.step-output.new.self) (sym more)
-          (run_more (meaning_of c.args.gateway.now.caller) c.args.gateway.now _ i.answers c.loop-done.gateway input o c.step-output.new.self i.runs step);
-      caller = step_keeps _ input c.loop-done.gateway (said o) c.step-output.new.self c.step-output.ensures ∙ i.caller;
+      runs = subst (λ (is : List Input). Runs (StepsAs meaning_of) is (i.answers ++ o ∷ []) c.args.gateway.now c.step-output.new.self) (sym more)
+          (run_more (StepsAs meaning_of) c.args.gateway.now _ i.answers c.loop-done.gateway input o c.step-output.new.self i.runs c.step-output.ensures);
       length_now = omega (arith, c.push_reserved.ensures.len, c.reserve.ensures.len, i.length_now);
       capacity = omega (arith, i.capacity, c.reserve.ensures.capacity, c.push_reserved.ensures.capacity);
     }
@@ -58,5 +53,5 @@ returns-clause-all g c =
       accepts = g.C.Proof.accepts caller;
     } in
     let all : c.loop-done.done ≡ length c.args.inputs.now = omega arith in
-    subst (λ (k : ℕ). RunsFirst (meaning_of c.args.gateway.now.caller) k c.args.inputs.now c.args.gateway.now c.args.outputs.now.items c.loop-done.gateway c.loop-done.outputs.items) all
-    (record { outputs = i.answers; appended = i.appended; each = i.count; runs = i.runs })
+    subst (λ (k : ℕ). RunsFirst (StepsAs meaning_of) k c.args.inputs.now c.args.gateway.now c.args.outputs.now.items c.loop-done.gateway c.loop-done.outputs.items) all
+    (record { outputs = i.answers; appended = i.appended; runs = i.runs })

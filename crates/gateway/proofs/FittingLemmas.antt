@@ -1,0 +1,139 @@
+-- What a step sends and makes fits the memory that is kept for it.
+use Rattle.std.proofs.Common.{◌≡◌, ◌≤◌, ◌++◌, ℕ, List, Option, Some, None, length, refl, sym, ap, ◌∙◌, subst, inl, inr, arith}
+use Rattle.base.specs.Octets.{Octets}
+use Rattle.wire.specs.Numbers.{MESSAGE_LIMIT, SELECTOR_LIMIT}
+use Rattle.esp.specs.declared.association.Association.{Association}
+use Rattle.esp.specs.Sealing.{FitsPacket, IsShortestPacket}
+use Rattle.esp.specs.Worked.{IsOpenable}
+use Rattle.policy.specs.declared.entry.Entry.{Entry}
+use Rattle.policy.specs.declared.flow.Flow.{Flow}
+use Rattle.sadb.specs.Database.{pair_at, Database, IsSoundTable, PairMap}
+use Rattle.sadb.specs.declared.pair.Pair.{Pair}
+use Rattle.children.specs.Pairs.{HasFewSelectors}
+use Rattle.initial.specs.Taking.{Meaning}
+use Rattle.ike.specs.Machines.{Machine}
+use Rattle.ike.specs.Outputs.{no_trace, octets_in}
+use Rattle.ike.specs.Soundness.{IsSoundMachine}
+use Rattle.ike.specs.Steps as ike
+use Rattle.ike.specs.declared.output.IkeOutput.{IkeOutput}
+use Rattle.ike.specs.declared.output.IkeOutput.TheVariants as made
+use Rattle.ike.specs.declared.output.MadeChild.{MadeChild}
+use Rattle.ike.specs.declared.output.Stepped.{Stepped}
+use Rattle.ike.specs.declared.output.Trace.{Trace}
+use Rattle.traffic.specs.Admitting.{Admits}
+use Rattle.traffic.specs.Outcomes as traffic
+use Rattle.traffic.specs.Receiving.{Receives}
+use Rattle.traffic.specs.Sending.{Sends}
+use Rattle.traffic.specs.declared.fault.PacketFault.{PacketFault}
+use Rattle.gateway.specs.Outputs.{said_by_ike, said_of_outcome, FitsDatagram, Refused, Said}
+use Rattle.gateway.specs.States.{State}
+use Rattle.gateway.specs.Steps.{AdmitsPacket, DoesInput, ReceivesPacket, SendsPacket, StepsIke, Traces}
+use Rattle.gateway.specs.Storing.{FewSelectors, FitsChild}
+use Rattle.gateway.specs.declared.fault.Reason.TheVariants as reason
+use Rattle.gateway.specs.declared.input.Input.{Input}
+use Rattle.gateway.specs.declared.input.Input.TheVariants as input
+
+-- what the crates below say
+pub record SentLaws : Type 0 where
+  pub short : (meaning : Meaning) (entries : List Entry) (given : ike.InputView) (old : Machine) (table : Database) (stepped : Stepped) (new : Machine) (new_table : Database) (octets : Octets)
+      → IsSoundMachine old table → ike.Steps meaning entries given old table stepped new new_table → octets_in stepped.output ≡ Some octets → length octets ≤ MESSAGE_LIMIT
+  pub openable : (a : Association) (n next : ℕ) (payload b : List ℕ) → IsShortestPacket a n next payload b → FitsPacket payload → IsOpenable a n next payload b
+
+said_fits : (output : IkeOutput) → ((octets : Octets) → octets_in output ≡ Some octets → length octets ≤ MESSAGE_LIMIT) → FitsDatagram (said_by_ike output)
+said_fits (made.Reply octets closed) short = let few = short octets refl in omega arith
+said_fits (made.Repeat octets) short = let few = short octets refl in omega arith
+said_fits (made.Request serial octets) short = let few = short octets refl in omega arith
+said_fits (made.Counted serial child closed) short = tt
+said_fits made.Done short = tt
+said_fits (made.Dropped fault) short = tt
+
+by_ike_fits : (laws : SentLaws) (meaning : Meaning) (entries : List Entry) (given : ike.InputView) (old : Machine) (table : Database) (s : Said) (trace : Trace) (new : Machine) (new_table : Database)
+    → IsSoundMachine old table → StepsIke meaning entries given old table s trace new new_table → FitsDatagram s
+by_ike_fits laws meaning entries given old table s trace new new_table sound (inl a) =
+    subst FitsDatagram (sym a.output) (said_fits a.stepped.output (λ octets is. laws.short meaning entries given old table a.stepped new new_table octets sound a.steps is))
+by_ike_fits laws meaning entries given old table s trace new new_table sound (inr r) = subst FitsDatagram (sym r.output) tt
+
+received_fits : (old : Database) (packet : Octets) (outcome : traffic.Outcome) (new : Database) → Receives old packet outcome new → FitsDatagram (said_of_outcome outcome)
+received_fits old packet (traffic.Up child number inner) new is = tt
+received_fits old packet (traffic.Dummy child number) new is = tt
+received_fits old packet (traffic.Sealed child number octets) new is = absurd is
+received_fits old packet (traffic.Clear octets) new is = absurd is
+received_fits old packet traffic.Discarded new is = absurd is
+received_fits old packet (traffic.Dropped fault) new is = tt
+
+packet_fits : (laws : SentLaws) (a : Association) (n next : ℕ) (payload packet octets : List ℕ) → octets ≡ packet → IsShortestPacket a n next payload packet → FitsPacket payload → length octets ≤ 16664
+packet_fits laws a n next payload packet octets same shortest fits =
+    subst (λ (b : List ℕ). length b ≤ 16664) (sym same) (laws.openable a n next payload packet shortest fits).whole.most
+
+sent_fits : (laws : SentLaws) (entries : List Entry) (old : Database) (packet : Octets) (outcome : traffic.Outcome) (new : Database) → Sends old entries packet outcome new → FitsDatagram (said_of_outcome outcome)
+sent_fits laws entries old packet (traffic.Up child number inner) new is = tt
+sent_fits laws entries old packet (traffic.Dummy child number) new is = tt
+sent_fits laws entries old packet (traffic.Sealed child number octets) new is =
+    let seals = is.protects.sealed.sealed in
+    packet_fits laws is.protects.sealed.pair.outbound.association number _ packet seals.packet octets seals.appended seals.shortest seals.fits
+sent_fits laws entries old packet (traffic.Clear octets) new is = tt
+sent_fits laws entries old packet traffic.Discarded new is = tt
+sent_fits laws entries old packet (traffic.Dropped fault) new is = tt
+
+sends_fit : (laws : SentLaws) (entries : List Entry) (old : Database) (packet : Octets) (s : Said) (new : Database) → SendsPacket entries old packet s new → FitsDatagram s
+sends_fit laws entries old packet s new (inl m) = subst FitsDatagram (sym m.output) (sent_fits laws entries old packet m.outcome new m.sends)
+sends_fit laws entries old packet s new (inr m) = subst FitsDatagram (sym m.output) tt
+
+admitted_fits : (entries : List Entry) (packet : Octets) (outcome : traffic.Outcome) → Admits entries packet outcome → FitsDatagram (said_of_outcome outcome)
+admitted_fits entries packet (traffic.Up child number inner) is = tt
+admitted_fits entries packet (traffic.Dummy child number) is = tt
+admitted_fits entries packet (traffic.Sealed child number octets) is = absurd is
+admitted_fits entries packet (traffic.Clear octets) is = tt
+admitted_fits entries packet traffic.Discarded is = tt
+admitted_fits entries packet (traffic.Dropped fault) is = tt
+
+input_fits : (laws : SentLaws) (meaning : Meaning) (entries : List Entry) (given : Input) (old : Machine) (table : Database) (s : Said) (trace : Trace) (new : Machine) (new_table : Database)
+    → IsSoundMachine old table → DoesInput meaning entries given old table s trace new new_table → FitsDatagram s
+input_fits laws meaning entries (input.Ike from octets fresh) old table s trace new new_table sound is = by_ike_fits laws meaning entries (ike.Message from octets fresh) old table s trace new new_table sound is
+input_fits laws meaning entries (input.Start serial entry fresh) old table s trace new new_table sound is = by_ike_fits laws meaning entries (ike.Start serial entry fresh) old table s trace new new_table sound is
+input_fits laws meaning entries (input.Secret secret) old table s trace new new_table sound is = by_ike_fits laws meaning entries (ike.Secret secret) old table s trace new new_table sound is
+input_fits laws meaning entries (input.Esp octets) old table s trace new new_table sound is =
+    subst FitsDatagram (sym is.1.output) (received_fits table octets is.1.outcome new_table is.1.receives)
+input_fits laws meaning entries (input.Outward packet) old table s trace new new_table sound is = sends_fit laws entries table packet s new_table is.1
+input_fits laws meaning entries (input.Inward packet) old table s trace new new_table sound is =
+    subst FitsDatagram (sym is.1.output) (admitted_fits entries packet is.1.outcome is.1.admits)
+
+pub step_fits : {C : Type 0} (laws : SentLaws) (meaning : Meaning) (given : Input) (s : Said) (trace : Trace) (old new : State C)
+    → IsSoundMachine old.machine old.table → Traces meaning given old s trace new → FitsDatagram s
+step_fits {C} laws meaning given s trace old new sound is = input_fits laws meaning old.entries given old.machine old.table s trace new.machine new.table sound is.does
+
+-- what the machine of IKE says of the child that a step made
+pub record MadeLaws : Type 0 where
+  pub few : (meaning : Meaning) (entries : List Entry) (given : ike.InputView) (old : Machine) (table : Database) (stepped : Stepped) (new : Machine) (new_table : Database) (child : MadeChild) (pair : Pair)
+      → IsSoundTable table → IsSoundMachine old table → ike.Steps meaning entries given old table stepped new new_table → stepped.trace.child ≡ Some child → pair_at new_table.pairs child.serial ≡ Some pair → HasFewSelectors pair
+
+few_in : (o : Option Pair) → ((pair : Pair) → o ≡ Some pair → HasFewSelectors pair) → FewSelectors o
+few_in None few = tt
+few_in (Some pair) few = few pair refl
+
+made_fits : (child : Option MadeChild) (pairs : PairMap) → ((m : MadeChild) → child ≡ Some m → FewSelectors (pair_at pairs m.serial)) → FitsChild child pairs
+made_fits None pairs few = tt
+made_fits (Some m) pairs few = few m refl
+
+none_fits : (trace : Trace) (pairs : PairMap) → trace ≡ no_trace → FitsChild trace.child pairs
+none_fits trace pairs is = subst (λ (t : Trace). FitsChild t.child pairs) (sym is) tt
+
+by_ike_made : (laws : MadeLaws) (meaning : Meaning) (entries : List Entry) (given : ike.InputView) (old : Machine) (table : Database) (s : Said) (trace : Trace) (new : Machine) (new_table : Database)
+    → IsSoundTable table → IsSoundMachine old table → StepsIke meaning entries given old table s trace new new_table → FitsChild trace.child new_table.pairs
+by_ike_made laws meaning entries given old table s trace new new_table sound_table sound (inl a) =
+    subst (λ (t : Trace). FitsChild t.child new_table.pairs) (sym a.traced)
+    (made_fits a.stepped.trace.child new_table.pairs (λ child is. few_in (pair_at new_table.pairs child.serial) (λ pair there. laws.few meaning entries given old table a.stepped new new_table child pair sound_table sound a.steps is there)))
+by_ike_made laws meaning entries given old table s trace new new_table sound_table sound (inr r) = none_fits trace new_table.pairs r.traced
+
+input_made : (laws : MadeLaws) (meaning : Meaning) (entries : List Entry) (given : Input) (old : Machine) (table : Database) (s : Said) (trace : Trace) (new : Machine) (new_table : Database)
+    → IsSoundTable table → IsSoundMachine old table → DoesInput meaning entries given old table s trace new new_table → FitsChild trace.child new_table.pairs
+input_made laws meaning entries (input.Ike from octets fresh) old table s trace new new_table st sm is = by_ike_made laws meaning entries (ike.Message from octets fresh) old table s trace new new_table st sm is
+input_made laws meaning entries (input.Start serial entry fresh) old table s trace new new_table st sm is = by_ike_made laws meaning entries (ike.Start serial entry fresh) old table s trace new new_table st sm is
+input_made laws meaning entries (input.Secret secret) old table s trace new new_table st sm is = by_ike_made laws meaning entries (ike.Secret secret) old table s trace new new_table st sm is
+input_made laws meaning entries (input.Esp octets) old table s trace new new_table st sm is = none_fits trace new_table.pairs is.0.traced
+input_made laws meaning entries (input.Outward packet) old table s trace new new_table st sm is = none_fits trace new_table.pairs is.0.traced
+input_made laws meaning entries (input.Inward packet) old table s trace new new_table st sm is = none_fits trace new_table.pairs is.0.traced
+
+pub step_made : {C : Type 0} (laws : MadeLaws) (meaning : Meaning) (given : Input) (s : Said) (trace : Trace) (old new : State C)
+    → IsSoundTable old.table → IsSoundMachine old.machine old.table → Traces meaning given old s trace new → FitsChild trace.child new.table.pairs
+step_made {C} laws meaning given s trace old new st sm is = input_made laws meaning old.entries given old.machine old.table s trace new.machine new.table st sm is.does

@@ -1,0 +1,56 @@
+use Rattle.std.proofs.Common.{◌≡◌, ℕ, ◌+◌, List, [], ◌∷◌, ◌++◌, length, sym, ap, ◌∙◌, subst, arith}
+use Rattle.initial.specs.Taking.{Meaning}
+use Rattle.gateway.specs.Runs.{Runs, RunsFirst}
+use Rattle.gateway.specs.WorldRuns.{HappensAs}
+use Rattle.gateway.specs.declared.world.stored.Event.{Event}
+use Rattle.gateway.proofs.RunLemmas.{pushed_after, run_more, take_next}
+use Rattle.gateway.proofs.world.running.run_world.Goals as goal
+
+pub returns-then-is_err-clause-stopped : goal.returns-then-is_err-clause-stopped
+returns-then-is_err-clause-stopped g c =
+    let i = c.loop-done.invariant in
+    (c.loop-done-test.true, record { outputs = i.answers; appended = c.reserve.ensures.items ∙ i.appended; runs = i.runs })
+
+pub loop-done-preserved : goal.loop-done-preserved
+loop-done-preserved g c =
+    let i = c.loop-done.invariant in
+    let meaning_of : _ → Meaning = λ caller. record {
+      cipher = g.C.Sealer.cipher;
+      body_of = g.C.Sealer.body_of;
+      plain_of = g.C.Sealer.plain_of;
+      group = g.C.Agreement.group_number;
+      public_value = g.C.Agreement.public_value;
+      shared_secret = g.C.Agreement.shared_secret;
+      own_method = g.C.Proof.own_method caller;
+      proof_of = g.C.Proof.proof_of caller;
+      accepts = g.C.Proof.accepts caller;
+    } in
+    let o = c.in-Ok.output in
+    let input = c.index-events-done.result in
+    let more = take_next c.args.events.now c.loop-done.done input c.loop-done-test.true c.index-events-done.is in
+    record {
+      answers = i.answers ++ o ∷ [];
+      appended = pushed_after c.args.outputs.now.items i.answers c.reserve.new.self.items c.push_reserved.new.self.items o c.push_reserved.ensures.items (c.reserve.ensures.items ∙ i.appended);
+      runs = subst (λ (is : List Event). Runs (HappensAs meaning_of) is (i.answers ++ o ∷ []) c.args.world.now c.happen.new.self) (sym more)
+          (run_more (HappensAs meaning_of) c.args.world.now _ i.answers c.loop-done.world input o c.happen.new.self i.runs c.in-Ok.ensures.happened);
+    }
+
+pub returns-clause-all : goal.returns-clause-all
+returns-clause-all g c =
+    let i = c.loop-done.invariant in
+    let h = c.loop-done-test.false in
+    let e = c.loop-done.auto.done-end in
+    let meaning_of : _ → Meaning = λ caller. record {
+      cipher = g.C.Sealer.cipher;
+      body_of = g.C.Sealer.body_of;
+      plain_of = g.C.Sealer.plain_of;
+      group = g.C.Agreement.group_number;
+      public_value = g.C.Agreement.public_value;
+      shared_secret = g.C.Agreement.shared_secret;
+      own_method = g.C.Proof.own_method caller;
+      proof_of = g.C.Proof.proof_of caller;
+      accepts = g.C.Proof.accepts caller;
+    } in
+    let all : c.loop-done.done ≡ length c.args.events.now = omega arith in
+    subst (λ (k : ℕ). RunsFirst (HappensAs meaning_of) k c.args.events.now c.args.world.now c.args.outputs.now.items c.loop-done.world c.loop-done.outputs.items) all
+    (record { outputs = i.answers; appended = i.appended; runs = i.runs })

@@ -1,0 +1,11 @@
+-- What is asked of an input and of a cipher, so that a step seals in one way (RFC 7296 section 3.14).
+use Rattle.initial.specs.Taking.{Meaning}
+use Rattle.ike.specs.Lengths.{IsTold}
+use Rattle.ike.specs.Steps as ike
+use Rattle.gateway.specs.declared.input.Input.{Input}
+use Rattle.gateway.specs.declared.input.Input.TheVariants as input
+
+-- A datagram of IKE is of octets, and a cipher tells how long bodies are with the octets that are fresh.
+abbrev pub IsGiven : Meaning → Input → Type 0
+IsGiven meaning (input.Ike from octets fresh) = IsTold meaning (ike.Message from octets fresh)
+IsGiven meaning _ = Unit {0}

@@ -1,0 +1,162 @@
+-- Two gateways that are each other's peer, and what is stored of them: what was sent under what, which keys and which children were made.
+use Rattle.std.specs.Prelude.{◌≡◌, ◌<◌, ◌++◌, ◌∷◌, ℕ, zero, suc, List, [], Option, Some, None, length, take, slice_get, refl}
+use Rattle.std.specs.Coded.{Coded, code_by, coded×}
+use Rattle.std.specs.Option.{option_map, option_to_list}
+use Rattle.base.specs.Octets.{Octets}
+use Rattle.esp.specs.declared.association.Association.{Association}
+use Rattle.suite.specs.declared.key_record.KeyRecord.{KeyRecord}
+use Rattle.sadb.specs.Database.{empty_table, pair_at, Database}
+use Rattle.sadb.specs.declared.pair.Pair.{Pair}
+use Rattle.initial.specs.Taking.{Meaning}
+use Rattle.ike.specs.Machines.{keys_of_serial, new_machine, Machine}
+use Rattle.ike.specs.declared.output.MadeChild.{MadeChild}
+use Rattle.ike.specs.declared.output.Mark as ike
+use Rattle.ike.specs.declared.output.Trace.{Trace}
+use Rattle.gateway.specs.Outputs.{Said, Counted, Clear, Discarded, Done, Dropped, Dummy, Refused, Repeat, Reply, Request, Sealed, Up}
+use Rattle.gateway.specs.States.{State}
+use Rattle.gateway.specs.Steps.{Traces}
+use Rattle.gateway.specs.declared.world.log.Log.{Log}
+use Rattle.gateway.specs.declared.world.stored.Child.{Child}
+use Rattle.gateway.specs.declared.world.stored.Datagram.{Datagram}
+use Rattle.gateway.specs.declared.world.stored.End.{End}
+use Rattle.gateway.specs.declared.world.stored.End.TheVariants.{A, B}
+use Rattle.gateway.specs.declared.world.stored.Event.{Event}
+use Rattle.gateway.specs.declared.world.stored.Keyed.{Keyed}
+use Rattle.gateway.specs.declared.world.stored.Mark.{Mark}
+use Rattle.gateway.specs.declared.world.stored.Mark.TheVariants as mark
+use Rattle.gateway.specs.declared.world.stored.Simplex.{Simplex}
+
+-- all in the order in which it was sent or made
+pub record Stored : Type 0 where
+  pub sent : List Datagram
+  pub keyed : List Keyed
+  pub children : List Child
+
+pub record WorldState (C : Type 0) : Type 0 where
+  pub a : State C
+  pub b : State C
+  pub stored : Stored
+
+abbrev pub nothing_stored : Stored
+nothing_stored = record { sent = []; keyed = []; children = [] }
+
+abbrev pub new_world : {C : Type 0} → State C → State C → WorldState C
+new_world {C} a b = record { a = a; b = b; stored = nothing_stored }
+
+-- a gateway as it begins
+pub record HoldsNothing {C : Type 0} (s : State C) : Type 0 where
+  pub machine : s.machine ≡ new_machine s.machine.config
+  pub table : s.table ≡ empty_table s.table.start
+
+abbrev pub other_end : End → End
+other_end A = B
+other_end B = A
+
+abbrev pub gateway_at : {C : Type 0} → End → WorldState C → State C
+gateway_at A w = w.a
+gateway_at B w = w.b
+
+-- the gateway of this end becomes another, and more is stored
+abbrev pub with_gateway : {C : Type 0} → End → State C → Stored → WorldState C → WorldState C
+with_gateway A gateway stored w = record w { a = gateway; stored = stored }
+with_gateway B gateway stored w = record w { b = gateway; stored = stored }
+
+-- one direction of a pair
+abbrev pub simplex_of : Association → Simplex
+simplex_of a = record { spi = a.spi; key = a.key; extended = a.extended }
+
+-- what a message of IKE was sealed under: the keys of the association that its trace names
+abbrev pub mark_under : ike.Mark → Option KeyRecord → Mark
+mark_under sent None = mark.Plain
+mark_under sent (Some keys) = mark.Ike keys sent.response sent.number
+
+abbrev pub ike_mark : Machine → Option ike.Mark → Mark
+ike_mark machine None = mark.Plain
+ike_mark machine (Some sent) = mark_under sent (keys_of_serial sent.ike machine.held.associations)
+
+-- what a packet was sealed by
+abbrev pub mark_by : ℕ → Option Pair → Mark
+mark_by number None = mark.Plain
+mark_by number (Some pair) = mark.Esp (simplex_of pair.outbound.association) number
+
+abbrev pub esp_mark : Database → ℕ → ℕ → Mark
+esp_mark table child number = mark_by number (pair_at table.pairs child)
+
+abbrev pub datagram_of : End → Mark → Octets → Datagram
+datagram_of end m octets = record { end = end; mark = m; octets = octets }
+
+-- the datagram that a step sent
+abbrev pub sent_by : {C : Type 0} → End → Said → Option ike.Mark → State C → List Datagram
+sent_by end (Reply octets closed) sent gateway = datagram_of end (ike_mark gateway.machine sent) octets ∷ []
+sent_by end (Repeat octets) sent gateway = datagram_of end (ike_mark gateway.machine sent) octets ∷ []
+sent_by end (Request serial octets) sent gateway = datagram_of end (ike_mark gateway.machine sent) octets ∷ []
+sent_by end (Sealed child number octets) sent gateway = datagram_of end (esp_mark gateway.table child number) octets ∷ []
+sent_by end (Counted serial child closed) sent gateway = []
+sent_by end Done sent gateway = []
+sent_by end (Up child number packet) sent gateway = []
+sent_by end (Dummy child number) sent gateway = []
+sent_by end (Clear packet) sent gateway = []
+sent_by end Discarded sent gateway = []
+sent_by end (Dropped why) sent gateway = []
+sent_by end (Refused why) sent gateway = []
+
+abbrev pub keyed_with : End → Option KeyRecord → Option Keyed
+keyed_with end None = None
+keyed_with end (Some keys) = Some (record { end = end; keys = keys })
+
+-- the key record that a step made
+abbrev pub keyed_by : End → Option ℕ → Machine → Option Keyed
+keyed_by end None machine = None
+keyed_by end (Some serial) machine = keyed_with end (keys_of_serial serial machine.held.associations)
+
+abbrev pub child_with : End → MadeChild → Option KeyRecord → Option Pair → Option Child
+child_with end made None pair = None
+child_with end made (Some keys) None = None
+child_with end made (Some keys) (Some pair) = Some (record {
+  end = end;
+  serial = made.serial;
+  keys = keys;
+  asked = made.asked;
+  number = made.number;
+  inbound = simplex_of pair.inbound.association;
+  outbound = simplex_of pair.outbound.association;
+  local = pair.local;
+  remote = pair.remote;
+})
+
+-- the child that a step made
+abbrev pub child_by : {C : Type 0} → End → Option MadeChild → State C → Option Child
+child_by end None gateway = None
+child_by end (Some made) gateway =
+    child_with end made (keys_of_serial made.ike gateway.machine.held.associations) (pair_at gateway.table.pairs made.serial)
+
+-- what is stored after a step of an end, of which this is the gateway after
+abbrev pub storing : {C : Type 0} → End → Said → Trace → State C → Stored → Stored
+storing end said trace gateway old = record {
+  sent = old.sent ++ sent_by end said trace.sent gateway;
+  keyed = old.keyed ++ option_to_list (keyed_by end trace.keyed gateway.machine);
+  children = old.children ++ option_to_list (child_by end trace.child gateway);
+}
+
+-- One end takes a step: what it sent and made is stored, and the other end is as it was.
+pub record TakesEvent {C : Type 0} (meaning_of : C → Meaning) (event : Event) (old : WorldState C) (said : Said) (new : WorldState C) : Type 0 where
+  pub trace : Trace
+  pub gateway : State C
+  pub traces : Traces (meaning_of (gateway_at event.end old).caller) event.input (gateway_at event.end old) said trace gateway
+  pub content : new ≡ with_gateway event.end gateway (storing event.end said trace gateway old.stored) old
+
+-- the datagram that was sent as this one, from 1
+abbrev pub datagram_at : List Datagram → ℕ → Option Octets
+datagram_at sent zero = None
+datagram_at sent (suc place) = option_map (λ d. d.octets) (slice_get sent place)
+
+abbrev pub world_code : {C : Type 0} → Coded (State C) → Coded Stored → Coded (WorldState C)
+world_code {C} gateway stored =
+    code_by (State C × (State C × Stored)) (coded× gateway (coded× gateway stored))
+    (λ w. (w.a, (w.b, w.stored)))
+    (λ c. record { a = c.0; b = c.1.0; stored = c.1.1 })
+    (λ _. refl)
+
+-- what the log holds; only private contracts cite this
+abbrev pub stored_by : Log → Stored
+stored_by log = record { sent = log.sent.items; keyed = log.keyed.items; children = log.children.items }

@@ -1,0 +1,128 @@
+//! Two gateways, and what passed between them.
+ghost use Rattle.std.specs.Prelude.{◌≡◌, ◌≤◌, ◌<◌, ℕ, MatchOption, IfErr, IfOk, length, slice_get};
+ghost use Rattle.gateway.specs.Outputs.{said};
+ghost use Rattle.gateway.specs.Worlds.{datagram_at, gateway_at, new_world, HoldsNothing, TakesEvent};
+
+mod log;
+mod running;
+mod stored;
+
+use crate::{Gateway, Output};
+use log::{Log, take};
+pub use running::run_world;
+use std::alloc::{AllocError, Global};
+use std::marker::Model;
+pub use stored::{Child, Datagram, End, Event, Keyed, Mark, Simplex};
+use suite::{Agreement, Proof, Sealer};
+
+/// Two gateways that are each other's peer; every datagram that they sent, in order, and under what; every key record that they
+/// made, and every child.
+///
+/// What is stored is never forgotten: it is what both ends together can be judged by, however the datagrams travel.
+#[derive(Drop)]
+pub struct World<C> {
+    a: Gateway<C>,
+    b: Gateway<C>,
+    log: Log,
+}
+
+impl<C> Model for World<C> {
+    ghost use Rattle.std.specs.Coded.{codes};
+    ghost use Rattle.association.specs.contracts.phase.Association as association;
+    ghost use Rattle.sadb.specs.Database.{database_code};
+    ghost use Rattle.gateway.specs.States.{state_code};
+    ghost use Rattle.gateway.specs.Worlds.{stored_by, world_code, WorldState};
+
+    ghost Value = { WorldState C };
+
+    ghost coded = { world_code (state_code (Prim.hlevel (codes, association.the_row.coded)) database_code (Prim.hlevel codes) C.code) (Prim.hlevel codes) };
+
+    ghost view = { λ w. record { a = w.a; b = w.b; stored = stored_by w.log } };
+}
+
+impl<C> World<C> {
+    /// Two gateways that hold nothing and have given no SPI, at the moment 0: nothing was sent yet. Takes no memory.
+    pub fn new(alloc: Global, a: Gateway<C>, b: Gateway<C>) -> World<C>
+        requires a { HoldsNothing a }
+        requires b { HoldsNothing b }
+        ensures { result ≡ new_world a b }
+    {
+        World {
+            a,
+            b,
+            log: Log::new(alloc),
+        }
+    }
+
+    /// The gateway of an end.
+    pub fn gateway(&self, end: End) -> &Gateway<C>
+        ensures { result.now ≡ gateway_at end self.now }
+    {
+        match end {
+            End::A => &self.a,
+            End::B => &self.b,
+        }
+    }
+
+    /// All datagrams that were sent, in order.
+    pub fn datagrams(&self) -> &[Datagram]
+        ensures { result.now ≡ self.now.stored.sent }
+    {
+        self.log.sent.as_slice()
+    }
+
+    /// The octets of the datagram that was sent as this one, counted from 1 over both ends.
+    pub fn datagram(&self, place: u64) -> Option<&[u8]>
+        ensures { MatchOption result (datagram_at self.now.stored.sent place ≡ None)
+            (λ octets. datagram_at self.now.stored.sent place ≡ Some octets.now) }
+    {
+        let place = place.checked_sub(1)?;
+        let datagram = self.log.sent.get(place as usize)?;
+        Some(datagram.octets.as_slice())
+    }
+
+    /// All key records that an end made, in order.
+    pub fn key_records(&self) -> &[Keyed]
+        ensures { result.now ≡ self.now.stored.keyed }
+    {
+        self.log.keyed.as_slice()
+    }
+
+    /// All children that an end made, in order, also those that it holds no more.
+    pub fn children(&self) -> &[Child]
+        ensures { result.now ≡ self.now.stored.children }
+    {
+        self.log.children.as_slice()
+    }
+}
+
+impl<C: Sealer + Agreement + Proof> World<C> {
+    /// What happens at one end. Refused for want of memory for what is stored, and then nothing happens.
+    pub(crate) fn happen<'a>(
+        &mut self,
+        alloc: Global,
+        event: &'a Event,
+    ) -> Result<Output<'a>, AllocError>
+        ensures happened { IfOk result (λ output. TakesEvent
+            (λ caller. record {
+              cipher = C.cipher;
+              body_of = C.body_of;
+              plain_of = C.plain_of;
+              group = C.group_number;
+              public_value = C.public_value;
+              shared_secret = C.shared_secret;
+              own_method = C.own_method caller;
+              proof_of = C.proof_of caller;
+              accepts = C.accepts caller;
+            })
+            event.now self.old (said output) self.new) }
+        ensures refused { IfErr result (λ _. self.new ≡ self.old) }
+    {
+        let spare = self.log.prepare(alloc)?;
+        let log = &mut self.log;
+        match event.end {
+            End::A => Ok(take(alloc, End::A, &event.input, &mut self.a, log, spare)),
+            End::B => Ok(take(alloc, End::B, &event.input, &mut self.b, log, spare)),
+        }
+    }
+}

@@ -1,0 +1,99 @@
+//! What is stored of two gateways.
+ghost use Rattle.std.specs.Prelude.{◌≡◌};
+ghost use Rattle.gateway.specs.Worlds.{other_end};
+
+use crate::Input;
+use base::{Items, Selector};
+use suite::KeyRecord;
+
+/// One of two ends.
+#[derive(Clone, Copy, Debug, PartialEq, Eq)]
+pub enum End {
+    A,
+    B,
+}
+
+impl End {
+    /// The other end.
+    pub fn other(self) -> End
+        ensures { result ≡ other_end self }
+    {
+        match self {
+            End::A => End::B,
+            End::B => End::A,
+        }
+    }
+}
+
+/// What is given to an end. It may be any input at any time: datagrams that were sent, or not.
+#[derive(Drop)]
+pub struct Event {
+    pub end: End,
+    pub input: Input,
+}
+
+/// One direction of a child: the association that its packets name (RFC 4301, section 4.1).
+#[derive(Clone, Copy, PartialEq, Eq)]
+pub struct Simplex {
+    pub spi: u32,
+    /// The key of the check values.
+    pub key: [u8; 32],
+    /// Whether sequence numbers have 64 bits.
+    pub extended: bool,
+}
+
+/// What a datagram was protected by.
+#[derive(Drop)]
+pub enum Mark {
+    /// Nothing: it is a message of IKE_SA_INIT.
+    Plain,
+    /// The keys of an IKE association.
+    Ike {
+        keys: KeyRecord,
+        /// Whether it answers a request of the other end.
+        response: bool,
+        /// The number of the request that it is or answers.
+        number: u32,
+    },
+    /// A child's outbound association, under this sequence number.
+    Esp {
+        by: Simplex,
+        number: u64,
+    },
+}
+
+/// A datagram that was sent.
+#[derive(Drop)]
+pub struct Datagram {
+    /// The end that sent it.
+    pub end: End,
+    pub mark: Mark,
+    pub octets: Items<u8>,
+}
+
+/// A key record that an end made.
+#[derive(Drop)]
+pub struct Keyed {
+    pub end: End,
+    pub keys: KeyRecord,
+}
+
+/// A child that an end made.
+#[derive(Drop)]
+pub struct Child {
+    pub end: End,
+    /// The serial of its pair at that end.
+    pub serial: u32,
+    /// The keys of the IKE association that made it.
+    pub keys: KeyRecord,
+    /// Whether this end asked for it.
+    pub asked: bool,
+    /// The number of the request that asked.
+    pub number: u32,
+    pub inbound: Simplex,
+    pub outbound: Simplex,
+    /// The selectors of this end's side.
+    pub local: Items<Selector>,
+    /// The selectors of the other end's side.
+    pub remote: Items<Selector>,
+}
