@@ -34,6 +34,3 @@ pub use fault::RequestFault;
 pub use incoming::{Incoming, Judgement};
 pub use outgoing::Outgoing;
 pub use timer::{Due, Timer};
-
-#[cfg(test)]
-mod tests;

@@ -1,5 +1,0 @@
-mod accepting;
-mod asking;
-mod fixture;
-mod responding;
-mod runs;

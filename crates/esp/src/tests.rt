@@ -1,8 +1,0 @@
-mod extended;
-mod faults;
-mod fixture;
-mod laws;
-mod lists;
-mod memory;
-mod opening;
-mod sealing;

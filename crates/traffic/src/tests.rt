@@ -1,5 +1,0 @@
-mod faults;
-mod fixture;
-mod memory;
-mod outward;
-mod packets;

@@ -1,0 +1,4 @@
+mod accepting;
+mod asking;
+mod fixture;
+mod responding;

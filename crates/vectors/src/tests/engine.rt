@@ -1,0 +1,3 @@
+//! What `gw` prints: scripts played, messages shown.
+mod playing;
+mod showing;

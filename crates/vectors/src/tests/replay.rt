@@ -1,0 +1,3 @@
+//! Replay windows and recovered numbers.
+mod recovery;
+mod windows;

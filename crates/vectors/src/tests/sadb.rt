@@ -1,0 +1,10 @@
+mod association;
+mod changes;
+mod faults;
+mod fixture;
+mod laws;
+mod limits;
+mod memory;
+mod packets;
+mod plain;
+mod rows;
