@@ -21,7 +21,7 @@ use Rattle.traffic.specs.Receiving.{Receives}
 use Rattle.traffic.specs.Sending.{Sends}
 use Rattle.gateway.specs.Contents.{state_content}
 use Rattle.gateway.specs.Lengths.{IsGiven}
-use Rattle.gateway.specs.Outputs.{lacks_memory, said, said_by_ike, said_of_outcome, Refused, Said}
+use Rattle.gateway.specs.Outputs.{wants_memory, said, said_by_ike, said_of_outcome, Refused, Said}
 use Rattle.gateway.specs.Runs.{Runs, StepsAs}
 use Rattle.gateway.specs.States.{State}
 use Rattle.gateway.specs.Steps.{AdmitsPacket, AnswersIke, DoesInput, LeavesIke, ReceivesPacket, RefusesIke, SendsPacket, SendsWithMemory, Steps, StepsIke, Traces}
@@ -71,7 +71,7 @@ clash true one other = cc
 clash false one other = cc
 
 module _ (laws : Laws) (meaning : Meaning) (entries : List Entry) (old other : Machine) (table another : Database) (same : machine_content old ≡ machine_content other) (alike : table_content table ≡ table_content another)
-    (one two : Said) (trace mark : Trace) (a b : Machine) (a_table b_table : Database) (first : lacks_memory one ≡ false) (second : lacks_memory two ≡ false) where
+    (one two : Said) (trace mark : Trace) (a b : Machine) (a_table b_table : Database) (first : wants_memory one ≡ false) (second : wants_memory two ≡ false) where
   -- ---- the machine of IKE
 
   both_answer : (given : ike.InputView) → IsTold meaning given → HoldWholeKeys old.held → AnswersIke meaning entries given old table one trace a a_table → AnswersIke meaning entries given other another two mark b b_table
@@ -87,18 +87,18 @@ module _ (laws : Laws) (meaning : Meaning) (entries : List Entry) (old other : M
 
   answered_or_refused : (given : ike.InputView) → AnswersIke meaning entries given old table one trace a a_table → RefusesIke meaning entries given other another two mark b b_table → ⊥
   answered_or_refused given is also =
-      clash (lacks_memory two)
-      (ap lacks_memory also.output ∙ laws.ike.steps_or_refusals meaning entries given old other a table another a_table is.stepped also.fault same alike is.steps also.refuses) second
+      clash (wants_memory two)
+      (ap wants_memory also.output ∙ laws.ike.steps_or_refusals meaning entries given old other a table another a_table is.stepped also.fault same alike is.steps also.refuses) second
 
   refused_or_answered : (given : ike.InputView) → RefusesIke meaning entries given old table one trace a a_table → AnswersIke meaning entries given other another two mark b b_table → ⊥
   refused_or_answered given is also =
-      clash (lacks_memory one)
-      (ap lacks_memory is.output ∙ laws.ike.steps_or_refusals meaning entries given other old b another table b_table also.stepped is.fault (sym same) (sym alike) also.steps is.refuses) first
+      clash (wants_memory one)
+      (ap wants_memory is.output ∙ laws.ike.steps_or_refusals meaning entries given other old b another table b_table also.stepped is.fault (sym same) (sym alike) also.steps is.refuses) first
 
   both_refuse : (given : ike.InputView) → RefusesIke meaning entries given old table one trace a a_table → RefusesIke meaning entries given other another two mark b b_table → SameDoing one two trace mark a b a_table b_table
   both_refuse given is also =
       let fault : is.fault ≡ also.fault =
-      laws.ike.refusals meaning entries given old other table another is.fault also.fault same alike (sym (ap lacks_memory is.output) ∙ first) (sym (ap lacks_memory also.output) ∙ second) is.refuses also.refuses in
+      laws.ike.refusals meaning entries given old other table another is.fault also.fault same alike (sym (ap wants_memory is.output) ∙ first) (sym (ap wants_memory also.output) ∙ second) is.refuses also.refuses in
       record {
         said_is = is.output ∙ ap (λ (f : IkeFault). Refused (reason.Ike f)) fault ∙ sym also.output;
         traced = is.traced ∙ sym also.traced;
@@ -136,9 +136,9 @@ module _ (laws : Laws) (meaning : Meaning) (entries : List Entry) (old other : M
           let here = laws.packets.sent_here another table b_table entries packet too.outcome (sym alike) too.sends in
           let end = laws.packets.sent table a_table (record b_table { room = table.room }) entries packet sends.outcome too.outcome sends.sends here in
           left_alone is.0 also.0 (sends.output ∙ ap said_of_outcome end.0 ∙ sym too.output) (ap table_content end.1)
-      | inr lacks ↦ absurd (clash (lacks_memory two) (ap lacks_memory lacks.output) second)
+      | inr lacks ↦ absurd (clash (wants_memory two) (ap wants_memory lacks.output) second)
     ]
-    | inr lacks ↦ absurd (clash (lacks_memory one) (ap lacks_memory lacks.output) first)
+    | inr lacks ↦ absurd (clash (wants_memory one) (ap wants_memory lacks.output) first)
   ]
 
   one_entry : (packet : Octets) → LeavesIke old trace a × AdmitsPacket entries packet one × (a_table ≡ table) → LeavesIke other mark b × AdmitsPacket entries packet two × (b_table ≡ another) → SameDoing one two trace mark a b a_table b_table
@@ -168,7 +168,7 @@ kept_rest {C} old other a b same is also machine table =
     ∙ sym (ap state_content also)
 
 pub one_trace : {C : Type 0} → Laws → (meaning : Meaning) (given : Input) (old other a b : State C) (one two : Said) (trace mark : Trace)
-    → IsGiven meaning given → HoldWholeKeys old.machine.held → state_content old ≡ state_content other → lacks_memory one ≡ false → lacks_memory two ≡ false
+    → IsGiven meaning given → HoldWholeKeys old.machine.held → state_content old ≡ state_content other → wants_memory one ≡ false → wants_memory two ≡ false
     → Traces meaning given old one trace a → Traces meaning given other two mark b → (one ≡ two) × (trace ≡ mark) × (state_content a ≡ state_content b)
 one_trace {C} laws meaning given old other a b one two trace mark told whole same first second is also =
     let does : DoesInput meaning old.entries given other.machine other.table two mark b.machine b.table =
@@ -178,7 +178,7 @@ one_trace {C} laws meaning given old other a b one two trace mark told whole sam
     (end.said_is, end.traced, kept_rest old other a b same is.kept also.kept end.machine end.table)
 
 pub one_step : {C : Type 0} → Laws → (meaning : Meaning) (given : Input) (old other a b : State C) (one two : Said)
-    → IsGiven meaning given → HoldWholeKeys old.machine.held → state_content old ≡ state_content other → lacks_memory one ≡ false → lacks_memory two ≡ false
+    → IsGiven meaning given → HoldWholeKeys old.machine.held → state_content old ≡ state_content other → wants_memory one ≡ false → wants_memory two ≡ false
     → Steps meaning given old one a → Steps meaning given other two b → (one ≡ two) × (state_content a ≡ state_content b)
 one_step {C} laws meaning given old other a b one two told whole same first second is also =
     let end = one_trace laws meaning given old other a b one two is.trace also.trace told whole same first second is.traces also.traces in
@@ -209,7 +209,7 @@ step_whole {C} laws meaning given old s new whole is = done_whole laws meaning o
 -- ---- runs
 
 abbrev pub HadMemory : Output → Type 0
-HadMemory o = lacks_memory (said o) ≡ false
+HadMemory o = wants_memory (said o) ≡ false
 
 said_next : (o p : Output) (os ps : List Output) → said o ≡ said p → map said os ≡ map said ps → map said (o ∷ os) ≡ map said (p ∷ ps)
 said_next o p os ps one others = ap (λ (s : Said). s ∷ map said os) one ∙ ap (λ (l : List Said). said p ∷ l) others

@@ -25,10 +25,9 @@ use Rattle.traffic.specs.Outcomes as traffic
 use Rattle.traffic.specs.Receiving.{Receives}
 use Rattle.traffic.specs.Sending.{Sends}
 use Rattle.traffic.specs.declared.fault.PacketFault.{PacketFault}
-use Rattle.gateway.specs.Outputs.{said_by_ike, said_of_outcome, FitsDatagram, Refused, Said}
+use Rattle.gateway.specs.Outputs.{said_by_ike, said_of_outcome, FewSelectors, FitsChild, FitsDatagram, Refused, Said}
 use Rattle.gateway.specs.States.{State}
 use Rattle.gateway.specs.Steps.{AdmitsPacket, DoesInput, ReceivesPacket, SendsPacket, StepsIke, Traces}
-use Rattle.gateway.specs.Storing.{FewSelectors, FitsChild}
 use Rattle.gateway.specs.declared.fault.Reason.TheVariants as reason
 use Rattle.gateway.specs.declared.input.Input.{Input}
 use Rattle.gateway.specs.declared.input.Input.TheVariants as input

@@ -1,5 +1,5 @@
 -- How the ends of a world run apart, and that what is stored stays.
-use Rattle.std.proofs.Common.{◌≡◌, ◌++◌, ◌∷◌, [], List, refl, sym, ap, ◌∙◌, subst, append_assoc}
+use Rattle.std.proofs.Common.{◌≡◌, ◌++◌, ◌∷◌, [], ℕ, List, take, refl, sym, ap, ◌∙◌, subst, append_assoc}
 use Rattle.std.proofs.lemmas.List.{append-nil}
 use Rattle.initial.specs.Taking.{Meaning}
 use Rattle.ike.specs.declared.output.Trace.{Trace}
@@ -8,7 +8,7 @@ use Rattle.gateway.specs.Runs.{Runs, StepsAs}
 use Rattle.gateway.specs.States.{State}
 use Rattle.gateway.specs.Steps.{Traces}
 use Rattle.gateway.specs.Storing.{TakesAt}
-use Rattle.gateway.specs.WorldRuns.{if_at, inputs_at, outputs_at, HappensAs, IsLater}
+use Rattle.gateway.specs.WorldRuns.{if_at, inputs_at, outputs_at, HappensAs, IsLater, PlaysFirst}
 use Rattle.gateway.specs.Worlds.{gateway_at, storing, with_gateway, Stored, TakesEvent, WorldState}
 use Rattle.gateway.specs.declared.input.Input.{Input}
 use Rattle.gateway.specs.declared.output.Output.{Output}
@@ -106,3 +106,14 @@ taken_at_b {C} meaning_of event old a b before ready s gateway after at_b was sa
       content = subst (λ (e : End). record { a = a; b = gateway; stored = after } ≡ with_gateway e gateway (storing e s t.trace gateway old.stored) old) (sym at_b)
           (subst (λ (w : WorldState C). record { a = a; b = gateway; stored = after } ≡ with_gateway B gateway (storing B s t.trace gateway w.stored) w) was content);
     }
+
+-- a run of a world says all of it
+pub plays : {C : Type 0} (meaning_of : C → Meaning) (count : ℕ) (events : List Event) (old : WorldState C) (before outputs : List Output) (new : WorldState C) (after : List Output)
+    → after ≡ before ++ outputs → Runs (HappensAs meaning_of) (take count events) outputs old new → PlaysFirst meaning_of count events old before new after
+plays {C} meaning_of count events old before outputs new after appended run = record {
+  outputs = outputs;
+  appended = appended;
+  runs = run;
+  ends = λ end. apart meaning_of end (take count events) outputs old new run;
+  stored = stays_stored meaning_of (take count events) outputs old new run;
+}

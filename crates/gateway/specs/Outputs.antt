@@ -1,10 +1,14 @@
 -- What comes of an input, as plain data.
-use Rattle.std.specs.Prelude.{◌≤◌, ℕ, Option, length, Bool, false}
+use Rattle.std.specs.Prelude.{◌≤◌, ℕ, Option, Some, None, length, Bool, false}
 use Rattle.base.specs.Octets.{Octets}
+use Rattle.sadb.specs.Database.{pair_at, PairMap}
+use Rattle.sadb.specs.declared.pair.Pair.{Pair}
+use Rattle.children.specs.Pairs.{HasFewSelectors}
 use Rattle.ike.specs.declared.output.IkeOutput.{IkeOutput}
+use Rattle.ike.specs.declared.output.MadeChild.{MadeChild}
 use Rattle.ike.specs.declared.output.IkeOutput.TheVariants as ike
 use Rattle.traffic.specs.Outcomes as traffic
-use Rattle.gateway.specs.Faults.{is_lack_of_memory}
+use Rattle.gateway.specs.Faults.{is_want_of_memory}
 use Rattle.gateway.specs.declared.fault.Reason.{Reason}
 use Rattle.gateway.specs.declared.fault.Reason.TheVariants as reason
 use Rattle.gateway.specs.declared.output.Output.{Output}
@@ -16,7 +20,7 @@ pub data Said : Type 0 where
   Reply : Octets → Option ℕ → Said
   Repeat : Octets → Said
   Request : (ike : ℕ) → Octets → Said
-  -- by a response to this association a child was made, or the association closed
+  -- a response of this association was counted; the child that it made, and the association that it closed
   Counted : (ike : ℕ) → Option ℕ → Option ℕ → Said
   Done : Said
   Up : (child number : ℕ) → Octets → Said
@@ -85,6 +89,16 @@ FitsDatagram (Dropped why) = Unit {0}
 FitsDatagram (Refused why) = Unit {0}
 
 -- an input was refused for want of memory
-abbrev pub lacks_memory : Said → Bool
-lacks_memory (Refused why) = is_lack_of_memory why
-lacks_memory _ = false
+abbrev pub wants_memory : Said → Bool
+wants_memory (Refused why) = is_want_of_memory why
+wants_memory _ = false
+
+-- no more selectors on either side than a payload may carry
+abbrev pub FewSelectors : Option Pair → Type 0
+FewSelectors None = Unit {0}
+FewSelectors (Some pair) = HasFewSelectors pair
+
+-- the child that is made has few selectors on either side
+abbrev pub FitsChild : Option MadeChild → PairMap → Type 0
+FitsChild None pairs = Unit {0}
+FitsChild (Some made) pairs = FewSelectors (pair_at pairs made.serial)

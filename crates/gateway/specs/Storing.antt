@@ -3,12 +3,8 @@ use Rattle.std.specs.Prelude.{◌≡◌, ◌<◌, ◌≤◌, ℕ, Option, Some, 
 use Rattle.std.specs.Vec.{vec_capacity}
 use Rattle.base.specs.Octets.{Octets}
 use Rattle.wire.specs.Numbers.{SELECTOR_LIMIT}
-use Rattle.children.specs.Pairs.{HasFewSelectors}
 use Rattle.initial.specs.Taking.{Meaning}
-use Rattle.ike.specs.declared.output.MadeChild.{MadeChild}
 use Rattle.ike.specs.declared.output.Trace.{Trace}
-use Rattle.sadb.specs.Database.{pair_at, PairMap}
-use Rattle.sadb.specs.declared.pair.Pair.{Pair}
 use Rattle.gateway.specs.Outputs.{DATAGRAM_LIMIT, Said}
 use Rattle.gateway.specs.States.{State}
 use Rattle.gateway.specs.Steps.{Traces}
@@ -29,15 +25,6 @@ pub record HasRoom (log : Log) : Type 0 where
   pub sent : vec_len log.sent < vec_capacity log.sent
   pub keyed : vec_len log.keyed < vec_capacity log.keyed
   pub children : vec_len log.children < vec_capacity log.children
-
-abbrev pub FewSelectors : Option Pair → Type 0
-FewSelectors None = Unit {0}
-FewSelectors (Some pair) = HasFewSelectors pair
-
--- the child that is made has few selectors on either side
-abbrev pub FitsChild : Option MadeChild → PairMap → Type 0
-FitsChild None pairs = Unit {0}
-FitsChild (Some made) pairs = FewSelectors (pair_at pairs made.serial)
 
 -- a step of the gateway of an end, and what is stored of it
 pub record TakesAt {C : Type 0} (meaning : Meaning) (end : End) (input : Input) (old : State C) (stored : Stored) (said : Said) (new : State C) (stored_after : Stored) : Type 0 where

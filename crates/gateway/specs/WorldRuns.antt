@@ -1,8 +1,11 @@
 -- Events at two ends as each end sees them.
-use Rattle.std.specs.Prelude.{◌≡◌, ◌++◌, List, [], ◌∷◌}
+use Rattle.std.specs.Prelude.{◌≡◌, ◌<◌, ◌++◌, ℕ, List, [], ◌∷◌, length, take}
 use Rattle.initial.specs.Taking.{Meaning}
 use Rattle.gateway.specs.Outputs.{said}
-use Rattle.gateway.specs.Worlds.{Stored, TakesEvent, WorldState}
+use Rattle.gateway.specs.Runs.{Runs, StepsAs}
+use Rattle.gateway.specs.Worlds.{gateway_at, Stored, TakesEvent, WorldState}
+use Rattle.gateway.specs.declared.fault.RunFault.{RunFault}
+use Rattle.gateway.specs.declared.fault.RunFault.TheVariants.{NoRoom}
 use Rattle.gateway.specs.declared.input.Input.{Input}
 use Rattle.gateway.specs.declared.output.Output.{Output}
 use Rattle.gateway.specs.declared.world.stored.End.{End}
@@ -37,3 +40,17 @@ pub record IsLater (old new : Stored) : Type 0 where
   pub sent : new.sent ≡ old.sent ++ more.sent
   pub keyed : new.keyed ≡ old.keyed ++ more.keyed
   pub children : new.children ≡ old.children ++ more.children
+
+-- The first so many events took place in order, and their outputs were appended. Each end had its own events in order, whatever happened
+-- at the other: what became of it is a run of its gateway alone. And what was stored is stored still.
+pub record PlaysFirst {C : Type 0} (meaning_of : C → Meaning) (count : ℕ) (events : List Event) (old : WorldState C) (before : List Output) (new : WorldState C) (after : List Output) : Type 0 where
+  pub outputs : List Output
+  pub appended : after ≡ before ++ outputs
+  pub runs : Runs (HappensAs meaning_of) (take count events) outputs old new
+  pub ends : (end : End) → Runs (StepsAs meaning_of) (inputs_at end (take count events)) (outputs_at end (take count events) outputs) (gateway_at end old) (gateway_at end new)
+  pub stored : IsLater old.stored new.stored
+
+-- there was no room for what comes of one more: the list was left after some, and not at its end
+abbrev pub StopsPlaying : {C : Type 0} → (C → Meaning) → List Event → WorldState C → List Output → RunFault → WorldState C → List Output → Type 0
+StopsPlaying meaning_of events old before (NoRoom count) new after =
+    (count < length events) × PlaysFirst meaning_of count events old before new after

@@ -1,14 +1,14 @@
 -- Two gateways that are each other's peer, and what is stored of them: what was sent under what, which keys and which children were made.
-use Rattle.std.specs.Prelude.{◌≡◌, ◌<◌, ◌++◌, ◌∷◌, ℕ, zero, suc, List, [], Option, Some, None, length, take, slice_get, refl}
+use Rattle.std.specs.Prelude.{◌≡◌, ◌++◌, ◌∷◌, ℕ, zero, suc, List, [], Option, Some, None, slice_get, refl}
 use Rattle.std.specs.Coded.{Coded, code_by, coded×}
 use Rattle.std.specs.Option.{option_map, option_to_list}
 use Rattle.base.specs.Octets.{Octets}
 use Rattle.esp.specs.declared.association.Association.{Association}
 use Rattle.suite.specs.declared.key_record.KeyRecord.{KeyRecord}
-use Rattle.sadb.specs.Database.{empty_table, pair_at, Database}
+use Rattle.sadb.specs.Database.{pair_at, Database}
 use Rattle.sadb.specs.declared.pair.Pair.{Pair}
 use Rattle.initial.specs.Taking.{Meaning}
-use Rattle.ike.specs.Machines.{keys_of_serial, new_machine, Machine}
+use Rattle.ike.specs.Machines.{keys_of_serial, Machine}
 use Rattle.ike.specs.declared.output.MadeChild.{MadeChild}
 use Rattle.ike.specs.declared.output.Mark as ike
 use Rattle.ike.specs.declared.output.Trace.{Trace}
@@ -43,10 +43,11 @@ nothing_stored = record { sent = []; keyed = []; children = [] }
 abbrev pub new_world : {C : Type 0} → State C → State C → WorldState C
 new_world {C} a b = record { a = a; b = b; stored = nothing_stored }
 
--- a gateway as it begins
+-- a gateway that holds no association, has given no SPI, and is at the moment 0
 pub record HoldsNothing {C : Type 0} (s : State C) : Type 0 where
-  pub machine : s.machine ≡ new_machine s.machine.config
-  pub table : s.table ≡ empty_table s.table.start
+  pub associations : s.machine.held.associations ≡ []
+  pub moment : s.machine.moment ≡ 0
+  pub given : s.table.given ≡ 0
 
 abbrev pub other_end : End → End
 other_end A = B
@@ -79,6 +80,7 @@ abbrev pub mark_by : ℕ → Option Pair → Mark
 mark_by number None = mark.Plain
 mark_by number (Some pair) = mark.Esp (simplex_of pair.outbound.association) number
 
+-- the pair under this serial, which a packet was sealed by
 abbrev pub esp_mark : Database → ℕ → ℕ → Mark
 esp_mark table child number = mark_by number (pair_at table.pairs child)
 
@@ -145,7 +147,7 @@ pub record TakesEvent {C : Type 0} (meaning_of : C → Meaning) (event : Event) 
   pub traces : Traces (meaning_of (gateway_at event.end old).caller) event.input (gateway_at event.end old) said trace gateway
   pub content : new ≡ with_gateway event.end gateway (storing event.end said trace gateway old.stored) old
 
--- the datagram that was sent as this one, from 1
+-- the octets of the datagram of this place in the order of sending, counted from 1
 abbrev pub datagram_at : List Datagram → ℕ → Option Octets
 datagram_at sent zero = None
 datagram_at sent (suc place) = option_map (λ d. d.octets) (slice_get sent place)

@@ -36,10 +36,10 @@ impl Reason {
 /// Why a list of inputs was not taken to its end.
 #[derive(Clone, Copy, Debug, PartialEq, Eq, Error)]
 pub enum RunFault {
-    /// There was no memory for one more output.
-    #[error("E38: no room for an output after {done} inputs")]
+    /// There was no memory for one more output or, at two ends, for what is stored of one more event.
+    #[error("E38: no room after {done} inputs")]
     NoRoom {
-        /// So many inputs were taken, each with its output, and none after them.
+        /// So many inputs or events were taken, each with its output, and none after them.
         done: usize,
     },
 }

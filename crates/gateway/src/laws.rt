@@ -16,11 +16,10 @@ ghost use Rattle.ike.specs.declared.output.Trace.{Trace};
 ghost use Rattle.gateway.specs.Contents.{state_content};
 ghost use Rattle.gateway.specs.Faults.{is_after_judging_packet};
 ghost use Rattle.ike.specs.Soundness.{IsSoundMachine};
-ghost use Rattle.gateway.specs.Outputs.{Clear, Dropped, FitsDatagram, IsQuiet, Refused, Said, lacks_memory, said};
+ghost use Rattle.gateway.specs.Outputs.{Clear, Dropped, FitsChild, FitsDatagram, IsQuiet, Refused, Said, wants_memory, said};
 ghost use Rattle.gateway.specs.Runs.{Runs, StepsAs};
 ghost use Rattle.gateway.specs.States.{State};
 ghost use Rattle.gateway.specs.Steps.{GoesSealed, Steps, Traces};
-ghost use Rattle.gateway.specs.Storing.{FitsChild};
 ghost use Rattle.gateway.specs.WorldRuns.{inputs_at, outputs_at, HappensAs, IsLater};
 ghost use Rattle.gateway.specs.Worlds.{gateway_at, WorldState};
 ghost use Rattle.gateway.specs.declared.output.Output.{Output};
@@ -118,24 +117,24 @@ pub fn what_is_stored_stays<C>()
         → Runs (HappensAs meaning_of) events outputs old new → IsLater old.stored new.stored }
 {}
 
-/// A step does one thing, and a run of steps: what is said, what is told of IKE, and what the gateway holds then go by the inputs and
+/// A step does one thing, and a run of steps: what is said, the trace, and what the gateway holds then go by the inputs and
 /// by what it held before, whatever room there is, where no input is refused for want of memory. Of an input it is asked that a
 /// datagram is of octets and that a cipher tells lengths, as its law says; of the gateway that the keys of its IKE associations are
 /// whole, as they stay.
 pub fn steps_are_determined<C>()
     ensures traces { (meaning : Meaning) (given : Input) (old other a b : State C) (one two : Said) (trace another : Trace)
         → IsGiven meaning given → HoldWholeKeys old.machine.held → state_content old ≡ state_content other
-        → lacks_memory one ≡ false → lacks_memory two ≡ false
+        → wants_memory one ≡ false → wants_memory two ≡ false
         → Traces meaning given old one trace a → Traces meaning given other two another b
         → (one ≡ two) × (trace ≡ another) × (state_content a ≡ state_content b) }
     ensures steps { (meaning : Meaning) (given : Input) (old other a b : State C) (one two : Said)
         → IsGiven meaning given → HoldWholeKeys old.machine.held → state_content old ≡ state_content other
-        → lacks_memory one ≡ false → lacks_memory two ≡ false
+        → wants_memory one ≡ false → wants_memory two ≡ false
         → Steps meaning given old one a → Steps meaning given other two b
         → (one ≡ two) × (state_content a ≡ state_content b) }
     ensures runs { (meaning_of : C → Meaning) (inputs : List Input) (ones twos : List Output) (old other a b : State C)
-        → AllByRecursion (IsGiven (meaning_of old.caller)) inputs → AllByRecursion (λ output. lacks_memory (said output) ≡ false) ones
-        → AllByRecursion (λ output. lacks_memory (said output) ≡ false) twos → HoldWholeKeys old.machine.held
+        → AllByRecursion (IsGiven (meaning_of old.caller)) inputs → AllByRecursion (λ output. wants_memory (said output) ≡ false) ones
+        → AllByRecursion (λ output. wants_memory (said output) ≡ false) twos → HoldWholeKeys old.machine.held
         → state_content old ≡ state_content other → Runs (StepsAs meaning_of) inputs ones old a
         → Runs (StepsAs meaning_of) inputs twos other b
         → (map said ones ≡ map said twos) × (state_content a ≡ state_content b) }

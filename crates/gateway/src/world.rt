@@ -1,5 +1,5 @@
 //! Two gateways, and what passed between them.
-ghost use Rattle.std.specs.Prelude.{◌≡◌, ◌≤◌, ◌<◌, ℕ, MatchOption, IfErr, IfOk, length, slice_get};
+ghost use Rattle.std.specs.Prelude.{◌≡◌, MatchOption, None, Some, IfErr, IfOk};
 ghost use Rattle.gateway.specs.Outputs.{said};
 ghost use Rattle.gateway.specs.Worlds.{datagram_at, gateway_at, new_world, HoldsNothing, TakesEvent};
 
@@ -18,7 +18,8 @@ use suite::{Agreement, Proof, Sealer};
 /// Two gateways that are each other's peer; every datagram that they sent, in order, and under what; every key record that they
 /// made, and every child.
 ///
-/// What is stored is never forgotten: it is what both ends together can be judged by, however the datagrams travel.
+/// What is stored is never forgotten: it is what both ends together can be judged by, however the datagrams travel. It holds keys: a
+/// world is for tests, and for what is said of both ends together.
 #[derive(Drop)]
 pub struct World<C> {
     a: Gateway<C>,
@@ -41,7 +42,7 @@ impl<C> Model for World<C> {
 }
 
 impl<C> World<C> {
-    /// Two gateways that hold nothing and have given no SPI, at the moment 0: nothing was sent yet. Takes no memory.
+    /// Two gateways that hold no association and have given no SPI, at the moment 0: nothing was sent yet. Takes no memory.
     pub fn new(alloc: Global, a: Gateway<C>, b: Gateway<C>) -> World<C>
         requires a { HoldsNothing a }
         requires b { HoldsNothing b }

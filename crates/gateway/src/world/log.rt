@@ -3,11 +3,8 @@ ghost use Rattle.std.specs.Prelude.{◌≡◌, ◌++◌, ◌≤◌, ◌<◌, [],
 ghost use Rattle.std.specs.Option.{option_to_list};
 ghost use Rattle.std.specs.Vec.{vec_capacity};
 ghost use Rattle.wire.specs.Numbers.{SELECTOR_LIMIT};
-ghost use Rattle.sadb.specs.Database.{pair_at, IsSoundTable};
-ghost use Rattle.gateway.specs.Outputs.{said, DATAGRAM_LIMIT, FitsDatagram};
-ghost use Rattle.gateway.specs.States.{State};
-ghost use Rattle.gateway.specs.Steps.{Traces};
-ghost use Rattle.gateway.specs.Storing.{FitsChild, HasRoom, IsSpare, TakesAt};
+ghost use Rattle.gateway.specs.Outputs.{said, DATAGRAM_LIMIT, FitsChild, FitsDatagram};
+ghost use Rattle.gateway.specs.Storing.{HasRoom, IsSpare, TakesAt};
 ghost use Rattle.gateway.specs.Worlds.{child_by, esp_mark, ike_mark, keyed_by, nothing_stored, sent_by, simplex_of, stored_by};
 
 use super::stored::{Child, Datagram, End, Keyed, Mark, Simplex};

@@ -1,7 +1,6 @@
 //! A list of events at two ends.
 ghost use Rattle.std.specs.Prelude.{OnOk, IfErr, length};
-ghost use Rattle.gateway.specs.Runs.{RunsFirst, Stops};
-ghost use Rattle.gateway.specs.WorldRuns.{HappensAs};
+ghost use Rattle.gateway.specs.WorldRuns.{PlaysFirst, StopsPlaying};
 
 use super::{Event, World};
 use crate::{Output, RunFault};
@@ -19,8 +18,8 @@ pub fn run_world<'a, C: Sealer + Agreement + Proof>(
     events: &'a [Event],
     outputs: &mut Vec<Output<'a>>,
 ) -> Result<(), RunFault>
-    ensures all { OnOk result (RunsFirst
-        (HappensAs (λ caller. record {
+    ensures all { OnOk result (PlaysFirst
+        (λ caller. record {
           cipher = C.cipher;
           body_of = C.body_of;
           plain_of = C.plain_of;
@@ -30,10 +29,10 @@ pub fn run_world<'a, C: Sealer + Agreement + Proof>(
           own_method = C.own_method caller;
           proof_of = C.proof_of caller;
           accepts = C.accepts caller;
-        }))
+        })
         (length events.now) events.now world.old outputs.old.items world.new outputs.new.items) }
-    ensures stopped { IfErr result (λ fault. Stops
-        (HappensAs (λ caller. record {
+    ensures stopped { IfErr result (λ fault. StopsPlaying
+        (λ caller. record {
           cipher = C.cipher;
           body_of = C.body_of;
           plain_of = C.plain_of;
@@ -43,7 +42,7 @@ pub fn run_world<'a, C: Sealer + Agreement + Proof>(
           own_method = C.own_method caller;
           proof_of = C.proof_of caller;
           accepts = C.accepts caller;
-        }))
+        })
         events.now world.old outputs.old.items fault world.new outputs.new.items) }
 {
     for (done, event) in events.iter().enumerate() {

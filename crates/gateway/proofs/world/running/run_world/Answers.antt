@@ -1,15 +1,44 @@
 use Rattle.std.proofs.Common.{◌≡◌, ℕ, ◌+◌, List, [], ◌∷◌, ◌++◌, length, sym, ap, ◌∙◌, subst, arith}
 use Rattle.initial.specs.Taking.{Meaning}
-use Rattle.gateway.specs.Runs.{Runs, RunsFirst}
-use Rattle.gateway.specs.WorldRuns.{HappensAs}
+use Rattle.gateway.specs.Runs.{Runs}
+use Rattle.gateway.specs.WorldRuns.{HappensAs, PlaysFirst}
 use Rattle.gateway.specs.declared.world.stored.Event.{Event}
 use Rattle.gateway.proofs.RunLemmas.{pushed_after, run_more, take_next}
+use Rattle.gateway.proofs.WorldLemmas.{plays}
 use Rattle.gateway.proofs.world.running.run_world.Goals as goal
 
 pub returns-then-is_err-clause-stopped : goal.returns-then-is_err-clause-stopped
 returns-then-is_err-clause-stopped g c =
     let i = c.loop-done.invariant in
-    (c.loop-done-test.true, record { outputs = i.answers; appended = c.reserve.ensures.items ∙ i.appended; runs = i.runs })
+    let meaning_of : _ → Meaning = λ caller. record {
+      cipher = g.C.Sealer.cipher;
+      body_of = g.C.Sealer.body_of;
+      plain_of = g.C.Sealer.plain_of;
+      group = g.C.Agreement.group_number;
+      public_value = g.C.Agreement.public_value;
+      shared_secret = g.C.Agreement.shared_secret;
+      own_method = g.C.Proof.own_method caller;
+      proof_of = g.C.Proof.proof_of caller;
+      accepts = g.C.Proof.accepts caller;
+    } in
+    (c.loop-done-test.true, plays meaning_of c.loop-done.done c.args.events.now c.args.world.now c.args.outputs.now.items i.answers c.loop-done.world c.reserve.new.self.items (c.reserve.ensures.items ∙ i.appended) i.runs)
+
+pub returns-in_default-clause-stopped : goal.returns-in_default-clause-stopped
+returns-in_default-clause-stopped g c =
+    let i = c.loop-done.invariant in
+    let meaning_of : _ → Meaning = λ caller. record {
+      cipher = g.C.Sealer.cipher;
+      body_of = g.C.Sealer.body_of;
+      plain_of = g.C.Sealer.plain_of;
+      group = g.C.Agreement.group_number;
+      public_value = g.C.Agreement.public_value;
+      shared_secret = g.C.Agreement.shared_secret;
+      own_method = g.C.Proof.own_method caller;
+      proof_of = g.C.Proof.proof_of caller;
+      accepts = g.C.Proof.accepts caller;
+    } in
+    let played = plays meaning_of c.loop-done.done c.args.events.now c.args.world.now c.args.outputs.now.items i.answers c.loop-done.world c.reserve.new.self.items (c.reserve.ensures.items ∙ i.appended) i.runs in
+    (c.loop-done-test.true, subst (λ w. PlaysFirst meaning_of c.loop-done.done c.args.events.now c.args.world.now c.args.outputs.now.items w c.reserve.new.self.items) (sym c.in_default.ensures.refused) played)
 
 pub loop-done-preserved : goal.loop-done-preserved
 loop-done-preserved g c =
@@ -52,5 +81,5 @@ returns-clause-all g c =
       accepts = g.C.Proof.accepts caller;
     } in
     let all : c.loop-done.done ≡ length c.args.events.now = omega arith in
-    subst (λ (k : ℕ). RunsFirst (HappensAs meaning_of) k c.args.events.now c.args.world.now c.args.outputs.now.items c.loop-done.world c.loop-done.outputs.items) all
-    (record { outputs = i.answers; appended = i.appended; runs = i.runs })
+    subst (λ (k : ℕ). PlaysFirst meaning_of k c.args.events.now c.args.world.now c.args.outputs.now.items c.loop-done.world c.loop-done.outputs.items) all
+    (plays meaning_of c.loop-done.done c.args.events.now c.args.world.now c.args.outputs.now.items i.answers c.loop-done.world c.loop-done.outputs.items i.appended i.runs)
