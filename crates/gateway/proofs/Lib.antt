@@ -5,3 +5,4 @@ mod QuietLemmas
 mod WorldLemmas
 mod FittingLemmas
 mod DeterminedSteps
+mod ToldLemmas

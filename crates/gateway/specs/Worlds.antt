@@ -87,6 +87,11 @@ esp_mark table child number = mark_by number (pair_at table.pairs child)
 abbrev pub datagram_of : End → Mark → Octets → Datagram
 datagram_of end m octets = record { end = end; mark = m; octets = octets }
 
+-- a message under SK is marked so: under some key record, as this response or request
+pub record IsMarked (sent : ike.Mark) (m : Mark) : Type 0 where
+  pub keys : KeyRecord
+  pub is : m ≡ mark.Ike keys sent.response sent.number
+
 -- the datagram that a step sent
 abbrev pub sent_by : {C : Type 0} → End → Said → Option ike.Mark → State C → List Datagram
 sent_by end (Reply octets closed) sent gateway = datagram_of end (ike_mark gateway.machine sent) octets ∷ []

@@ -1,5 +1,5 @@
 //! What follows from the definitions alone. No function here does anything.
-ghost use Rattle.std.specs.Prelude.{◌≡◌, List, true, false, map};
+ghost use Rattle.std.specs.Prelude.{◌≡◌, ℕ, IsSome, List, Some, true, false, map};
 ghost use Rattle.std.specs.List.{AllByRecursion};
 ghost use Rattle.base.specs.Octets.{Octets};
 ghost use Rattle.policy.specs.declared.entry.Action.{Action};
@@ -12,6 +12,8 @@ ghost use Rattle.sadb.specs.Database.{IsAsBefore, IsSoundTable};
 ghost use Rattle.traffic.specs.Receiving.{TakesOneNumber};
 ghost use Rattle.traffic.specs.Sending.{IsDecided};
 ghost use Rattle.ike.specs.Lengths.{HoldWholeKeys};
+ghost use Rattle.ike.specs.declared.output.MadeChild.{MadeChild};
+ghost use Rattle.ike.specs.declared.output.Mark as ike;
 ghost use Rattle.ike.specs.declared.output.Trace.{Trace};
 ghost use Rattle.gateway.specs.Contents.{state_content};
 ghost use Rattle.gateway.specs.Faults.{is_after_judging_packet};
@@ -21,7 +23,7 @@ ghost use Rattle.gateway.specs.Runs.{Runs, StepsAs};
 ghost use Rattle.gateway.specs.States.{State};
 ghost use Rattle.gateway.specs.Steps.{GoesSealed, Steps, Traces};
 ghost use Rattle.gateway.specs.WorldRuns.{inputs_at, outputs_at, HappensAs, IsLater};
-ghost use Rattle.gateway.specs.Worlds.{gateway_at, WorldState};
+ghost use Rattle.gateway.specs.Worlds.{child_by, gateway_at, ike_mark, keyed_by, IsMarked, WorldState};
 ghost use Rattle.gateway.specs.declared.output.Output.{Output};
 ghost use Rattle.gateway.specs.declared.world.stored.End.{End};
 ghost use Rattle.gateway.specs.declared.world.stored.Event.{Event};
@@ -31,7 +33,9 @@ ghost use Rattle.gateway.specs.declared.input.Input.{Input};
 ghost use Rattle.gateway.specs.declared.input.Input.TheVariants as input;
 
 use esp::laws::sealed_packets_open;
-use ike::laws::{children_have_few_selectors, what_is_sent_is_short};
+use ike::laws::{
+    children_have_few_selectors, traces_name_what_is_held, what_is_sent_is_short,
+};
 use sadb::laws::later_tables_are_determined;
 use traffic::laws::{
     a_packet_takes_one_number, only_the_bypassed_goes_in_the_clear, outcomes_are_determined,
@@ -102,6 +106,22 @@ pub fn what_is_made_fits<C>()
         → IsSoundMachine old.machine old.table → Traces meaning given old said trace new → FitsChild trace.child new.table.pairs }
 {
     children_have_few_selectors();
+}
+
+/// What a step's trace tells is stored: a message under SK with a key record, as the response or request that it is, and the key record
+/// and the child that were made.
+pub fn what_is_told_is_stored<C>()
+    ensures message { (meaning : Meaning) (given : Input) (said : Said) (trace : Trace) (mark : ike.Mark) (old new : State C)
+        → IsSoundTable old.table → IsSoundMachine old.machine old.table → Traces meaning given old said trace new
+        → trace.sent ≡ Some mark → IsMarked mark (ike_mark new.machine trace.sent) }
+    ensures keyed { (meaning : Meaning) (given : Input) (said : Said) (trace : Trace) (end : End) (ike : ℕ) (old new : State C)
+        → IsSoundTable old.table → IsSoundMachine old.machine old.table → Traces meaning given old said trace new
+        → trace.keyed ≡ Some ike → IsSome (keyed_by end trace.keyed new.machine) }
+    ensures child { (meaning : Meaning) (given : Input) (said : Said) (trace : Trace) (end : End) (made : MadeChild)
+        (old new : State C) → IsSoundTable old.table → IsSoundMachine old.machine old.table
+        → Traces meaning given old said trace new → trace.child ≡ Some made → IsSome (child_by end trace.child new) }
+{
+    traces_name_what_is_held();
 }
 
 /// Each end of a world has its own events in order, whatever happens at the other: what becomes of it is a run of its gateway alone.

@@ -1,0 +1,114 @@
+-- What a step's trace tells is stored.
+use Rattle.std.proofs.Common.{◌≡◌, ℕ, List, Option, Some, None, IsSome, inl, inr, refl, sym, ap, ◌∙◌, subst}
+use Rattle.std.specs.Prelude.{option_and_then}
+use Rattle.policy.specs.declared.entry.Entry.{Entry}
+use Rattle.suite.specs.declared.key_record.KeyRecord.{KeyRecord}
+use Rattle.sadb.specs.Database.{pair_at, Database, IsSoundTable}
+use Rattle.sadb.specs.declared.pair.Pair.{Pair}
+use Rattle.association.specs.Phases.{keys_in}
+use Rattle.association.specs.declared.phase.Association.{Association}
+use Rattle.initial.specs.Taking.{Meaning}
+use Rattle.ike.specs.Machines.{keys_of_serial, Held, Machine}
+use Rattle.ike.specs.Outputs.{no_trace}
+use Rattle.ike.specs.Soundness.{IsSoundMachine}
+use Rattle.ike.specs.Steps as ike
+use Rattle.ike.specs.Tracing.{HoldsKeys, IsTraced}
+use Rattle.ike.specs.declared.output.MadeChild.{MadeChild}
+use Rattle.ike.specs.declared.output.Mark.{Mark}
+use Rattle.ike.specs.declared.output.Stepped.{Stepped}
+use Rattle.ike.specs.declared.output.Trace.{Trace}
+use Rattle.gateway.specs.Outputs.{Said}
+use Rattle.gateway.specs.States.{State}
+use Rattle.gateway.specs.Steps.{DoesInput, StepsIke, Traces}
+use Rattle.gateway.specs.Worlds.{child_by, child_with, ike_mark, keyed_by, keyed_with, mark_under, IsMarked}
+use Rattle.gateway.specs.declared.input.Input.{Input}
+use Rattle.gateway.specs.declared.input.Input.TheVariants as input
+use Rattle.gateway.specs.declared.world.stored.End.{End}
+
+-- what the machine of IKE says of its traces
+pub record TraceLaw : Type 0 where
+  pub traced : (meaning : Meaning) (entries : List Entry) (given : ike.InputView) (old : Machine) (table : Database) (stepped : Stepped) (new : Machine) (new_table : Database)
+      → IsSoundTable table → IsSoundMachine old table → ike.Steps meaning entries given old table stepped new new_table → IsTraced table stepped new.held new_table
+
+-- what is told is held, with its keys and its pair
+pub record TellsHeld (trace : Trace) (held : Held) (table : Database) : Type 0 where
+  pub sent : (mark : Mark) → trace.sent ≡ Some mark → HoldsKeys held mark.ike
+  pub keyed : (serial : ℕ) → trace.keyed ≡ Some serial → HoldsKeys held serial
+  pub child : (made : MadeChild) → trace.child ≡ Some made → HoldsKeys held made.ike
+  pub pair : (made : MadeChild) → trace.child ≡ Some made → IsSome (pair_at table.pairs made.serial)
+
+some_pair : (o : Option Pair) (pair : Pair) → o ≡ Some pair → IsSome o
+some_pair o pair is = subst (λ (x : Option Pair). IsSome x) (sym is) refl
+
+none_told : {T : Type 0} (o : Option T) (x : T) → o ≡ None → o ≡ Some x → ⊥
+none_told o x none some = let e : None ≡ Some x = sym none ∙ some in cc
+
+nothing_told : (trace : Trace) (held : Held) (table : Database) → trace ≡ no_trace → TellsHeld trace held table
+nothing_told trace held table is = record {
+  sent = λ mark e. absurd (none_told trace.sent mark (ap (λ (t : Trace). t.sent) is) e);
+  keyed = λ serial e. absurd (none_told trace.keyed serial (ap (λ (t : Trace). t.keyed) is) e);
+  child = λ made e. absurd (none_told trace.child made (ap (λ (t : Trace). t.child) is) e);
+  pair = λ made e. absurd (none_told trace.child made (ap (λ (t : Trace). t.child) is) e);
+}
+
+stepped_tells : (table : Database) (stepped : Stepped) (held : Held) (new_table : Database) → IsTraced table stepped held new_table → TellsHeld stepped.trace held new_table
+stepped_tells table stepped held new_table is = record {
+  sent = λ mark e. is.sent mark e;
+  keyed = λ serial e. is.keyed serial e;
+  child = λ made e. (is.child made e).keyed;
+  pair = λ made e. some_pair (pair_at new_table.pairs made.serial) (is.child made e).pair (is.child made e).there;
+}
+
+ike_tells : TraceLaw → (meaning : Meaning) (entries : List Entry) (given : ike.InputView) (old : Machine) (table : Database) (s : Said) (trace : Trace) (new : Machine) (new_table : Database)
+    → IsSoundTable table → IsSoundMachine old table → StepsIke meaning entries given old table s trace new new_table → TellsHeld trace new.held new_table
+ike_tells law meaning entries given old table s trace new new_table st sm (inl a) =
+    subst (λ (t : Trace). TellsHeld t new.held new_table) (sym a.traced)
+    (stepped_tells table a.stepped new.held new_table (law.traced meaning entries given old table a.stepped new new_table st sm a.steps))
+ike_tells law meaning entries given old table s trace new new_table st sm (inr r) = nothing_told trace new.held new_table r.traced
+
+input_tells : TraceLaw → (meaning : Meaning) (entries : List Entry) (given : Input) (old : Machine) (table : Database) (s : Said) (trace : Trace) (new : Machine) (new_table : Database)
+    → IsSoundTable table → IsSoundMachine old table → DoesInput meaning entries given old table s trace new new_table → TellsHeld trace new.held new_table
+input_tells law meaning entries (input.Ike from octets fresh) old table s trace new new_table st sm is = ike_tells law meaning entries (ike.Message from octets fresh) old table s trace new new_table st sm is
+input_tells law meaning entries (input.Start serial entry fresh) old table s trace new new_table st sm is = ike_tells law meaning entries (ike.Start serial entry fresh) old table s trace new new_table st sm is
+input_tells law meaning entries (input.Secret secret) old table s trace new new_table st sm is = ike_tells law meaning entries (ike.Secret secret) old table s trace new new_table st sm is
+input_tells law meaning entries (input.Esp octets) old table s trace new new_table st sm is = nothing_told trace new.held new_table is.0.traced
+input_tells law meaning entries (input.Outward packet) old table s trace new new_table st sm is = nothing_told trace new.held new_table is.0.traced
+input_tells law meaning entries (input.Inward packet) old table s trace new new_table st sm is = nothing_told trace new.held new_table is.0.traced
+
+step_tells : {C : Type 0} → TraceLaw → (meaning : Meaning) (given : Input) (s : Said) (trace : Trace) (old new : State C)
+    → IsSoundTable old.table → IsSoundMachine old.machine old.table → Traces meaning given old s trace new → TellsHeld trace new.machine.held new.table
+step_tells {C} law meaning given s trace old new st sm is = input_tells law meaning old.entries given old.machine old.table s trace new.machine new.table st sm is.does
+
+keys_found : (held : Held) (serial : ℕ) → (h : HoldsKeys held serial) → keys_of_serial serial held.associations ≡ Some h.keys
+keys_found held serial h = ap (λ (o : Option Association). option_and_then (λ a. keys_in a.phase) o) h.there ∙ h.are
+
+pub message_stored : {C : Type 0} → TraceLaw → (meaning : Meaning) (given : Input) (s : Said) (trace : Trace) (mark : Mark) (old new : State C)
+    → IsSoundTable old.table → IsSoundMachine old.machine old.table → Traces meaning given old s trace new → trace.sent ≡ Some mark → IsMarked mark (ike_mark new.machine trace.sent)
+message_stored {C} law meaning given s trace mark old new st sm is e =
+    let held = (step_tells law meaning given s trace old new st sm is).sent mark e in
+    record {
+      keys = held.keys;
+      is = ap (λ (o : Option Mark). ike_mark new.machine o) e ∙ ap (λ (k : Option KeyRecord). mark_under mark k) (keys_found new.machine.held mark.ike held);
+    }
+
+keyed_some : (end : End) (o : Option KeyRecord) (keys : KeyRecord) → o ≡ Some keys → IsSome (keyed_with end o)
+keyed_some end o keys is = subst (λ (x : Option KeyRecord). IsSome (keyed_with end x)) (sym is) refl
+
+pub keyed_stored : {C : Type 0} → TraceLaw → (meaning : Meaning) (given : Input) (s : Said) (trace : Trace) (end : End) (serial : ℕ) (old new : State C)
+    → IsSoundTable old.table → IsSoundMachine old.machine old.table → Traces meaning given old s trace new → trace.keyed ≡ Some serial → IsSome (keyed_by end trace.keyed new.machine)
+keyed_stored {C} law meaning given s trace end serial old new st sm is e =
+    let held = (step_tells law meaning given s trace old new st sm is).keyed serial e in
+    subst (λ (o : Option ℕ). IsSome (keyed_by end o new.machine)) (sym e) (keyed_some end (keys_of_serial serial new.machine.held.associations) held.keys (keys_found new.machine.held serial held))
+
+child_some : (end : End) (made : MadeChild) (keys : Option KeyRecord) (k : KeyRecord) (pair : Option Pair) → keys ≡ Some k → IsSome pair → IsSome (child_with end made keys pair)
+child_some end made None k pair is there = absurd (none_told None k refl is)
+child_some end made (Some keys) k None is there = absurd cc
+child_some end made (Some keys) k (Some pair) is there = refl
+
+pub child_stored : {C : Type 0} → TraceLaw → (meaning : Meaning) (given : Input) (s : Said) (trace : Trace) (end : End) (made : MadeChild) (old new : State C)
+    → IsSoundTable old.table → IsSoundMachine old.machine old.table → Traces meaning given old s trace new → trace.child ≡ Some made → IsSome (child_by end trace.child new)
+child_stored {C} law meaning given s trace end made old new st sm is e =
+    let tells = step_tells law meaning given s trace old new st sm is in
+    let held = tells.child made e in
+    subst (λ (o : Option MadeChild). IsSome (child_by end o new)) (sym e)
+    (child_some end made (keys_of_serial made.ike new.machine.held.associations) held.keys (pair_at new.table.pairs made.serial) (keys_found new.machine.held made.ike held) (tells.pair made e))
