@@ -40,3 +40,6 @@ pub use asking::{Asked, ask};
 pub use fault::ChildFault;
 pub use responding::{Made, Response, install, respond};
 pub use setting::Setting;
+
+#[cfg(test)]
+mod tests;

@@ -2,6 +2,8 @@
 ghost use Rattle.std.specs.Prelude.{◌≤◌};
 
 mod lines;
+#[cfg(test)]
+mod tests;
 
 use crate::stop::{Stop, end};
 use console::{read_hex, read_whole, write_whole};

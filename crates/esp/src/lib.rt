@@ -22,6 +22,8 @@ mod inbound;
 pub mod laws;
 mod outbound;
 mod packet;
+#[cfg(test)]
+mod tests;
 
 pub use answer::Answer;
 pub use fault::{EspFault, ListFault};

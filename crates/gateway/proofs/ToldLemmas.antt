@@ -28,7 +28,7 @@ use Rattle.gateway.specs.declared.world.stored.End.{End}
 -- what the machine of IKE says of its traces
 pub record TraceLaw : Type 0 where
   pub traced : (meaning : Meaning) (entries : List Entry) (given : ike.InputView) (old : Machine) (table : Database) (stepped : Stepped) (new : Machine) (new_table : Database)
-      → IsSoundTable table → IsSoundMachine old table → ike.Steps meaning entries given old table stepped new new_table → IsTraced table stepped new.held new_table
+      → IsSoundTable table → IsSoundMachine old table → ike.Steps meaning entries given old table stepped new new_table → IsTraced old.held table stepped new.held new_table
 
 -- what is told is held, with its keys and its pair
 pub record TellsHeld (trace : Trace) (held : Held) (table : Database) : Type 0 where
@@ -51,10 +51,10 @@ nothing_told trace held table is = record {
   pair = λ made e. absurd (none_told trace.child made (ap (λ (t : Trace). t.child) is) e);
 }
 
-stepped_tells : (table : Database) (stepped : Stepped) (held : Held) (new_table : Database) → IsTraced table stepped held new_table → TellsHeld stepped.trace held new_table
-stepped_tells table stepped held new_table is = record {
+stepped_tells : (before : Held) (table : Database) (stepped : Stepped) (held : Held) (new_table : Database) → IsTraced before table stepped held new_table → TellsHeld stepped.trace held new_table
+stepped_tells before table stepped held new_table is = record {
   sent = λ mark e. is.sent mark e;
-  keyed = λ serial e. is.keyed serial e;
+  keyed = λ serial e. (is.keyed serial e).holds;
   child = λ made e. (is.child made e).keyed;
   pair = λ made e. some_pair (pair_at new_table.pairs made.serial) (is.child made e).pair (is.child made e).there;
 }
@@ -63,7 +63,7 @@ ike_tells : TraceLaw → (meaning : Meaning) (entries : List Entry) (given : ike
     → IsSoundTable table → IsSoundMachine old table → StepsIke meaning entries given old table s trace new new_table → TellsHeld trace new.held new_table
 ike_tells law meaning entries given old table s trace new new_table st sm (inl a) =
     subst (λ (t : Trace). TellsHeld t new.held new_table) (sym a.traced)
-    (stepped_tells table a.stepped new.held new_table (law.traced meaning entries given old table a.stepped new new_table st sm a.steps))
+    (stepped_tells old.held table a.stepped new.held new_table (law.traced meaning entries given old table a.stepped new new_table st sm a.steps))
 ike_tells law meaning entries given old table s trace new new_table st sm (inr r) = nothing_told trace new.held new_table r.traced
 
 input_tells : TraceLaw → (meaning : Meaning) (entries : List Entry) (given : Input) (old : Machine) (table : Database) (s : Said) (trace : Trace) (new : Machine) (new_table : Database)

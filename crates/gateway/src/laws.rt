@@ -33,9 +33,7 @@ ghost use Rattle.gateway.specs.declared.input.Input.{Input};
 ghost use Rattle.gateway.specs.declared.input.Input.TheVariants as input;
 
 use esp::laws::sealed_packets_open;
-use ike::laws::{
-    children_have_few_selectors, traces_name_what_is_held, what_is_sent_is_short,
-};
+use ike::laws::{children_have_few_selectors, traces_name_what_is_held, what_is_sent_is_short};
 use sadb::laws::later_tables_are_determined;
 use traffic::laws::{
     a_packet_takes_one_number, only_the_bypassed_goes_in_the_clear, outcomes_are_determined,

@@ -18,3 +18,4 @@ mod DeterminedLaws
 mod DeterminedSteps
 mod DeterminedRefusals
 mod WholeKeyLemmas
+mod ProvingLemmas

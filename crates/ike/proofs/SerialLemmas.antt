@@ -1,5 +1,5 @@
 -- Associations by their serials.
-use Rattle.std.proofs.Common.{◌≡◌, ◌≢◌, ℕ, zero, suc, ◌<◌, ◌++◌, ◌∷◌, [], Bool, true, false, cond, not, List, length, Option, Some, None, ap, refl, sym, ◌∙◌, arith}
+use Rattle.std.proofs.Common.{◌≡◌, ◌≢◌, inl, inr, ℕ, zero, suc, ◌<◌, ◌++◌, ◌∷◌, [], Bool, true, false, cond, not, List, length, Option, Some, None, ap, refl, subst, sym, ◌∙◌, arith}
 use Rattle.std.specs.List.{slice_get}
 use Rattle.std.specs.Prelude.{option_and_then, slice_set}
 use Rattle.std.proofs.lemmas.Bool.{eq-eqb, ne_eqb}
@@ -9,8 +9,9 @@ use Rattle.association.specs.Phases.{keys_in}
 use Rattle.association.specs.declared.phase.Association.{Association}
 use Rattle.ike.specs.Machines.{association_of, has_serial, keys_of_serial, others_than, Held}
 use Rattle.ike.specs.Soundness.{AreSound, At}
+use Rattle.ike.proofs.ListLemmas.{grown, replaced}
 
-same_one : (x a : Association) → Some x ≡ Some a → x ≡ a
+pub same_one : (x a : Association) → Some x ≡ Some a → x ≡ a
 same_one x a e = cc
 
 -- ---- what stands at a place
@@ -41,6 +42,37 @@ found_first (x ∷ xs) (suc place) a there below =
 pub sound_found : (held : Held) (table : Database) (place : ℕ) (a : Association) → AreSound held table → At held place a → association_of a.serial held.associations ≡ Some a
 sound_found held table place a sound there =
     found_first held.associations place a there (λ k c before is. (sound.apart k place c a before is there).rising)
+
+-- so is one that changed, and one that came with the next serial
+pub replaced_stands : (held : Held) (table : Database) (place : ℕ) (a b : Association) → AreSound held table → At held place a → b.serial ≡ a.serial
+    → association_of a.serial (slice_set held.associations place b) ≡ Some b
+replaced_stands held table place a b sound there same =
+    subst (λ n. association_of n (slice_set held.associations place b) ≡ Some b) same
+    (found_first (slice_set held.associations place b) place b (set_there held.associations place a b there)
+    (λ k c before is.
+    elim (replaced held.associations place b k c is) [
+      | inl (here, new) ↦ absurd (omega (arith, before, here))
+      | inr (other, stood) ↦ let less = (sound.apart k place c a before stood there).rising in omega (arith, less, same)
+    ]))
+
+pub grown_stands : (held : Held) (table : Database) (b : Association) → AreSound held table → b.serial ≡ held.next → association_of b.serial (held.associations ++ b ∷ []) ≡ Some b
+grown_stands held table b sound serial =
+    found_first (held.associations ++ b ∷ []) (length held.associations) b (last_there held.associations b)
+    (λ k c before is.
+    elim (grown held.associations b k c is) [
+      | inl (here, new) ↦ absurd (omega (arith, before, here))
+      | inr (other, stood) ↦ let given = (sound.each k c stood).serial_given in omega (arith, given, serial)
+    ])
+
+none_found : (xs : List Association) (n : ℕ) → ((k : ℕ) (c : Association) → slice_get xs k ≡ Some c → c.serial < n) → association_of n xs ≡ None
+none_found [] n below = refl
+none_found (x ∷ xs) n below =
+    let less : x.serial < n = below 0 x refl in
+    ap (λ b. cond b (Some x) (association_of n xs)) (ne_eqb x.serial n (λ e. omega (arith, less, e))) ∙ none_found xs n (λ k c is. below (suc k) c is)
+
+-- none has the next serial
+pub none_next : (held : Held) (table : Database) → AreSound held table → association_of held.next held.associations ≡ None
+none_next held table sound = none_found held.associations held.next (λ k c is. (sound.each k c is).serial_given)
 
 -- ---- what stays
 

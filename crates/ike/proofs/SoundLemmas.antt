@@ -11,6 +11,7 @@ use Rattle.sa_init.specs.Judging.{ASSOCIATION_LIMIT, HALF_OPEN_LIMIT}
 use Rattle.association.specs.Closing.{HoldsSpi}
 use Rattle.association.specs.Phases.{spi_in}
 use Rattle.association.specs.declared.phase.Association.{Association}
+use Rattle.initial.specs.Ending.{IsAuthSent}
 use Rattle.initial.specs.Reading.{IsInitSent}
 use Rattle.initial.specs.Taking.{StaysItself}
 use Rattle.ike.specs.Machines.{half_open_count, own_spi, spi_by_role, Held, SERIAL_END}
@@ -46,6 +47,7 @@ still_sound old place b next table new_table sound joins k c (inr (other, there)
       serial_given = omega (arith, was.serial_given, joins.more);
       own = was.own;
       initiator = was.initiator;
+      responder = was.responder;
       reserved = other_holds table new_table (held_by c) (λ spi held reserved. joins.others k c spi other there held reserved) was.reserved;
       short = was.short;
     }
@@ -104,6 +106,7 @@ sound_with old table new_table stays sound =
             serial_given = was.serial_given;
             own = was.own;
             initiator = was.initiator;
+            responder = was.responder;
             reserved = other_holds table new_table (held_by c) (λ spi held. stays spi) was.reserved;
             short = was.short;
           };
@@ -115,6 +118,11 @@ sound_with old table new_table stays sound =
 by_role : (a b : Association) (r : Role) → a.role ≡ r → b.role ≡ r → spi_by_role r b.spi_i b.spi_r ≡ spi_by_role r a.spi_i a.spi_r → own_spi b ≡ own_spi a
 by_role a b r was is same =
     ap (λ (x : Role). spi_by_role x b.spi_i b.spi_r) is ∙ same ∙ sym (ap (λ (x : Role). spi_by_role x a.spi_i a.spi_r) was)
+
+-- who waits for a response waited for one before
+pub waited_before : (a b : Association) → StaysItself a b → IsInitSent b.phase ⊎ IsAuthSent b.phase → IsInitSent a.phase ⊎ IsAuthSent a.phase
+waited_before a b stays (inl waits) = inl (stays.waiting waits)
+waited_before a b stays (inr asks) = stays.asking asks
 
 -- this end's SPI stays
 pub own_stays : (a b : Association) → (IsInitSent a.phase → a.role ≡ Initiator) → StaysItself a b → own_spi b ≡ own_spi a

@@ -1,5 +1,5 @@
 -- A step keeps associations and table sound, by what a message does to one association.
-use Rattle.std.proofs.Common.{◌≡◌, ◌≢◌, ◌||◌, inl, inr, ℕ, ◌+◌, ◌<◌, ◌≤◌, Bool, true, false, List, length, Option, Some, None, Result, Ok, Err, ap, refl, subst, sym, ◌∙◌, arith}
+use Rattle.std.proofs.Common.{◌≡◌, ◌≢◌, ◌||◌, ◌⊎◌, inl, inr, ℕ, ◌+◌, ◌<◌, ◌≤◌, Bool, true, false, List, length, Option, Some, None, Result, Ok, Err, ap, refl, subst, sym, ◌∙◌, arith}
 use Rattle.std.specs.Cmp.{nat_cmp_total, unsigned_tied}
 use Rattle.std.specs.FinSet as set
 use Rattle.std.specs.Prelude.{◌==◌, if◌then◌else◌, nat_le, IfErr, IfOk}
@@ -21,11 +21,14 @@ use Rattle.association.specs.FirstChildren.{FirstChildView}
 use Rattle.association.specs.Phases.{spi_in}
 use Rattle.association.specs.declared.fault.MessageFault.{MessageFault}
 use Rattle.association.specs.declared.phase.Association.{Association}
+use Rattle.association.specs.declared.phase.AuthSent.{AuthSent}
 use Rattle.association.specs.declared.phase.HalfOpen.{HalfOpen}
 use Rattle.association.specs.declared.phase.InitSent.{InitSent}
 use Rattle.association.specs.declared.phase.Phase.TheVariants as phase
-use Rattle.exchange.specs.declared.headers.Role.TheVariants.{Initiator}
+use Rattle.exchange.specs.declared.headers.Role.TheVariants.{Initiator, Responder}
 use Rattle.initial.specs.Configs.{Setup}
+use Rattle.initial.specs.Answering.{IsHalfOpen}
+use Rattle.initial.specs.Ending.{IsAuthSent}
 use Rattle.initial.specs.Reading.{IsInitSent}
 use Rattle.initial.specs.Taking.{Meaning, StaysItself, TakesMessage}
 use Rattle.initial.specs.declared.taking.Effect.{Effect}
@@ -43,7 +46,7 @@ use Rattle.ike.specs.Steps as steps
 use Rattle.ike.specs.declared.fault.IkeFault.{IkeFault}
 use Rattle.ike.specs.declared.output.Stepped.{Stepped}
 use Rattle.ike.proofs.CountLemmas.{count_grown, count_replaced, not_used, not_zero, weight_most}
-use Rattle.ike.proofs.SoundLemmas.{alone, apart_after, apart_before, held_by, own_stays, sound_grown, sound_replaced, sound_with, Joins}
+use Rattle.ike.proofs.SoundLemmas.{alone, apart_after, apart_before, held_by, own_stays, sound_grown, sound_replaced, sound_with, waited_before, Joins}
 use Rattle.std.specs.List.{position}
 
 -- what is known of a message's effect, and of offers that are accepted
@@ -78,7 +81,7 @@ taken_joins : (laws : Laws) (place : ℕ) (meaning : Meaning) (setup : Setup) (o
 taken_joins laws place meaning setup octets m old table stepped new new_table sound_table sound is =
     let was = sound.each place is.association is.there in
     let stays : StaysItself is.association is.changed = laws.itself meaning setup is.association table octets m is.effect is.changed new_table is.takes in
-    let own : own_spi is.changed ≡ own_spi is.association = own_stays is.association is.changed was.initiator stays in
+    let own : own_spi is.changed ≡ own_spi is.association = own_stays is.association is.changed (λ w. was.initiator (inl w)) stays in
     let none : (spi : ℕ) → held_by is.changed ≡ Some spi → held_by is.association ≡ Some spi =
     λ spi e. laws.none meaning setup is.association table octets m is.effect is.changed new_table spi e is.takes in
     record {
@@ -86,7 +89,8 @@ taken_joins laws place meaning setup octets m old table stepped new new_table so
         serial_least = subst (λ n. 1 ≤ n) (sym stays.serial) was.serial_least;
         serial_given = subst (λ n. n < old.next) (sym stays.serial) was.serial_given;
         own = λ e. was.own (sym own ∙ e);
-        initiator = λ w. stays.role ∙ was.initiator (stays.waiting w);
+        initiator = λ w. stays.role ∙ was.initiator (waited_before is.association is.changed stays w);
+        responder = λ h. stays.role ∙ was.responder (stays.half_open h);
         reserved = laws.stays meaning setup is.association table octets m is.effect is.changed new_table was.reserved is.takes;
         short = laws.short meaning setup is.association table octets m is.effect is.changed new_table was.short is.takes;
       };
@@ -116,16 +120,17 @@ found_sound laws (Err f) meaning setup octets m old table stepped new new_table 
 
 -- what comes last has the next serial, and an SPI that isn't in use
 last_joins : (old : Held) (b : Association) (table new_table : Database) → AreSound old table → is_bad_spi (own_spi b) old.associations ≡ false → b.serial ≡ old.next
-    → (IsInitSent b.phase → b.role ≡ Initiator) → KeepsShort b → HoldsSpi (held_by b) new_table
+    → (IsInitSent b.phase ⊎ IsAuthSent b.phase → b.role ≡ Initiator) → (IsHalfOpen b.phase → b.role ≡ Responder) → KeepsShort b → HoldsSpi (held_by b) new_table
     → ((spi : ℕ) → IsReserved table spi → IsReserved new_table spi) → ((spi : ℕ) → IsReserved table spi → held_by b ≢ Some spi)
     → Joins old (length old.associations) b (old.next + 1) table new_table
-last_joins old b table new_table sound usable serial initiator short holds stays apart =
+last_joins old b table new_table sound usable serial initiator responder short holds stays apart =
     record {
       sound = record {
         serial_least = subst (λ n. 1 ≤ n) (sym serial) sound.first;
         serial_given = omega (arith, serial);
         own = not_zero (own_spi b) old.associations usable;
         initiator = initiator;
+        responder = responder;
         reserved = holds;
         short = short;
       };
@@ -140,8 +145,19 @@ last_joins old b table new_table sound usable serial initiator short holds stays
       after = λ k c more there. let within = slice_get_within old.associations k c there in absurd (omega (arith, more, within));
     }
 
-opened_waits : (opened : HalfOpen) (sent : InitSent) → phase.HalfOpen opened ≡ phase.InitSent sent → ⊥
-opened_waits opened sent is = cc
+-- a half-open association waits for no response
+opened_initial : (opened : HalfOpen) (sent : InitSent) → phase.HalfOpen opened ≡ phase.InitSent sent → ⊥
+opened_initial opened sent is = cc
+
+opened_asks : (opened : HalfOpen) (sent : AuthSent) → phase.HalfOpen opened ≡ phase.AuthSent sent → ⊥
+opened_asks opened sent is = cc
+
+opened_waits : (opened : HalfOpen) → IsInitSent (phase.HalfOpen opened) ⊎ IsAuthSent (phase.HalfOpen opened) → ⊥
+opened_waits opened (inl waits) = opened_initial opened waits.sent waits.is
+opened_waits opened (inr asks) = opened_asks opened asks.sent asks.is
+
+begun_opens : (sent : InitSent) (opened : HalfOpen) → phase.InitSent sent ≡ phase.HalfOpen opened → ⊥
+begun_opens sent opened is = cc
 
 some_none : (spi : ℕ) → Some spi ≡ None → ⊥
 some_none spi e = cc
@@ -161,7 +177,7 @@ admitted_sound laws meaning setup offer spi_i octets old stepped new table half_
     (sound_grown old b table table few can.serial
     (let more = count_grown old.associations b in let one = weight_most b in omega (arith, more, one, half_open))
     sound
-    (last_joins old b table table sound can.usable refl (λ w. absurd (opened_waits _ w.sent w.is)) short tt (λ spi there. there) (λ spi there. none_held None spi refl))))
+    (last_joins old b table table sound can.usable refl (λ w. absurd (opened_waits _ w)) (λ h. refl) short tt (λ spi there. there) (λ spi there. none_held None spi refl))))
 
 offer_sound : (laws : Laws) (meaning : Meaning) (setup : Setup) (offer : OfferView) (spi_i : ℕ) (octets : Octets) (old : Held) (stepped : Stepped) (new : Held) (table : Database)
     → half_open_count old.associations < HALF_OPEN_LIMIT → length old.associations < ASSOCIATION_LIMIT → AreSound old table → TakesOffer meaning setup offer spi_i octets old stepped new → AreSound new table
@@ -281,7 +297,7 @@ start_sound laws meaning setup ike place old table stepped new new_table sound_t
     (sound_grown old b table new_table free.few is.allowed.left
     (let more = count_grown old.associations b in omega (arith, more, sound.few_half_open))
     sound
-    (last_joins old b table new_table sound (subst (λ n. is_bad_spi n old.associations ≡ false) (sym is.begins.spi) free.usable) refl (λ w. refl)
+    (last_joins old b table new_table sound (subst (λ n. is_bad_spi n old.associations ≡ false) (sym is.begins.spi) free.usable) refl (λ w. refl) (λ h. absurd (begun_opens _ h.opened h.is))
     (laws.begins meaning.cipher meaning.group meaning.public_value setup.fresh setup.moment old.next is.beginning (child_by is.entry is.done.spi setup.config.extended) is.begins).0
     (now_reserved is.between is.done.spi new_table is.done.reserved)
     (λ spi there. still_reserved is.between is.done.spi new_table spi is.done.reserved (between_reserved spi there))

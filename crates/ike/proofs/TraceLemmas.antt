@@ -8,7 +8,7 @@ use Rattle.policy.specs.declared.entry.Entry.{Entry}
 use Rattle.suite.specs.declared.fresh.Fresh.{Fresh}
 use Rattle.suite.specs.declared.key_record.KeyRecord.{KeyRecord}
 use Rattle.suite.specs.declared.sealer.Cipher.{Cipher}
-use Rattle.sadb.specs.Database.{pair_at, Database, IsSoundTable}
+use Rattle.sadb.specs.Database.{pair_at, Database, IsSoundTable, PairMap}
 use Rattle.sadb.specs.declared.pair.Pair.{Pair}
 use Rattle.sa_init.specs.Judging.{OfferView}
 use Rattle.association.specs.Closing.{HoldsSpi}
@@ -38,14 +38,14 @@ use Rattle.ike.specs.Soundness.{AreSound, At, IsSoundMachine}
 use Rattle.ike.specs.Starting.{child_by}
 use Rattle.ike.specs.Steps.{InputView, Steps}
 use Rattle.ike.specs.Steps as steps
-use Rattle.ike.specs.Tracing.{HoldsChild, HoldsKeys, IsTraced}
+use Rattle.ike.specs.Tracing.{HoldsChild, HoldsKeys, IsTraced, NamesChild}
 use Rattle.ike.specs.declared.output.IkeOutput.{IkeOutput}
 use Rattle.ike.specs.declared.output.IkeOutput.TheVariants as output
 use Rattle.ike.specs.declared.output.MadeChild.{MadeChild}
 use Rattle.ike.specs.declared.output.Mark.{Mark}
 use Rattle.ike.specs.declared.output.Stepped.{Stepped}
-use Rattle.ike.proofs.SerialLemmas.{grown_found, grown_keys, keys_of, last_there, replaced_found, set_there, sound_found}
-use Rattle.ike.proofs.WayLemmas.{admitted, datagram_way, rested, started, step_way, took, AdmitsOne, GoesOut, Takes, Way}
+use Rattle.ike.proofs.SerialLemmas.{grown_found, grown_keys, keys_of, last_there, none_next, replaced_found, set_there, sound_found}
+use Rattle.ike.proofs.WayLemmas.{admitted, datagram_way, rested, started, step_way, took, AdmitsOne, GoesOut, StartsOne, Takes, Way}
 
 -- ---- what goes out is short
 
@@ -213,66 +213,187 @@ holds_keys : (held : Held) (ike other : ℕ) (a : Association) → other ≡ ike
 holds_keys held ike other a same found has =
     subst (λ n. HoldsKeys held n) (sym same) (record { association = a; there = found; keys = has.keys; are = has.are })
 
-took_traced : (facts : TraceFacts) (meaning : Meaning) (setup : Setup) (octets : Octets) (old : Held) (table : Database) (stepped : Stepped) (new : Held) (new_table : Database)
-    → IsSoundTable table → AreSound old table → AreSound new new_table → Takes meaning setup octets old table stepped new new_table → IsTraced table stepped new new_table
+-- what is known besides: keys and pairs that come are told by the effect
+pub record ToldFacts : Type 0 where
+  pub trace : TraceFacts
+  pub come : (meaning : Meaning) (setup : Setup) (old : Association) (table : Database) (octets : Octets) (m : Message) (effect : Effect) (new : Association) (new_table : Database) (keys : KeyRecord)
+      → keys_in new.phase ≡ Some keys → TakesMessage meaning setup old table octets m effect new new_table → (keys_in old.phase ≡ Some keys) ⊎ IsAsking effect
+  pub none : (meaning : Meaning) (setup : Setup) (old : Association) (table : Database) (octets : Octets) (m : Message) (next : Octets) (new : Association) (new_table : Database)
+      → TakesMessage meaning setup old table octets m (effect.Identified next) new new_table → keys_in old.phase ≡ None
+  pub told : (meaning : Meaning) (setup : Setup) (old : Association) (table : Database) (octets : Octets) (m : Message) (effect : Effect) (new : Association) (new_table : Database) (serial : ℕ) (pair : Pair)
+      → TakesMessage meaning setup old table octets m effect new new_table → pair_at new_table.pairs serial ≡ Some pair → (pair_at table.pairs serial ≡ Some pair) ⊎ (child_in effect ≡ Some serial)
+
+-- the effect that the trace names for its keys
+keyed_asks : (ike number : ℕ) (e : Effect) (other : ℕ) → (stepped_of ike number e).trace.keyed ≡ Some other → IsAsking e
+keyed_asks ike number (effect.Refused f) other keyed = absurd (none_out other keyed)
+keyed_asks ike number (effect.Repeated octets) other keyed = absurd (none_out other keyed)
+keyed_asks ike number (effect.Replied answered) other keyed = absurd (none_out other keyed)
+keyed_asks ike number (effect.Again octets) other keyed = absurd (none_out other keyed)
+keyed_asks ike number (effect.Identified octets) other keyed = record { octets = octets; is = refl }
+keyed_asks ike number (effect.Counted ended) other keyed = absurd (none_out other keyed)
+
+asks_keyed : (ike number : ℕ) (e : Effect) → IsAsking e → (stepped_of ike number e).trace.keyed ≡ Some ike
+asks_keyed ike number e asking = ap (λ (x : Effect). (stepped_of ike number x).trace.keyed) asking.is
+
+-- the child of an effect is named
+child_names : (ike number : ℕ) (e : Effect) (serial : ℕ) → child_in e ≡ Some serial → NamesChild (stepped_of ike number e) serial
+child_names ike number (effect.Refused f) serial told = absurd (none_out serial told)
+child_names ike number (effect.Repeated octets) serial told = absurd (none_out serial told)
+child_names ike number (effect.Replied answered) serial told =
+    record { made = record { serial = serial; ike = ike; number = number; asked = false }; named = ap (λ (o : Option ℕ). child_of ike number false o) told; same = refl }
+child_names ike number (effect.Again octets) serial told = absurd (none_out serial told)
+child_names ike number (effect.Identified octets) serial told = absurd (none_out serial told)
+child_names ike number (effect.Counted ended) serial told =
+    record { made = record { serial = serial; ike = ike; number = number; asked = true }; named = ap (λ (o : Option ℕ). child_of ike number true o) told; same = refl }
+
+-- an association that keys came to had none
+took_none : (facts : ToldFacts) (meaning : Meaning) (setup : Setup) (octets : Octets) (old : Held) (table : Database) (stepped : Stepped) (new : Held) (new_table : Database) (other : ℕ)
+    → AreSound old table → (is : Takes meaning setup octets old table stepped new new_table) → other ≡ is.takes.association.serial
+    → (stepped_of is.takes.association.serial is.message.header.id is.takes.effect).trace.keyed ≡ Some other → keys_of_serial other old.associations ≡ None
+took_none facts meaning setup octets old table stepped new new_table other sound is same keyed =
+    let t = is.takes in
+    let asking : IsAsking t.effect = keyed_asks t.association.serial is.message.header.id t.effect other keyed in
+    let before : association_of other old.associations ≡ Some t.association = subst (λ n. association_of n old.associations ≡ Some t.association) (sym same) (sound_found old table is.place t.association sound t.there) in
+    ap keys_of before
+    ∙ facts.none meaning setup t.association table octets is.message asking.octets t.changed new_table
+    (subst (λ (e : Effect). TakesMessage meaning setup t.association table octets is.message e t.changed new_table) asking.is t.takes)
+
+took_come : (facts : ToldFacts) (meaning : Meaning) (setup : Setup) (octets : Octets) (old : Held) (table : Database) (stepped : Stepped) (new : Held) (new_table : Database) (serial : ℕ) (keys : KeyRecord)
+    → AreSound old table → AreSound new new_table → (is : Takes meaning setup octets old table stepped new new_table) → keys_of_serial serial new.associations ≡ Some keys
+    → (keys_of_serial serial old.associations ≡ Some keys) ⊎ ((stepped_of is.takes.association.serial is.message.header.id is.takes.effect).trace.keyed ≡ Some serial)
+took_come facts meaning setup octets old table stepped new new_table serial keys sound now is are =
+    let t = is.takes in
+    let stays : StaysItself t.association t.changed = facts.trace.itself meaning setup t.association table octets is.message t.effect t.changed new_table t.takes in
+    elim (eqb_tells serial t.association.serial) [
+      | inl (one, same) ↦
+          let before : association_of serial old.associations ≡ Some t.association = subst (λ n. association_of n old.associations ≡ Some t.association) (sym same) (sound_found old table is.place t.association sound t.there) in
+          let after : association_of serial new.associations ≡ Some t.changed = subst (λ n. association_of n new.associations ≡ Some t.changed) (sym same) (took_found facts.trace meaning setup octets old table stepped new new_table now is) in
+          elim (facts.come meaning setup t.association table octets is.message t.effect t.changed new_table keys (sym (ap keys_of after) ∙ are) t.takes) [
+            | inl had ↦ inl (ap keys_of before ∙ had)
+            | inr asking ↦ inr (asks_keyed t.association.serial is.message.header.id t.effect asking ∙ ap Some (sym same))
+          ]
+      | inr (none, apart) ↦
+          let same_keys : keys_of_serial serial new.associations ≡ keys_of_serial serial old.associations = ap keys_of (ap (λ (h : Held). association_of serial h.associations) t.content ∙ replaced_found old.associations is.place t.association t.changed serial t.there apart stays.serial) in
+          inl (sym same_keys ∙ are)
+    ]
+
+took_pairs : (facts : ToldFacts) (meaning : Meaning) (setup : Setup) (octets : Octets) (old : Held) (table : Database) (stepped : Stepped) (new : Held) (new_table : Database) (serial : ℕ) (pair : Pair)
+    → (is : Takes meaning setup octets old table stepped new new_table) → pair_at new_table.pairs serial ≡ Some pair
+    → (pair_at table.pairs serial ≡ Some pair) ⊎ NamesChild (stepped_of is.takes.association.serial is.message.header.id is.takes.effect) serial
+took_pairs facts meaning setup octets old table stepped new new_table serial pair is there =
+    let t = is.takes in
+    elim (facts.told meaning setup t.association table octets is.message t.effect t.changed new_table serial pair t.takes there) [
+      | inl before ↦ inl before
+      | inr told ↦ inr (child_names t.association.serial is.message.header.id t.effect serial told)
+    ]
+
+took_traced : (facts : ToldFacts) (meaning : Meaning) (setup : Setup) (octets : Octets) (old : Held) (table : Database) (stepped : Stepped) (new : Held) (new_table : Database)
+    → IsSoundTable table → AreSound old table → AreSound new new_table → Takes meaning setup octets old table stepped new new_table → IsTraced old table stepped new new_table
 took_traced facts meaning setup octets old table stepped new new_table sound_table sound now is =
     let t = is.takes in
     let ike = t.association.serial in
     let by = traced_by ike is.message.header.id t.effect in
-    let names = names_keyed ike is.message.header.id t.effect t.changed.phase (facts.keyed meaning setup t.association table octets is.message t.effect t.changed new_table t.takes) in
-    let found = took_found facts meaning setup octets old table stepped new new_table now is in
-    let traced : IsTraced table (stepped_of ike is.message.header.id t.effect) new new_table = record {
+    let names = names_keyed ike is.message.header.id t.effect t.changed.phase (facts.trace.keyed meaning setup t.association table octets is.message t.effect t.changed new_table t.takes) in
+    let found = took_found facts.trace meaning setup octets old table stepped new new_table now is in
+    let traced : IsTraced old table (stepped_of ike is.message.header.id t.effect) new new_table = record {
       octets = by.octets;
       sent = λ mark e. holds_keys new ike mark.ike t.changed (by.sent mark e) found (names.sent mark e);
-      keyed = λ other e. holds_keys new ike other t.changed (by.keyed other e) found (names.keyed other e);
+      keyed = λ other e.
+          record {
+            none = took_none facts meaning setup octets old table stepped new new_table other sound is (by.keyed other e) e;
+            holds = holds_keys new ike other t.changed (by.keyed other e) found (names.keyed other e);
+          };
       child = λ made e.
           let named = by.child made e in
           made_held meaning setup t.association table octets is.message t.effect made t.changed new new_table sound_table (sym named.0)
           (subst (λ n. association_of n new.associations ≡ Some t.changed) (sym named.0) found)
-          (facts.made meaning setup t.association table octets is.message t.effect made.serial t.changed new_table sound_table (sound.each is.place t.association t.there).reserved named.2 t.takes);
+          (facts.trace.made meaning setup t.association table octets is.message t.effect made.serial t.changed new_table sound_table (sound.each is.place t.association t.there).reserved named.2 t.takes);
+      keys = λ serial keys are. took_come facts meaning setup octets old table stepped new new_table serial keys sound now is are;
+      pairs = λ serial pair there. took_pairs facts meaning setup octets old table stepped new new_table serial pair is there;
     } in
-    subst (λ (s : Stepped). IsTraced table s new new_table) (sym t.said) traced
+    subst (λ (s : Stepped). IsTraced old table s new new_table) (sym t.said) traced
 
 -- nothing was sent under keys, and nothing made
-untraced : (table : Database) (stepped : Stepped) (said : IkeOutput) (new : Held) (new_table : Database) → stepped ≡ plain_step said → IsTraced table stepped new new_table
-untraced table stepped said new new_table is =
-    let none : IsTraced table (plain_step said) new new_table = record {
+untraced : (old : Held) (table : Database) (stepped : Stepped) (said : IkeOutput) (new : Held) (new_table : Database) → stepped ≡ plain_step said
+    → ((serial : ℕ) (keys : KeyRecord) → keys_of_serial serial new.associations ≡ Some keys → keys_of_serial serial old.associations ≡ Some keys) → new_table.pairs ≡ table.pairs
+    → IsTraced old table stepped new new_table
+untraced old table stepped said new new_table is had same =
+    let none : IsTraced old table (plain_step said) new new_table = record {
       octets = λ mark e. absurd (none_out mark e);
       sent = λ mark e. absurd (none_out mark e);
       keyed = λ other e. absurd (none_out other e);
       child = λ made e. absurd (none_out made e);
+      keys = λ serial keys are. inl (had serial keys are);
+      pairs = λ serial pair there. inl (subst (λ (m : PairMap). pair_at m serial ≡ Some pair) same there);
     } in
-    subst (λ (s : Stepped). IsTraced table s new new_table) (sym is) none
+    subst (λ (s : Stepped). IsTraced old table s new new_table) (sym is) none
+
+-- who came last has the keys that came
+last_come : (old : Held) (b : Association) (new : Held) (new_table : Database) (serial : ℕ) (keys : KeyRecord) → AreSound new new_table → new ≡ with_next old b → keys_of_serial serial new.associations ≡ Some keys
+    → (keys_of_serial serial old.associations ≡ Some keys) ⊎ ((serial ≡ b.serial) × (keys_in b.phase ≡ Some keys))
+last_come old b new new_table serial keys now content are =
+    elim (eqb_tells serial b.serial) [
+      | inl (one, same) ↦
+          let found : association_of serial new.associations ≡ Some b = subst (λ n. association_of n new.associations ≡ Some b) (sym same) (last_found old b new new_table now content) in
+          inr (same, sym (ap keys_of found) ∙ are)
+      | inr (none, apart) ↦
+          let same_keys : keys_of_serial serial new.associations ≡ keys_of_serial serial old.associations = ap keys_of (ap (λ (h : Held). association_of serial h.associations) content ∙ grown_found old.associations b serial apart) in
+          inl (sym same_keys ∙ are)
+    ]
 
 admitted_traced : (meaning : Meaning) (setup : Setup) (octets : Octets) (old : Held) (table : Database) (stepped : Stepped) (new : Held) (new_table : Database)
-    → AreSound new new_table → AdmitsOne meaning setup octets old table stepped new new_table → IsTraced table stepped new new_table
-admitted_traced meaning setup octets old table stepped new new_table now is =
+    → AreSound old table → AreSound new new_table → AdmitsOne meaning setup octets old table stepped new new_table → IsTraced old table stepped new new_table
+admitted_traced meaning setup octets old table stepped new new_table sound now is =
     let a = is.admits in
     let b : Association = half_open old.next is.spi_i setup.fresh.spi a.admits.agreed.record octets a.admits.agreed.octets setup.moment in
     let content : new ≡ with_next old b = a.content ∙ ap (λ (x : Association). with_next old x) a.admits.content in
     let found : association_of old.next new.associations ≡ Some b = last_found old b new new_table now content in
-    let traced : IsTraced table (half_open_step old.next a.admitted.octets) new new_table = record {
+    let traced : IsTraced old table (half_open_step old.next a.admitted.octets) new new_table = record {
       octets = λ mark e. absurd (none_out mark e);
       sent = λ mark e. absurd (none_out mark e);
-      keyed = λ other e. holds_keys new old.next other b (sym (same_out old.next other e)) found (record { keys = a.admits.agreed.record; are = refl });
+      keyed = λ other e.
+          let same : other ≡ old.next = sym (same_out old.next other e) in
+          record {
+            none = subst (λ n. keys_of_serial n old.associations ≡ None) (sym same) (ap keys_of (none_next old table sound));
+            holds = holds_keys new old.next other b same found (record { keys = a.admits.agreed.record; are = refl });
+          };
       child = λ made e. absurd (none_out made e);
+      keys = λ serial keys are.
+          elim (last_come old b new new_table serial keys now content are) [
+            | inl before ↦ inl before
+            | inr last ↦ inr (ap Some (sym last.0))
+          ];
+      pairs = λ serial pair there. inl (subst (λ (d : Database). pair_at d.pairs serial ≡ Some pair) is.pairs there);
     } in
-    subst (λ (s : Stepped). IsTraced table s new new_table) (sym a.said) traced
+    subst (λ (s : Stepped). IsTraced old table s new new_table) (sym a.said) traced
 
-way_traced : (facts : TraceFacts) (meaning : Meaning) (setup : Setup) (octets : Octets) (old : Held) (table : Database) (stepped : Stepped) (new : Held) (new_table : Database)
-    → IsSoundTable table → AreSound old table → AreSound new new_table → Way meaning setup octets old table stepped new new_table → IsTraced table stepped new new_table
-way_traced facts meaning setup octets old table stepped new new_table sound_table sound now (rested is) = untraced table stepped is.said new new_table is.is
+started_traced : (meaning : Meaning) (setup : Setup) (old : Held) (table : Database) (stepped : Stepped) (new : Held) (new_table : Database)
+    → AreSound new new_table → StartsOne meaning setup old table stepped new new_table → IsTraced old table stepped new new_table
+started_traced meaning setup old table stepped new new_table now is =
+    let s = is.starts in
+    let b : Association = begun old.next s.beginning (child_by s.entry s.done.spi setup.config.extended) in
+    untraced old table stepped (output.Request old.next s.beginning.octets) new new_table s.done.said
+    (λ serial keys are.
+    elim (last_come old b new new_table serial keys now s.done.content are) [
+      | inl before ↦ before
+      | inr last ↦ absurd (none_out keys last.1)
+    ])
+    (ap (λ (d : Database). d.pairs) s.done.reserved.content ∙ ap (λ (d : Database). d.pairs) s.room.content)
+
+way_traced : (facts : ToldFacts) (meaning : Meaning) (setup : Setup) (octets : Octets) (old : Held) (table : Database) (stepped : Stepped) (new : Held) (new_table : Database)
+    → IsSoundTable table → AreSound old table → AreSound new new_table → Way meaning setup octets old table stepped new new_table → IsTraced old table stepped new new_table
+way_traced facts meaning setup octets old table stepped new new_table sound_table sound now (rested is) =
+    untraced old table stepped is.said new new_table is.is (λ serial keys are. sym (ap (λ (h : Held). keys_of_serial serial h.associations) is.same) ∙ are) (ap (λ (d : Database). d.pairs) is.pairs)
 way_traced facts meaning setup octets old table stepped new new_table sound_table sound now (took is) = took_traced facts meaning setup octets old table stepped new new_table sound_table sound now is
-way_traced facts meaning setup octets old table stepped new new_table sound_table sound now (admitted is) = admitted_traced meaning setup octets old table stepped new new_table now is
-way_traced facts meaning setup octets old table stepped new new_table sound_table sound now (started is) =
-    untraced table stepped (output.Request old.next is.starts.beginning.octets) new new_table is.starts.done.said
+way_traced facts meaning setup octets old table stepped new new_table sound_table sound now (admitted is) = admitted_traced meaning setup octets old table stepped new new_table sound now is
+way_traced facts meaning setup octets old table stepped new new_table sound_table sound now (started is) = started_traced meaning setup old table stepped new new_table now is
 
-pub step_traced : TraceFacts → (meaning : Meaning) (entries : List Entry) (input : InputView) (old : Machine) (table : Database) (stepped : Stepped) (new : Machine) (new_table : Database)
-    → IsSoundTable table → IsSoundMachine old table → Steps meaning entries input old table stepped new new_table → IsTraced table stepped new.held new_table
+pub step_traced : ToldFacts → (meaning : Meaning) (entries : List Entry) (input : InputView) (old : Machine) (table : Database) (stepped : Stepped) (new : Machine) (new_table : Database)
+    → IsSoundTable table → IsSoundMachine old table → Steps meaning entries input old table stepped new new_table → IsTraced old.held table stepped new.held new_table
 step_traced facts meaning entries input old table stepped new new_table sound_table sound is =
     let w = step_way meaning entries input old table stepped new new_table is in
     way_traced facts meaning w.setup w.octets old.held table stepped new.held new_table sound_table sound
-    (facts.sound meaning entries input old table stepped new new_table sound_table sound is) w.way
+    (facts.trace.sound meaning entries input old table stepped new new_table sound_table sound is) w.way
 
 -- ---- keys stay
 

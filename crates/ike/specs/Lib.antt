@@ -11,3 +11,4 @@ pub mod Tracing
 pub mod Children
 pub mod Contents
 pub mod Lengths
+pub mod Proving

@@ -1,11 +1,13 @@
 -- What holds of every machine and the table that goes with it.
-use Rattle.std.specs.Prelude.{◌≡◌, ◌≢◌, ◌<◌, ◌≤◌, ℕ, Some, length, slice_get}
-use Rattle.exchange.specs.declared.headers.Role.TheVariants.{Initiator}
+use Rattle.std.specs.Prelude.{◌≡◌, ◌≢◌, ◌⊎◌, ◌<◌, ◌≤◌, ℕ, Some, length, slice_get}
+use Rattle.exchange.specs.declared.headers.Role.TheVariants.{Initiator, Responder}
 use Rattle.sadb.specs.Database.{Database}
 use Rattle.sa_init.specs.Judging.{ASSOCIATION_LIMIT, HALF_OPEN_LIMIT}
 use Rattle.association.specs.Closing.{HoldsSpi}
 use Rattle.association.specs.Phases.{spi_in}
 use Rattle.association.specs.declared.phase.Association.{Association}
+use Rattle.initial.specs.Answering.{IsHalfOpen}
+use Rattle.initial.specs.Ending.{IsAuthSent}
 use Rattle.initial.specs.Keeping.{KeepsShort}
 use Rattle.initial.specs.Reading.{IsInitSent}
 use Rattle.ike.specs.Machines.{half_open_count, own_spi, Held, Machine, SERIAL_END}
@@ -14,13 +16,15 @@ use Rattle.ike.specs.Machines.{half_open_count, own_spi, Held, Machine, SERIAL_E
 abbrev pub At : Held → ℕ → Association → Type 0
 At held place a = slice_get held.associations place ≡ Some a
 
--- what holds of each association: its serial was given, the SPI of this end is not zero, who waits for the response to IKE_SA_INIT is the
--- initiator, an SPI that is held for a first child is reserved, and all that can go out again has at most 3000 octets
+-- what holds of each association: its serial was given, the SPI of this end is not zero, who waits for the response to IKE_SA_INIT or to
+-- IKE_AUTH is the initiator, who waits for IKE_AUTH is the responder, an SPI that is held for a first child is reserved, and all that can
+-- go out again has at most 3000 octets
 pub record IsSound (a : Association) (next : ℕ) (table : Database) : Type 0 where
   pub serial_least : 1 ≤ a.serial
   pub serial_given : a.serial < next
   pub own : own_spi a ≢ 0
-  pub initiator : IsInitSent a.phase → a.role ≡ Initiator
+  pub initiator : IsInitSent a.phase ⊎ IsAuthSent a.phase → a.role ≡ Initiator
+  pub responder : IsHalfOpen a.phase → a.role ≡ Responder
   pub reserved : HoldsSpi (spi_in a.phase) table
   pub short : KeepsShort a
 

@@ -1,12 +1,12 @@
 -- What the trace of a step names (RFC 7296 section 2.14, RFC 4301 section 4.4.2).
-use Rattle.std.specs.Prelude.{◌≡◌, ℕ, Some, None, IsSome}
+use Rattle.std.specs.Prelude.{◌≡◌, ◌⊎◌, ℕ, Some, None, IsSome}
 use Rattle.suite.specs.declared.key_record.KeyRecord.{KeyRecord}
 use Rattle.sadb.specs.Database.{pair_at, Database}
 use Rattle.sadb.specs.declared.pair.Pair.{Pair}
 use Rattle.association.specs.Phases.{keys_in}
 use Rattle.association.specs.declared.phase.Association.{Association}
 use Rattle.initial.specs.Pairs.{IsUnused}
-use Rattle.ike.specs.Machines.{association_of, Held}
+use Rattle.ike.specs.Machines.{association_of, keys_of_serial, Held}
 use Rattle.ike.specs.Outputs.{octets_in}
 use Rattle.ike.specs.declared.output.MadeChild.{MadeChild}
 use Rattle.ike.specs.declared.output.Mark.{Mark}
@@ -19,6 +19,11 @@ pub record HoldsKeys (held : Held) (serial : ℕ) : Type 0 where
   pub keys : KeyRecord
   pub are : keys_in association.phase ≡ Some keys
 
+-- keys came: the association had none, and holds them from then on
+pub record GetsKeys (old new : Held) (serial : ℕ) : Type 0 where
+  pub none : keys_of_serial serial old.associations ≡ None
+  pub holds : HoldsKeys new serial
+
 -- a child came, of an association that is held and has keys: its pair, with no number sent or taken, stands under the next serial
 pub record HoldsChild (table : Database) (made : MadeChild) (held : Held) (new_table : Database) : Type 0 where
   pub keyed : HoldsKeys held made.ike
@@ -28,9 +33,18 @@ pub record HoldsChild (table : Database) (made : MadeChild) (held : Held) (new_t
   pub there : pair_at new_table.pairs made.serial ≡ Some pair
   pub unused : IsUnused made.ike pair
 
--- what was sent under keys has octets and is of an association that has them, and so is what keys and which child were made
-pub record IsTraced (table : Database) (stepped : Stepped) (new : Held) (new_table : Database) : Type 0 where
+-- the trace names the child with this serial
+pub record NamesChild (stepped : Stepped) (serial : ℕ) : Type 0 where
+  pub made : MadeChild
+  pub named : stepped.trace.child ≡ Some made
+  pub same : made.serial ≡ serial
+
+-- what was sent under keys has octets and is of an association that has them; what keys and which child are named came now; and all
+-- that came is named: keys that an association did not have, and a pair that was not there
+pub record IsTraced (old : Held) (table : Database) (stepped : Stepped) (new : Held) (new_table : Database) : Type 0 where
   pub octets : (mark : Mark) → stepped.trace.sent ≡ Some mark → IsSome (octets_in stepped.output)
   pub sent : (mark : Mark) → stepped.trace.sent ≡ Some mark → HoldsKeys new mark.ike
-  pub keyed : (ike : ℕ) → stepped.trace.keyed ≡ Some ike → HoldsKeys new ike
+  pub keyed : (ike : ℕ) → stepped.trace.keyed ≡ Some ike → GetsKeys old new ike
   pub child : (made : MadeChild) → stepped.trace.child ≡ Some made → HoldsChild table made new new_table
+  pub keys : (serial : ℕ) (keys : KeyRecord) → keys_of_serial serial new.associations ≡ Some keys → (keys_of_serial serial old.associations ≡ Some keys) ⊎ (stepped.trace.keyed ≡ Some serial)
+  pub pairs : (serial : ℕ) (pair : Pair) → pair_at new_table.pairs serial ≡ Some pair → (pair_at table.pairs serial ≡ Some pair) ⊎ NamesChild stepped serial

@@ -24,6 +24,7 @@ ghost use Rattle.ike.specs.Children.{AsksFirstChild, MakesFirstChild, AsksNow, W
 ghost use Rattle.ike.specs.Machines.{half_open_count, keys_of_serial, setup_at, Machine, new_machine, association_of};
 ghost use Rattle.ike.specs.Outputs.{octets_in, IsQuiet};
 ghost use Rattle.ike.specs.Pairs.{ChangesOne, LeavesPairsOfOthers};
+ghost use Rattle.ike.specs.Proving.{WasKnown};
 ghost use Rattle.ike.specs.Reaching.{WasReached};
 ghost use Rattle.ike.specs.Soundness.{IsSoundMachine};
 ghost use Rattle.ike.specs.Steps.{InputView, Message, Steps, Refuses};
@@ -40,8 +41,8 @@ ghost use Rattle.ike.specs.declared.output.Stepped.{Stepped};
 use children::laws::children_mirror;
 use initial::laws::{
     associations_stay_themselves, beginnings_are_determined, children_are_made_of_their_messages,
-    effects_are_determined, keys_stay, no_spi_comes, spis_stay_reserved, what_is_kept_is_short,
-    what_is_passed_over_changes_nothing, what_others_hold_stays,
+    effects_are_determined, keys_stay, no_spi_comes, pairs_that_come_are_told, spis_stay_reserved,
+    what_is_kept_is_short, what_is_passed_over_changes_nothing, what_others_hold_stays,
 };
 use sa_init::laws::{acceptance_is_limited, judgements_are_determined};
 use sadb::laws::later_tables_are_determined;
@@ -51,8 +52,8 @@ use wire::laws::{
 };
 
 /// Whatever a step does, the machine is sound with its table from then on: at most 128 associations, 32 of them half open, by rising
-/// serial, each under an SPI of its own that is not zero; and what they hold for their first children is reserved in the table, each
-/// SPI for one of them alone.
+/// serial, each under an SPI of its own that is not zero; of one that waits for a response this end is the initiator, and of one that is
+/// half open the responder; and what they hold for their first children is reserved in the table, each SPI for one of them alone.
 pub fn soundness_stays()
     ensures { (meaning : Meaning) (entries : List Entry) (input : InputView) (old : Machine) (table : Database)
         (stepped : Stepped) (new : Machine) (new_table : Database) → IsSoundTable table → IsSoundMachine old table
@@ -76,11 +77,12 @@ pub fn what_is_sent_is_short()
 }
 
 /// What the trace of a step names is held by the machine from then on: an association under whose keys something was sent, or whose keys
-/// were made, with its keys, and a child that was made, with its pair. An association that had keys before has them still.
+/// were made, which had none before, with its keys, and a child that was made, with its pair. And it names all that came: keys that an
+/// association did not have, and a pair that was not in the table. An association that had keys before has them still.
 pub fn traces_name_what_is_held()
     ensures traced { (meaning : Meaning) (entries : List Entry) (input : InputView) (old : Machine) (table : Database)
         (stepped : Stepped) (new : Machine) (new_table : Database) → IsSoundTable table → IsSoundMachine old table
-        → Steps meaning entries input old table stepped new new_table → IsTraced table stepped new.held new_table }
+        → Steps meaning entries input old table stepped new new_table → IsTraced old.held table stepped new.held new_table }
     ensures keys { (meaning : Meaning) (entries : List Entry) (input : InputView) (old : Machine) (table : Database)
         (stepped : Stepped) (new : Machine) (new_table : Database) (serial : ℕ) (keys : KeyRecord) → IsSoundTable table
         → IsSoundMachine old table → Steps meaning entries input old table stepped new new_table
@@ -90,6 +92,7 @@ pub fn traces_name_what_is_held()
     associations_stay_themselves();
     keys_stay();
     children_are_made_of_their_messages();
+    pairs_that_come_are_told();
 }
 
 /// A step changes one association at most, and pairs of no other.
@@ -151,16 +154,32 @@ pub fn first_children_mirror()
     children_mirror();
 }
 
-/// While 8 or more associations are half open, no datagram makes another one but with a right cookie of its sender (RFC 7296, section
-/// 2.6).
+/// Who is established proved itself (RFC 7296, section 2.15): an association that is established after a step was established before, or
+/// the input is a datagram that opens under its keys, and what it opens to proves the configured peer's identity. No order
+/// establishes one.
+pub fn the_established_proved_themselves()
+    ensures { (meaning : Meaning) (entries : List Entry) (input : InputView) (old : Machine) (table : Database)
+        (stepped : Stepped) (new : Machine) (new_table : Database) (ike : ℕ) (a : Association) (keys : KeyRecord)
+        → IsSoundMachine old table → Steps meaning entries input old table stepped new new_table
+        → association_of ike new.held.associations ≡ Some a → a.phase ≡ phase.Established keys
+        → WasKnown meaning entries input old ike keys }
+{
+    associations_stay_themselves();
+    initial::laws::the_established_proved_themselves();
+}
+
+/// While 8 or more associations are half open, no datagram makes another one but with a right cookie of its sender, for the message's
+/// own nonce (RFC 7296, section 2.6).
 pub fn no_association_without_a_cookie()
     ensures { (meaning : Meaning) (entries : List Entry) (from octets : Octets) (fresh : Fresh) (old : Machine)
         (table : Database) (stepped : Stepped) (new : Machine) (new_table : Database)
         → Steps meaning entries (Message from octets fresh) old table stepped new new_table
         → COOKIE_THRESHOLD ≤ half_open_count old.held.associations
-        → length old.held.associations < length new.held.associations → WasReached old.cookies from octets }
+        → half_open_count old.held.associations < half_open_count new.held.associations
+        → WasReached old.cookies from octets }
 {
     acceptance_is_limited();
+    associations_stay_themselves();
 }
 
 /// Whatever a step does, each pair in the table is as it was, or came by it, under the next serial and with no number sent or taken;

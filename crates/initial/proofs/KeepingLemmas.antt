@@ -1,5 +1,5 @@
 -- What an association keeps is short, and its keys stay.
-use Rattle.std.proofs.Common.{◌≡◌, inl, inr, ℕ, ◌+◌, cond, List, Option, Some, None, ap, refl, subst, sym, ◌∙◌}
+use Rattle.std.proofs.Common.{◌≡◌, ◌⊎◌, inl, inr, ℕ, ◌+◌, cond, List, Option, Some, None, ap, refl, subst, sym, ◌∙◌}
 use Rattle.std.specs.Cmp.{nat_cmp_total, unsigned_tied}
 use Rattle.std.specs.FinMap as map
 use Rattle.std.specs.Ordering.{nat_cmp}
@@ -27,6 +27,7 @@ use Rattle.association.specs.declared.phase.Phase.TheVariants as phase
 use Rattle.association.specs.declared.phase.Request.{Request}
 use Rattle.initial.specs.Answering.{outcome_of}
 use Rattle.initial.specs.Beginning.{begun, half_open, Admits, Begins}
+use Rattle.initial.specs.Children.{IsAsking}
 use Rattle.initial.specs.Concluding.{established, widened, ConcludesBy}
 use Rattle.initial.specs.Configs.{Setup}
 use Rattle.initial.specs.Issuing.{new_request, IssuesNext}
@@ -138,10 +139,14 @@ record Leaves (e : Effect) (old new : Association) : Type 0 where
   short : KeepsShort old → KeepsShort new
   sent : KeepsShort old → (octets : Octets) → sent_by e ≡ Some octets → IsShort octets
   keys : (keys : KeyRecord) → keys_in old.phase ≡ Some keys → keys_in new.phase ≡ Some keys
+  come : (keys : KeyRecord) → keys_in new.phase ≡ Some keys → (keys_in old.phase ≡ Some keys) ⊎ IsAsking e
   keyed : KeyedBy e new.phase
 
 same_keys : (old new : Association) → keys_in new.phase ≡ keys_in old.phase → (keys : KeyRecord) → keys_in old.phase ≡ Some keys → keys_in new.phase ≡ Some keys
 same_keys old new same keys is = same ∙ is
+
+none_come : (e : Effect) (old new : Association) → keys_in new.phase ≡ keys_in old.phase → (keys : KeyRecord) → keys_in new.phase ≡ Some keys → (keys_in old.phase ≡ Some keys) ⊎ IsAsking e
+none_come e old new same keys is = inl (sym same ∙ is)
 
 none_sent : (octets : Octets) → None ≡ Some octets → IsShort octets
 none_sent octets is = absurd (some_none octets is)
@@ -167,6 +172,7 @@ repeated_leaves facts meaning old table octets m reply new new_table is =
       short = λ short. short_as old new is.same.association short;
       sent = λ short said e. sent_short reply said (short.replies m.header.id reply why.kept) e;
       keys = same_keys old new same;
+      come = none_come (effect.Repeated reply) old new same;
       keyed = keys_from new.phase keyed.0 (same ∙ keyed.1);
     }
 
@@ -182,6 +188,7 @@ replied_leaves meaning setup old table octets m answered new new_table is =
       short = λ short. done.short (replies short) short.requests;
       sent = λ short said e. sent_short answered.octets said d.sealed.whole.limit e;
       keys = same_keys old new done.keys;
+      come = none_come (effect.Replied answered) old new done.keys;
       keyed = keys_from new.phase d.opened.keys (done.keys ∙ ap keys_in d.was);
     }
 
@@ -196,6 +203,7 @@ counted_leaves meaning setup old table octets m ended new new_table is =
           (ap (λ (r : OwnRequests Request). r.outstanding) d.counted.content) (remove_short octets_of old.outgoing.outstanding m.header.id short.requests));
       sent = λ short. none_sent;
       keys = same_keys old new done.keys;
+      come = none_come (effect.Counted ended) old new done.keys;
       keyed = keys_from new.phase d.sent.keys (done.keys ∙ ap keys_in d.was);
     }
 
@@ -219,6 +227,7 @@ asked_leaves meaning setup old table m next new new_table is =
           });
       sent = λ short said e. sent_short next said d.spelled.limit e;
       keys = λ keys are. no_keys old new.phase is.sent keys is.was are;
+      come = λ keys are. absurd (some_none keys (sym (ap (λ (x : Association). keys_in x.phase) d.content) ∙ are));
       keyed = tt;
     }
 
@@ -242,6 +251,7 @@ identified_leaves meaning setup old table octets m next new new_table is =
           });
       sent = λ short said e. sent_short next said d.sealed.whole.limit e;
       keys = λ keys are. no_keys old new.phase is.sent keys is.was are;
+      come = λ keys are. inr (record { octets = next; is = refl });
       keyed = keys_from new.phase is.keys (ap (λ (x : Association). keys_in x.phase) d.content);
     }
 
@@ -252,6 +262,7 @@ way_leaves facts meaning setup old table octets m (effect.Refused fault) new new
       short = λ short. short_as old new is.association short;
       sent = λ short. none_sent;
       keys = same_keys old new (keys_as old new is.association);
+      come = none_come (effect.Refused fault) old new (keys_as old new is.association);
       keyed = tt;
     }
 way_leaves facts meaning setup old table octets m (effect.Repeated reply) new new_table is = repeated_leaves facts meaning old table octets m reply new new_table is
@@ -282,6 +293,14 @@ keys_remain facts meaning setup old table octets m e new new_table keys are is =
 pub keys_there : RepeatFacts → (meaning : Meaning) (setup : Setup) (old : Association) (table : Database) (octets : Octets) (m : Message) (e : Effect) (new : Association) (new_table : Database)
     → TakesMessage meaning setup old table octets m e new new_table → KeyedBy e new.phase
 keys_there facts meaning setup old table octets m e new new_table is = (leaves facts meaning setup old table octets m e new new_table is).keyed
+
+pub keys_come : RepeatFacts → (meaning : Meaning) (setup : Setup) (old : Association) (table : Database) (octets : Octets) (m : Message) (e : Effect) (new : Association) (new_table : Database) (keys : KeyRecord)
+    → keys_in new.phase ≡ Some keys → TakesMessage meaning setup old table octets m e new new_table → (keys_in old.phase ≡ Some keys) ⊎ IsAsking e
+keys_come facts meaning setup old table octets m e new new_table keys are is = (leaves facts meaning setup old table octets m e new new_table is).come keys are
+
+pub none_before : (meaning : Meaning) (setup : Setup) (old : Association) (table : Database) (octets : Octets) (m : Message) (next : Octets) (new : Association) (new_table : Database)
+    → TakesMessage meaning setup old table octets m (effect.Identified next) new new_table → keys_in old.phase ≡ None
+none_before meaning setup old table octets m next new new_table is = ap keys_in (way_of meaning setup old table octets m (effect.Identified next) new new_table is).was
 
 pub begun_short : (cipher : Cipher) (group : ℕ) (public_value : Octets → Octets) (fresh : Fresh) (moment serial : ℕ) (beginning : Beginning) (child : FirstChildView)
     → Begins cipher group public_value fresh moment beginning → KeepsShort (begun serial beginning child) × IsShort beginning.octets

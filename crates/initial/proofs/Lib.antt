@@ -14,3 +14,4 @@ mod DeterminedConclusions
 mod DeterminedReadings
 mod DeterminedEffects
 mod WholeKeyLemmas
+mod ToldLemmas

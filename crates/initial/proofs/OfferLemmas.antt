@@ -2,6 +2,7 @@
 use Rattle.std.proofs.Common.{◌≡◌, ◌∷◌, [], ℕ, zero, suc, Bool, true, false, List, Option, Some, None, All, Contains, slice_index_or, ap, refl, subst, sym, ◌∙◌, arith}
 use Rattle.base.specs.Octets.{Octets}
 use Rattle.wire.specs.declared.payload.Payload.{Payload}
+use Rattle.wire.specs.declared.payload.Payload.TheVariants.{Sa}
 use Rattle.wire.specs.declared.proposal.Proposal.{Proposal}
 use Rattle.wire.specs.declared.proposal.Transform.{Transform}
 use Rattle.suite.specs.Choice.{kinds, IsAcceptableProposal, IsChosenProposal}
@@ -10,7 +11,6 @@ use Rattle.suite.specs.declared.choice.Wanted.{Wanted}
 use Rattle.suite.specs.declared.choice.Wanted.TheVariants.{Ike, Esp}
 use Rattle.suite.specs.declared.fresh.Fresh.{Fresh}
 use Rattle.suite.specs.declared.sealer.Cipher.{Cipher}
-use Rattle.exchange.specs.Counting.{only_sa}
 use Rattle.exchange.specs.Offers.{answer_of, answered_transforms, count_of_kind, IsTakenFrom}
 use Rattle.exchange.specs.declared.sealed.Plain.{Plain}
 use Rattle.sadb.specs.Database.{Database}
@@ -34,7 +34,7 @@ use Rattle.initial.specs.declared.answering.Answered.{Answered}
 use Rattle.initial.specs.declared.beginning.Admitted.{Admitted}
 use Rattle.initial.specs.declared.deciding.Decision.{Decision}
 use Rattle.initial.specs.declared.deciding.Decision.TheVariants as decision
-use Rattle.initial.proofs.PayloadLemmas.{answer_has, answer_without, notice_without}
+use Rattle.initial.proofs.PayloadLemmas.{answer_sa, answer_without, notice_without}
 
 -- what is known of an answer
 pub record OfferFacts : Type 0 where
@@ -107,23 +107,16 @@ initial_answers facts cipher group public_value shared_secret secrets sender hal
 
 -- ---- IKE_AUTH
 
-none_some : (answered : List Proposal) → None ≡ Some answered → ⊥
-none_some answered e = cc
-
-same_proposals : (a b : List Proposal) → Some a ≡ Some b → a ≡ b
-same_proposals a b e = cc
-
 decision_answers : (facts : OfferFacts) (own_method : ℕ) (proof_of : Octets → Octets) (accepts : Accepts) (setup : Setup) (ike : ℕ) (opened : HalfOpen) (table : Database) (plain : Plain) (payloads : Option (List Payload)) (d : Decision) (answered : List Proposal)
-    → IsRead plain payloads → IsDecision accepts setup ike opened table payloads d → only_sa (reply_payloads own_method proof_of setup opened d) ≡ Some answered → AnswersPlain plain answered
-decision_answers facts own_method proof_of accepts setup ike opened table plain payloads (decision.Refused notice) answered read due sa = absurd (none_some answered (sym (notice_without notice) ∙ sa))
+    → IsRead plain payloads → IsDecision accepts setup ike opened table payloads d → Contains (reply_payloads own_method proof_of setup opened d) (Sa answered) → AnswersPlain plain answered
+decision_answers facts own_method proof_of accepts setup ike opened table plain payloads (decision.Refused notice) answered read due sa = absurd (notice_without notice answered sa)
 decision_answers facts own_method proof_of accepts setup ike opened table plain payloads (decision.Accepted (response.Refused notice) window) answered read due sa =
-    absurd (none_some answered (sym (answer_without own_method proof_of setup.config.own.identity (own_proving opened) notice setup.config.window) ∙ sa))
+    absurd (answer_without own_method proof_of setup.config.own.identity (own_proving opened) notice setup.config.window answered sa)
 decision_answers facts own_method proof_of accepts setup ike opened table plain None (decision.Accepted (response.Made made) window) answered read due sa = absurd due
 decision_answers facts own_method proof_of accepts setup ike opened table plain (Some payloads) (decision.Accepted (response.Made made) window) answered read due sa =
     let child = due.child in
-    let has = answer_has own_method proof_of setup.config.own.identity (own_proving opened) made.payloads setup.config.window in
     let is : answered_proposals (Esp setup.config.extended) child.chosen child.terms.spi_r ≡ answered =
-    sym (ap (λ (x : Made). x.payloads.proposals) child.whole) ∙ same_proposals made.payloads.proposals answered (sym has.sa ∙ sa) in
+    sym (ap (λ (x : Made). x.payloads.proposals) child.whole) ∙ answer_sa own_method proof_of setup.config.own.identity (own_proving opened) made.payloads setup.config.window answered sa in
     record {
       request = payloads;
       read = read;

@@ -1,8 +1,7 @@
 -- What IKE_AUTH leaves of the pairs.
-use Rattle.std.proofs.Common.{◌≡◌, ◌≢◌, ◌⊎◌, ◌+◌, ◌<◌, ◌≤◌, inl, inr, ℕ, cond, Bool, true, false, List, Option, Some, None, ap, refl, subst, sym, ◌∙◌, arith}
+use Rattle.std.proofs.Common.{◌≡◌, ◌≢◌, ◌⊎◌, ◌+◌, ◌≤◌, inl, inr, ℕ, cond, List, Option, Some, None, ap, refl, subst, sym, ◌∙◌, arith}
 use Rattle.std.specs.Cmp.{nat_cmp_total, unsigned_tied}
 use Rattle.std.specs.FinMap as map
-use Rattle.std.specs.Ordering.{nat_cmp}
 use Rattle.std.proofs.lemmas.Bool.Decides.{eqb_tells}
 use Rattle.wire.specs.declared.payload.Payload.{Payload}
 use Rattle.exchange.specs.declared.sealed.Plain.{Plain}
@@ -14,14 +13,13 @@ use Rattle.association.specs.declared.phase.Association.{Association}
 use Rattle.association.specs.declared.phase.AuthSent.{AuthSent}
 use Rattle.association.specs.declared.phase.HalfOpen.{HalfOpen}
 use Rattle.auth.specs.Proofs.{Accepts}
-use Rattle.children.specs.Responding.{AddsNext}
 use Rattle.children.specs.declared.responding.Response.TheVariants as response
 use Rattle.initial.specs.Answering.{outcome_of}
 use Rattle.initial.specs.Concluding.{AddsChild, ConcludesBy}
 use Rattle.initial.specs.Configs.{Setup}
 use Rattle.initial.specs.Deciding.{Decides, IsDecision}
 use Rattle.initial.specs.Ending.{IsFirstChild, IsVerdict, Judges}
-use Rattle.initial.specs.Pairs.{ComesNext, IsUnused, LeavesPairs}
+use Rattle.initial.specs.Pairs.{IsUnused, LeavesPairs}
 use Rattle.initial.specs.declared.concluding.Outcome.{Outcome}
 use Rattle.initial.specs.declared.concluding.Outcome.TheVariants as outcome
 use Rattle.initial.specs.declared.deciding.Decision.{Decision}
@@ -170,3 +168,46 @@ verdict_unused accepts setup ike sent (Some payloads) (outcome.Establishes pair 
 
 pub end_unused : (accepts : Accepts) (setup : Setup) (ike : ℕ) (sent : AuthSent) (plain : Plain) (o : Outcome) → Judges accepts setup ike sent plain o → UnusedBy ike o
 end_unused accepts setup ike sent plain o is = verdict_unused accepts setup ike sent is.payloads o is.due
+
+-- ---- a pair that comes is told
+
+-- each pair was there, or is this child
+abbrev pub ComesTold : Database → Option ℕ → Database → Type 0
+ComesTold old child new = (serial : ℕ) (pair : Pair) → pair_at new.pairs serial ≡ Some pair → (pair_at old.pairs serial ≡ Some pair) ⊎ (child ≡ Some serial)
+
+pub same_told : (old : Database) (child : Option ℕ) (new : Database) → HasSamePairs old new → ComesTold old child new
+same_told old child new same = λ q p is. inl (subst (λ (m : PairMap). pair_at m q ≡ Some p) same.pairs is)
+
+pub unchanged_told : (old : Database) (child : Option ℕ) (new : Database) → new ≡ old → ComesTold old child new
+unchanged_told old child new same = same_told old child new (subst (λ (d : Database). HasSamePairs old d) (sym same) (itself_same old))
+
+install_told : (old between : Database) (spi : ℕ) (pair : Pair) (serial : ℕ) (new : Database) → HasSamePairs old between → Installs between spi pair serial new → ComesTold old (Some serial) new
+install_told old between spi pair serial new same is =
+    let v : Pair = record pair { serial = serial } in
+    let pairs : new.pairs ≡ map.insert between.pairs serial v = ap (λ (d : Database). d.pairs) is.content in
+    λ q p there.
+    elim (inserted between.pairs serial v q p (subst (λ (m : PairMap). pair_at m q ≡ Some p) pairs there)) [
+      | inl (here, is_v) ↦ inr (ap Some (sym here))
+      | inr before ↦ inl (subst (λ (m : PairMap). pair_at m q ≡ Some p) same.pairs before)
+    ]
+
+removal_told : (old between : Database) (ike : ℕ) (child : Option ℕ) (new : Database) → HasSamePairs old between → RemovesAllOf between ike new → ComesTold old child new
+removal_told old between ike child new same is = λ q p there. inl (subst (λ (m : PairMap). pair_at m q ≡ Some p) same.pairs ((is.kept q p).0 there).0)
+
+child_told : (old between : Database) (spi : Option ℕ) (pair : Option Pair) (child : Option ℕ) (new : Database) → HasSamePairs old between → AddsChild between spi pair child new → ComesTold old child new
+child_told old between None None None new same is = same_told old None new (subst (λ (d : Database). HasSamePairs old d) (sym is) same)
+child_told old between None None (Some serial) new same is = absurd is
+child_told old between None (Some pair) None new same is = absurd is
+child_told old between None (Some pair) (Some serial) new same is =
+    install_told old is.between is.spi pair serial new (after old between is.between same (reserve_same between is.spi is.between is.reserved)) is.installed
+child_told old between (Some spi) None None new same is = same_told old None new (after old between new same (release_same between spi new is))
+child_told old between (Some spi) (Some pair) (Some serial) new same is = install_told old between spi pair serial new same is
+child_told old between (Some spi) None (Some serial) new same is = absurd is
+child_told old between (Some spi) (Some pair) None new same is = absurd is
+
+pub concluded_told : (setup : Setup) (a : Association) (old between : Database) (o : Outcome) (child : Option ℕ) (new : Association) (new_table : Database)
+    → HasSamePairs old between → ConcludesBy setup a between o child new new_table → ComesTold old child new_table
+concluded_told setup a old between outcome.Closes child new new_table same is =
+    removal_told old is.over.between a.serial child new_table (after old between is.over.between same (spi_same (spi_in a.phase) between is.over.between is.over.released)) is.over.removed
+concluded_told setup a old between (outcome.Establishes pair window) child new new_table same is =
+    child_told old between (established_spi a.phase) pair child new_table same is.added

@@ -1,9 +1,10 @@
 -- What stands in the messages of IKE_AUTH: the payloads of the child, and no other SA.
-use Rattle.std.proofs.Common.{◌≡◌, ◌++◌, ◌∷◌, [], ℕ, Bool, true, false, if◌then◌else◌, List, None, nat_lt, refl}
+use Rattle.std.proofs.Common.{◌≡◌, ◌++◌, ◌∷◌, [], ℕ, zero, suc, Bool, true, false, if◌then◌else◌, Contains, List, nat_lt, ap, refl, sym, ◌∙◌, arith}
 use Rattle.base.specs.Octets.{Octets}
 use Rattle.wire.specs.declared.payload.Payload.{Payload}
+use Rattle.wire.specs.declared.payload.Payload.TheVariants.{Sa}
+use Rattle.wire.specs.declared.proposal.Proposal.{Proposal}
 use Rattle.exchange.specs.Children.{child_payloads}
-use Rattle.exchange.specs.Counting.{only_sa}
 use Rattle.exchange.specs.Notices.{payload_of_notice}
 use Rattle.exchange.specs.declared.child.ChildPayloads.{ChildPayloads}
 use Rattle.exchange.specs.declared.headers.Role.{Role}
@@ -35,15 +36,51 @@ pub answer_has : (own_method : ℕ) (proof_of : Octets → Octets) (own : Identi
     → HasChildPayloads (auth_answer own_method proof_of own what (answered.Payloads child) window) child
 answer_has own_method proof_of own what child window = told_has (nat_lt LEAST_WINDOW window) Responder own_method proof_of own what child window
 
-told_without : (told : Bool) (own_method : ℕ) (proof_of : Octets → Octets) (own : Identity) (what : ProvingView) (notice : Notice) (window : ℕ)
-    → only_sa (proved_identity Responder own_method proof_of own what ++ payload_of_notice notice ∷ [] ++ told_if told window) ≡ None
-told_without true own_method proof_of own what notice window = refl
-told_without false own_method proof_of own what notice window = refl
+-- ---- an SA in an answer
 
--- an answer that makes no child has no SA
-pub answer_without : (own_method : ℕ) (proof_of : Octets → Octets) (own : Identity) (what : ProvingView) (notice : Notice) (window : ℕ)
-    → only_sa (auth_answer own_method proof_of own what (answered.Notice notice) window) ≡ None
-answer_without own_method proof_of own what notice window = told_without (nat_lt LEAST_WINDOW window) own_method proof_of own what notice window
+abbrev pub is_sa : Payload → Bool
+is_sa (Sa offered) = true
+is_sa _ = false
 
-pub notice_without : (notice : Notice) → only_sa (payload_of_notice notice ∷ []) ≡ None
-notice_without notice = refl
+false_true : false ≡ true → ⊥
+false_true e = cc
+
+none_is : (p : Payload) (proposals : List Proposal) → is_sa p ≡ false → p ≡ Sa proposals → ⊥
+none_is p proposals other e = false_true (sym other ∙ ap is_sa e)
+
+same_sa : (a b : List Proposal) → Sa a ≡ Sa b → a ≡ b
+same_sa a b e = cc
+
+told_sa : (told : Bool) (own_method : ℕ) (proof_of : Octets → Octets) (own : Identity) (what : ProvingView) (child : ChildPayloads) (window : ℕ) (proposals : List Proposal)
+    → Contains (proved_identity Responder own_method proof_of own what ++ child_payloads child ++ told_if told window) (Sa proposals) → child.proposals ≡ proposals
+told_sa told own_method proof_of own what child window proposals (zero, below, at) = absurd (none_is _ proposals refl at)
+told_sa told own_method proof_of own what child window proposals (suc zero, below, at) = absurd (none_is _ proposals refl at)
+told_sa told own_method proof_of own what child window proposals (suc (suc zero), below, at) = same_sa child.proposals proposals at
+told_sa told own_method proof_of own what child window proposals (suc (suc (suc zero)), below, at) = absurd (none_is _ proposals refl at)
+told_sa told own_method proof_of own what child window proposals (suc (suc (suc (suc zero))), below, at) = absurd (none_is _ proposals refl at)
+told_sa true own_method proof_of own what child window proposals (suc (suc (suc (suc (suc zero)))), below, at) = absurd (none_is _ proposals refl at)
+told_sa true own_method proof_of own what child window proposals (suc (suc (suc (suc (suc (suc k))))), below, at) = absurd (omega (arith, below))
+told_sa false own_method proof_of own what child window proposals (suc (suc (suc (suc (suc k)))), below, at) = absurd (omega (arith, below))
+
+-- an answer that makes a child has the child's
+pub answer_sa : (own_method : ℕ) (proof_of : Octets → Octets) (own : Identity) (what : ProvingView) (child : ChildPayloads) (window : ℕ) (proposals : List Proposal)
+    → Contains (auth_answer own_method proof_of own what (answered.Payloads child) window) (Sa proposals) → child.proposals ≡ proposals
+answer_sa own_method proof_of own what child window proposals has = told_sa (nat_lt LEAST_WINDOW window) own_method proof_of own what child window proposals has
+
+told_without : (told : Bool) (own_method : ℕ) (proof_of : Octets → Octets) (own : Identity) (what : ProvingView) (notice : Notice) (window : ℕ) (proposals : List Proposal)
+    → Contains (proved_identity Responder own_method proof_of own what ++ payload_of_notice notice ∷ [] ++ told_if told window) (Sa proposals) → ⊥
+told_without told own_method proof_of own what notice window proposals (zero, below, at) = none_is _ proposals refl at
+told_without told own_method proof_of own what notice window proposals (suc zero, below, at) = none_is _ proposals refl at
+told_without told own_method proof_of own what notice window proposals (suc (suc zero), below, at) = none_is _ proposals refl at
+told_without true own_method proof_of own what notice window proposals (suc (suc (suc zero)), below, at) = none_is _ proposals refl at
+told_without true own_method proof_of own what notice window proposals (suc (suc (suc (suc k))), below, at) = absurd (omega (arith, below))
+told_without false own_method proof_of own what notice window proposals (suc (suc (suc k)), below, at) = absurd (omega (arith, below))
+
+-- one that makes no child has none
+pub answer_without : (own_method : ℕ) (proof_of : Octets → Octets) (own : Identity) (what : ProvingView) (notice : Notice) (window : ℕ) (proposals : List Proposal)
+    → Contains (auth_answer own_method proof_of own what (answered.Notice notice) window) (Sa proposals) → ⊥
+answer_without own_method proof_of own what notice window proposals has = told_without (nat_lt LEAST_WINDOW window) own_method proof_of own what notice window proposals has
+
+pub notice_without : (notice : Notice) (proposals : List Proposal) → Contains (payload_of_notice notice ∷ []) (Sa proposals) → ⊥
+notice_without notice proposals (zero, below, at) = none_is _ proposals refl at
+notice_without notice proposals (suc k, below, at) = absurd (omega (arith, below))

@@ -1,13 +1,17 @@
 -- Who is established proved itself.
-use Rattle.std.proofs.Common.{◌≡◌, ℕ, true, List, Option, Some, None, ap, sym, ◌∙◌}
+use Rattle.std.proofs.Common.{◌≡◌, ◌⊎◌, inl, inr, ℕ, true, List, Option, Some, None, ap, sym, ◌∙◌}
+use Rattle.base.specs.Octets.{Octets}
+use Rattle.wire.specs.declared.message.Message.{Message}
 use Rattle.wire.specs.declared.payload.Payload.{Payload}
 use Rattle.suite.specs.declared.key_record.KeyRecord.{KeyRecord}
 use Rattle.exchange.specs.Counting.{only_auth, only_id_i, only_id_r}
 use Rattle.exchange.specs.declared.sealed.Plain.{Plain}
 use Rattle.sadb.specs.Database.{Database}
+use Rattle.association.specs.Receiving.{Answers, IsAnswering, IsEffective, IsReceived, Opening, TakesEffect}
 use Rattle.association.specs.declared.phase.Association.{Association}
 use Rattle.association.specs.declared.phase.AuthSent.{AuthSent}
 use Rattle.association.specs.declared.phase.HalfOpen.{HalfOpen}
+use Rattle.association.specs.declared.phase.InitSent.{InitSent}
 use Rattle.association.specs.declared.phase.Phase.{Phase}
 use Rattle.association.specs.declared.phase.Phase.TheVariants as phase
 use Rattle.auth.specs.Answers.{is_accepted}
@@ -19,13 +23,17 @@ use Rattle.initial.specs.Concluding.{ConcludesBy}
 use Rattle.initial.specs.Configs.{Setup}
 use Rattle.initial.specs.Deciding.{IsDecision, IsRead}
 use Rattle.initial.specs.Ending.{EndsAuth, IsVerdict}
-use Rattle.initial.specs.Proving.{ProvesByRequest, ProvesByResponse}
+use Rattle.initial.specs.Proving.{ProvesByMessage, ProvesByRequest, ProvesByResponse}
+use Rattle.initial.specs.Taking.{prover_of, Meaning, TakesMessage}
 use Rattle.initial.specs.declared.answering.Answered.{Answered}
 use Rattle.initial.specs.declared.concluding.Outcome.{Outcome}
 use Rattle.initial.specs.declared.concluding.Outcome.TheVariants as outcome
 use Rattle.initial.specs.declared.deciding.Decision.{Decision}
 use Rattle.initial.specs.declared.deciding.Decision.TheVariants as decision
 use Rattle.initial.specs.declared.ending.Ended.{Ended}
+use Rattle.initial.specs.declared.taking.Effect.{Effect}
+use Rattle.initial.specs.declared.taking.Effect.TheVariants as effect
+use Rattle.initial.proofs.WayLemmas.{way_of, Way}
 
 -- what is known of who is accepted
 pub record Acceptance : Type 0 where
@@ -69,3 +77,43 @@ pub response_proves : (facts : Acceptance) (accepts : Accepts) (setup : Setup) (
 response_proves facts accepts setup old table number plain ended new new_table keys is established =
     verdict_proves facts accepts setup old is.sent is.was old.serial table plain is.judged.payloads is.verdict ended.child (record old { outgoing = is.outgoing }) new new_table keys
     is.judged.read is.judged.due is.concluded established
+
+-- ---- by a message
+
+-- what is known of a message that takes effect or answers: it opened
+pub record OpenedFacts : Type 0 where
+  pub acceptance : Acceptance
+  pub effective : (plain_of : Opening) (a : Association) (octets : Octets) (m : Message) (plain : Plain) → IsReceived plain_of a octets m (TakesEffect plain) → IsEffective plain_of a octets m plain
+  pub answering : (plain_of : Opening) (a : Association) (octets : Octets) (m : Message) (plain : Plain) → IsReceived plain_of a octets m (Answers plain) → IsAnswering plain_of a octets m plain
+
+waiting_is_not : (sent : InitSent) (keys : KeyRecord) → phase.InitSent sent ≡ phase.Established keys → ⊥
+waiting_is_not sent keys is = cc
+
+asking_is_not : (sent : AuthSent) (keys : KeyRecord) → phase.AuthSent sent ≡ phase.Established keys → ⊥
+asking_is_not sent keys is = cc
+
+way_proves : (facts : OpenedFacts) (meaning : Meaning) (setup : Setup) (old : Association) (table : Database) (octets : Octets) (m : Message) (e : Effect) (new : Association) (new_table : Database) (keys : KeyRecord)
+    → Way meaning setup old table octets m e new new_table → new.phase ≡ phase.Established keys → (old.phase ≡ phase.Established keys) ⊎ ProvesByMessage meaning setup old octets m
+way_proves facts meaning setup old table octets m (effect.Refused fault) new new_table keys is established = inl (sym (ap phase_of is.association) ∙ established)
+way_proves facts meaning setup old table octets m (effect.Repeated reply) new new_table keys is established = inl (sym (ap phase_of is.same.association) ∙ established)
+way_proves facts meaning setup old table octets m (effect.Replied answered) new new_table keys is established =
+    inr (record {
+      plain = is.plain;
+      opened = (facts.effective meaning.plain_of old octets m is.plain is.received).opened;
+      proved = inl (request_proves facts.acceptance (prover_of meaning) setup old table m.header.id is.plain answered new new_table keys is.done established);
+    })
+way_proves facts meaning setup old table octets m (effect.Again next) new new_table keys is established =
+    absurd (waiting_is_not _ keys (sym (ap phase_of is.done.content) ∙ established))
+way_proves facts meaning setup old table octets m (effect.Identified next) new new_table keys is established =
+    absurd (asking_is_not _ keys (sym (ap phase_of is.done.content) ∙ established))
+way_proves facts meaning setup old table octets m (effect.Counted ended) new new_table keys is established =
+    inr (record {
+      plain = is.plain;
+      opened = (facts.answering meaning.plain_of old octets m is.plain is.received).opened;
+      proved = inr (response_proves facts.acceptance meaning.accepts setup old table m.header.id is.plain ended new new_table keys is.done established);
+    })
+
+pub message_proves : OpenedFacts → (meaning : Meaning) (setup : Setup) (old : Association) (table : Database) (octets : Octets) (m : Message) (e : Effect) (new : Association) (new_table : Database) (keys : KeyRecord)
+    → TakesMessage meaning setup old table octets m e new new_table → new.phase ≡ phase.Established keys → (old.phase ≡ phase.Established keys) ⊎ ProvesByMessage meaning setup old octets m
+message_proves facts meaning setup old table octets m e new new_table keys is established =
+    way_proves facts meaning setup old table octets m e new new_table keys (way_of meaning setup old table octets m e new new_table is) established

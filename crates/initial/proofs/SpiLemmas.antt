@@ -21,7 +21,7 @@ use Rattle.auth.specs.Proofs.{Accepts}
 use Rattle.initial.specs.Answering.{outcome_of, AnswersAuth, IsHalfOpen, Prover}
 use Rattle.initial.specs.Concluding.{established, widened, ConcludesBy}
 use Rattle.initial.specs.Configs.{Setup}
-use Rattle.initial.specs.Ending.{EndsAuth}
+use Rattle.initial.specs.Ending.{EndsAuth, IsAuthSent}
 use Rattle.initial.specs.Pairs.{LeavesPairs}
 use Rattle.initial.specs.Reading.{Asker, Continues, IsInitSent}
 use Rattle.initial.specs.Taking.{asker_of, prover_of, Does, DoesRequest, DoesResponse, IsPassedOver, Meaning, Says, StaysItself, TakesMessage}
@@ -113,7 +113,7 @@ itself_by : (old is new : Association) → new ≡ is → StaysItself old is →
 itself_by old is new same itself = subst (λ (a : Association). StaysItself old a) (sym same) itself
 
 all_itself : (old : Association) → StaysItself old old
-all_itself old = record { serial = refl; role = refl; spi_i = refl; spi_r = inl refl; waiting = λ w. w; half_open = λ h. h }
+all_itself old = record { serial = refl; role = refl; spi_i = refl; spi_r = inl refl; waiting = λ w. w; asking = λ s. inr s; half_open = λ h. h }
 
 unchanged_leaves : (table : Database) (ike : ℕ) (new_table : Database) → new_table ≡ table → LeavesPairs table ike new_table
 unchanged_leaves table ike new_table same = same_leaves table ike new_table (subst (λ (d : Database). HasSamePairs table d) (sym same) (itself_same table))
@@ -123,6 +123,12 @@ leaves_all e old new table new_table same = record { idle = idle_by e old new ta
 
 closed_waits : (keys : Option KeyRecord) (at : ℕ) (sent : InitSent) → phase.Closed keys at ≡ phase.InitSent sent → ⊥
 closed_waits keys at sent is = cc
+
+closed_asks : (keys : Option KeyRecord) (at : ℕ) (sent : AuthSent) → phase.Closed keys at ≡ phase.AuthSent sent → ⊥
+closed_asks keys at sent is = cc
+
+established_asks : (keys : KeyRecord) (sent : AuthSent) → phase.Established keys ≡ phase.AuthSent sent → ⊥
+established_asks keys sent is = cc
 
 closed_opens : (keys : Option KeyRecord) (at : ℕ) (opened : HalfOpen) → phase.Closed keys at ≡ phase.HalfOpen opened → ⊥
 closed_opens keys at opened is = cc
@@ -150,6 +156,7 @@ concluded_itself setup old table outcome.Closes child new new_table keys was c =
       spi_i = refl;
       spi_r = inl refl;
       waiting = λ w. absurd (closed_waits (keys_in old.phase) setup.moment w.sent w.is);
+      asking = λ s. absurd (closed_asks (keys_in old.phase) setup.moment s.sent s.is);
       half_open = λ h. absurd (closed_opens (keys_in old.phase) setup.moment h.opened h.is);
     })
 concluded_itself setup old table (outcome.Establishes pair window) child new new_table keys was c =
@@ -160,6 +167,7 @@ concluded_itself setup old table (outcome.Establishes pair window) child new new
       spi_i = refl;
       spi_r = inl refl;
       waiting = λ w. absurd (established_waits keys w.sent (sym was ∙ w.is));
+      asking = λ s. absurd (established_asks keys s.sent (sym was ∙ s.is));
       half_open = λ h. absurd (established_opens keys h.opened (sym was ∙ h.is));
     })
 
@@ -173,6 +181,7 @@ like is old new serial role spi_i spi_r phase_is stays =
       spi_i = stays.spi_i ∙ spi_i;
       spi_r = subst (λ (p : Phase). (new.spi_r ≡ old.spi_r) ⊎ IsInitSent p) phase_is (subst (λ n. (new.spi_r ≡ n) ⊎ IsInitSent is.phase) spi_r stays.spi_r);
       waiting = λ w. subst IsInitSent phase_is (stays.waiting w);
+      asking = λ s. subst (λ (p : Phase). IsInitSent p ⊎ IsAuthSent p) phase_is (stays.asking s);
       half_open = λ h. subst IsHalfOpen phase_is (stays.half_open h);
     }
 
@@ -210,6 +219,7 @@ continued_itself asker setup old sent number m octets (response.Cookie cookie) (
       spi_i = refl;
       spi_r = inl refl;
       waiting = λ w. record { sent = sent; is = was };
+      asking = λ s. inl (record { sent = sent; is = was });
       half_open = λ h. absurd (waiting_opens (record sent { cookie = Some cookie.now; cookies_taken = sent.cookies_taken + 1 }) h.opened h.is);
     })
 continued_itself asker setup old sent number m octets (response.Cookie cookie) (continued.Identity next) new was is = absurd is
@@ -223,6 +233,7 @@ continued_itself asker setup old sent number m octets (response.Keys keys) (cont
       spi_i = refl;
       spi_r = inr (record { sent = sent; is = was });
       waiting = λ w. record { sent = sent; is = was };
+      asking = λ s. inl (record { sent = sent; is = was });
       half_open = λ h. absurd (sent_opens (record { keys = keys; first = octets; child = sent.child }) h.opened h.is);
     })
 continued_itself asker setup old sent number m octets (response.Keys keys) continued.Unfit new was is = absurd is

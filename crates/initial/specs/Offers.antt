@@ -6,6 +6,7 @@ use Rattle.wire.specs.Numbers.{IKE_AUTH}
 use Rattle.wire.specs.Payloads.{SpellsChain}
 use Rattle.wire.specs.declared.message.Message.{Message}
 use Rattle.wire.specs.declared.payload.Payload.{Payload}
+use Rattle.wire.specs.declared.payload.Payload.TheVariants.{Sa}
 use Rattle.wire.specs.declared.proposal.Proposal.{Proposal}
 use Rattle.suite.specs.declared.key_record.KeyRecord.{KeyRecord}
 use Rattle.suite.specs.declared.keys.Keys.{Keys}
@@ -52,10 +53,10 @@ pub record AnswersPlain (plain : Plain) (answered : List Proposal) : Type 0 wher
   pub read : SpellsChain plain.first request plain.octets
   pub answers : AnswersSa request answered
 
--- where the answer to IKE_AUTH has an SA, it answers the request's
+-- each SA in the answer to IKE_AUTH answers the request's
 pub record AnswersAuthSa (body_of : Keys → Octets → Octets → Octets → Octets) (setup : Setup) (old : Association) (number : ℕ) (plain : Plain) (octets : Octets) : Type 0 where
   pub keys : KeyRecord
   pub are : keys_in old.phase ≡ Some keys
   pub reply : List Payload
   pub sealed : IsSealed body_of (keys_of old.role keys) setup.fresh.seal (reply_message old IKE_AUTH number reply) octets
-  pub answers : (answered : List Proposal) → only_sa reply ≡ Some answered → AnswersPlain plain answered
+  pub answers : (answered : List Proposal) → Contains reply (Sa answered) → AnswersPlain plain answered

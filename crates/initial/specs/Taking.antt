@@ -14,7 +14,7 @@ use Rattle.association.specs.declared.phase.Phase.TheVariants as phase
 use Rattle.auth.specs.Proofs.{Accepts}
 use Rattle.initial.specs.Answering.{AnswersAuth, IsHalfOpen, Prover}
 use Rattle.initial.specs.Configs.{Setup}
-use Rattle.initial.specs.Ending.{EndsAuth}
+use Rattle.initial.specs.Ending.{EndsAuth, IsAuthSent}
 use Rattle.initial.specs.Reading.{Asker, IsInitSent, ReadsResponse}
 use Rattle.initial.specs.declared.reading.Continued.{Continued}
 use Rattle.initial.specs.declared.reading.Continued.TheVariants as continued
@@ -106,11 +106,13 @@ reception_of (taken.Response plain) = Answers plain
 reception_of taken.InitialResponse = AnswersInitial
 
 -- A message leaves an association its serial, its role and its SPIs, but that an initiator learns the responder's from the response to
--- IKE_SA_INIT; and none comes back to a phase in which an association begins.
+-- IKE_SA_INIT; none comes back to a phase in which an association begins, and who waits for the response to IKE_AUTH waited for that
+-- one or for the response to IKE_SA_INIT before.
 pub record StaysItself (old new : Association) : Type 0 where
   pub serial : new.serial ≡ old.serial
   pub role : new.role ≡ old.role
   pub spi_i : new.spi_i ≡ old.spi_i
   pub spi_r : (new.spi_r ≡ old.spi_r) ⊎ IsInitSent old.phase
   pub waiting : IsInitSent new.phase → IsInitSent old.phase
+  pub asking : IsAuthSent new.phase → IsInitSent old.phase ⊎ IsAuthSent old.phase
   pub half_open : IsHalfOpen new.phase → IsHalfOpen old.phase

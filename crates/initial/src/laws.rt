@@ -1,5 +1,5 @@
 //! What follows from the definitions alone. No function here does anything.
-ghost use Rattle.std.specs.Prelude.{◌≡◌, ◌≢◌, ◌⊎◌, ◌+◌, ◌<◌, ℕ, List, Option, Some, length};
+ghost use Rattle.std.specs.Prelude.{◌≡◌, ◌≢◌, ◌⊎◌, ◌+◌, ◌<◌, ℕ, List, Option, Some, None, length};
 ghost use Rattle.base.specs.Octets.{Octets, AreOctets};
 ghost use Rattle.wire.specs.declared.message.Message.{Message};
 ghost use Rattle.wire.specs.declared.payload.Payload.{Payload};
@@ -8,7 +8,8 @@ ghost use Rattle.suite.specs.declared.sealer.Cipher.{Cipher};
 ghost use Rattle.sa_init.specs.Cookies.{CookieSecrets};
 ghost use Rattle.sa_init.specs.Judging.{Accepted, IsJudgement, OfferView};
 ghost use Rattle.sa_init.specs.declared.judging.Sender.{Sender};
-ghost use Rattle.sadb.specs.Database.{Database, IsReserved, IsSoundTable};
+ghost use Rattle.sadb.specs.Database.{pair_at, Database, IsReserved, IsSoundTable};
+ghost use Rattle.sadb.specs.declared.pair.Pair.{Pair};
 ghost use Rattle.association.specs.Closing.{HoldsSpi};
 ghost use Rattle.association.specs.FirstChildren.{FirstChildView};
 ghost use Rattle.association.specs.Phases.{keys_in, spi_in};
@@ -32,7 +33,7 @@ ghost use Rattle.initial.specs.Ending.{EndsAuth};
 ghost use Rattle.initial.specs.Keeping.{child_in, sent_by, IsShort, KeepsShort, KeyedBy};
 ghost use Rattle.initial.specs.Offers.{AnswersAuthSa, AnswersInitialSa};
 ghost use Rattle.initial.specs.Lengths.{HoldsWholeKeys, TellsLengths};
-ghost use Rattle.initial.specs.Proving.{ProvesByRequest, ProvesByResponse};
+ghost use Rattle.initial.specs.Proving.{ProvesByMessage, ProvesByRequest, ProvesByResponse};
 ghost use Rattle.initial.specs.declared.answering.Answered.{Answered};
 ghost use Rattle.initial.specs.declared.beginning.Admitted.{Admitted};
 ghost use Rattle.initial.specs.declared.beginning.Beginning.{Beginning};
@@ -70,8 +71,9 @@ pub fn spis_stay_reserved()
         → HoldsSpi (spi_in new.phase) new_table }
 {}
 
-/// A message leaves an association its serial, its role and its SPIs, but that an initiator learns the responder's; and no association
-/// comes to be half open, or to wait for the response to IKE_SA_INIT, that was not before.
+/// A message leaves an association its serial, its role and its SPIs, but that an initiator learns the responder's; no association
+/// comes to be half open, or to wait for the response to IKE_SA_INIT, that was not before; and who waits for the response to IKE_AUTH
+/// waited for one of the two before.
 pub fn associations_stay_themselves()
     ensures { (meaning : Meaning) (setup : Setup) (old : Association) (table : Database) (octets : Octets) (m : Message)
         (effect : Effect) (new : Association) (new_table : Database)
@@ -84,6 +86,14 @@ pub fn pairs_stay_as_they_were()
     ensures { (meaning : Meaning) (setup : Setup) (old : Association) (table : Database) (octets : Octets) (m : Message)
         (effect : Effect) (new : Association) (new_table : Database)
         → TakesMessage meaning setup old table octets m effect new new_table → LeavesPairs table old.serial new_table }
+{}
+
+/// A pair that comes by a message is the child that its effect tells.
+pub fn pairs_that_come_are_told()
+    ensures { (meaning : Meaning) (setup : Setup) (old : Association) (table : Database) (octets : Octets) (m : Message)
+        (effect : Effect) (new : Association) (new_table : Database) (serial : ℕ) (pair : Pair)
+        → TakesMessage meaning setup old table octets m effect new new_table → pair_at new_table.pairs serial ≡ Some pair
+        → (pair_at table.pairs serial ≡ Some pair) ⊎ (child_in effect ≡ Some serial) }
 {}
 
 /// A message that is passed over, or a request that comes again, changes nothing.
@@ -135,7 +145,8 @@ pub fn what_is_kept_is_short()
     repeats_say_why();
 }
 
-/// A message leaves an association its keys; and what goes out under keys goes out of an association that has them.
+/// A message leaves an association its keys; what goes out under keys goes out of an association that has them; and keys come by the
+/// response to IKE_SA_INIT alone, to an initiator that had none and asks for its child now.
 pub fn keys_stay()
     ensures stay { (meaning : Meaning) (setup : Setup) (old : Association) (table : Database) (octets : Octets) (m : Message)
         (effect : Effect) (new : Association) (new_table : Database) (keys : KeyRecord) → keys_in old.phase ≡ Some keys
@@ -143,6 +154,13 @@ pub fn keys_stay()
     ensures keyed { (meaning : Meaning) (setup : Setup) (old : Association) (table : Database) (octets : Octets) (m : Message)
         (effect : Effect) (new : Association) (new_table : Database)
         → TakesMessage meaning setup old table octets m effect new new_table → KeyedBy effect new.phase }
+    ensures come { (meaning : Meaning) (setup : Setup) (old : Association) (table : Database) (octets : Octets) (m : Message)
+        (effect : Effect) (new : Association) (new_table : Database) (keys : KeyRecord) → keys_in new.phase ≡ Some keys
+        → TakesMessage meaning setup old table octets m effect new new_table
+        → (keys_in old.phase ≡ Some keys) ⊎ IsAsking effect }
+    ensures none { (meaning : Meaning) (setup : Setup) (old : Association) (table : Database) (octets : Octets) (m : Message)
+        (next : Octets) (new : Association) (new_table : Database)
+        → TakesMessage meaning setup old table octets m (Identified next) new new_table → keys_in old.phase ≡ None }
 {
     repeats_say_why();
 }
@@ -176,7 +194,7 @@ pub fn children_are_made_of_their_messages()
 }
 
 /// An SA in an answer has one proposal, with the number and the protocol of one that was offered and one of its transforms of each type
-/// (RFC 7296, section 3.3.1): in the answer to IKE_SA_INIT, and in that to IKE_AUTH where this has an SA.
+/// (RFC 7296, section 3.3.1): in the answer to IKE_SA_INIT, and in each SA of that to IKE_AUTH.
 pub fn answers_keep_to_their_offers()
     ensures initial { (cipher : Cipher) (group : ℕ) (public_value : Octets → Octets)
         (shared_secret : Octets → Octets → Option Octets) (secrets : CookieSecrets) (sender : Sender) (half_open held : ℕ)
@@ -194,7 +212,7 @@ pub fn answers_keep_to_their_offers()
 
 /// An association is established by IKE_AUTH only where the caller accepted, of the configured peer's identity, the method and the proof
 /// in the only AUTH payload, over what the peer has to prove (RFC 7296, section 2.15): at a responder of the request's payloads, at
-/// an initiator of the response's.
+/// an initiator of the response's. So whom a message leaves established was so before, or this message, as it opens, proves the peer.
 pub fn the_established_proved_themselves()
     ensures request { (prover : Prover) (setup : Setup) (old : Association) (table : Database) (number : ℕ) (plain : Plain)
         (answered : Answered) (new : Association) (new_table : Database) (keys : KeyRecord)
@@ -204,7 +222,12 @@ pub fn the_established_proved_themselves()
         (plain : Plain) (ended : Ended) (new : Association) (new_table : Database) (keys : KeyRecord)
         → EndsAuth accepts setup old table number plain ended new new_table → new.phase ≡ Established keys
         → ProvesByResponse accepts setup old.phase plain }
+    ensures message { (meaning : Meaning) (setup : Setup) (old : Association) (table : Database) (octets : Octets) (m : Message)
+        (effect : Effect) (new : Association) (new_table : Database) (keys : KeyRecord)
+        → TakesMessage meaning setup old table octets m effect new new_table → new.phase ≡ Established keys
+        → (old.phase ≡ Established keys) ⊎ ProvesByMessage meaning setup old octets m }
 {
+    receptions_say_why();
     who_is_accepted_proved_itself();
 }
 

@@ -75,3 +75,64 @@ fn forget_below(taken: &mut Vec<u64>, top: u64, size: u64)
 {
     taken.retain(|&n| top.saturating_sub(n) < size);
 }
+
+#[cfg(test)]
+mod tests {
+    use super::*;
+    use Judgement::{Fresh, Old, Taken, Zero};
+    use std::test::Fail;
+
+    /// Takes a number that is fresh, through the trait alone, and answers how it was judged.
+    fn accept<W: Window>(window: &mut W, n: u64) -> Result<Judgement, ReplayFault> {
+        let judgement = window.judge(n);
+        if let Fresh = judgement {
+            window.take(n)?;
+        }
+        Ok(judgement)
+    }
+
+    #[test]
+    fn moves_its_span(rt: HostRuntime) -> Result<(), Fail> {
+        let mut window = PlainWindow::new(rt.alloc(), 2);
+        assert_eq!(rt; window.size(), 64);
+        assert_eq!(rt; window.top(), 0);
+        assert_eq!(rt; accept(&mut window, 64)?, Fresh);
+        assert_eq!(rt; window.judge(1), Fresh);
+        assert_eq!(rt; accept(&mut window, 65)?, Fresh);
+        for (n, judgement) in [(2, Fresh), (1, Old), (65, Taken), (0, Zero), (66, Fresh)] {
+            assert_eq!(rt; window.judge(n), judgement, "at {n}");
+        }
+        assert_eq!(rt; window.top(), 65);
+        Ok(())
+    }
+
+    #[test]
+    fn keeps_no_more_numbers_than_it_spans(rt: HostRuntime) -> Result<(), Fail> {
+        let mut window = PlainWindow::new(rt.alloc(), 2);
+        for n in 1..=200 {
+            assert_eq!(rt; accept(&mut window, n)?, Fresh, "at {n}");
+            assert_eq!(rt; accept(&mut window, n)?, Taken, "at {n} again");
+            assert!(rt; window.taken.len() <= 64);
+        }
+        assert_eq!(rt; window.taken.len(), 64);
+        Ok(())
+    }
+
+    #[test]
+    fn a_refusal_leaves_the_window(rt: HostRuntime) {
+        let mut window = PlainWindow::new(rt.alloc(), 2);
+        for n in 1..=100 {
+            let top = window.top();
+            match accept(&mut window, n) {
+                Ok(judgement) => {
+                    assert_eq!(rt; judgement, Fresh);
+                    assert_eq!(rt; window.judge(n), Taken);
+                }
+                Err(ReplayFault::Memory) => {
+                    assert_eq!(rt; window.judge(n), Fresh);
+                    assert_eq!(rt; window.top(), top);
+                }
+            }
+        }
+    }
+}

@@ -143,3 +143,22 @@ impl Incoming {
         self.size = size;
     }
 }
+
+#[cfg(test)]
+pub(crate) mod tests {
+    use super::Incoming;
+    use crate::by_number::ByNumber;
+    use crate::numbers::tests::all_below;
+    use std::alloc::Global;
+
+    /// All numbers below one of them are in effect, with no reply kept, and the window is 1.
+    pub fn after_all_below(alloc: Global, gap: u32) -> Incoming
+        ensures { result.size ≡ 1 }
+    {
+        Incoming {
+            in_effect: all_below(gap),
+            size: 1,
+            kept: ByNumber::new(alloc),
+        }
+    }
+}

@@ -34,3 +34,6 @@ pub use fault::RequestFault;
 pub use incoming::{Incoming, Judgement};
 pub use outgoing::Outgoing;
 pub use timer::{Due, Timer};
+
+#[cfg(test)]
+mod tests;

@@ -80,3 +80,18 @@ fn is_marked(marks: u16, place: u64) -> bool
 {
     place < 16 && (marks >> place) & 1 == 1
 }
+
+#[cfg(test)]
+pub(crate) mod tests {
+    use super::NumberSet;
+
+    /// All numbers below one of them.
+    pub fn all_below(gap: u32) -> NumberSet
+        ensures { (n : ℕ) → set.contains result n ≡ nat_lt n gap }
+    {
+        NumberSet {
+            gap: u64::from(gap),
+            marks: 0,
+        }
+    }
+}

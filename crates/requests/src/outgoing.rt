@@ -209,3 +209,23 @@ impl<T: Drop> Outgoing<T> {
         self.outstanding.clear();
     }
 }
+
+#[cfg(test)]
+pub(crate) mod tests {
+    use super::Outgoing;
+    use crate::by_number::ByNumber;
+    use crate::numbers::tests::all_below;
+    use std::alloc::Global;
+
+    /// All numbers below one of them were issued and answered, and the peer's window is 1.
+    pub fn after_all_below(alloc: Global, next: u32) -> Outgoing<u32>
+        ensures { result.window ≡ 1 }
+    {
+        Outgoing {
+            next: u64::from(next),
+            answered: all_below(next),
+            window: 1,
+            outstanding: ByNumber::new(alloc),
+        }
+    }
+}

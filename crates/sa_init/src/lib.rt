@@ -32,3 +32,6 @@ pub use judging::{
 };
 pub use requests::request;
 pub use response::{COOKIE_LIMIT, Response, Waiting, read};
+
+#[cfg(test)]
+mod tests;

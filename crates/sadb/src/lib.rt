@@ -33,3 +33,6 @@ pub use fault::TableFault;
 pub use pair::{Pair, State};
 pub use spi::Spi;
 pub use table::Table;
+
+#[cfg(test)]
+mod tests;

@@ -1,27 +1,13 @@
 use std::process::Abort;
 
-mod auth;
-mod caller;
-mod children;
-mod console;
-mod engine;
-mod esp;
 mod flows;
-mod gateways;
 mod keying;
 mod long;
-mod mac;
 mod messages;
 mod numbers;
 mod payloads;
-mod replay;
-mod requests;
-mod sa_init;
-mod sadb;
 mod sealing;
 mod texts;
-mod traffic;
-mod words;
 
 /// Fails where a row of a table differs, and prints its place. Plain values in the rows and a function without a contract
 /// that goes through them keep the proof of a test short; assertions for each row and references in the rows make it long.

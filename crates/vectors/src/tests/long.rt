@@ -10,7 +10,7 @@ fn a_cookie_of_64_octets_is_brought_back(rt: HostRuntime) -> Result<(), Fail> {
         cookie.push(octet)?;
     }
     let payloads = [returned_cookie(rt.alloc(), &cookie)?];
-    assert!(rt; leading_cookie(&payloads) == Some(cookie.as_slice()));
+    assert_eq!(rt; leading_cookie(&payloads), Some(cookie.as_slice()));
     Ok(())
 }
 
@@ -21,9 +21,9 @@ fn digits_of_3000_octets_are_read(rt: HostRuntime) -> Result<(), Fail> {
         octets.push((number % 251) as u8)?;
     }
     let text = hex_text(rt.alloc(), &octets)?;
-    assert!(rt; text.len() == 6000);
+    assert_eq!(rt; text.len(), 6000);
     let mut read = Vec::new(rt.alloc());
     read_hex(text.as_bytes(), &mut read).ok().ok_or("digits")?;
-    assert!(rt; read.as_slice() == octets.as_slice());
+    assert_eq!(rt; read.as_slice(), octets.as_slice());
     Ok(())
 }

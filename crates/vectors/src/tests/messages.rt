@@ -140,7 +140,7 @@ fn datagrams(rt: HostRuntime) -> Result<(), Fail> {
         (&header_alone(33, 0x30), (3, None)),
     ];
     for (octets, wanted) in rows {
-        assert!(rt; refusal(decode_message(alloc, octets)) == wanted);
+        assert_eq!(rt; refusal(decode_message(alloc, octets)), wanted);
     }
     Ok(())
 }
@@ -173,8 +173,9 @@ fn chains(rt: HostRuntime) {
         (0, &[], (0, None)),
     ];
     for (first, octets, wanted) in rows {
-        assert!(rt;
-            refusal(decode_chain(rt.alloc(), first, octets)) == wanted,
+        assert_eq!(rt;
+            refusal(decode_chain(rt.alloc(), first, octets)),
+            wanted,
             "of type {first}"
         );
     }
@@ -188,8 +189,8 @@ fn a_deletion_is_read(rt: HostRuntime) -> Result<(), Fail> {
     let [Payload::Delete { protocol, spis }] = read.as_slice() else {
         return Err(Fail::from("another payload is read"));
     };
-    assert!(rt; *protocol == 3);
-    assert!(rt; spis.as_slice() == [0x1000].as_slice());
+    assert_eq!(rt; *protocol, 3);
+    assert_eq!(rt; spis.as_slice(), [0x1000].as_slice());
     Ok(())
 }
 
@@ -208,8 +209,8 @@ fn an_unknown_payload_is_read(rt: HostRuntime) -> Result<(), Fail> {
     else {
         return Err(Fail::from("another payload is read"));
     };
-    assert!(rt; (*kind, *critical) == (200, true));
-    assert!(rt; data.as_slice() == [0xaa].as_slice());
+    assert_eq!(rt; (*kind, *critical), (200, true));
+    assert_eq!(rt; data.as_slice(), [0xaa].as_slice());
     Ok(())
 }
 
@@ -291,12 +292,15 @@ fn proposals(rt: HostRuntime) -> Result<(), Fail> {
 #[test]
 fn proposals_among_other_payloads(rt: HostRuntime) -> Result<(), Fail> {
     let alloc = rt.alloc();
-    assert!(rt; refusal(decode_chain(alloc, 33, &IKE_PROPOSAL)) == (4, Some(44)));
+    assert_eq!(rt;
+        refusal(decode_chain(alloc, 33, &IKE_PROPOSAL)),
+        (4, Some(44))
+    );
     let mut behind = [33, 0, 0, 4].to_vec(alloc)?;
     let mut proposal = ESP_PROPOSAL;
     proposal[8] = 0;
     behind.extend_from_slice(&proposal)?;
-    assert!(rt; refusal(decode_chain(alloc, 43, &behind)) == (5, Some(4)));
+    assert_eq!(rt; refusal(decode_chain(alloc, 43, &behind)), (5, Some(4)));
     Ok(())
 }
 
@@ -309,8 +313,8 @@ fn a_proposal_is_read(rt: HostRuntime) -> Result<(), Fail> {
     let [proposal] = proposals.as_slice() else {
         return Err(Fail::from("more proposals are read"));
     };
-    assert!(rt; proposal.spi.as_slice() == [0, 0, 1, 0].as_slice());
-    assert!(rt; proposal.transforms.len() == 3);
+    assert_eq!(rt; proposal.spi.as_slice(), [0, 0, 1, 0].as_slice());
+    assert_eq!(rt; proposal.transforms.len(), 3);
     Ok(())
 }
 
@@ -334,13 +338,13 @@ fn exact_pieces(rt: HostRuntime) -> Result<(), Fail> {
 #[test]
 fn sizes_of_every_type(rt: HostRuntime) -> Result<(), Fail> {
     let read = decode_message(rt.alloc(), &EVERY_TYPE)?;
-    assert!(rt; read.header == header());
-    assert!(rt; read.payloads.len() == 14);
+    assert_eq!(rt; read.header, header());
+    assert_eq!(rt; read.payloads.len(), 14);
     let mut length = HEADER_LENGTH;
     for payload in read.payloads.as_slice() {
         length = length.saturating_add(payload.size());
     }
-    assert!(rt; length == EVERY_TYPE.len());
+    assert_eq!(rt; length, EVERY_TYPE.len());
     Ok(())
 }
 

@@ -4,7 +4,7 @@ use suite::transforms;
 use wire::numbers;
 
 fn are(rt: &impl Abort, named: &[u16], numbers: &[u16]) {
-    assert!(rt; named == numbers);
+    assert_eq!(rt; named, numbers);
 }
 
 /// RFC 7296, section 3.1.
@@ -16,7 +16,7 @@ fn exchanges(rt: HostRuntime) {
         numbers::CREATE_CHILD_SA,
         numbers::INFORMATIONAL,
     ];
-    assert!(rt; named == [34, 35, 36, 37]);
+    assert_eq!(rt; named, [34, 35, 36, 37]);
 }
 
 /// RFC 7296, section 3.10.1.
@@ -48,7 +48,7 @@ fn transform_types(rt: HostRuntime) {
         transforms::GROUP,
         transforms::ESN,
     ];
-    assert!(rt; kinds == [1, 2, 3, 4, 5]);
+    assert_eq!(rt; kinds, [1, 2, 3, 4, 5]);
     let algorithms = [
         transforms::ENCR_NULL,
         transforms::PRF_HMAC_SHA2_256,

@@ -118,7 +118,7 @@ fn seals_no_payload(rt: HostRuntime) -> Result<(), Fail> {
         0x30, 0xc1, 0x5a, 0x63,
     ];
     let octets = empty(rt.alloc(), 2)?;
-    assert!(rt; octets.as_slice() == wanted.as_slice());
+    assert_eq!(rt; octets.as_slice(), wanted.as_slice());
     Ok(())
 }
 
@@ -134,9 +134,9 @@ fn opens_what_was_sealed(rt: HostRuntime) -> Result<(), Fail> {
     let said = message(alloc, 36, 3, &[Sample::Nonce, Sample::InvalidSyntax])?;
     let octets = sealed(alloc, &said)?;
     // 32 octets, two payloads of 36 and 8, and what the cipher adds
-    assert!(rt; octets.len() == 93);
+    assert_eq!(rt; octets.len(), 93);
     let plain = opened(alloc, &octets)?.ok_or("does not open")?;
-    assert!(rt; plain.first == 40);
+    assert_eq!(rt; plain.first, 40);
     let payloads = decode_chain(alloc, 40, plain.octets.as_slice())?;
     assert!(rt; payloads == said.payloads);
     Ok(())
@@ -149,7 +149,7 @@ fn a_sealed_message_keeps_its_header(rt: HostRuntime) -> Result<(), Fail> {
         &message(rt.alloc(), 36, 3, &[Sample::Nonce, Sample::InvalidSyntax])?,
     )?;
     let came = decode_message(rt.alloc(), &octets)?;
-    assert!(rt; came.header == header(36, 3));
+    assert_eq!(rt; came.header, header(36, 3));
     Ok(())
 }
 
@@ -196,7 +196,7 @@ fn the_longest_message(rt: HostRuntime) -> Result<(), Fail> {
     // 32 octets of headers and 17 of the cipher leave 2951 for payloads, each with 4 of its own header.
     for (length, wanted) in [(2947, Ok(3000)), (2948, Err(WireFault::TooLong))] {
         let answer = length_sealed(rt.alloc(), Sample::VendorId(length))?;
-        assert!(rt; answer == wanted);
+        assert_eq!(rt; answer, wanted);
     }
     Ok(())
 }
@@ -208,7 +208,7 @@ fn seals_no_short_nonce(rt: HostRuntime) -> Result<(), Fail> {
     let nonce = Items::from_slice(rt.alloc(), &[7; 15])?;
     said.payloads.push(Payload::Nonce(nonce))?;
     let refused = sealed(rt.alloc(), &said).err();
-    assert!(rt; refused == Some(WireFault::BadNonce { offset: 28 }));
+    assert_eq!(rt; refused, Some(WireFault::BadNonce { offset: 28 }));
     Ok(())
 }
 
@@ -217,9 +217,9 @@ fn messages_of_many_lengths(rt: HostRuntime) -> Result<(), Fail> {
     let alloc = rt.alloc();
     for length in [0, 1, 400, 1000, 2000, 2947] {
         let octets = sealed(alloc, &message(alloc, 37, 2, &[Sample::VendorId(length)])?)?;
-        assert!(rt; octets.len() == length + 53);
+        assert_eq!(rt; octets.len(), length + 53);
         let plain = opened(alloc, &octets)?.ok_or("does not open")?;
-        assert!(rt; plain.octets.len() == length + 4);
+        assert_eq!(rt; plain.octets.len(), length + 4);
     }
     Ok(())
 }
@@ -231,10 +231,10 @@ fn a_refusal_leaves_out_as_it_was(rt: HostRuntime) -> Result<(), Fail> {
     let mut out = Vec::new(alloc);
     out.push(0xee)?;
     match seal_message(&ScriptCaller, &KEYS, &said, &FRESH, &mut out) {
-        Ok(()) => assert!(rt; out.len() == 50),
+        Ok(()) => assert_eq!(rt; out.len(), 50),
         Err(fault) => {
-            assert!(rt; fault == WireFault::Memory);
-            assert!(rt; out.as_slice() == [0xee].as_slice());
+            assert_eq!(rt; fault, WireFault::Memory);
+            assert_eq!(rt; out.as_slice(), [0xee].as_slice());
         }
     }
     Ok(())

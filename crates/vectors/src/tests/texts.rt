@@ -10,7 +10,7 @@ use wire::WireFault;
 /// Compares what a fault of a message prints.
 fn prints(rt: &impl Abort, alloc: Global, fault: WireFault, text: &str) -> Result<(), Fail> {
     let printed = format!(in alloc; "{fault}")?;
-    assert!(rt; printed.as_str() == text);
+    assert_eq!(rt; printed.as_str(), text);
     Ok(())
 }
 
@@ -64,7 +64,7 @@ fn faults_of_payloads(rt: HostRuntime) -> Result<(), Fail> {
 /// Compares what the program prints where it stops.
 fn stops(rt: &impl Abort, alloc: Global, stop: Stop, text: &str) -> Result<(), Fail> {
     let printed = format!(in alloc; "{stop}")?;
-    assert!(rt; printed.as_str() == text);
+    assert_eq!(rt; printed.as_str(), text);
     Ok(())
 }
 

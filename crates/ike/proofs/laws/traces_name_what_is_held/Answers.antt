@@ -4,13 +4,18 @@ use Rattle.ike.proofs.laws.traces_name_what_is_held.Goals as goal
 pub returns-clause-traced : goal.returns-clause-traced
 returns-clause-traced c =
     step_traced (record {
-      itself = c.associations_stay_themselves.ensures;
-      keyed = c.keys_stay.ensures.keyed;
-      stay = c.keys_stay.ensures.stay;
-      made = c.children_are_made_of_their_messages.ensures.made;
-      asks = c.children_are_made_of_their_messages.ensures.asked;
-      waits = c.children_are_made_of_their_messages.ensures.waits;
-      sound = c.soundness_stays.ensures;
+      trace = record {
+        itself = c.associations_stay_themselves.ensures;
+        keyed = c.keys_stay.ensures.keyed;
+        stay = c.keys_stay.ensures.stay;
+        made = c.children_are_made_of_their_messages.ensures.made;
+        asks = c.children_are_made_of_their_messages.ensures.asked;
+        waits = c.children_are_made_of_their_messages.ensures.waits;
+        sound = c.soundness_stays.ensures;
+      };
+      come = c.keys_stay.ensures.come;
+      none = c.keys_stay.ensures.none;
+      told = c.pairs_that_come_are_told.ensures;
     })
 
 pub returns-clause-keys : goal.returns-clause-keys

@@ -1,4 +1,4 @@
-use Rattle.initial.proofs.ProvingLemmas.{request_proves, response_proves}
+use Rattle.initial.proofs.ProvingLemmas.{message_proves, request_proves, response_proves}
 use Rattle.initial.proofs.laws.the_established_proved_themselves.Goals as goal
 
 pub returns-clause-request : goal.returns-clause-request
@@ -8,3 +8,11 @@ returns-clause-request c =
 pub returns-clause-response : goal.returns-clause-response
 returns-clause-response c =
     response_proves (record { request = c.who_is_accepted_proved_itself.ensures.request; answer = c.who_is_accepted_proved_itself.ensures.answer })
+
+pub returns-clause-message : goal.returns-clause-message
+returns-clause-message c =
+    message_proves (record {
+      acceptance = record { request = c.who_is_accepted_proved_itself.ensures.request; answer = c.who_is_accepted_proved_itself.ensures.answer };
+      effective = c.receptions_say_why.ensures.effective;
+      answering = c.receptions_say_why.ensures.answering;
+    })

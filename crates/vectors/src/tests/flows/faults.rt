@@ -12,7 +12,7 @@ fn prints<F: Display>(alloc: Global, fault: &F, text: &str) -> Result<bool, Allo
 #[test]
 fn names_the_fault_of_an_entry(rt: HostRuntime) -> Result<(), Fail> {
     let fault = PolicyFault::BadEntry { index: 12 };
-    assert!(rt; (fault.code(), fault.index()) == (6, 12));
+    assert_eq!(rt; (fault.code(), fault.index()), (6, 12));
     assert!(rt; prints(rt.alloc(), &fault, "E6: policy entry 12 is at fault")?);
     Ok(())
 }
@@ -28,7 +28,7 @@ fn names_each_fault_of_a_packet(rt: HostRuntime) -> Result<(), Fail> {
             "E39: a packet with an extension header",
         ),
     ] {
-        assert!(rt; fault.code() == code);
+        assert_eq!(rt; fault.code(), code);
         assert!(rt; prints(rt.alloc(), &fault, text)?);
     }
     Ok(())
@@ -44,7 +44,7 @@ fn names_each_fault_of_an_offer(rt: HostRuntime) -> Result<(), Fail> {
         ),
         (NarrowFault::Memory, 24, "E24: no memory for the selectors"),
     ] {
-        assert!(rt; fault.code() == code);
+        assert_eq!(rt; fault.code(), code);
         assert!(rt; prints(rt.alloc(), &fault, text)?);
     }
     Ok(())

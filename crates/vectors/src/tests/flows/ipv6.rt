@@ -55,18 +55,18 @@ fn flow(protocol: u8) -> Flow {
 }
 
 fn refuses(rt: &impl Abort, octets: &[u8], fault: InnerFault) {
-    assert!(rt; inner(octets) == Err(fault));
+    assert_eq!(rt; inner(octets), Err(fault));
 }
 
 #[test]
 fn has_the_flow_of_an_ipv6_packet(rt: HostRuntime) {
-    assert!(rt; inner(&header(59, 0)) == Ok(flow(59)));
-    assert!(rt; flow(59).family() == Family::V6);
+    assert_eq!(rt; inner(&header(59, 0)), Ok(flow(59)));
+    assert_eq!(rt; flow(59).family(), Family::V6);
     // The traffic class and the flow label, behind the version, are not looked at.
     let mut marked = header(59, 0);
     marked[0] = 0x6f;
     marked[1] = 0xff;
-    assert!(rt; inner(&marked) == Ok(flow(59)));
+    assert_eq!(rt; inner(&marked), Ok(flow(59)));
 }
 
 #[test]
@@ -76,7 +76,7 @@ fn refuses_extension_headers(rt: HostRuntime) {
         match number {
             0 | 43 | 44 | 51 | 60 => refuses(&rt, &octets, InnerFault::ExtensionHeader),
             6 | 17 => refuses(&rt, &octets, InnerFault::BadInner),
-            _ => assert!(rt; inner(&octets) == Ok(flow(number))),
+            _ => assert_eq!(rt; inner(&octets), Ok(flow(number))),
         }
     }
 }
@@ -115,7 +115,7 @@ fn reads_ports_behind_the_ipv6_header(rt: HostRuntime) -> Result<(), Fail> {
             ports,
             ..flow(protocol)
         };
-        assert!(rt; inner(packet.as_slice()) == Ok(wanted));
+        assert_eq!(rt; inner(packet.as_slice()), Ok(wanted));
         packet.truncate(43);
         let short = packet.as_mut_slice();
         short[5] = 3;
@@ -136,7 +136,7 @@ fn reads_ipv6_packets_of_up_to_16384_octets(rt: HostRuntime) -> Result<(), Fail>
         let mut packet = Vec::new(rt.alloc());
         packet.extend_from_slice(&octets)?;
         packet.resize(length, 0)?;
-        assert!(rt; inner(packet.as_slice()) == answer);
+        assert_eq!(rt; inner(packet.as_slice()), answer);
     }
     Ok(())
 }
@@ -157,7 +157,7 @@ fn an_entry_between_families_is_at_fault(rt: HostRuntime) -> Result<(), Fail> {
         ([PROTECT_6, exchanged, mixed], 1),
     ] {
         let fault = fault_of(rt.alloc(), &entries)?;
-        assert!(rt; fault == Some(PolicyFault::BadEntry { index }));
+        assert_eq!(rt; fault, Some(PolicyFault::BadEntry { index }));
     }
     Ok(())
 }
@@ -181,7 +181,7 @@ fn decides_by_the_entry_of_the_family(rt: HostRuntime) -> Result<(), Fail> {
         (answer, Direction::Inward, Decision::Protect),
     ] {
         let answer = decision(rt.alloc(), &[everything, PROTECT_6], &flow, direction)?;
-        assert!(rt; answer == wanted);
+        assert_eq!(rt; answer, wanted);
     }
     Ok(())
 }
@@ -201,7 +201,7 @@ fn covers_by_the_selectors_of_the_family(rt: HostRuntime) {
         (&[four, six], &[four, six], true),
     ];
     for (from, to, wanted) in rows {
-        assert!(rt; covers(from, to, &low) == wanted);
+        assert_eq!(rt; covers(from, to, &low), wanted);
     }
 }
 

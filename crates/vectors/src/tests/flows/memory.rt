@@ -30,7 +30,7 @@ fn want_of_memory_is_the_only_refusal_of_what_is_acceptable(rt: HostRuntime) -> 
             &[],
             &policy,
         );
-        assert!(rt; refused.err() == Some(NarrowFault::Unacceptable));
+        assert_eq!(rt; refused.err(), Some(NarrowFault::Unacceptable));
     }
     Ok(())
 }

@@ -56,7 +56,7 @@ fn the_first_entry_decides(rt: HostRuntime) -> Result<(), Fail> {
     ];
     for (entries, wanted) in rows {
         let answer = decision(rt.alloc(), entries, &flow, Direction::Outward)?;
-        assert!(rt; answer == wanted);
+        assert_eq!(rt; answer, wanted);
     }
     Ok(())
 }
@@ -64,7 +64,7 @@ fn the_first_entry_decides(rt: HostRuntime) -> Result<(), Fail> {
 #[test]
 fn keeps_the_order_of_entries(rt: HostRuntime) -> Result<(), Fail> {
     let kept = policy(rt.alloc(), &[PROTECT, DISCARD_ICMP])?;
-    assert!(rt; kept.entries() == [PROTECT, DISCARD_ICMP].as_slice());
+    assert_eq!(rt; kept.entries(), [PROTECT, DISCARD_ICMP].as_slice());
     Ok(())
 }
 
@@ -92,7 +92,7 @@ fn exchanges_the_sides_inward(rt: HostRuntime) -> Result<(), Fail> {
         (answer, Direction::Outward, Decision::Discard),
     ] {
         let answer = decision(rt.alloc(), &[bypass], &flow, direction)?;
-        assert!(rt; answer == wanted);
+        assert_eq!(rt; answer, wanted);
     }
     Ok(())
 }
@@ -132,7 +132,10 @@ fn compares_the_ports_of_each_side(rt: HostRuntime) -> Result<(), Fail> {
         (50_000, 444, Decision::Discard),
         (443, 50_000, Decision::Discard),
     ] {
-        assert!(rt; decisions_of_web(rt.alloc(), source, target)? == [wanted, wanted]);
+        assert_eq!(rt;
+            decisions_of_web(rt.alloc(), source, target)?,
+            [wanted, wanted]
+        );
     }
     Ok(())
 }
@@ -189,7 +192,7 @@ fn a_policy_has_256_entries_at_most(rt: HostRuntime) -> Result<(), Fail> {
         (257, refused),
         (300, refused),
     ] {
-        assert!(rt; length_of_policy(rt.alloc(), count)? == wanted);
+        assert_eq!(rt; length_of_policy(rt.alloc(), count)?, wanted);
     }
     Ok(())
 }
@@ -228,7 +231,7 @@ fn names_the_first_entry_at_fault(rt: HostRuntime) -> Result<(), Fail> {
             ([PROTECT, PROTECT, bad], 2),
         ] {
             let fault = fault_of(rt.alloc(), &entries)?;
-            assert!(rt; fault == Some(PolicyFault::BadEntry { index }));
+            assert_eq!(rt; fault, Some(PolicyFault::BadEntry { index }));
         }
     }
     Ok(())
@@ -242,6 +245,6 @@ fn ranges_of_one_are_in_order(rt: HostRuntime) -> Result<(), Fail> {
         ..PROTECT
     };
     let narrow = policy(rt.alloc(), &[narrow])?;
-    assert!(rt; narrow.entries().len() == 1);
+    assert_eq!(rt; narrow.entries().len(), 1);
     Ok(())
 }

@@ -52,12 +52,14 @@ fn covers_a_point(rt: &impl Abort, selector: &Selector, point: Point) {
         }),
     };
     let held = holds(selector, &point);
-    assert!(rt;
-        covers(&[*selector], &[all(point.address)], &flow) == held,
+    assert_eq!(rt;
+        covers(&[*selector], &[all(point.address)], &flow),
+        held,
         "{selector:?} {point:?}"
     );
-    assert!(rt;
-        covers(&[all(point.address)], &[*selector], &flow) == held,
+    assert_eq!(rt;
+        covers(&[all(point.address)], &[*selector], &flow),
+        held,
         "{selector:?} {point:?}"
     );
 }

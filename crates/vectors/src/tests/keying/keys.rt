@@ -78,27 +78,27 @@ fn keys_of_proofs(rt: HostRuntime) {
 fn spis_and_nonces_are_kept(rt: HostRuntime) {
     let record = record();
     let nonce: [u8; 256] = counted();
-    assert!(rt; (record.spi_i, record.spi_r) == (SPI_I, SPI_R));
-    assert!(rt; record.nonce_i.as_slice() == [0x11; 16].as_slice());
-    assert!(rt; record.nonce_r.as_slice() == nonce.as_slice());
+    assert_eq!(rt; (record.spi_i, record.spi_r), (SPI_I, SPI_R));
+    assert_eq!(rt; record.nonce_i.as_slice(), [0x11; 16].as_slice());
+    assert_eq!(rt; record.nonce_r.as_slice(), nonce.as_slice());
 }
 
 #[test]
 fn keys_of_each_direction(rt: HostRuntime) {
     let record = record();
-    assert!(rt;
-        record.initiator_keys()
-            == Keys {
-                encryption: record.sk_ei,
-                integrity: record.sk_ai,
-            }
+    assert_eq!(rt;
+        record.initiator_keys(),
+        Keys {
+            encryption: record.sk_ei,
+            integrity: record.sk_ai,
+        }
     );
-    assert!(rt;
-        record.responder_keys()
-            == Keys {
-                encryption: record.sk_er,
-                integrity: record.sk_ar,
-            }
+    assert_eq!(rt;
+        record.responder_keys(),
+        Keys {
+            encryption: record.sk_er,
+            integrity: record.sk_ar,
+        }
     );
 }
 
@@ -119,19 +119,20 @@ const CHILD_KEYS: [[u8; 32]; 2] = [
 fn keys_of_a_child(rt: HostRuntime) {
     let nonce: [u8; 256] = counted();
     let keys = child_keys(&record().sk_d, &[0x11; 16], &nonce);
-    assert!(rt; keys == CHILD_KEYS);
+    assert_eq!(rt; keys, CHILD_KEYS);
 }
 
 #[test]
 fn equal_records(rt: HostRuntime) {
-    assert!(rt; record() == record());
-    assert!(rt;
-        ike_keys(&[1; 32], &[2; 16], &[3; 16], 4, 5) != ike_keys(&[1; 32], &[2; 16], &[3; 16], 4, 6)
+    assert_eq!(rt; record(), record());
+    assert_ne!(rt;
+        ike_keys(&[1; 32], &[2; 16], &[3; 16], 4, 5),
+        ike_keys(&[1; 32], &[2; 16], &[3; 16], 4, 6)
     );
 }
 
 #[test]
 fn equal_nonces(rt: HostRuntime) {
-    assert!(rt; Nonce::new(&[9; 17]) == Nonce::new(&[9; 17]));
-    assert!(rt; Nonce::new(&[0; 17]) != Nonce::new(&[0; 18]));
+    assert_eq!(rt; Nonce::new(&[9; 17]), Nonce::new(&[9; 17]));
+    assert_ne!(rt; Nonce::new(&[0; 17]), Nonce::new(&[0; 18]));
 }

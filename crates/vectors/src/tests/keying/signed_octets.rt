@@ -30,8 +30,8 @@ fn appends_what_is_proved(rt: HostRuntime) -> Result<(), Fail> {
         &mut out,
     )?;
     let (before, appended) = out.as_slice().split_first().ok_or("empty")?;
-    assert!(rt; *before == 0xee);
-    assert!(rt; appended == APPENDED.as_slice());
+    assert_eq!(rt; *before, 0xee);
+    assert_eq!(rt; appended, APPENDED.as_slice());
     Ok(())
 }
 
@@ -48,7 +48,7 @@ fn appends_a_long_message_the_longest_nonce_and_a_long_identity(
     for part in [message.as_slice(), &nonce, &LONG_IDENTITY] {
         expected.extend_from_slice(part)?;
     }
-    assert!(rt; out == expected);
+    assert_eq!(rt; out, expected);
     Ok(())
 }
 
@@ -57,15 +57,15 @@ fn appends_a_long_message_the_longest_nonce_and_a_long_identity(
 fn a_refusal_leaves_out_as_it_was(rt: HostRuntime) {
     let mut out = Vec::new(rt.alloc());
     match proof_octets(b"first", &[0x22; 32], &[0x33; 32], 2, b"a", &mut out) {
-        Ok(()) => assert!(rt; out.len() == 69),
+        Ok(()) => assert_eq!(rt; out.len(), 69),
         Err(SuiteFault::Memory) => assert!(rt; out.is_empty()),
     }
 }
 
 #[test]
 fn names_the_fault(rt: HostRuntime) -> Result<(), Fail> {
-    assert!(rt; SuiteFault::Memory.code() == 10);
+    assert_eq!(rt; SuiteFault::Memory.code(), 10);
     let text = format!(in rt.alloc(); "{}", SuiteFault::Memory)?;
-    assert!(rt; text.as_str() == "E10: no memory");
+    assert_eq!(rt; text.as_str(), "E10: no memory");
     Ok(())
 }

@@ -375,10 +375,10 @@ fn far(alloc: Global) -> Result<Message, Fail> {
 
 #[test]
 fn failed_encoding(rt: HostRuntime) -> Result<(), Fail> {
-    assert!(rt; refusal_of(rt.alloc(), &late(rt.alloc())?)? == (4, Some(48)));
+    assert_eq!(rt; refusal_of(rt.alloc(), &late(rt.alloc())?)?, (4, Some(48)));
     let mut far = far(rt.alloc())?;
-    assert!(rt; refusal_of(rt.alloc(), &far)? == (7, Some(4032)));
+    assert_eq!(rt; refusal_of(rt.alloc(), &far)?, (7, Some(4032)));
     far.header.minor = 16;
-    assert!(rt; refusal_of(rt.alloc(), &far)? == (3, None));
+    assert_eq!(rt; refusal_of(rt.alloc(), &far)?, (3, None));
     Ok(())
 }

@@ -59,7 +59,7 @@ fn families_are_read(rt: HostRuntime) -> Result<(), Fail> {
     let [Payload::TsR(selectors)] = read.as_slice() else {
         return Err(Fail::from("another payload is read"));
     };
-    assert!(rt; selectors.as_slice() == both_families().as_slice());
+    assert_eq!(rt; selectors.as_slice(), both_families().as_slice());
     Ok(())
 }
 
@@ -78,7 +78,7 @@ fn families_are_written(rt: HostRuntime) -> Result<(), Fail> {
     let message = message_of(rt.alloc(), &both_families())?;
     let mut out = Vec::new(rt.alloc());
     encode_message(&message, &mut out)?;
-    assert!(rt; out.len() == 132);
+    assert_eq!(rt; out.len(), 132);
     assert!(rt; out.as_slice().ends_with(&BOTH_FAMILIES));
     Ok(())
 }
@@ -146,7 +146,7 @@ fn numbers_of_selectors(rt: HostRuntime) -> Result<(), Fail> {
         let answer = refusal_of_body(rt.alloc(), TS_I_TYPE, &body)?;
         assert!(rt; answer == wanted, "{count}");
     }
-    assert!(rt; SELECTOR_LIMIT == 16);
+    assert_eq!(rt; SELECTOR_LIMIT, 16);
     Ok(())
 }
 

@@ -108,7 +108,7 @@ fn the_first_unknown_critical(rt: HostRuntime) -> Result<(), Fail> {
     ];
     for (samples, wanted) in rows {
         let payloads = payloads(rt.alloc(), samples)?;
-        assert!(rt; unknown_critical(payloads.as_slice()) == wanted);
+        assert_eq!(rt; unknown_critical(payloads.as_slice()), wanted);
     }
     Ok(())
 }
@@ -118,8 +118,9 @@ fn only_where_alone_of_its_type(rt: HostRuntime) -> Result<(), Fail> {
     let rows: [(u8, bool); 3] = [(40, true), (200, true), (41, false)];
     let payloads = payloads(rt.alloc(), &[Sample::Unknown(200, true), Sample::Nonce(1)])?;
     for (kind, is_found) in rows {
-        assert!(rt;
-            only(payloads.as_slice(), kind).is_some() == is_found,
+        assert_eq!(rt;
+            only(payloads.as_slice(), kind).is_some(),
+            is_found,
             "type {kind}"
         );
     }
@@ -147,7 +148,7 @@ fn a_nonce_where_alone_of_its_type(rt: HostRuntime) -> Result<(), Fail> {
     ];
     for (samples, wanted) in rows {
         let payloads = payloads(rt.alloc(), samples)?;
-        assert!(rt; only_nonce(payloads.as_slice()) == wanted);
+        assert_eq!(rt; only_nonce(payloads.as_slice()), wanted);
     }
     Ok(())
 }
@@ -228,7 +229,7 @@ fn what_is_deleted(rt: HostRuntime) -> Result<(), Fail> {
     let rows: [(&[Sample], bool); 2] = [(&CHILDREN, false), (&all, true)];
     for (samples, wanted) in rows {
         let payloads = payloads(rt.alloc(), samples)?;
-        assert!(rt; deletes_association(payloads.as_slice()) == wanted);
+        assert_eq!(rt; deletes_association(payloads.as_slice()), wanted);
     }
     Ok(())
 }
@@ -237,7 +238,7 @@ fn what_is_deleted(rt: HostRuntime) -> Result<(), Fail> {
 fn which_spis_are_deleted(rt: HostRuntime) -> Result<(), Fail> {
     let payloads = payloads(rt.alloc(), &CHILDREN)?;
     let spis = esp_spis(rt.alloc(), payloads.as_slice())?;
-    assert!(rt; spis.as_slice() == [5, 6, 5].as_slice());
+    assert_eq!(rt; spis.as_slice(), [5, 6, 5].as_slice());
     // Those of AH count too.
     assert!(rt; names_more_than(payloads.as_slice(), 3));
     assert!(rt; !names_more_than(payloads.as_slice(), 4));
@@ -253,8 +254,8 @@ fn many_spis(rt: HostRuntime) -> Result<(), Fail> {
     }
     let wanted = spis.clone()?;
     let many = [Payload::Delete { protocol: 3, spis }];
-    assert!(rt; esp_spis(alloc, &many)? == wanted);
-    assert!(rt; names_more_than(&many, 739) == true);
-    assert!(rt; names_more_than(&many, 740) == false);
+    assert_eq!(rt; esp_spis(alloc, &many)?, wanted);
+    assert_eq!(rt; names_more_than(&many, 739), true);
+    assert_eq!(rt; names_more_than(&many, 740), false);
     Ok(())
 }

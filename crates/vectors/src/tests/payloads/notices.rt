@@ -40,7 +40,7 @@ fn numbers_and_data(rt: HostRuntime) -> Result<(), Fail> {
         (cookie, 16390, &[5; 36]),
     ];
     for (sent, number, octets) in expected {
-        assert!(rt; sent.number() == number);
+        assert_eq!(rt; sent.number(), number);
         let payload = sent.payload(rt.alloc())?;
         assert!(rt; is_notice(&payload, number, octets), "notice {number}");
     }
@@ -88,8 +88,8 @@ fn cookies(rt: HostRuntime) -> Result<(), Fail> {
     ];
     for (samples, leading, asked) in rows {
         let payloads = payloads(rt.alloc(), samples)?;
-        assert!(rt; leading_cookie(payloads.as_slice()) == leading);
-        assert!(rt; asked_cookie(payloads.as_slice()) == asked);
+        assert_eq!(rt; leading_cookie(payloads.as_slice()), leading);
+        assert_eq!(rt; asked_cookie(payloads.as_slice()), asked);
     }
     Ok(())
 }
@@ -97,7 +97,7 @@ fn cookies(rt: HostRuntime) -> Result<(), Fail> {
 #[test]
 fn a_cookie_is_brought_back(rt: HostRuntime) -> Result<(), Fail> {
     let back = [returned_cookie(rt.alloc(), &[0xaa, 0xbb])?];
-    assert!(rt; leading_cookie(&back) == Some([0xaa, 0xbb].as_slice()));
+    assert_eq!(rt; leading_cookie(&back), Some([0xaa, 0xbb].as_slice()));
     Ok(())
 }
 
@@ -110,7 +110,7 @@ fn invalid_syntax(rt: HostRuntime) -> Result<(), Fail> {
     ];
     for (samples, wanted) in rows {
         let payloads = payloads(rt.alloc(), samples)?;
-        assert!(rt; has_invalid_syntax(payloads.as_slice()) == wanted);
+        assert_eq!(rt; has_invalid_syntax(payloads.as_slice()), wanted);
     }
     Ok(())
 }

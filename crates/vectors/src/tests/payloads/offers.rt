@@ -85,7 +85,10 @@ fn an_offer_with_a_key_length(rt: HostRuntime) -> Result<(), Fail> {
     let octets = payload_of(rt.alloc(), offer(rt.alloc(), &long_key, &[])?)?;
     // the first transform, of 12 octets: AES-CBC with a key of 256 bits
     let first = octets.get(12..24).ok_or("too short")?;
-    assert!(rt; first == [3, 0, 0, 12, 1, 0, 0, 12, 0x80, 14, 1, 0].as_slice());
+    assert_eq!(rt;
+        first,
+        [3, 0, 0, 12, 1, 0, 0, 12, 0x80, 14, 1, 0].as_slice()
+    );
     Ok(())
 }
 

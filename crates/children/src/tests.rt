@@ -1,0 +1,5 @@
+mod accepting;
+mod asking;
+mod fixture;
+mod responding;
+mod runs;

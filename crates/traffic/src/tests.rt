@@ -1,0 +1,5 @@
+mod faults;
+mod fixture;
+mod memory;
+mod outward;
+mod packets;

@@ -1,4 +1,0 @@
-mod accepting;
-mod asking;
-mod fixture;
-mod responding;

@@ -1,3 +1,0 @@
-//! What `gw` prints: scripts played, messages shown.
-mod playing;
-mod showing;

@@ -1,3 +1,0 @@
-//! Replay windows and recovered numbers.
-mod recovery;
-mod windows;

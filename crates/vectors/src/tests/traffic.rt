@@ -1,4 +1,0 @@
-mod faults;
-mod fixture;
-mod memory;
-mod packets;
