@@ -1,8 +1,9 @@
 -- What a datagram that came does (RFC 7296 sections 1.2, 2.1, 2.6 and 3.1).
-use Rattle.std.specs.Prelude.{◌≡◌, ◌==◌, ◌&&◌, ◌<◌, ◌+◌, ◌++◌, ◌∷◌, ◌⊎◌, ℕ, Bool, true, false, not, Option, Some, None, List, [], Result, Ok, Err, length, nat_eq, slice_get, slice_set}
+use Rattle.std.specs.Prelude.{◌≡◌, ◌≢◌, ◌==◌, ◌&&◌, ◌<◌, ◌+◌, ◌++◌, ◌∷◌, ◌⊎◌, ℕ, Bool, true, false, not, Option, Some, None, List, [], Result, Ok, Err, length, nat_eq, slice_get, slice_set}
 use Rattle.std.specs.Cmp.Lexicographic.{pointwise}
 use Rattle.std.specs.List.{position}
 use Rattle.base.specs.Octets.{Octets}
+use Rattle.wire.specs.Fault.{fault_offset}
 use Rattle.wire.specs.Messages.{Spells, SpellsPlainly}
 use Rattle.wire.specs.Refusals.{IsFaultOf}
 use Rattle.wire.specs.Numbers.{IKE_SA_INIT}
@@ -190,7 +191,11 @@ pub record RefusesInitial (meaning : Meaning) (setup : Setup) (cookies : CookieS
   pub first : position (is_answered octets) old.associations ≡ None
   pub refused : RefusesOffer meaning setup cookies from message old reason
 
+-- Memory is wanted for no datagram whose length, length field or version is at fault.
+abbrev pub CanWantMemory : Octets → Type 0
+CanWantMemory octets = (f : WireFault) → IsFaultOf octets f → fault_offset f ≢ None
+
 -- why a datagram is refused: for want of memory, or as an offer
 abbrev pub RefusesDatagram : Meaning → Setup → CookieSecrets → Octets → Octets → Held → IkeFault → Type 0
-RefusesDatagram meaning setup cookies from octets old (fault.Memory f) = Unit {0}
+RefusesDatagram meaning setup cookies from octets old (fault.Memory f) = CanWantMemory octets
 RefusesDatagram meaning setup cookies from octets old reason = RefusesInitial meaning setup cookies from octets old reason

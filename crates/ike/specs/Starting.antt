@@ -84,11 +84,11 @@ pub record Starts (meaning : Meaning) (setup : Setup) (ike : Option ℕ) (place 
   pub room : IsAsBefore table between
   pub done : BeginsNext entry setup.config.extended beginning old between stepped new new_table
 
--- the table gives no SPI
+-- The table gives no SPI; or it would, and there is no memory for the child or for its message.
 abbrev pub GivesNoSpi : Database → IkeFault → Type 0
 GivesNoSpi table fault.TableFull = IsFull table
 GivesNoSpi table fault.SpisSpent = (¬ IsFull table) × IsSpent table
-GivesNoSpi table (fault.Memory f) = Unit {0}
+GivesNoSpi table (fault.Memory f) = (¬ IsFull table) × (¬ IsSpent table)
 GivesNoSpi table reason = ⊥
 
 -- why the order is refused: as said; or since the table gives no SPI, or for want of memory

@@ -84,7 +84,7 @@ impl Ike {
     ///
     /// A datagram from outside is passed over ([`IkeOutput::Dropped`]) by E1 to E9, where it is no message, by E28 to E33, or by E34. It
     /// is refused (`Err`) by [`IkeFault::NumbersSpent`] or [`IkeFault::BadFresh`], where it would make an association, and for want
-    /// of memory.
+    /// of memory, but for a datagram whose length, length field or version is at fault.
     ///
     /// An order to start is refused, in this order: [`IkeFault::Unprotected`] (E23); for a further child E28 or E32; E25 where 128
     /// associations are held, E36, E37; then E25 or E26 by the table; and for want of memory. Another secret is refused by E36.

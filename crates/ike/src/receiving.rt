@@ -9,7 +9,7 @@ ghost use Rattle.association.specs.Finding.{found};
 ghost use Rattle.initial.specs.Configs.{setup_of, IsConfig};
 ghost use Rattle.ike.specs.Machines.{half_open_count, SERIAL_END};
 ghost use Rattle.ike.specs.Outputs.{half_open_step};
-ghost use Rattle.ike.specs.Receiving.{is_answered, is_initial_request, is_sound_initial, sender_of, with_next, CannotMake, RefusesDatagram, RefusesNew, Repeats, SaysNotice, TakesAt, TakesDatagram, TakesFound, TakesNew, TakesOffer, TakesRead, TakesSound};
+ghost use Rattle.ike.specs.Receiving.{is_answered, is_initial_request, is_sound_initial, sender_of, with_next, CannotMake, CanWantMemory, RefusesDatagram, RefusesNew, Repeats, SaysNotice, TakesAt, TakesDatagram, TakesFound, TakesNew, TakesOffer, TakesRead, TakesSound};
 ghost use Rattle.ike.specs.Soundness.{AreSound};
 
 use crate::held::{Held, answered_place, half_open_count, is_bad_spi};
@@ -24,6 +24,7 @@ use sa_init::{Cookies, Judgement, Offer, Sender, judge, refuse};
 use sadb::Table;
 use std::alloc::{AllocError, Global};
 use suite::{Agreement, Proof, Sealer};
+use wire::laws::what_is_spelled_has_no_fault;
 use wire::numbers::IKE_SA_INIT;
 use wire::{Header, Message, WireFault, decode_message};
 
@@ -67,6 +68,7 @@ pub(crate) fn take_datagram<C: Sealer + Agreement + Proof>(
         (setup_of step.now) cookies.now from.now octets.now held.old reason
         × (held.new ≡ held.old) × IsAsBefore table.old table.new) }
 {
+    what_is_spelled_has_no_fault();
     match decode_message(alloc, octets) {
         Ok(message) => take_read(alloc, step, cookies, held, table, from, octets, &message),
         Err(WireFault::Memory) => Err(IkeFault::Memory(ChildFault::Message)),
@@ -88,6 +90,7 @@ fn take_read<C: Sealer + Agreement + Proof>(
     requires config { IsConfig step.now.config.now }
     requires sound { AreSound held.old table.old }
     requires spelled { Spells message.now octets.now }
+    requires sound_header { CanWantMemory octets.now }
     ensures taken { IfOk result (λ stepped. TakesRead (is_initial_request message.now.header)
         (record {
           cipher = C.cipher;
@@ -214,6 +217,7 @@ fn take_initial<C: Sealer + Agreement + Proof>(
 ) -> Result<Stepped, IkeFault>
     requires spelled { Spells message.now octets.now }
     requires initial { is_initial_request message.now.header ≡ true }
+    requires sound_header { CanWantMemory octets.now }
     ensures taken { IfOk result (λ stepped. TakesSound (is_sound_initial message.now.header)
         (record {
           cipher = C.cipher;

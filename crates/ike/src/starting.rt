@@ -3,7 +3,7 @@ ghost use Rattle.std.specs.Prelude.{◌≡◌, ◌<◌, Some, None, IfOk, IfErr}
 ghost use Rattle.policy.specs.Decisions.{local_side, remote_side};
 ghost use Rattle.policy.specs.Entries.{IsSoundEntry};
 ghost use Rattle.policy.specs.Narrowing.{IsSendableSelector};
-ghost use Rattle.sadb.specs.Database.{IsAsBefore, IsReady, IsReserved, Reserves};
+ghost use Rattle.sadb.specs.Database.{IsAsBefore, IsFull, IsReady, IsReserved, IsSpent, Reserves};
 ghost use Rattle.initial.specs.Configs.{setup_of};
 ghost use Rattle.ike.specs.Machines.{SERIAL_END};
 ghost use Rattle.ike.specs.Starting.{further_order_fault, if_protects, new_order_fault, order_fault, protecting_entry, BeginsNext, GivesNoSpi, IsAllowed, RefusesStart, Starts};
@@ -135,6 +135,7 @@ fn new_serial(held: &Held, spi: u64) -> Result<u32, IkeFault>
 // Makes room for the child.
 fn prepare(table: &mut Table) -> Result<(), IkeFault>
     ensures ready { IfOk result (λ _. IsReady table.new) }
+    ensures left { IfOk result (λ _. (¬ IsFull table.old) × (¬ IsSpent table.old)) }
     ensures refused { IfErr result (GivesNoSpi table.old) }
     ensures content { IsAsBefore table.old table.new }
 {
