@@ -6,7 +6,7 @@ use Rattle.base.specs.Octets.{Octets}
 use Rattle.policy.specs.declared.entry.Entry.{Entry}
 use Rattle.sadb.specs.Contents.{table_content}
 use Rattle.sadb.specs.Database.{Database, IsAsBefore}
-use Rattle.initial.specs.Taking.{Meaning}
+use Rattle.effects.specs.Taking.{Meaning}
 use Rattle.ike.specs.Contents.{machine_content}
 use Rattle.ike.specs.Faults.{is_want_of_memory}
 use Rattle.ike.specs.Lengths.{HoldWholeKeys, IsTold}

@@ -10,7 +10,7 @@ use Rattle.policy.specs.declared.flow.Flow.{Flow}
 use Rattle.sadb.specs.Database.{pair_at, Database, IsSoundTable, PairMap}
 use Rattle.sadb.specs.declared.pair.Pair.{Pair}
 use Rattle.children.specs.Pairs.{HasFewSelectors}
-use Rattle.initial.specs.Taking.{Meaning}
+use Rattle.effects.specs.Taking.{Meaning}
 use Rattle.ike.specs.Machines.{Machine}
 use Rattle.ike.specs.Outputs.{no_trace, octets_in}
 use Rattle.ike.specs.Soundness.{IsSoundMachine}

@@ -4,7 +4,7 @@ use Rattle.base.specs.Octets.{Octets}
 use Rattle.esp.specs.declared.fault.EspFault.TheVariants as esp
 use Rattle.policy.specs.declared.entry.Entry.{Entry}
 use Rattle.sadb.specs.Database.{Database, IsAsBefore}
-use Rattle.initial.specs.Taking.{Meaning}
+use Rattle.effects.specs.Taking.{Meaning}
 use Rattle.ike.specs.Machines.{Machine}
 use Rattle.ike.specs.Steps as ike
 use Rattle.ike.specs.declared.output.IkeOutput.{IkeOutput}

@@ -4,7 +4,7 @@ use Rattle.base.specs.Octets.{Octets}
 use Rattle.policy.specs.declared.entry.Entry.{Entry}
 use Rattle.suite.specs.declared.fresh.Fresh.{Fresh}
 use Rattle.sadb.specs.Database.{Database}
-use Rattle.initial.specs.Taking.{Meaning}
+use Rattle.effects.specs.Taking.{Meaning}
 use Rattle.ike.specs.Machines.{Machine}
 use Rattle.ike.specs.Outputs as quiet
 use Rattle.ike.specs.Steps as ike

@@ -7,7 +7,7 @@ use Rattle.sadb.specs.Database.{pair_at, Database, IsSoundTable}
 use Rattle.sadb.specs.declared.pair.Pair.{Pair}
 use Rattle.association.specs.Phases.{keys_in}
 use Rattle.association.specs.declared.phase.Association.{Association}
-use Rattle.initial.specs.Taking.{Meaning}
+use Rattle.effects.specs.Taking.{Meaning}
 use Rattle.ike.specs.Machines.{keys_of_serial, Held, Machine}
 use Rattle.ike.specs.Outputs.{no_trace}
 use Rattle.ike.specs.Soundness.{IsSoundMachine}

@@ -1,5 +1,5 @@
 -- What is asked of an input and of a cipher, so that a step seals in one way (RFC 7296 section 3.14).
-use Rattle.initial.specs.Taking.{Meaning}
+use Rattle.effects.specs.Taking.{Meaning}
 use Rattle.ike.specs.Lengths.{IsTold}
 use Rattle.ike.specs.Steps as ike
 use Rattle.gateway.specs.declared.input.Input.{Input}

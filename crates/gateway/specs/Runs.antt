@@ -1,6 +1,6 @@
 -- A list of inputs, and their outputs in order: of a gateway, or of events at two ends.
 use Rattle.std.specs.Prelude.{◌≡◌, ◌<◌, ◌++◌, ℕ, List, [], ◌∷◌, length, take}
-use Rattle.initial.specs.Taking.{Meaning}
+use Rattle.effects.specs.Taking.{Meaning}
 use Rattle.gateway.specs.Outputs.{said}
 use Rattle.gateway.specs.States.{State}
 use Rattle.gateway.specs.Steps.{Steps}

@@ -4,7 +4,7 @@ use Rattle.base.specs.Octets.{Octets}
 use Rattle.policy.specs.declared.entry.Entry.{Entry}
 use Rattle.policy.specs.declared.flow.Flow.{Flow}
 use Rattle.sadb.specs.Database.{Database, IsAsBefore}
-use Rattle.initial.specs.Taking.{Meaning}
+use Rattle.effects.specs.Taking.{Meaning}
 use Rattle.ike.specs.Machines.{Machine}
 use Rattle.ike.specs.Outputs.{no_trace}
 use Rattle.ike.specs.Steps as ike

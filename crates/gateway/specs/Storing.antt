@@ -3,7 +3,7 @@ use Rattle.std.specs.Prelude.{◌≡◌, ◌<◌, ◌≤◌, ℕ, Option, Some, 
 use Rattle.std.specs.Vec.{vec_capacity}
 use Rattle.base.specs.Octets.{Octets}
 use Rattle.wire.specs.Numbers.{SELECTOR_LIMIT}
-use Rattle.initial.specs.Taking.{Meaning}
+use Rattle.effects.specs.Taking.{Meaning}
 use Rattle.ike.specs.declared.output.Trace.{Trace}
 use Rattle.gateway.specs.Outputs.{DATAGRAM_LIMIT, Said}
 use Rattle.gateway.specs.States.{State}

@@ -1,6 +1,6 @@
 -- Events at two ends as each end sees them.
 use Rattle.std.specs.Prelude.{◌≡◌, ◌<◌, ◌++◌, ℕ, List, [], ◌∷◌, length, take}
-use Rattle.initial.specs.Taking.{Meaning}
+use Rattle.effects.specs.Taking.{Meaning}
 use Rattle.gateway.specs.Outputs.{said}
 use Rattle.gateway.specs.Runs.{Runs, StepsAs}
 use Rattle.gateway.specs.Worlds.{gateway_at, Stored, TakesEvent, WorldState}

@@ -7,7 +7,7 @@ ghost use Rattle.policy.specs.declared.entry.Action.TheVariants.{Bypass, Protect
 ghost use Rattle.policy.specs.declared.flow.Flow.{Flow};
 ghost use Rattle.policy.specs.declared.policy.Direction.TheVariants as direction;
 ghost use Rattle.suite.specs.declared.fresh.Fresh.{Fresh};
-ghost use Rattle.initial.specs.Taking.{Meaning};
+ghost use Rattle.effects.specs.Taking.{Meaning};
 ghost use Rattle.sadb.specs.Database.{IsAsBefore, IsSoundTable};
 ghost use Rattle.traffic.specs.Receiving.{TakesOneNumber};
 ghost use Rattle.traffic.specs.Sending.{IsDecided};

@@ -7,9 +7,9 @@ use Rattle.sadb.specs.Database.{pair_at, Database, IsAsBefore, PairMap, Reserves
 use Rattle.association.specs.declared.phase.Association.{Association}
 use Rattle.initial.specs.Beginning.{begun}
 use Rattle.initial.specs.Configs.{Setup}
-use Rattle.initial.specs.Pairs.{LeavesPairs}
-use Rattle.initial.specs.Taking.{Meaning, StaysItself, TakesMessage}
-use Rattle.initial.specs.declared.taking.Effect.{Effect}
+use Rattle.effects.specs.Pairs.{LeavesPairs}
+use Rattle.effects.specs.Taking.{Meaning, StaysItself, TakesMessage}
+use Rattle.effects.specs.declared.taking.Effect.{Effect}
 use Rattle.ike.specs.Machines.{association_of, others_than, Held, Machine}
 use Rattle.ike.specs.Pairs.{ChangesOne}
 use Rattle.ike.specs.Receiving.{with_next}

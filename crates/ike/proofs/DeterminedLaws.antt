@@ -18,11 +18,11 @@ use Rattle.association.specs.FirstChildren.{FirstChildView}
 use Rattle.association.specs.declared.phase.Association.{Association}
 use Rattle.initial.specs.Beginning.{begun, Admits, Begins}
 use Rattle.initial.specs.Configs.{Setup}
-use Rattle.initial.specs.Lengths.{HoldsWholeKeys, TellsLengths}
-use Rattle.initial.specs.Taking.{Meaning, TakesMessage}
+use Rattle.effects.specs.Lengths.{HoldsWholeKeys, TellsLengths}
+use Rattle.effects.specs.Taking.{Meaning, TakesMessage}
 use Rattle.initial.specs.declared.beginning.Admitted.{Admitted}
 use Rattle.initial.specs.declared.beginning.Beginning.{Beginning}
-use Rattle.initial.specs.declared.taking.Effect.{Effect}
+use Rattle.effects.specs.declared.taking.Effect.{Effect}
 
 -- of datagrams and messages
 pub record MessageLaws : Type 0 where

@@ -12,7 +12,7 @@ use Rattle.sa_init.specs.Cookies.{CookieSecrets}
 use Rattle.sa_init.specs.Judging.{Accepted, ASSOCIATION_LIMIT, JudgementView, OfferView}
 use Rattle.association.specs.declared.fault.MessageFault.TheVariants.{UnknownAssociation, WrongPhase}
 use Rattle.initial.specs.Configs.{Setup}
-use Rattle.initial.specs.Taking.{Meaning}
+use Rattle.effects.specs.Taking.{Meaning}
 use Rattle.ike.specs.Contents.{held_content, machine_content}
 use Rattle.ike.specs.Faults.{is_want_of_memory}
 use Rattle.ike.specs.Machines.{is_bad_spi, setup_at, Held, Machine, SERIAL_END}

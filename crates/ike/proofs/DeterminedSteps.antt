@@ -20,16 +20,16 @@ use Rattle.association.specs.declared.fault.MessageFault.TheVariants.{WrongPhase
 use Rattle.association.specs.declared.phase.Association.{Association}
 use Rattle.initial.specs.Beginning.{begun, Admits}
 use Rattle.initial.specs.Configs.{Setup}
-use Rattle.initial.specs.Lengths.{TellsLengths}
-use Rattle.initial.specs.Taking.{Meaning}
+use Rattle.effects.specs.Lengths.{TellsLengths}
+use Rattle.effects.specs.Taking.{Meaning}
 use Rattle.initial.specs.declared.beginning.Admitted.{Admitted}
 use Rattle.initial.specs.declared.beginning.Beginning.{Beginning}
-use Rattle.initial.specs.declared.taking.Effect.{Effect}
+use Rattle.effects.specs.declared.taking.Effect.{Effect}
 use Rattle.ike.specs.Contents.{held_content, machine_content}
 use Rattle.ike.specs.Lengths.{HoldWholeKeys, IsTold}
 use Rattle.ike.specs.Machines.{half_open_count, setup_at, Held, Machine}
 use Rattle.ike.specs.Outputs.{half_open_step, plain_step, stepped_of}
-use Rattle.initial.specs.Keeping.{kept_reply}
+use Rattle.effects.specs.Keeping.{kept_reply}
 use Rattle.ike.specs.Receiving.{is_answered, is_initial_request, is_sound_initial, sender_of, AdmitsNext, DoesJudgement, FailsToRead, IsJudged, PassesOver, ReadsDatagram, Repeats, SaysNotice, TakesAt, TakesDatagram, TakesFound, TakesNew, TakesOffer, TakesRead, TakesRequestAt, TakesSound}
 use Rattle.ike.specs.Starting.{child_by, protecting_entry, Starts}
 use Rattle.ike.specs.Steps as steps

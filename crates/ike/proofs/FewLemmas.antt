@@ -1,5 +1,5 @@
 -- The child that a step makes has few selectors.
-use Rattle.std.proofs.Common.{◌≡◌, ℕ, List, Option, Some, None, ap, refl, subst, sym, ◌∙◌}
+use Rattle.std.proofs.Common.{◌≡◌, List, Some, None, ap, subst, sym, ◌∙◌}
 use Rattle.base.specs.Octets.{Octets}
 use Rattle.wire.specs.declared.message.Message.{Message}
 use Rattle.policy.specs.declared.entry.Entry.{Entry}
@@ -9,13 +9,13 @@ use Rattle.sadb.specs.Database.{pair_at, Database, IsSoundTable}
 use Rattle.sadb.specs.declared.pair.Pair.{Pair}
 use Rattle.association.specs.declared.phase.Association.{Association}
 use Rattle.children.specs.Pairs.{HasFewSelectors}
-use Rattle.initial.specs.Children.{MadeBy}
+use Rattle.effects.specs.Children.{MadeBy}
 use Rattle.initial.specs.Configs.{Setup}
-use Rattle.initial.specs.Taking.{Meaning}
-use Rattle.initial.specs.declared.taking.Effect.{Effect}
-use Rattle.initial.specs.declared.taking.Effect.TheVariants as effect
+use Rattle.effects.specs.Taking.{Meaning}
+use Rattle.effects.specs.declared.taking.Effect.{Effect}
+use Rattle.effects.specs.declared.taking.Effect.TheVariants as effect
 use Rattle.ike.specs.Children.{MakesFirstChild}
-use Rattle.ike.specs.Machines.{setup_at, Held, Machine}
+use Rattle.ike.specs.Machines.{setup_at, Machine}
 use Rattle.ike.specs.Outputs.{plain_step}
 use Rattle.ike.specs.Soundness.{IsSoundMachine}
 use Rattle.ike.specs.Steps.{InputView, Steps}

@@ -11,7 +11,7 @@ use Rattle.sadb.specs.declared.pair.Pair.{Pair}
 use Rattle.association.specs.FirstChildren.{asked_of, FirstChildView}
 use Rattle.children.specs.Asking.{asked_proposal, child_request, HasChildPayloads}
 use Rattle.children.specs.Pairs.{IsChild}
-use Rattle.initial.specs.Children.{IsAnsweredChild, IsAskedChild}
+use Rattle.effects.specs.Children.{IsAnsweredChild, IsAskedChild}
 use Rattle.initial.specs.Configs.{Setup}
 
 -- what is known of the two ends' pairs of a child

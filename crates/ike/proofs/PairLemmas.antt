@@ -1,5 +1,5 @@
 -- What a step leaves of the pairs.
-use Rattle.std.proofs.Common.{◌≡◌, ◌⊎◌, inl, inr, ℕ, ◌+◌, ◌≤◌, Bool, true, false, List, Option, Result, Ok, Err, ap, refl, subst, sym, ◌∙◌, arith}
+use Rattle.std.proofs.Common.{◌≡◌, inl, inr, ℕ, Bool, true, false, List, Result, Ok, Err, refl, subst, sym, arith}
 use Rattle.base.specs.Octets.{Octets}
 use Rattle.wire.specs.declared.message.Message.{Message}
 use Rattle.policy.specs.declared.entry.Entry.{Entry}
@@ -9,13 +9,12 @@ use Rattle.association.specs.Finding.{found}
 use Rattle.association.specs.declared.fault.MessageFault.{MessageFault}
 use Rattle.association.specs.declared.phase.Association.{Association}
 use Rattle.initial.specs.Configs.{Setup}
-use Rattle.initial.specs.Pairs.{LeavesPairs}
-use Rattle.initial.specs.Taking.{Meaning, TakesMessage}
-use Rattle.initial.specs.declared.taking.Effect.{Effect}
+use Rattle.effects.specs.Pairs.{LeavesPairs}
+use Rattle.effects.specs.Taking.{Meaning, TakesMessage}
+use Rattle.effects.specs.declared.taking.Effect.{Effect}
 use Rattle.ike.specs.Machines.{setup_at, Held, Machine}
 use Rattle.ike.specs.Pairs.{LeavesPairsOfOthers}
-use Rattle.ike.specs.Receiving.{is_initial_request, TakesAt, TakesDatagram, TakesFound, TakesRead}
-use Rattle.ike.specs.Starting.{Starts}
+use Rattle.ike.specs.Receiving.{is_initial_request, TakesDatagram, TakesFound, TakesRead}
 use Rattle.ike.specs.Steps.{InputView, Steps}
 use Rattle.ike.specs.Steps as steps
 use Rattle.ike.specs.declared.output.Stepped.{Stepped}

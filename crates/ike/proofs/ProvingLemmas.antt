@@ -12,9 +12,9 @@ use Rattle.association.specs.declared.phase.InitSent.{InitSent}
 use Rattle.association.specs.declared.phase.Phase.TheVariants as phase
 use Rattle.initial.specs.Beginning.{begun}
 use Rattle.initial.specs.Configs.{Setup}
-use Rattle.initial.specs.Proving.{ProvesByMessage}
-use Rattle.initial.specs.Taking.{Meaning, StaysItself, TakesMessage}
-use Rattle.initial.specs.declared.taking.Effect.{Effect}
+use Rattle.effects.specs.Proving.{ProvesByMessage}
+use Rattle.effects.specs.Taking.{Meaning, StaysItself, TakesMessage}
+use Rattle.effects.specs.declared.taking.Effect.{Effect}
 use Rattle.ike.specs.Machines.{association_of, setup_at, Held, Machine}
 use Rattle.ike.specs.Proving.{ProvedItself, WasKnown}
 use Rattle.ike.specs.Receiving.{with_next}

@@ -1,5 +1,5 @@
 -- What is dropped, or comes again, changes nothing.
-use Rattle.std.proofs.Common.{◌≡◌, ◌⊎◌, inl, inr, ℕ, zero, suc, ◌∷◌, [], Bool, true, false, List, Option, Some, None, Result, Ok, Err, ap, refl, subst, sym, ◌∙◌}
+use Rattle.std.proofs.Common.{◌≡◌, inl, inr, ℕ, zero, suc, ◌∷◌, [], Bool, true, false, List, Option, Some, None, Result, Ok, Err, ap, refl, subst, ◌∙◌}
 use Rattle.std.specs.List.{position, slice_get}
 use Rattle.std.specs.Prelude.{slice_set}
 use Rattle.base.specs.Octets.{Octets}
@@ -12,16 +12,14 @@ use Rattle.association.specs.Finding.{found}
 use Rattle.association.specs.declared.fault.MessageFault.{MessageFault}
 use Rattle.association.specs.declared.phase.Association.{Association}
 use Rattle.initial.specs.Configs.{Setup}
-use Rattle.initial.specs.Taking.{Meaning, TakesMessage}
-use Rattle.initial.specs.declared.taking.Effect.{Effect}
-use Rattle.initial.specs.declared.taking.Effect.TheVariants as effect
+use Rattle.effects.specs.Taking.{Meaning, TakesMessage}
+use Rattle.effects.specs.declared.taking.Effect.{Effect}
+use Rattle.effects.specs.declared.taking.Effect.TheVariants as effect
 use Rattle.ike.specs.Machines.{setup_at, Held, Machine}
 use Rattle.ike.specs.Outputs.{half_open_step, stepped_of, IsQuiet}
 use Rattle.ike.specs.Receiving.{is_answered, is_initial_request, is_sound_initial, DoesJudgement, TakesAt, TakesDatagram, TakesFound, TakesOffer, TakesRead, TakesRequestAt, TakesSound}
-use Rattle.ike.specs.Starting.{Starts}
 use Rattle.ike.specs.Steps.{InputView, KeepsRest, Steps}
 use Rattle.ike.specs.Steps as steps
-use Rattle.ike.specs.declared.output.IkeOutput.{IkeOutput}
 use Rattle.ike.specs.declared.output.Stepped.{Stepped}
 
 -- what is known of a message's effect

@@ -16,8 +16,8 @@ use Rattle.association.specs.Finding.{found}
 use Rattle.association.specs.declared.fault.MessageFault.{MessageFault}
 use Rattle.association.specs.declared.phase.Association.{Association}
 use Rattle.initial.specs.Configs.{Setup}
-use Rattle.initial.specs.Taking.{Meaning, StaysItself, TakesMessage}
-use Rattle.initial.specs.declared.taking.Effect.{Effect}
+use Rattle.effects.specs.Taking.{Meaning, StaysItself, TakesMessage}
+use Rattle.effects.specs.declared.taking.Effect.{Effect}
 use Rattle.ike.specs.Machines.{half_open_count, setup_at, Held, Machine}
 use Rattle.ike.specs.Reaching.{WasReached}
 use Rattle.ike.specs.Receiving.{is_answered, is_initial_request, is_sound_initial, sender_of, DoesJudgement, IsJudged, TakesFound, TakesRead, TakesRequestAt, TakesSound}

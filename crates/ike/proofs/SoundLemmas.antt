@@ -13,7 +13,7 @@ use Rattle.association.specs.Phases.{spi_in}
 use Rattle.association.specs.declared.phase.Association.{Association}
 use Rattle.initial.specs.Ending.{IsAuthSent}
 use Rattle.initial.specs.Reading.{IsInitSent}
-use Rattle.initial.specs.Taking.{StaysItself}
+use Rattle.effects.specs.Taking.{StaysItself}
 use Rattle.ike.specs.Machines.{half_open_count, own_spi, spi_by_role, Held, SERIAL_END}
 use Rattle.ike.specs.Soundness.{AreApart, AreSound, At, IsSound}
 use Rattle.ike.proofs.ListLemmas.{grown, replaced}

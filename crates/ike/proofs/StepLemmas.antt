@@ -30,11 +30,11 @@ use Rattle.initial.specs.Configs.{Setup}
 use Rattle.initial.specs.Answering.{IsHalfOpen}
 use Rattle.initial.specs.Ending.{IsAuthSent}
 use Rattle.initial.specs.Reading.{IsInitSent}
-use Rattle.initial.specs.Taking.{Meaning, StaysItself, TakesMessage}
-use Rattle.initial.specs.declared.taking.Effect.{Effect}
+use Rattle.effects.specs.Taking.{Meaning, StaysItself, TakesMessage}
+use Rattle.effects.specs.declared.taking.Effect.{Effect}
 use Rattle.association.specs.Finding.{found}
 use Rattle.initial.specs.Beginning.{begun, half_open as half_open_association, Admits, Begins}
-use Rattle.initial.specs.Keeping.{IsShort, KeepsShort}
+use Rattle.effects.specs.Keeping.{IsShort, KeepsShort}
 use Rattle.initial.specs.declared.beginning.Admitted.{Admitted}
 use Rattle.initial.specs.declared.beginning.Beginning.{Beginning}
 use Rattle.ike.specs.Machines.{half_open_count, is_bad_spi, own_spi, setup_at, Held, Machine, SERIAL_END}

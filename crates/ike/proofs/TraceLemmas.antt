@@ -21,15 +21,15 @@ use Rattle.association.specs.declared.phase.InitSent.{InitSent}
 use Rattle.association.specs.declared.phase.Phase.{Phase}
 use Rattle.association.specs.declared.phase.Phase.TheVariants as phase
 use Rattle.initial.specs.Beginning.{begun, half_open, Admits, Begins}
-use Rattle.initial.specs.Children.{AsksForChild, IsAsking, MakesChild}
+use Rattle.effects.specs.Children.{AsksForChild, IsAsking, MakesChild}
 use Rattle.initial.specs.Configs.{Setup}
-use Rattle.initial.specs.Keeping.{child_in, sent_by, HasKeys, IsShort, KeepsShort, KeyedBy}
-use Rattle.initial.specs.Pairs.{IsUnused}
-use Rattle.initial.specs.Taking.{Meaning, StaysItself, TakesMessage}
+use Rattle.effects.specs.Keeping.{child_in, sent_by, HasKeys, IsShort, KeepsShort, KeyedBy}
+use Rattle.effects.specs.Pairs.{IsUnused}
+use Rattle.effects.specs.Taking.{Meaning, StaysItself, TakesMessage}
 use Rattle.initial.specs.declared.beginning.Admitted.{Admitted}
 use Rattle.initial.specs.declared.beginning.Beginning.{Beginning}
-use Rattle.initial.specs.declared.taking.Effect.{Effect}
-use Rattle.initial.specs.declared.taking.Effect.TheVariants as effect
+use Rattle.effects.specs.declared.taking.Effect.{Effect}
+use Rattle.effects.specs.declared.taking.Effect.TheVariants as effect
 use Rattle.ike.specs.Children.{AsksFirstChild, AsksNow, MakesFirstChild, WaitedBefore}
 use Rattle.ike.specs.Machines.{association_of, keys_of_serial, setup_at, Held, Machine}
 use Rattle.ike.specs.Outputs.{child_of, half_open_step, octets_in, plain_step, stepped_of}

@@ -13,8 +13,8 @@ use Rattle.association.specs.Finding.{found}
 use Rattle.association.specs.declared.fault.MessageFault.{MessageFault}
 use Rattle.association.specs.declared.phase.Association.{Association}
 use Rattle.initial.specs.Configs.{Setup}
-use Rattle.initial.specs.Keeping.{kept_reply, IsShort}
-use Rattle.initial.specs.Taking.{Meaning}
+use Rattle.effects.specs.Keeping.{kept_reply, IsShort}
+use Rattle.effects.specs.Taking.{Meaning}
 use Rattle.ike.specs.Machines.{setup_at, Held, Machine}
 use Rattle.ike.specs.Outputs.{plain_step}
 use Rattle.ike.specs.Receiving.{is_answered, is_initial_request, is_sound_initial, AdmitsNext, DoesJudgement, PassesOver, TakesAt, TakesDatagram, TakesFound, TakesRead, TakesRequestAt, TakesSound}

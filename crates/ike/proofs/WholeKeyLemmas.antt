@@ -16,12 +16,12 @@ use Rattle.association.specs.declared.fault.MessageFault.{MessageFault}
 use Rattle.association.specs.declared.phase.Association.{Association}
 use Rattle.initial.specs.Beginning.{begun, Admits}
 use Rattle.initial.specs.Configs.{Setup}
-use Rattle.initial.specs.Lengths.{HoldsWholeKeys}
-use Rattle.initial.specs.Taking.{Meaning, TakesMessage}
+use Rattle.effects.specs.Lengths.{HoldsWholeKeys}
+use Rattle.effects.specs.Taking.{Meaning, TakesMessage}
 use Rattle.initial.specs.declared.beginning.Admitted.{Admitted}
 use Rattle.initial.specs.declared.beginning.Beginning.{Beginning}
 use Rattle.initial.specs.declared.config.Config.{Config}
-use Rattle.initial.specs.declared.taking.Effect.{Effect}
+use Rattle.effects.specs.declared.taking.Effect.{Effect}
 use Rattle.ike.specs.Lengths.{HoldWholeKeys}
 use Rattle.ike.specs.Machines.{new_machine, setup_at, Held, Machine}
 use Rattle.ike.specs.Receiving.{is_answered, is_initial_request, is_sound_initial, with_next, DoesJudgement, TakesDatagram, TakesFound, TakesOffer, TakesRead, TakesRequestAt, TakesSound}

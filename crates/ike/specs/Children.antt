@@ -7,10 +7,10 @@ use Rattle.sadb.specs.Database.{Database}
 use Rattle.association.specs.declared.phase.Association.{Association}
 use Rattle.association.specs.declared.phase.AuthSent.{AuthSent}
 use Rattle.association.specs.declared.phase.Phase.TheVariants as phase
-use Rattle.initial.specs.Children.{AsksForChild, MakesChild}
+use Rattle.effects.specs.Children.{AsksForChild, MakesChild}
 use Rattle.initial.specs.Configs.{Setup}
-use Rattle.initial.specs.Taking.{Meaning}
-use Rattle.initial.specs.declared.taking.Effect.{Effect}
+use Rattle.effects.specs.Taking.{Meaning}
+use Rattle.effects.specs.declared.taking.Effect.{Effect}
 use Rattle.ike.specs.Machines.{association_of, Held}
 use Rattle.ike.specs.Outputs.{stepped_of}
 use Rattle.ike.specs.declared.output.IkeOutput.TheVariants.{Request}

@@ -2,8 +2,8 @@
 use Rattle.std.specs.Prelude.{ℕ}
 use Rattle.base.specs.Octets.{AreOctets}
 use Rattle.association.specs.declared.phase.Association.{Association}
-use Rattle.initial.specs.Lengths.{HoldsWholeKeys, TellsLengths}
-use Rattle.initial.specs.Taking.{Meaning}
+use Rattle.effects.specs.Lengths.{HoldsWholeKeys, TellsLengths}
+use Rattle.effects.specs.Taking.{Meaning}
 use Rattle.ike.specs.Machines.{Held}
 use Rattle.ike.specs.Soundness.{At}
 use Rattle.ike.specs.Steps.{InputView, Message, Start, Secret}

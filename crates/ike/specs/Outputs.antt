@@ -1,8 +1,8 @@
 -- What comes of a step: its output, and which messages were sent under which keys, which keys and which child were made.
 use Rattle.std.specs.Prelude.{ℕ, Bool, true, false, Option, Some, None}
 use Rattle.base.specs.Octets.{Octets}
-use Rattle.initial.specs.declared.taking.Effect.{Effect}
-use Rattle.initial.specs.declared.taking.Effect.TheVariants as effect
+use Rattle.effects.specs.declared.taking.Effect.{Effect}
+use Rattle.effects.specs.declared.taking.Effect.TheVariants as effect
 use Rattle.ike.specs.declared.fault.IkeFault.{IkeFault}
 use Rattle.ike.specs.declared.fault.IkeFault.TheVariants as fault
 use Rattle.ike.specs.declared.output.IkeOutput.{IkeOutput}

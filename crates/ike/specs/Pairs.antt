@@ -1,7 +1,7 @@
 -- What a step leaves of the associations, and of the pairs in the table (RFC 4301 section 4.4.2).
 use Rattle.std.specs.Prelude.{◌≡◌, ◌≢◌, ℕ}
 use Rattle.sadb.specs.Database.{Database}
-use Rattle.initial.specs.Pairs.{LeavesPairs}
+use Rattle.effects.specs.Pairs.{LeavesPairs}
 use Rattle.ike.specs.Machines.{association_of, others_than, Held}
 
 -- pairs of one IKE association at most come or go

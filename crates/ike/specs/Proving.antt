@@ -10,8 +10,8 @@ use Rattle.association.specs.Receiving.{opened_by}
 use Rattle.association.specs.declared.phase.Association.{Association}
 use Rattle.association.specs.declared.phase.Phase.TheVariants.{Established}
 use Rattle.initial.specs.Configs.{Setup}
-use Rattle.initial.specs.Proving.{ProvesByRequest, ProvesByResponse}
-use Rattle.initial.specs.Taking.{Meaning}
+use Rattle.effects.specs.Proving.{ProvesByRequest, ProvesByResponse}
+use Rattle.effects.specs.Taking.{Meaning}
 use Rattle.ike.specs.Machines.{association_of, setup_at, Machine}
 use Rattle.ike.specs.Steps.{InputView, Message, Start, Secret}
 

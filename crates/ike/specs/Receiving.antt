@@ -24,10 +24,10 @@ use Rattle.association.specs.declared.phase.Phase.{Phase}
 use Rattle.association.specs.declared.phase.Phase.TheVariants.{HalfOpen}
 use Rattle.initial.specs.Beginning.{Admits}
 use Rattle.initial.specs.Configs.{Setup}
-use Rattle.initial.specs.Keeping.{kept_reply}
-use Rattle.initial.specs.Taking.{Meaning, TakesMessage}
+use Rattle.effects.specs.Keeping.{kept_reply}
+use Rattle.effects.specs.Taking.{Meaning, TakesMessage}
 use Rattle.initial.specs.declared.beginning.Admitted.{Admitted}
-use Rattle.initial.specs.declared.taking.Effect.{Effect}
+use Rattle.effects.specs.declared.taking.Effect.{Effect}
 use Rattle.ike.specs.Machines.{half_open_count, is_bad_spi, Held, SERIAL_END}
 use Rattle.ike.specs.Outputs.{half_open_step, passed_over, plain_step, stepped_of}
 use Rattle.ike.specs.declared.fault.IkeFault.{IkeFault}

@@ -8,7 +8,7 @@ use Rattle.association.specs.Phases.{spi_in}
 use Rattle.association.specs.declared.phase.Association.{Association}
 use Rattle.initial.specs.Answering.{IsHalfOpen}
 use Rattle.initial.specs.Ending.{IsAuthSent}
-use Rattle.initial.specs.Keeping.{KeepsShort}
+use Rattle.effects.specs.Keeping.{KeepsShort}
 use Rattle.initial.specs.Reading.{IsInitSent}
 use Rattle.ike.specs.Machines.{half_open_count, own_spi, Held, Machine, SERIAL_END}
 

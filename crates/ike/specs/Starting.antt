@@ -12,7 +12,7 @@ use Rattle.association.specs.FirstChildren.{FirstChildView}
 use Rattle.association.specs.declared.fault.MessageFault.TheVariants.{UnknownAssociation, WrongPhase}
 use Rattle.initial.specs.Beginning.{begun, Begins}
 use Rattle.initial.specs.Configs.{Setup}
-use Rattle.initial.specs.Taking.{Meaning}
+use Rattle.effects.specs.Taking.{Meaning}
 use Rattle.initial.specs.declared.beginning.Beginning.{Beginning}
 use Rattle.ike.specs.Machines.{has_serial, is_bad_spi, Held, SERIAL_END}
 use Rattle.ike.specs.Outputs.{plain_step}

@@ -5,7 +5,7 @@ use Rattle.policy.specs.declared.entry.Entry.{Entry}
 use Rattle.suite.specs.declared.fresh.Fresh.{Fresh}
 use Rattle.sadb.specs.Database.{Database}
 use Rattle.sa_init.specs.Cookies.{changed}
-use Rattle.initial.specs.Taking.{Meaning}
+use Rattle.effects.specs.Taking.{Meaning}
 use Rattle.ike.specs.Machines.{setup_at, Machine}
 use Rattle.ike.specs.Outputs.{plain_step}
 use Rattle.ike.specs.Receiving.{RefusesDatagram, TakesDatagram}

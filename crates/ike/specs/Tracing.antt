@@ -5,7 +5,7 @@ use Rattle.sadb.specs.Database.{pair_at, Database}
 use Rattle.sadb.specs.declared.pair.Pair.{Pair}
 use Rattle.association.specs.Phases.{keys_in}
 use Rattle.association.specs.declared.phase.Association.{Association}
-use Rattle.initial.specs.Pairs.{IsUnused}
+use Rattle.effects.specs.Pairs.{IsUnused}
 use Rattle.ike.specs.Machines.{association_of, keys_of_serial, Held}
 use Rattle.ike.specs.Outputs.{octets_in}
 use Rattle.ike.specs.declared.output.MadeChild.{MadeChild}

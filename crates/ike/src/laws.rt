@@ -16,10 +16,10 @@ ghost use Rattle.association.specs.declared.phase.AuthSent.{AuthSent};
 ghost use Rattle.association.specs.declared.phase.Phase.TheVariants as phase;
 ghost use Rattle.children.specs.Asking.{child_request, HasChildPayloads};
 ghost use Rattle.children.specs.Pairs.{HasFewSelectors};
-ghost use Rattle.initial.specs.Children.{IsAnsweredChild, IsAskedChild};
+ghost use Rattle.effects.specs.Children.{IsAnsweredChild, IsAskedChild};
 ghost use Rattle.initial.specs.Configs.{Setup};
-ghost use Rattle.initial.specs.Keeping.{IsShort};
-ghost use Rattle.initial.specs.Taking.{Meaning};
+ghost use Rattle.effects.specs.Keeping.{IsShort};
+ghost use Rattle.effects.specs.Taking.{Meaning};
 ghost use Rattle.ike.specs.Children.{AsksFirstChild, MakesFirstChild, AsksNow, WaitedBefore};
 ghost use Rattle.ike.specs.Machines.{half_open_count, keys_of_serial, setup_at, Machine, new_machine, association_of};
 ghost use Rattle.ike.specs.Outputs.{octets_in, IsQuiet};
@@ -39,7 +39,7 @@ ghost use Rattle.ike.specs.declared.fault.IkeFault.{IkeFault};
 ghost use Rattle.ike.specs.declared.output.Stepped.{Stepped};
 
 use children::laws::children_mirror;
-use initial::laws::{
+use effects::laws::{
     associations_stay_themselves, beginnings_are_determined, children_are_made_of_their_messages,
     effects_are_determined, keys_stay, no_spi_comes, pairs_that_come_are_told, spis_stay_reserved,
     what_is_kept_is_short, what_is_passed_over_changes_nothing, what_others_hold_stays,
@@ -102,7 +102,7 @@ pub fn one_association_is_changed()
         → Steps meaning entries input old table stepped new new_table → ChangesOne old.held new.held table new_table }
 {
     associations_stay_themselves();
-    initial::laws::pairs_stay_as_they_were();
+    effects::laws::pairs_stay_as_they_were();
 }
 
 /// A first child that a step made is what the payloads of IKE_AUTH say (RFC 7296, sections 1.2, 2.9 and 2.17): those of the datagram, and
@@ -165,7 +165,7 @@ pub fn the_established_proved_themselves()
         → WasKnown meaning entries input old ike keys }
 {
     associations_stay_themselves();
-    initial::laws::the_established_proved_themselves();
+    effects::laws::the_established_proved_themselves();
 }
 
 /// While 8 or more associations are half open, no datagram makes another one but with a right cookie of its sender, for the message's
@@ -189,7 +189,7 @@ pub fn pairs_stay_as_they_were()
         (stepped : Stepped) (new : Machine) (new_table : Database)
         → Steps meaning entries input old table stepped new new_table → LeavesPairsOfOthers table new_table }
 {
-    initial::laws::pairs_stay_as_they_were();
+    effects::laws::pairs_stay_as_they_were();
 }
 
 /// A datagram that is dropped, or that took effect before, changes nothing.
@@ -216,7 +216,7 @@ pub fn keys_stay_whole()
         (stepped : Stepped) (new : Machine) (new_table : Database) → HoldWholeKeys old.held
         → Steps meaning entries input old table stepped new new_table → HoldWholeKeys new.held }
 {
-    initial::laws::keys_stay_whole();
+    effects::laws::keys_stay_whole();
 }
 
 /// A step does one thing. What comes of it, what the machine holds then and what the table holds go by what both held before,

@@ -4,7 +4,7 @@ ghost use Rattle.ike.specs.Outputs.{child_of, closed_of, passed_over, plain_step
 
 use crate::IkeFault;
 use base::Items;
-use initial::Effect;
+use effects::Effect;
 
 /// What comes of a step. Associations and children are named by their serials.
 #[derive(Debug, Drop)]

@@ -1,17 +1,1 @@
-mod PairLemmas
 mod ChildLemmas
-mod SpiLemmas
-mod OtherLemmas
-mod ProvingLemmas
-mod WayLemmas
-mod KeepingLemmas
-mod PayloadLemmas
-mod MadeLemmas
-mod OfferLemmas
-mod DeterminedLaws
-mod DeterminedDecisions
-mod DeterminedConclusions
-mod DeterminedReadings
-mod DeterminedEffects
-mod WholeKeyLemmas
-mod ToldLemmas

@@ -6,10 +6,3 @@ pub mod Ending
 pub mod Issuing
 pub mod Beginning
 pub mod Reading
-pub mod Taking
-pub mod Pairs
-pub mod Proving
-pub mod Keeping
-pub mod Children
-pub mod Offers
-pub mod Lengths

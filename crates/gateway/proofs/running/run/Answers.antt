@@ -1,5 +1,5 @@
 use Rattle.std.proofs.Common.{◌≡◌, ℕ, ◌+◌, List, [], ◌∷◌, ◌++◌, length, sym, ap, ◌∙◌, subst, arith}
-use Rattle.initial.specs.Taking.{Meaning}
+use Rattle.effects.specs.Taking.{Meaning}
 use Rattle.gateway.specs.Runs.{Runs, RunsFirst, StepsAs}
 use Rattle.gateway.specs.declared.input.Input.{Input}
 use Rattle.gateway.proofs.RunLemmas.{pushed_after, run_more, take_next}

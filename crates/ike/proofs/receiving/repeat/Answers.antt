@@ -1,5 +1,5 @@
 use Rattle.std.proofs.Common.{ap, ◌∙◌, slice_index_or}
-use Rattle.initial.specs.Keeping.{kept_reply}
+use Rattle.effects.specs.Keeping.{kept_reply}
 use Rattle.ike.specs.Outputs.{plain_step}
 use Rattle.ike.specs.declared.output.IkeOutput.TheVariants.{Repeat}
 use Rattle.ike.proofs.RepeatLemmas.{answered_there, first_there, opened_of}

@@ -1,5 +1,5 @@
 use Rattle.std.proofs.Common.{◌≡◌}
-use Rattle.initial.specs.Taking.{Meaning}
+use Rattle.effects.specs.Taking.{Meaning}
 use Rattle.gateway.specs.Outputs.{said}
 use Rattle.gateway.specs.Worlds.{stored_by}
 use Rattle.gateway.proofs.WorldLemmas.{taken_at_a, taken_at_b}

@@ -1,5 +1,5 @@
 use Rattle.std.proofs.Common.{◌≡◌, ℕ, ◌+◌, List, [], ◌∷◌, ◌++◌, length, sym, ap, ◌∙◌, subst, arith}
-use Rattle.initial.specs.Taking.{Meaning}
+use Rattle.effects.specs.Taking.{Meaning}
 use Rattle.gateway.specs.Runs.{Runs}
 use Rattle.gateway.specs.WorldRuns.{HappensAs, PlaysFirst}
 use Rattle.gateway.specs.declared.world.stored.Event.{Event}

@@ -1,4 +1,4 @@
-use Rattle.initial.specs.Taking.{Meaning}
+use Rattle.effects.specs.Taking.{Meaning}
 use Rattle.ike.specs.Steps.{input_view}
 use Rattle.ike.proofs.StepLemmas.{result_sound}
 use Rattle.ike.proofs.machine.Ike.step.Goals as goal

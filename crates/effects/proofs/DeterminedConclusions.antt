@@ -1,0 +1,73 @@
+-- What becomes of an association and of the table when an exchange is done is determined, but for room.
+use Rattle.std.proofs.Common.{◌≡◌, ℕ, Bool, true, false, Option, Some, None, refl, sym, ap, subst, ◌∙◌}
+use Rattle.sadb.specs.Contents.{table_content}
+use Rattle.sadb.specs.Database.{Database}
+use Rattle.sadb.specs.declared.pair.Pair.{Pair}
+use Rattle.association.specs.Contents.{association_content}
+use Rattle.association.specs.Phases.{established_spi}
+use Rattle.association.specs.declared.phase.Association.{Association}
+use Rattle.initial.specs.Concluding.{established, widened, AddsChild, ConcludesBy}
+use Rattle.initial.specs.Configs.{Setup}
+use Rattle.initial.specs.declared.concluding.Outcome.{Outcome}
+use Rattle.initial.specs.declared.concluding.Outcome.TheVariants as outcome
+use Rattle.informational.specs.Orders.{ClosesIf}
+use Rattle.effects.proofs.DeterminedLaws.{TableLaws}
+
+-- the child and the table
+pub record SameChild (child other : Option ℕ) (a b : Database) : Type 0 where
+  pub child_is : child ≡ other
+  pub table : table_content a ≡ table_content b
+
+one_added : TableLaws → (spi : Option ℕ) (pair : Option Pair) (child number : Option ℕ) (old other a b : Database) → table_content old ≡ table_content other
+    → AddsChild old spi pair child a → AddsChild other spi pair number b → SameChild child number a b
+one_added laws None None None None old other a b same is also = record { child_is = refl; table = ap table_content is ∙ same ∙ sym (ap table_content also) }
+one_added laws None None None (Some n) old other a b same is also = absurd also
+one_added laws None None (Some m) number old other a b same is also = absurd is
+one_added laws None (Some pair) None number old other a b same is also = absurd is
+one_added laws None (Some pair) (Some m) None old other a b same is also = absurd also
+one_added laws None (Some pair) (Some m) (Some n) old other a b same is also =
+    let both = laws.added old other a b pair m n same is also in
+    record { child_is = ap Some both.0; table = both.1 }
+one_added laws (Some spi) None None None old other a b same is also = record { child_is = refl; table = laws.released old other a b spi same is also }
+one_added laws (Some spi) None None (Some n) old other a b same is also = absurd also
+one_added laws (Some spi) None (Some m) number old other a b same is also = absurd is
+one_added laws (Some spi) (Some pair) None number old other a b same is also = absurd is
+one_added laws (Some spi) (Some pair) (Some m) None old other a b same is also = absurd also
+one_added laws (Some spi) (Some pair) (Some m) (Some n) old other a b same is also =
+    let both = laws.installed old other a b spi spi pair m n same is also in
+    record { child_is = ap Some both.0; table = both.1 }
+
+pub record SameConclusion (child other : Option ℕ) (a b : Association) (a_table b_table : Database) : Type 0 where
+  pub child_is : child ≡ other
+  pub association : association_content a ≡ association_content b
+  pub table : table_content a_table ≡ table_content b_table
+
+pub one_conclusion : TableLaws → (setup : Setup) (o : Outcome) (child number : Option ℕ) (old other a b : Association) (table another a_table b_table : Database)
+    → association_content old ≡ association_content other → table_content table ≡ table_content another
+    → ConcludesBy setup old table o child a a_table → ConcludesBy setup other another o number b b_table → SameConclusion child number a b a_table b_table
+one_conclusion laws setup outcome.Closes child number old other a b table another a_table b_table same alike is also =
+    let over = laws.ended old other a b table another a_table b_table setup.moment same alike is.over also.over in
+    record { child_is = is.none ∙ sym also.none; association = over.0; table = over.1 }
+one_conclusion laws setup (outcome.Establishes pair window) child number old other a b table another a_table b_table same alike is also =
+    let spis : established_spi other.phase ≡ established_spi old.phase = sym (ap (λ (x : Association). established_spi x.phase) same) in
+    let moved : AddsChild another (established_spi old.phase) pair number b_table = subst (λ (spi : Option ℕ). AddsChild another spi pair number b_table) spis also.added in
+    let added = one_added laws (established_spi old.phase) pair child number table another a_table b_table alike is.added moved in
+    record {
+      child_is = added.child_is;
+      association =
+          ap association_content is.content
+          ∙ ap (λ (x : Association). widened setup.config.window window (established x)) same
+          ∙ sym (ap association_content also.content);
+      table = added.table;
+    }
+
+-- an end after an exchange of INFORMATIONAL, or none
+pub one_closing : TableLaws → (ending : Bool) (moment : ℕ) (old other a b : Association) (table another a_table b_table : Database)
+    → association_content old ≡ association_content other → table_content table ≡ table_content another
+    → ClosesIf ending old table moment a a_table → ClosesIf ending other another moment b b_table
+    → (association_content a ≡ association_content b) × (table_content a_table ≡ table_content b_table)
+one_closing laws true moment old other a b table another a_table b_table same alike is also = laws.ended old other a b table another a_table b_table moment same alike is also
+one_closing laws false moment old other a b table another a_table b_table same alike is also = (
+  ap association_content is.0 ∙ same ∙ sym (ap association_content also.0),
+  ap table_content is.1 ∙ alike ∙ sym (ap table_content also.1),
+)

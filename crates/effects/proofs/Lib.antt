@@ -1,0 +1,16 @@
+mod PairLemmas
+mod SpiLemmas
+mod OtherLemmas
+mod ProvingLemmas
+mod WayLemmas
+mod KeepingLemmas
+mod PayloadLemmas
+mod MadeLemmas
+mod OfferLemmas
+mod DeterminedLaws
+mod DeterminedDecisions
+mod DeterminedConclusions
+mod DeterminedReadings
+mod DeterminedEffects
+mod WholeKeyLemmas
+mod ToldLemmas

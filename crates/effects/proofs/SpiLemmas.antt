@@ -1,0 +1,310 @@
+-- An SPI that an association holds stays reserved, or is held no more.
+use Rattle.std.proofs.Common.{◌≡◌, ◌⊎◌, inl, inr, ℕ, ◌+◌, Bool, true, false, Option, Some, None, ap, refl, subst, sym, ◌∙◌}
+use Rattle.base.specs.Octets.{Octets}
+use Rattle.wire.specs.declared.message.Message.{Message}
+use Rattle.suite.specs.declared.key_record.KeyRecord.{KeyRecord}
+use Rattle.suite.specs.declared.keys.Keys.{Keys}
+use Rattle.exchange.specs.declared.sealed.Plain.{Plain}
+use Rattle.sadb.specs.Database.{Database}
+use Rattle.association.specs.Closing.{Closes, HoldsSpi}
+use Rattle.association.specs.Phases.{established_of, keys_in, spi_in}
+use Rattle.association.specs.declared.fault.MessageFault.{MessageFault}
+use Rattle.association.specs.declared.phase.Association.{Association}
+use Rattle.association.specs.declared.phase.AuthSent.{AuthSent}
+use Rattle.association.specs.declared.phase.HalfOpen.{HalfOpen}
+use Rattle.association.specs.declared.phase.InitSent.{InitSent}
+use Rattle.association.specs.declared.phase.Phase.{Phase}
+use Rattle.association.specs.declared.phase.Phase.TheVariants as phase
+use Rattle.auth.specs.Proofs.{Accepts}
+use Rattle.initial.specs.Answering.{outcome_of, AnswersAuth, IsHalfOpen, Prover}
+use Rattle.initial.specs.Concluding.{established, widened, ConcludesBy}
+use Rattle.initial.specs.Configs.{Setup}
+use Rattle.initial.specs.Ending.{EndsAuth, IsAuthSent}
+use Rattle.effects.specs.Pairs.{LeavesPairs}
+use Rattle.initial.specs.Reading.{IsInitSent}
+use Rattle.informational.specs.Answering.{is_ending, verdict_on, AnswersInformational}
+use Rattle.informational.specs.Counting.{is_rejected}
+use Rattle.informational.specs.Orders.{ClosesIf}
+use Rattle.effects.specs.Taking.{prover_of, IsPassedOver, Meaning, StaysItself, TakesMessage}
+use Rattle.initial.specs.declared.answering.Answered.{Answered}
+use Rattle.initial.specs.declared.concluding.Outcome.{Outcome}
+use Rattle.initial.specs.declared.concluding.Outcome.TheVariants as outcome
+use Rattle.initial.specs.declared.ending.Ended.{Ended}
+use Rattle.effects.specs.declared.taking.Effect.{Effect}
+use Rattle.effects.specs.declared.taking.Effect.TheVariants as effect
+use Rattle.effects.proofs.PairLemmas.{answer_unused, closed_if_leaves, concluded_leaves, end_unused, itself_same, room_same, same_leaves, HasSamePairs}
+use Rattle.effects.proofs.WayLemmas.{way_of, CountedInformational, WasAsked, WasIdentified, Way}
+
+abbrev pub held_by : Association → Option ℕ
+held_by a = spi_in a.phase
+
+concluded_none : (setup : Setup) (old : Association) (table : Database) (o : Outcome) (child : Option ℕ) (new : Association) (new_table : Database)
+    → spi_in (established_of old.phase) ≡ None → ConcludesBy setup old table o child new new_table → held_by new ≡ None
+concluded_none setup old table outcome.Closes child new new_table none c = ap held_by c.over.content
+concluded_none setup old table (outcome.Establishes pair window) child new new_table none c = ap held_by c.content ∙ none
+
+answered_none : (prover : Prover) (setup : Setup) (old : Association) (table : Database) (number : ℕ) (plain : Plain) (a : Answered) (new : Association) (new_table : Database)
+    → AnswersAuth prover setup old table number plain a new new_table → held_by new ≡ None
+answered_none prover setup old table number plain a new new_table is =
+    concluded_none setup (record old { incoming = is.incoming }) is.between (outcome_of is.decision) a.child new new_table (ap (λ p. spi_in (established_of p)) is.was) is.concluded
+
+ended_none : (accepts : Accepts) (setup : Setup) (old : Association) (table : Database) (number : ℕ) (plain : Plain) (e : Ended) (new : Association) (new_table : Database)
+    → EndsAuth accepts setup old table number plain e new new_table → held_by new ≡ None
+ended_none accepts setup old table number plain e new new_table is =
+    concluded_none setup (record old { outgoing = is.outgoing }) table is.verdict e.child new new_table (ap (λ p. spi_in (established_of p)) is.was) is.concluded
+
+closed_if_none : (ending : Bool) (a : Association) (table : Database) (moment : ℕ) (new : Association) (new_table : Database) → held_by a ≡ None → ClosesIf ending a table moment new new_table → held_by new ≡ None
+closed_if_none true a table moment new new_table none is = ap held_by is.content
+closed_if_none false a table moment new new_table none is = ap held_by is.0 ∙ none
+
+-- a message that is passed over, or comes again, changes nothing
+abbrev pub Idle : Effect → Association → Database → Association → Database → Type 0
+Idle (effect.Refused fault) old table new new_table = IsPassedOver old table new new_table
+Idle (effect.Repeated octets) old table new new_table = IsPassedOver old table new new_table
+Idle (effect.Replied answered) old table new new_table = Unit {0}
+Idle (effect.Again octets) old table new new_table = Unit {0}
+Idle (effect.Identified octets) old table new new_table = Unit {0}
+Idle (effect.Counted ended) old table new new_table = Unit {0}
+
+idle_by : (e : Effect) (old new : Association) (table new_table : Database) → IsPassedOver old table new new_table → Idle e old table new new_table
+idle_by (effect.Refused fault) old new table new_table same = same
+idle_by (effect.Repeated octets) old new table new_table same = same
+idle_by (effect.Replied answered) old new table new_table same = tt
+idle_by (effect.Again octets) old new table new_table same = tt
+idle_by (effect.Identified octets) old new table new_table same = tt
+idle_by (effect.Counted ended) old new table new_table same = tt
+
+-- What a message leaves of an association: it stays itself, and holds its SPI no more, or still, and then the table is as it was.
+record Leaves (e : Effect) (old : Association) (table : Database) (new : Association) (new_table : Database) : Type 0 where
+  idle : Idle e old table new new_table
+  spi : (held_by new ≡ None) ⊎ ((held_by new ≡ held_by old) × (new_table ≡ table))
+  itself : StaysItself old new
+  pairs : LeavesPairs table old.serial new_table
+
+itself_by : (old is new : Association) → new ≡ is → StaysItself old is → StaysItself old new
+itself_by old is new same itself = subst (λ (a : Association). StaysItself old a) (sym same) itself
+
+all_itself : (old : Association) → StaysItself old old
+all_itself old = record { serial = refl; role = refl; spi_i = refl; spi_r = inl refl; waiting = λ w. w; asking = λ s. inr s; half_open = λ h. h }
+
+unchanged_leaves : (table : Database) (ike : ℕ) (new_table : Database) → new_table ≡ table → LeavesPairs table ike new_table
+unchanged_leaves table ike new_table same = same_leaves table ike new_table (subst (λ (d : Database). HasSamePairs table d) (sym same) (itself_same table))
+
+leaves_all : (e : Effect) (old new : Association) (table new_table : Database) → IsPassedOver old table new new_table → Leaves e old table new new_table
+leaves_all e old new table new_table same = record { idle = idle_by e old new table new_table same; spi = inr (ap held_by same.association, same.pairs); itself = itself_by old old new same.association (all_itself old); pairs = unchanged_leaves table old.serial new_table same.pairs }
+
+closed_waits : (keys : Option KeyRecord) (at : ℕ) (sent : InitSent) → phase.Closed keys at ≡ phase.InitSent sent → ⊥
+closed_waits keys at sent is = cc
+
+closed_asks : (keys : Option KeyRecord) (at : ℕ) (sent : AuthSent) → phase.Closed keys at ≡ phase.AuthSent sent → ⊥
+closed_asks keys at sent is = cc
+
+established_asks : (keys : KeyRecord) (sent : AuthSent) → phase.Established keys ≡ phase.AuthSent sent → ⊥
+established_asks keys sent is = cc
+
+closed_opens : (keys : Option KeyRecord) (at : ℕ) (opened : HalfOpen) → phase.Closed keys at ≡ phase.HalfOpen opened → ⊥
+closed_opens keys at opened is = cc
+
+established_waits : (keys : KeyRecord) (sent : InitSent) → phase.Established keys ≡ phase.InitSent sent → ⊥
+established_waits keys sent is = cc
+
+established_opens : (keys : KeyRecord) (opened : HalfOpen) → phase.Established keys ≡ phase.HalfOpen opened → ⊥
+established_opens keys opened is = cc
+
+sent_opens : (sent : AuthSent) (opened : HalfOpen) → phase.AuthSent sent ≡ phase.HalfOpen opened → ⊥
+sent_opens sent opened is = cc
+
+waiting_opens : (sent : InitSent) (opened : HalfOpen) → phase.InitSent sent ≡ phase.HalfOpen opened → ⊥
+waiting_opens sent opened is = cc
+
+-- when it is over
+over_itself : (old : Association) (table : Database) (moment : ℕ) (new : Association) (new_table : Database) → Closes old table moment new new_table → StaysItself old new
+over_itself old table moment new new_table is =
+    itself_by old (record old { outgoing = new.outgoing; phase = phase.Closed (keys_in old.phase) moment }) new is.content
+    (record {
+      serial = refl;
+      role = refl;
+      spi_i = refl;
+      spi_r = inl refl;
+      waiting = λ w. absurd (closed_waits (keys_in old.phase) moment w.sent w.is);
+      asking = λ s. absurd (closed_asks (keys_in old.phase) moment s.sent s.is);
+      half_open = λ h. absurd (closed_opens (keys_in old.phase) moment h.opened h.is);
+    })
+
+closed_if_itself : (ending : Bool) (old : Association) (table : Database) (moment : ℕ) (new : Association) (new_table : Database) → ClosesIf ending old table moment new new_table → StaysItself old new
+closed_if_itself true old table moment new new_table is = over_itself old table moment new new_table is
+closed_if_itself false old table moment new new_table is = itself_by old old new is.0 (all_itself old)
+
+-- when IKE_AUTH is done
+concluded_itself : (setup : Setup) (old : Association) (table : Database) (o : Outcome) (child : Option ℕ) (new : Association) (new_table : Database) (keys : KeyRecord)
+    → established_of old.phase ≡ phase.Established keys → ConcludesBy setup old table o child new new_table → StaysItself old new
+concluded_itself setup old table outcome.Closes child new new_table keys was c = over_itself old table setup.moment new new_table c.over
+concluded_itself setup old table (outcome.Establishes pair window) child new new_table keys was c =
+    itself_by old (widened setup.config.window window (established old)) new c.content
+    (record {
+      serial = refl;
+      role = refl;
+      spi_i = refl;
+      spi_r = inl refl;
+      waiting = λ w. absurd (established_waits keys w.sent (sym was ∙ w.is));
+      asking = λ s. absurd (established_asks keys s.sent (sym was ∙ s.is));
+      half_open = λ h. absurd (established_opens keys h.opened (sym was ∙ h.is));
+    })
+
+-- what has the same names and phase
+like : (is old new : Association) → is.serial ≡ old.serial → is.role ≡ old.role → is.spi_i ≡ old.spi_i → is.spi_r ≡ old.spi_r → is.phase ≡ old.phase
+    → StaysItself is new → StaysItself old new
+like is old new serial role spi_i spi_r phase_is stays =
+    record {
+      serial = stays.serial ∙ serial;
+      role = stays.role ∙ role;
+      spi_i = stays.spi_i ∙ spi_i;
+      spi_r = subst (λ (p : Phase). (new.spi_r ≡ old.spi_r) ⊎ IsInitSent p) phase_is (subst (λ n. (new.spi_r ≡ n) ⊎ IsInitSent is.phase) spi_r stays.spi_r);
+      waiting = λ w. subst IsInitSent phase_is (stays.waiting w);
+      asking = λ s. subst (λ (p : Phase). IsInitSent p ⊎ IsAuthSent p) phase_is (stays.asking s);
+      half_open = λ h. subst IsHalfOpen phase_is (stays.half_open h);
+    }
+
+answered_leaves : (prover : Prover) (setup : Setup) (old : Association) (table : Database) (number : ℕ) (plain : Plain) (a : Answered) (new : Association) (new_table : Database)
+    → AnswersAuth prover setup old table number plain a new new_table → Leaves (effect.Replied a) old table new new_table
+answered_leaves prover setup old table number plain a new new_table is =
+    record {
+      idle = tt;
+      spi = inl (answered_none prover setup old table number plain a new new_table is);
+      itself = like (record old { incoming = is.incoming }) old new refl refl refl refl refl
+          (concluded_itself setup (record old { incoming = is.incoming }) is.between (outcome_of is.decision) a.child new new_table is.opened.keys (ap established_of is.was) is.concluded);
+      pairs = concluded_leaves setup (record old { incoming = is.incoming }) table is.between (outcome_of is.decision) a.child new new_table (room_same table is.between is.room)
+          (answer_unused prover.accepts setup old.serial is.opened table plain is.decision is.decided) is.concluded;
+    }
+
+ended_leaves : (accepts : Accepts) (setup : Setup) (old : Association) (table : Database) (number : ℕ) (plain : Plain) (e : Ended) (new : Association) (new_table : Database)
+    → EndsAuth accepts setup old table number plain e new new_table → Leaves (effect.Counted e) old table new new_table
+ended_leaves accepts setup old table number plain e new new_table is =
+    record {
+      idle = tt;
+      spi = inl (ended_none accepts setup old table number plain e new new_table is);
+      itself = like (record old { outgoing = is.outgoing }) old new refl refl refl refl refl
+          (concluded_itself setup (record old { outgoing = is.outgoing }) table is.verdict e.child new new_table is.sent.keys (ap established_of is.was) is.concluded);
+      pairs = concluded_leaves setup (record old { outgoing = is.outgoing }) table table is.verdict e.child new new_table (itself_same table)
+          (end_unused accepts setup old.serial is.sent plain is.verdict is.judged) is.concluded;
+    }
+
+informed_leaves : (body_of : Keys → Octets → Octets → Octets → Octets) (setup : Setup) (old : Association) (table : Database) (number : ℕ) (plain : Plain) (a : Answered) (new : Association) (new_table : Database)
+    → AnswersInformational body_of setup old table number plain a new new_table → Leaves (effect.Replied a) old table new new_table
+informed_leaves body_of setup old table number plain a new new_table is =
+    let ending = is_ending (verdict_on is.payloads) in
+    let taken : Association = record old { incoming = is.incoming } in
+    record {
+      idle = tt;
+      spi = inl (closed_if_none ending taken table setup.moment new new_table (ap spi_in is.established) is.concluded);
+      itself = like taken old new refl refl refl refl refl (closed_if_itself ending taken table setup.moment new new_table is.concluded);
+      pairs = closed_if_leaves ending taken table setup.moment new new_table is.concluded;
+    }
+
+counted_leaves : (setup : Setup) (old : Association) (table : Database) (m : Message) (e : Ended) (new : Association) (new_table : Database)
+    → CountedInformational setup old table m e new new_table → Leaves (effect.Counted e) old table new new_table
+counted_leaves setup old table m e new new_table is =
+    let ending = is_rejected is.done.payloads in
+    let counted : Association = record old { outgoing = is.done.outgoing } in
+    record {
+      idle = tt;
+      spi = inl (closed_if_none ending counted table setup.moment new new_table (ap spi_in is.was) is.done.concluded);
+      itself = like counted old new refl refl refl refl refl (closed_if_itself ending counted table setup.moment new new_table is.done.concluded);
+      pairs = closed_if_leaves ending counted table setup.moment new new_table is.done.concluded;
+    }
+
+asked_leaves : (meaning : Meaning) (setup : Setup) (old : Association) (table : Database) (m : Message) (next : Octets) (new : Association) (new_table : Database)
+    → WasAsked meaning setup old table m next new new_table → Leaves (effect.Again next) old table new new_table
+asked_leaves meaning setup old table m next new new_table is =
+    let waiting : InitSent = record is.sent { cookie = Some is.cookie; cookies_taken = is.sent.cookies_taken + 1 } in
+    record {
+      idle = tt;
+      spi = inr (ap held_by is.done.content ∙ sym (ap spi_in is.was), is.pairs);
+      itself =
+          itself_by old (record old { outgoing = new.outgoing; phase = phase.InitSent waiting }) new is.done.content
+          (record {
+            serial = refl;
+            role = refl;
+            spi_i = refl;
+            spi_r = inl refl;
+            waiting = λ w. record { sent = is.sent; is = is.was };
+            asking = λ s. inl (record { sent = is.sent; is = is.was });
+            half_open = λ h. absurd (waiting_opens waiting h.opened h.is);
+          });
+      pairs = unchanged_leaves table old.serial new_table is.pairs;
+    }
+
+identified_leaves : (meaning : Meaning) (setup : Setup) (old : Association) (table : Database) (octets : Octets) (m : Message) (next : Octets) (new : Association) (new_table : Database)
+    → WasIdentified meaning setup old table octets m next new new_table → Leaves (effect.Identified next) old table new new_table
+identified_leaves meaning setup old table octets m next new new_table is =
+    let asking : AuthSent = record { keys = is.keys; first = octets; child = is.sent.child } in
+    record {
+      idle = tt;
+      spi = inr (ap held_by is.done.content ∙ sym (ap spi_in is.was), is.pairs);
+      itself =
+          itself_by old (record old { spi_r = m.header.spi_r; outgoing = new.outgoing; phase = phase.AuthSent asking }) new is.done.content
+          (record {
+            serial = refl;
+            role = refl;
+            spi_i = refl;
+            spi_r = inr (record { sent = is.sent; is = is.was });
+            waiting = λ w. record { sent = is.sent; is = is.was };
+            asking = λ s. inl (record { sent = is.sent; is = is.was });
+            half_open = λ h. absurd (sent_opens asking h.opened h.is);
+          });
+      pairs = unchanged_leaves table old.serial new_table is.pairs;
+    }
+
+way_leaves : (meaning : Meaning) (setup : Setup) (old : Association) (table : Database) (octets : Octets) (m : Message) (e : Effect) (new : Association) (new_table : Database)
+    → Way meaning setup old table octets m e new new_table → Leaves e old table new new_table
+way_leaves meaning setup old table octets m (effect.Refused fault) new new_table is = leaves_all (effect.Refused fault) old new table new_table is
+way_leaves meaning setup old table octets m (effect.Repeated reply) new new_table is = leaves_all (effect.Repeated reply) old new table new_table is.same
+way_leaves meaning setup old table octets m (effect.Replied answered) new new_table (inl is) = answered_leaves (prover_of meaning) setup old table m.header.id is.plain answered new new_table is.done
+way_leaves meaning setup old table octets m (effect.Replied answered) new new_table (inr is) = informed_leaves meaning.body_of setup old table m.header.id is.plain answered new new_table is.done
+way_leaves meaning setup old table octets m (effect.Again next) new new_table is = asked_leaves meaning setup old table m next new new_table is
+way_leaves meaning setup old table octets m (effect.Identified next) new new_table is = identified_leaves meaning setup old table octets m next new new_table is
+way_leaves meaning setup old table octets m (effect.Counted ended) new new_table (inl is) = ended_leaves meaning.accepts setup old table m.header.id is.plain ended new new_table is.done
+way_leaves meaning setup old table octets m (effect.Counted ended) new new_table (inr is) = counted_leaves setup old table m ended new new_table is
+
+leaves : (meaning : Meaning) (setup : Setup) (old : Association) (table : Database) (octets : Octets) (m : Message) (e : Effect) (new : Association) (new_table : Database)
+    → TakesMessage meaning setup old table octets m e new new_table → Leaves e old table new new_table
+leaves meaning setup old table octets m e new new_table is = way_leaves meaning setup old table octets m e new new_table (way_of meaning setup old table octets m e new new_table is)
+
+still_held : (old new : Association) (table new_table : Database) → HoldsSpi (held_by old) table → (held_by new ≡ None) ⊎ ((held_by new ≡ held_by old) × (new_table ≡ table))
+    → HoldsSpi (held_by new) new_table
+still_held old new table new_table holds (inl none) = subst (λ s. HoldsSpi s new_table) (sym none) tt
+still_held old new table new_table holds (inr (same, unchanged)) =
+    subst (λ (d : Database). HoldsSpi (held_by new) d) (sym unchanged) (subst (λ s. HoldsSpi s table) (sym same) holds)
+
+pub spis_stay : (meaning : Meaning) (setup : Setup) (old : Association) (table : Database) (octets : Octets) (m : Message) (e : Effect) (new : Association) (new_table : Database)
+    → HoldsSpi (spi_in old.phase) table → TakesMessage meaning setup old table octets m e new new_table → HoldsSpi (spi_in new.phase) new_table
+spis_stay meaning setup old table octets m e new new_table holds is =
+    still_held old new table new_table holds (leaves meaning setup old table octets m e new new_table is).spi
+
+some_held : (old new : Association) (table new_table : Database) (spi : ℕ) → held_by new ≡ Some spi → (held_by new ≡ None) ⊎ ((held_by new ≡ held_by old) × (new_table ≡ table))
+    → held_by old ≡ Some spi
+some_held old new table new_table spi held (inl none) = absurd cc
+some_held old new table new_table spi held (inr (same, unchanged)) = sym same ∙ held
+
+pub none_comes : (meaning : Meaning) (setup : Setup) (old : Association) (table : Database) (octets : Octets) (m : Message) (e : Effect) (new : Association) (new_table : Database) (spi : ℕ)
+    → spi_in new.phase ≡ Some spi → TakesMessage meaning setup old table octets m e new new_table → spi_in old.phase ≡ Some spi
+none_comes meaning setup old table octets m e new new_table spi held is =
+    some_held old new table new_table spi held (leaves meaning setup old table octets m e new new_table is).spi
+
+pub stays_itself : (meaning : Meaning) (setup : Setup) (old : Association) (table : Database) (octets : Octets) (m : Message) (e : Effect) (new : Association) (new_table : Database)
+    → TakesMessage meaning setup old table octets m e new new_table → StaysItself old new
+stays_itself meaning setup old table octets m e new new_table is = (leaves meaning setup old table octets m e new new_table is).itself
+
+pub passed_over : (meaning : Meaning) (setup : Setup) (old : Association) (table : Database) (octets : Octets) (m : Message) (fault : MessageFault) (new : Association) (new_table : Database)
+    → TakesMessage meaning setup old table octets m (effect.Refused fault) new new_table → (new ≡ old) × (new_table ≡ table)
+passed_over meaning setup old table octets m fault new new_table is =
+    let idle = (leaves meaning setup old table octets m (effect.Refused fault) new new_table is).idle in (idle.association, idle.pairs)
+
+pub repeated : (meaning : Meaning) (setup : Setup) (old : Association) (table : Database) (octets : Octets) (m : Message) (reply : Octets) (new : Association) (new_table : Database)
+    → TakesMessage meaning setup old table octets m (effect.Repeated reply) new new_table → (new ≡ old) × (new_table ≡ table)
+repeated meaning setup old table octets m reply new new_table is =
+    let idle = (leaves meaning setup old table octets m (effect.Repeated reply) new new_table is).idle in (idle.association, idle.pairs)
+
+pub pairs_left : (meaning : Meaning) (setup : Setup) (old : Association) (table : Database) (octets : Octets) (m : Message) (e : Effect) (new : Association) (new_table : Database)
+    → TakesMessage meaning setup old table octets m e new new_table → LeavesPairs table old.serial new_table
+pairs_left meaning setup old table octets m e new new_table is = (leaves meaning setup old table octets m e new new_table is).pairs

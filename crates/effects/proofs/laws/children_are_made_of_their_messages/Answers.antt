@@ -1,0 +1,26 @@
+use Rattle.effects.proofs.MadeLemmas.{asks_for_child, makes_child, waits_for_child}
+use Rattle.effects.proofs.laws.children_are_made_of_their_messages.Goals as goal
+
+pub returns-clause-made : goal.returns-clause-made
+returns-clause-made c =
+    makes_child (record {
+      made = c.pairs_are_children.ensures.made;
+      accepted = c.pairs_are_children.ensures.accepted;
+      asked = c.what_is_accepted_was_asked.ensures;
+      offer = c.responses_keep_to_their_offers.ensures.offer;
+      policy = c.responses_keep_to_their_offers.ensures.policy;
+      extension = c.responses_keep_to_their_offers.ensures.extension;
+      few_made = c.pairs_have_few_selectors.ensures.made;
+      few_accepted = c.pairs_have_few_selectors.ensures.accepted;
+      fit = c.what_is_read_fits.ensures;
+      ts_i = c.what_counts_fits.ensures.ts_i;
+      ts_r = c.what_counts_fits.ensures.ts_r;
+      effective = c.receptions_say_why.ensures.effective;
+      answering = c.receptions_say_why.ensures.answering;
+    })
+
+pub returns-clause-asked : goal.returns-clause-asked
+returns-clause-asked c = asks_for_child
+
+pub returns-clause-waits : goal.returns-clause-waits
+returns-clause-waits c = waits_for_child

@@ -1,0 +1,113 @@
+-- What an association's first child is at each end, and of which messages (RFC 7296 sections 1.2, 2.9 and 2.17).
+use Rattle.std.specs.Prelude.{◌≡◌, ◌⊎◌, ℕ, true, false, Some, List}
+use Rattle.std.specs.FinMap as map
+use Rattle.base.specs.Octets.{Octets}
+use Rattle.wire.specs.Numbers.{IKE_AUTH}
+use Rattle.wire.specs.Payloads.{SpellsChain}
+use Rattle.wire.specs.declared.message.Message.{Message}
+use Rattle.wire.specs.declared.payload.Payload.{Payload}
+use Rattle.suite.specs.Keys.{first_child_keys}
+use Rattle.suite.specs.declared.key_record.KeyRecord.{KeyRecord}
+use Rattle.exchange.specs.Headers.{keys_of, sent_header}
+use Rattle.exchange.specs.Sealed.{IsSealed}
+use Rattle.exchange.specs.declared.child.ChildPayloads.{ChildPayloads}
+use Rattle.exchange.specs.declared.headers.Role.TheVariants.{Initiator, Responder}
+use Rattle.exchange.specs.declared.sealed.Plain.{Plain}
+use Rattle.policy.specs.Narrowing.{AnswersOffer, LieInsidePolicy}
+use Rattle.sadb.specs.Database.{pair_at, Database}
+use Rattle.sadb.specs.declared.pair.Pair.{Pair}
+use Rattle.association.specs.FirstChildren.{asked_of, FirstChildView}
+use Rattle.association.specs.Receiving.{opened_by}
+use Rattle.association.specs.declared.phase.Association.{Association}
+use Rattle.association.specs.declared.phase.AuthSent.{AuthSent}
+use Rattle.association.specs.declared.phase.Phase.TheVariants as phase
+use Rattle.children.specs.Accepting.{KeepsToRequest}
+use Rattle.children.specs.Asking.{child_request, HasChildPayloads}
+use Rattle.children.specs.Pairs.{HasFewSelectors, IsChild}
+use Rattle.initial.specs.Answering.{reply_message}
+use Rattle.initial.specs.Configs.{Setup}
+use Rattle.initial.specs.Issuing.{new_request}
+use Rattle.effects.specs.Pairs.{IsUnused}
+use Rattle.effects.specs.Taking.{Meaning}
+use Rattle.initial.specs.declared.answering.Answered.{Answered}
+use Rattle.effects.specs.declared.taking.Effect.{Effect}
+use Rattle.effects.specs.declared.taking.Effect.TheVariants as effect
+
+-- A child came: its association is established, its pair stands under the next serial, with no number sent or taken, and no other
+-- pair came.
+pub record BringsChild (ike serial : ℕ) (table : Database) (keys : KeyRecord) (pair : Pair) (new : Association) (new_table : Database) : Type 0 where
+  pub established : new.phase ≡ phase.Established keys
+  pub in_order : serial ≡ table.next
+  pub there : pair_at new_table.pairs serial ≡ Some pair
+  pub unused : IsUnused ike pair
+  pub alone : (other : ℕ) (pair : Pair) → pair_at new_table.pairs other ≡ Some pair → (pair_at table.pairs other ≡ Some pair) ⊎ (other ≡ serial)
+
+-- The responder's pair of a first child: it is made of the request and of its reply under the association's keys, its selectors lie inside
+-- those offered and inside one entry that protects, its numbers are extended only where that is allowed, and it has few selectors.
+pub record IsAnsweredChild (setup : Setup) (keys : KeyRecord) (request reply : List Payload) (pair : Pair) : Type 0 where
+  pub child : IsChild Responder (first_child_keys keys) request reply pair
+  pub offer : ChildPayloads
+  pub offered : HasChildPayloads request offer
+  pub remote : AnswersOffer pair.remote offer.ts_i
+  pub local : AnswersOffer pair.local offer.ts_r
+  pub protected : LieInsidePolicy setup.entries pair.remote pair.local
+  pub extension : pair.inbound.association.extended ≡ true → setup.config.extended ≡ true
+  pub few : HasFewSelectors pair
+
+-- The initiator's pair: it is made of the reply and of whatever request asked for this child, and keeps to what was asked.
+pub record IsAskedChild (child : FirstChildView) (keys : KeyRecord) (reply : List Payload) (pair : Pair) : Type 0 where
+  pub made : (request : List Payload) → HasChildPayloads request (child_request (asked_of child)) → IsChild Initiator (first_child_keys keys) request reply pair
+  pub keeps : KeepsToRequest (asked_of child) pair
+  pub few : HasFewSelectors pair
+
+-- A responder made it: of the payloads that the request opened to, and of those that were sealed in its answer.
+pub record AnswersForChild (meaning : Meaning) (setup : Setup) (old : Association) (octets : Octets) (m : Message) (answered : Answered) (keys : KeyRecord) (pair : Pair) : Type 0 where
+  pub plain : Plain
+  pub opened : opened_by meaning.plain_of old octets m.payloads ≡ Some plain
+  pub request : List Payload
+  pub read : SpellsChain plain.first request plain.octets
+  pub reply : List Payload
+  pub sealed : IsSealed meaning.body_of (keys_of old.role keys) setup.fresh.seal (reply_message old IKE_AUTH m.header.id reply) answered.octets
+  pub is : IsAnsweredChild setup keys request reply pair
+
+-- An initiator made it: the one that it waited for, of the payloads that the response opened to.
+pub record EndsWithChild (meaning : Meaning) (old : Association) (octets : Octets) (m : Message) (keys : KeyRecord) (pair : Pair) : Type 0 where
+  pub sent : AuthSent
+  pub was : old.phase ≡ phase.AuthSent sent
+  pub same_keys : sent.keys ≡ keys
+  pub plain : Plain
+  pub opened : opened_by meaning.plain_of old octets m.payloads ≡ Some plain
+  pub reply : List Payload
+  pub read : SpellsChain plain.first reply plain.octets
+  pub is : IsAskedChild sent.child keys reply pair
+
+-- by what came of the message
+abbrev pub MadeBy : Meaning → Setup → Association → Octets → Message → Effect → KeyRecord → Pair → Type 0
+MadeBy meaning setup old octets m (effect.Refused fault) keys pair = ⊥
+MadeBy meaning setup old octets m (effect.Repeated said) keys pair = ⊥
+MadeBy meaning setup old octets m (effect.Replied answered) keys pair = AnswersForChild meaning setup old octets m answered keys pair
+MadeBy meaning setup old octets m (effect.Again next) keys pair = ⊥
+MadeBy meaning setup old octets m (effect.Identified next) keys pair = ⊥
+MadeBy meaning setup old octets m (effect.Counted ended) keys pair = EndsWithChild meaning old octets m keys pair
+
+-- A message made a first child, under this serial.
+pub record MakesChild (meaning : Meaning) (setup : Setup) (old : Association) (table : Database) (octets : Octets) (m : Message) (e : Effect) (serial : ℕ) (new : Association) (new_table : Database) : Type 0 where
+  pub keys : KeyRecord
+  pub pair : Pair
+  pub brings : BringsChild old.serial serial table keys pair new new_table
+  pub made : MadeBy meaning setup old octets m e keys pair
+
+-- An initiator asked for its child: the payloads of IKE_AUTH, sealed under its keys and kept as the request of number 1, ask for the
+-- child that it waits for from then on.
+pub record AsksForChild (meaning : Meaning) (setup : Setup) (octets : Octets) (new : Association) : Type 0 where
+  pub sent : AuthSent
+  pub waits : new.phase ≡ phase.AuthSent sent
+  pub request : List Payload
+  pub asks : HasChildPayloads request (child_request (asked_of sent.child))
+  pub sealed : IsSealed meaning.body_of (keys_of new.role sent.keys) setup.fresh.seal (record { header = sent_header new.spi_i new.spi_r IKE_AUTH new.role false 1; payloads = request }) octets
+  pub kept : map.get new.outgoing.outstanding 1 ≡ Some (new_request octets IKE_AUTH setup.moment)
+
+-- the effect by which an initiator asks
+pub record IsAsking (e : Effect) : Type 0 where
+  pub octets : Octets
+  pub is : e ≡ effect.Identified octets

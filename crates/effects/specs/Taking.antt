@@ -1,0 +1,135 @@
+-- What a message does to the association that it is for (RFC 7296 sections 1.2, 1.4, 2.1 to 2.4).
+use Rattle.std.specs.Prelude.{◌≡◌, ◌==◌, ◌⊎◌, ℕ, Bool, true, false, Option}
+use Rattle.base.specs.Octets.{Octets}
+use Rattle.wire.specs.Numbers.{INFORMATIONAL}
+use Rattle.wire.specs.declared.message.Message.{Message}
+use Rattle.suite.specs.declared.keys.Keys.{Keys}
+use Rattle.suite.specs.declared.sealer.Cipher.{Cipher}
+use Rattle.exchange.specs.declared.sealed.Plain.{Plain}
+use Rattle.sadb.specs.Database.{Database}
+use Rattle.association.specs.Receiving.{Answers, AnswersInitial, IsReceived, Opening, Reception, Refused, Repeat, TakesEffect}
+use Rattle.association.specs.declared.fault.MessageFault.TheVariants.{WrongPhase}
+use Rattle.association.specs.declared.phase.Association.{Association}
+use Rattle.association.specs.declared.phase.Phase.{Phase}
+use Rattle.association.specs.declared.phase.Phase.TheVariants as phase
+use Rattle.auth.specs.Proofs.{Accepts}
+use Rattle.initial.specs.Answering.{AnswersAuth, IsHalfOpen, Prover}
+use Rattle.initial.specs.Configs.{Setup}
+use Rattle.initial.specs.Ending.{EndsAuth, IsAuthSent}
+use Rattle.initial.specs.Reading.{Asker, IsInitSent, ReadsResponse}
+use Rattle.informational.specs.Answering.{AnswersInformational}
+use Rattle.informational.specs.Counting.{CountsInformational}
+use Rattle.initial.specs.declared.reading.Continued.{Continued}
+use Rattle.initial.specs.declared.reading.Continued.TheVariants as continued
+use Rattle.effects.specs.declared.taking.Effect.{Effect}
+use Rattle.effects.specs.declared.taking.Effect.TheVariants as effect
+use Rattle.effects.specs.declared.taking.Taken.{Taken}
+use Rattle.effects.specs.declared.taking.Taken.TheVariants as taken
+
+-- what the caller means by its traits
+pub record Meaning : Type 0 where
+  pub cipher : Cipher
+  pub body_of : Keys → Octets → Octets → Octets → Octets
+  pub plain_of : Opening
+  pub group : ℕ
+  pub public_value : Octets → Octets
+  pub shared_secret : Octets → Octets → Option Octets
+  pub own_method : ℕ
+  pub proof_of : Octets → Octets
+  pub accepts : Accepts
+
+abbrev pub prover_of : Meaning → Prover
+prover_of m = record { body_of = m.body_of; own_method = m.own_method; proof_of = m.proof_of; accepts = m.accepts }
+
+abbrev pub asker_of : Meaning → Asker
+asker_of m = record {
+  cipher = m.cipher;
+  body_of = m.body_of;
+  group = m.group;
+  public_value = m.public_value;
+  shared_secret = m.shared_secret;
+  own_method = m.own_method;
+  proof_of = m.proof_of;
+}
+
+-- association and table are as they were
+pub record IsPassedOver (old : Association) (table : Database) (new : Association) (new_table : Database) : Type 0 where
+  pub association : new ≡ old
+  pub pairs : new_table ≡ table
+
+-- what a request of these payloads does at an established association: that of INFORMATIONAL; CREATE_CHILD_SA is not known yet
+abbrev pub DoesFurther : Bool → Meaning → Setup → Association → Database → ℕ → Plain → Effect → Association → Database → Type 0
+DoesFurther true meaning setup old table number plain (effect.Replied answered) new new_table =
+    AnswersInformational meaning.body_of setup old table number plain answered new new_table
+DoesFurther true meaning setup old table number plain e new new_table = ⊥
+DoesFurther false meaning setup old table number plain (effect.Refused fault) new new_table = (fault ≡ WrongPhase) × IsPassedOver old table new new_table
+DoesFurther false meaning setup old table number plain e new new_table = ⊥
+
+-- what a request of this exchange and these payloads does: IKE_AUTH to a half-open association, and others to an established one
+abbrev pub DoesRequest : Meaning → Setup → Phase → ℕ → Association → Database → ℕ → Plain → Effect → Association → Database → Type 0
+DoesRequest meaning setup (phase.HalfOpen opened) exchange old table number plain (effect.Replied answered) new new_table =
+    AnswersAuth (prover_of meaning) setup old table number plain answered new new_table
+DoesRequest meaning setup (phase.HalfOpen opened) exchange old table number plain e new new_table = ⊥
+DoesRequest meaning setup (phase.Established keys) exchange old table number plain e new new_table =
+    DoesFurther (exchange == INFORMATIONAL) meaning setup old table number plain e new new_table
+DoesRequest meaning setup p exchange old table number plain (effect.Refused fault) new new_table = (fault ≡ WrongPhase) × IsPassedOver old table new new_table
+DoesRequest meaning setup p exchange old table number plain e new new_table = ⊥
+
+-- what a response of these payloads does: that to IKE_AUTH, and at an established association that to INFORMATIONAL, since no request of
+-- another exchange goes out there
+abbrev pub DoesResponse : Meaning → Setup → Phase → Association → Database → ℕ → Plain → Effect → Association → Database → Type 0
+DoesResponse meaning setup (phase.AuthSent sent) old table number plain (effect.Counted ended) new new_table =
+    EndsAuth meaning.accepts setup old table number plain ended new new_table
+DoesResponse meaning setup (phase.AuthSent sent) old table number plain e new new_table = ⊥
+DoesResponse meaning setup (phase.Established keys) old table number plain (effect.Counted ended) new new_table =
+    CountsInformational setup old table number plain ended new new_table
+DoesResponse meaning setup (phase.Established keys) old table number plain e new new_table = ⊥
+DoesResponse meaning setup p old table number plain (effect.Refused fault) new new_table = (fault ≡ WrongPhase) × IsPassedOver old table new new_table
+DoesResponse meaning setup p old table number plain e new new_table = ⊥
+
+-- what is done about the response to IKE_SA_INIT, by how it is gone on
+abbrev pub Says : Effect → Continued → Type 0
+Says (effect.Again octets) (continued.Again next) = octets ≡ next
+Says (effect.Identified octets) (continued.Identity next) = octets ≡ next
+Says (effect.Refused fault) continued.Unfit = fault ≡ WrongPhase
+Says e c = ⊥
+
+-- what the response to IKE_SA_INIT does
+pub record DoesInitial (meaning : Meaning) (setup : Setup) (old : Association) (octets : Octets) (m : Message) (e : Effect) (new : Association) : Type 0 where
+  pub continued : Continued
+  pub read : ReadsResponse (asker_of meaning) setup old m.header.id octets m continued new
+  pub said : Says e continued
+
+abbrev pub Does : Meaning → Setup → Association → Database → Octets → Message → Reception → Effect → Association → Database → Type 0
+Does meaning setup old table octets m (Refused fault) (effect.Refused said) new new_table = (said ≡ fault) × IsPassedOver old table new new_table
+Does meaning setup old table octets m (Repeat reply) (effect.Repeated said) new new_table = (said ≡ reply) × IsPassedOver old table new new_table
+Does meaning setup old table octets m (TakesEffect plain) e new new_table = DoesRequest meaning setup old.phase m.header.exchange old table m.header.id plain e new new_table
+Does meaning setup old table octets m (Answers plain) e new new_table = DoesResponse meaning setup old.phase old table m.header.id plain e new new_table
+Does meaning setup old table octets m AnswersInitial e new new_table = DoesInitial meaning setup old octets m e new × (new_table ≡ table)
+Does meaning setup old table octets m reception e new new_table = ⊥
+
+-- The message is received as what it is, and does what that does.
+pub record TakesMessage (meaning : Meaning) (setup : Setup) (old : Association) (table : Database) (octets : Octets) (m : Message) (e : Effect) (new : Association) (new_table : Database) : Type 0 where
+  pub reception : Reception
+  pub received : IsReceived meaning.plain_of old octets m reception
+  pub done : Does meaning setup old table octets m reception e new new_table
+
+-- what a message is, by a copy of it; only private contracts cite this
+abbrev pub reception_of : Taken → Reception
+reception_of (taken.Refused fault) = Refused fault
+reception_of (taken.Repeat reply) = Repeat reply
+reception_of (taken.Request plain) = TakesEffect plain
+reception_of (taken.Response plain) = Answers plain
+reception_of taken.InitialResponse = AnswersInitial
+
+-- A message leaves an association its serial, its role and its SPIs, but that an initiator learns the responder's from the response to
+-- IKE_SA_INIT; none comes back to a phase in which an association begins, and who waits for the response to IKE_AUTH waited for that
+-- one or for the response to IKE_SA_INIT before.
+pub record StaysItself (old new : Association) : Type 0 where
+  pub serial : new.serial ≡ old.serial
+  pub role : new.role ≡ old.role
+  pub spi_i : new.spi_i ≡ old.spi_i
+  pub spi_r : (new.spi_r ≡ old.spi_r) ⊎ IsInitSent old.phase
+  pub waiting : IsInitSent new.phase → IsInitSent old.phase
+  pub asking : IsAuthSent new.phase → IsInitSent old.phase ⊎ IsAuthSent old.phase
+  pub half_open : IsHalfOpen new.phase → IsHalfOpen old.phase

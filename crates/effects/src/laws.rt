@@ -1,0 +1,299 @@
+//! What follows from the definitions alone. No function here does anything.
+ghost use Rattle.std.specs.Prelude.{◌≡◌, ◌≢◌, ◌⊎◌, ◌+◌, ◌<◌, ℕ, List, Option, Some, None, length};
+ghost use Rattle.base.specs.Octets.{Octets, AreOctets};
+ghost use Rattle.wire.specs.declared.message.Message.{Message};
+ghost use Rattle.wire.specs.declared.payload.Payload.{Payload};
+ghost use Rattle.suite.specs.declared.fresh.Fresh.{Fresh};
+ghost use Rattle.suite.specs.declared.sealer.Cipher.{Cipher};
+ghost use Rattle.sa_init.specs.Cookies.{CookieSecrets};
+ghost use Rattle.sa_init.specs.Judging.{Accepted, IsJudgement, OfferView};
+ghost use Rattle.sa_init.specs.declared.judging.Sender.{Sender};
+ghost use Rattle.sadb.specs.Database.{pair_at, Database, IsReserved, IsSoundTable};
+ghost use Rattle.sadb.specs.declared.pair.Pair.{Pair};
+ghost use Rattle.association.specs.Closing.{HoldsSpi};
+ghost use Rattle.association.specs.FirstChildren.{FirstChildView};
+ghost use Rattle.association.specs.Phases.{keys_in, spi_in};
+ghost use Rattle.sadb.specs.Contents.{table_content};
+ghost use Rattle.association.specs.Contents.{association_content};
+ghost use Rattle.association.specs.declared.phase.Association.{Association};
+ghost use Rattle.suite.specs.declared.fresh.Fresh.{Fresh};
+ghost use Rattle.suite.specs.declared.key_record.KeyRecord.{KeyRecord};
+ghost use Rattle.suite.specs.declared.sealer.Cipher.{Cipher};
+ghost use Rattle.sa_init.specs.Judging.{OfferView};
+ghost use Rattle.exchange.specs.declared.sealed.Plain.{Plain};
+ghost use Rattle.association.specs.declared.phase.Phase.TheVariants.{Established};
+ghost use Rattle.association.specs.declared.phase.Phase.TheVariants as phase;
+ghost use Rattle.association.specs.declared.phase.AuthSent.{AuthSent};
+ghost use Rattle.auth.specs.Proofs.{Accepts};
+ghost use Rattle.initial.specs.Answering.{AnswersAuth, Prover};
+ghost use Rattle.initial.specs.Beginning.{begun, Admits, Begins};
+ghost use Rattle.effects.specs.Children.{AsksForChild, IsAsking, MakesChild};
+ghost use Rattle.initial.specs.Configs.{Setup};
+ghost use Rattle.initial.specs.Ending.{EndsAuth};
+ghost use Rattle.effects.specs.Keeping.{child_in, sent_by, IsShort, KeepsShort, KeyedBy};
+ghost use Rattle.effects.specs.Offers.{AnswersAuthSa, AnswersInitialSa};
+ghost use Rattle.effects.specs.Lengths.{HoldsWholeKeys, TellsLengths};
+ghost use Rattle.effects.specs.Proving.{ProvesByMessage, ProvesByRequest, ProvesByResponse};
+ghost use Rattle.initial.specs.declared.answering.Answered.{Answered};
+ghost use Rattle.initial.specs.declared.beginning.Admitted.{Admitted};
+ghost use Rattle.initial.specs.declared.beginning.Beginning.{Beginning};
+ghost use Rattle.initial.specs.declared.ending.Ended.{Ended};
+ghost use Rattle.effects.specs.Pairs.{LeavesPairs};
+ghost use Rattle.effects.specs.Taking.{Meaning, StaysItself, TakesMessage};
+ghost use Rattle.association.specs.declared.fault.MessageFault.{MessageFault};
+ghost use Rattle.effects.specs.declared.taking.Effect.{Effect};
+ghost use Rattle.effects.specs.declared.taking.Effect.TheVariants.{Identified, Refused, Repeated};
+
+use association::Request;
+use association::laws::{
+    endings_are_determined, receptions_are_determined, receptions_go_by_content,
+    receptions_say_why, repeats_say_why,
+};
+use auth::laws::who_is_accepted_proved_itself;
+use children::laws::{
+    children_are_determined, pairs_are_children, pairs_have_few_selectors,
+    responses_keep_to_their_offers, what_is_accepted_was_asked,
+};
+use exchange::laws::{
+    ciphers_tell_lengths, ends_agree, sealed_messages_are_determined, what_counts_fits,
+};
+use requests::laws::{later_incoming_are_determined, later_outgoing_are_determined};
+use sadb::laws::later_tables_are_determined;
+use suite::Sealer;
+use suite::laws::derived_keys_are_keys;
+use wire::laws::{octets_spell_one_message, plain_spellings_are_determined, what_is_read_fits};
+
+/// The SPI that is reserved for an association's first child stays reserved as long as the association holds it.
+pub fn spis_stay_reserved()
+    ensures { (meaning : Meaning) (setup : Setup) (old : Association) (table : Database) (octets : Octets) (m : Message)
+        (effect : Effect) (new : Association) (new_table : Database) → HoldsSpi (spi_in old.phase) table
+        → TakesMessage meaning setup old table octets m effect new new_table
+        → HoldsSpi (spi_in new.phase) new_table }
+{}
+
+/// A message leaves an association its serial, its role and its SPIs, but that an initiator learns the responder's; no association
+/// comes to be half open, or to wait for the response to IKE_SA_INIT, that was not before; and who waits for the response to IKE_AUTH
+/// waited for one of the two before.
+pub fn associations_stay_themselves()
+    ensures { (meaning : Meaning) (setup : Setup) (old : Association) (table : Database) (octets : Octets) (m : Message)
+        (effect : Effect) (new : Association) (new_table : Database)
+        → TakesMessage meaning setup old table octets m effect new new_table → StaysItself old new }
+{}
+
+/// Each pair in the table is as it was, or came by this message for its association, under the next serial and with no number sent or
+/// taken; and the pairs of other associations stay.
+pub fn pairs_stay_as_they_were()
+    ensures { (meaning : Meaning) (setup : Setup) (old : Association) (table : Database) (octets : Octets) (m : Message)
+        (effect : Effect) (new : Association) (new_table : Database)
+        → TakesMessage meaning setup old table octets m effect new new_table → LeavesPairs table old.serial new_table }
+{}
+
+/// A pair that comes by a message is the child that its effect tells.
+pub fn pairs_that_come_are_told()
+    ensures { (meaning : Meaning) (setup : Setup) (old : Association) (table : Database) (octets : Octets) (m : Message)
+        (effect : Effect) (new : Association) (new_table : Database) (serial : ℕ) (pair : Pair)
+        → TakesMessage meaning setup old table octets m effect new new_table → pair_at new_table.pairs serial ≡ Some pair
+        → (pair_at table.pairs serial ≡ Some pair) ⊎ (child_in effect ≡ Some serial) }
+{}
+
+/// A message that is passed over, or a request that comes again, changes nothing.
+pub fn what_is_passed_over_changes_nothing()
+    ensures refused { (meaning : Meaning) (setup : Setup) (old : Association) (table : Database) (octets : Octets)
+        (m : Message) (fault : MessageFault) (new : Association) (new_table : Database)
+        → TakesMessage meaning setup old table octets m (Refused fault) new new_table
+        → (new ≡ old) × (new_table ≡ table) }
+    ensures repeated { (meaning : Meaning) (setup : Setup) (old : Association) (table : Database) (octets : Octets)
+        (m : Message) (reply : Octets) (new : Association) (new_table : Database)
+        → TakesMessage meaning setup old table octets m (Repeated reply) new new_table
+        → (new ≡ old) × (new_table ≡ table) }
+{}
+
+/// An association comes to no SPI by a message: what it holds for its first child it held before.
+pub fn no_spi_comes()
+    ensures { (meaning : Meaning) (setup : Setup) (old : Association) (table : Database) (octets : Octets) (m : Message)
+        (effect : Effect) (new : Association) (new_table : Database) (spi : ℕ) → spi_in new.phase ≡ Some spi
+        → TakesMessage meaning setup old table octets m effect new new_table → spi_in old.phase ≡ Some spi }
+{}
+
+/// An SPI that is reserved for another association than the one that a message is for stays reserved.
+pub fn what_others_hold_stays()
+    ensures { (meaning : Meaning) (setup : Setup) (old : Association) (table : Database) (octets : Octets) (m : Message)
+        (effect : Effect) (new : Association) (new_table : Database) (spi : ℕ) → spi_in old.phase ≢ Some spi
+        → IsReserved table spi → spi < table.start + table.given
+        → TakesMessage meaning setup old table octets m effect new new_table → IsReserved new_table spi }
+{}
+
+/// All that an association keeps to send again has at most 3000 octets, as a message may have: the replies that are kept, the requests
+/// that wait for an answer, and the reply that a half-open association keeps. So has what goes out by a message, and what goes out as
+/// an association begins.
+pub fn what_is_kept_is_short()
+    ensures stays { (meaning : Meaning) (setup : Setup) (old : Association) (table : Database) (octets : Octets) (m : Message)
+        (effect : Effect) (new : Association) (new_table : Database) → KeepsShort old
+        → TakesMessage meaning setup old table octets m effect new new_table → KeepsShort new }
+    ensures sent { (meaning : Meaning) (setup : Setup) (old : Association) (table : Database) (octets : Octets) (m : Message)
+        (effect : Effect) (new : Association) (new_table : Database) (said : Octets) → KeepsShort old
+        → TakesMessage meaning setup old table octets m effect new new_table → sent_by effect ≡ Some said → IsShort said }
+    ensures begun { (cipher : Cipher) (group : ℕ) (public_value : Octets → Octets) (fresh : Fresh) (moment serial : ℕ)
+        (beginning : Beginning) (child : FirstChildView) → Begins cipher group public_value fresh moment beginning
+        → KeepsShort (begun serial beginning child) × IsShort beginning.octets }
+    ensures admitted { (cipher : Cipher) (group : ℕ) (public_value : Octets → Octets)
+        (shared_secret : Octets → Octets → Option Octets) (fresh : Fresh) (moment serial : ℕ) (offer : OfferView) (spi_i : ℕ)
+        (request : Octets) (admitted : Admitted)
+        → Admits cipher group public_value shared_secret fresh moment serial offer spi_i request admitted
+        → KeepsShort admitted.association × IsShort admitted.octets }
+{
+    repeats_say_why();
+}
+
+/// A message leaves an association its keys; what goes out under keys goes out of an association that has them; and keys come by the
+/// response to IKE_SA_INIT alone, to an initiator that had none and asks for its child now.
+pub fn keys_stay()
+    ensures stay { (meaning : Meaning) (setup : Setup) (old : Association) (table : Database) (octets : Octets) (m : Message)
+        (effect : Effect) (new : Association) (new_table : Database) (keys : KeyRecord) → keys_in old.phase ≡ Some keys
+        → TakesMessage meaning setup old table octets m effect new new_table → keys_in new.phase ≡ Some keys }
+    ensures keyed { (meaning : Meaning) (setup : Setup) (old : Association) (table : Database) (octets : Octets) (m : Message)
+        (effect : Effect) (new : Association) (new_table : Database)
+        → TakesMessage meaning setup old table octets m effect new new_table → KeyedBy effect new.phase }
+    ensures come { (meaning : Meaning) (setup : Setup) (old : Association) (table : Database) (octets : Octets) (m : Message)
+        (effect : Effect) (new : Association) (new_table : Database) (keys : KeyRecord) → keys_in new.phase ≡ Some keys
+        → TakesMessage meaning setup old table octets m effect new new_table
+        → (keys_in old.phase ≡ Some keys) ⊎ IsAsking effect }
+    ensures none { (meaning : Meaning) (setup : Setup) (old : Association) (table : Database) (octets : Octets) (m : Message)
+        (next : Octets) (new : Association) (new_table : Database)
+        → TakesMessage meaning setup old table octets m (Identified next) new new_table → keys_in old.phase ≡ None }
+{
+    repeats_say_why();
+}
+
+/// A child that a message made is what the payloads of IKE_AUTH say (RFC 7296, sections 1.2, 2.9 and 2.17): at a responder those that the
+/// request opened to and those that were sealed in the answer, at an initiator those that the response opened to and those that asked
+/// for the child. Its association is established, and its pair, under the association's keys, is the only one that came. An initiator
+/// that waits for a child waited for it before, or asks for it now.
+pub fn children_are_made_of_their_messages()
+    ensures made { (meaning : Meaning) (setup : Setup) (old : Association) (table : Database) (octets : Octets) (m : Message)
+        (effect : Effect) (serial : ℕ) (new : Association) (new_table : Database) → IsSoundTable table
+        → HoldsSpi (spi_in old.phase) table → child_in effect ≡ Some serial
+        → TakesMessage meaning setup old table octets m effect new new_table
+        → MakesChild meaning setup old table octets m effect serial new new_table }
+    ensures asked { (meaning : Meaning) (setup : Setup) (old : Association) (table : Database) (octets : Octets) (m : Message)
+        (next : Octets) (new : Association) (new_table : Database)
+        → TakesMessage meaning setup old table octets m (Identified next) new new_table
+        → AsksForChild meaning setup next new }
+    ensures waits { (meaning : Meaning) (setup : Setup) (old : Association) (table : Database) (octets : Octets) (m : Message)
+        (effect : Effect) (new : Association) (new_table : Database) (sent : AuthSent) → new.phase ≡ phase.AuthSent sent
+        → TakesMessage meaning setup old table octets m effect new new_table
+        → (old.phase ≡ phase.AuthSent sent) ⊎ IsAsking effect }
+{
+    pairs_are_children();
+    responses_keep_to_their_offers();
+    what_is_accepted_was_asked();
+    pairs_have_few_selectors();
+    what_is_read_fits();
+    what_counts_fits();
+    receptions_say_why();
+}
+
+/// An SA in an answer has one proposal, with the number and the protocol of one that was offered and one of its transforms of each type
+/// (RFC 7296, section 3.3.1): in the answer to IKE_SA_INIT, and in each SA of that to IKE_AUTH.
+pub fn answers_keep_to_their_offers()
+    ensures initial { (cipher : Cipher) (group : ℕ) (public_value : Octets → Octets)
+        (shared_secret : Octets → Octets → Option Octets) (secrets : CookieSecrets) (sender : Sender) (half_open held : ℕ)
+        (payloads : List Payload) (fresh : Fresh) (moment serial : ℕ) (offer : OfferView) (spi_i : ℕ) (request : Octets)
+        (admitted : Admitted) → IsJudgement cipher group secrets sender half_open held payloads (Accepted offer)
+        → Admits cipher group public_value shared_secret fresh moment serial offer spi_i request admitted
+        → AnswersInitialSa payloads admitted.octets }
+    ensures auth { (prover : Prover) (setup : Setup) (old : Association) (table : Database) (number : ℕ) (plain : Plain)
+        (answered : Answered) (new : Association) (new_table : Database)
+        → AnswersAuth prover setup old table number plain answered new new_table
+        → AnswersAuthSa prover.body_of setup old number plain answered.octets }
+{
+    ends_agree();
+}
+
+/// An association is established by IKE_AUTH only where the caller accepted, of the configured peer's identity, the method and the proof
+/// in the only AUTH payload, over what the peer has to prove (RFC 7296, section 2.15): at a responder of the request's payloads, at
+/// an initiator of the response's. So whom a message leaves established was so before, or this message, as it opens, proves the peer.
+pub fn the_established_proved_themselves()
+    ensures request { (prover : Prover) (setup : Setup) (old : Association) (table : Database) (number : ℕ) (plain : Plain)
+        (answered : Answered) (new : Association) (new_table : Database) (keys : KeyRecord)
+        → AnswersAuth prover setup old table number plain answered new new_table → new.phase ≡ Established keys
+        → ProvesByRequest prover.accepts setup old.phase plain }
+    ensures response { (accepts : Accepts) (setup : Setup) (old : Association) (table : Database) (number : ℕ)
+        (plain : Plain) (ended : Ended) (new : Association) (new_table : Database) (keys : KeyRecord)
+        → EndsAuth accepts setup old table number plain ended new new_table → new.phase ≡ Established keys
+        → ProvesByResponse accepts setup old.phase plain }
+    ensures message { (meaning : Meaning) (setup : Setup) (old : Association) (table : Database) (octets : Octets) (m : Message)
+        (effect : Effect) (new : Association) (new_table : Database) (keys : KeyRecord)
+        → TakesMessage meaning setup old table octets m effect new new_table → new.phase ≡ Established keys
+        → (old.phase ≡ Established keys) ⊎ ProvesByMessage meaning setup old octets m }
+{
+    receptions_say_why();
+    who_is_accepted_proved_itself();
+}
+
+/// A caller's cipher tells the length of a body by that of its plain text, with 16 fresh octets.
+pub fn lengths_are_told<S: Sealer>(sealer: &S)
+    ensures { (fresh : Octets) → AreOctets fresh → length fresh ≡ 16 → TellsLengths S.body_of fresh }
+{
+    ciphers_tell_lengths(sealer);
+}
+
+/// The keys of an association have 32 octets each: those that are derived for a half-open one, and those after a message.
+pub fn keys_stay_whole()
+    ensures admitted { (cipher : Cipher) (group : ℕ) (public_value : Octets → Octets)
+        (shared_secret : Octets → Octets → Option Octets) (fresh : Fresh) (moment serial : ℕ) (offer : OfferView) (spi_i : ℕ)
+        (request : Octets) (admitted : Admitted)
+        → Admits cipher group public_value shared_secret fresh moment serial offer spi_i request admitted
+        → HoldsWholeKeys admitted.association.phase }
+    ensures taken { (meaning : Meaning) (setup : Setup) (old : Association) (table : Database) (octets : Octets) (m : Message)
+        (effect : Effect) (new : Association) (new_table : Database) → HoldsWholeKeys old.phase
+        → TakesMessage meaning setup old table octets m effect new new_table → HoldsWholeKeys new.phase }
+{
+    derived_keys_are_keys();
+}
+
+/// An association begins in one way, at either end, with one first message; for how many requests it has room is no part of it.
+pub fn beginnings_are_determined()
+    ensures begun { (cipher : Cipher) (group : ℕ) (public_value : Octets → Octets) (fresh : Fresh) (moment serial : ℕ)
+        (child : FirstChildView) (a b : Beginning) → Begins cipher group public_value fresh moment a
+        → Begins cipher group public_value fresh moment b
+        → (a.octets ≡ b.octets)
+        × (association_content (begun serial a child) ≡ association_content (begun serial b child)) }
+    ensures admitted { (cipher : Cipher) (group : ℕ) (public_value : Octets → Octets)
+        (shared_secret : Octets → Octets → Option Octets) (fresh : Fresh) (moment serial : ℕ) (offer : OfferView) (spi_i : ℕ)
+        (request : Octets) (a b : Admitted)
+        → Admits cipher group public_value shared_secret fresh moment serial offer spi_i request a
+        → Admits cipher group public_value shared_secret fresh moment serial offer spi_i request b → a ≡ b }
+{
+    sa_init::laws::answers_are_determined();
+    plain_spellings_are_determined();
+    later_outgoing_are_determined::<Request>();
+}
+
+/// A message has one effect on an association: what comes of it, and what is held then of the association and of the table, goes by
+/// what was held of both before, whatever room there is. Of the meaning it is asked that a cipher tells lengths, as its law says, of the
+/// association that its keys are whole, as they stay ([`keys_stay_whole`]).
+pub fn effects_are_determined()
+    ensures { (meaning : Meaning) (setup : Setup) (old other a b : Association) (table another a_table b_table : Database)
+        (octets : Octets) (m : Message) (one two : Effect)
+        → TellsLengths meaning.body_of setup.fresh.seal → HoldsWholeKeys old.phase
+        → association_content old ≡ association_content other → table_content table ≡ table_content another
+        → TakesMessage meaning setup old table octets m one a a_table
+        → TakesMessage meaning setup other another octets m two b b_table
+        → (one ≡ two) × (association_content a ≡ association_content b) × (table_content a_table ≡ table_content b_table) }
+{
+    sa_init::laws::answers_are_determined();
+    auth::laws::judgements_are_determined();
+    children::laws::answers_are_determined();
+    children_are_determined();
+    derived_keys_are_keys();
+    endings_are_determined();
+    later_incoming_are_determined();
+    later_outgoing_are_determined::<Request>();
+    later_tables_are_determined();
+    octets_spell_one_message();
+    plain_spellings_are_determined();
+    receptions_are_determined();
+    receptions_go_by_content();
+    sealed_messages_are_determined();
+}

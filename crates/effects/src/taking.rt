@@ -1,0 +1,274 @@
+//! What a message does to the association that it is for.
+ghost use Rattle.std.specs.Prelude.{◌≡◌, ◌==◌, IfOk, IfErr};
+ghost use Rattle.wire.specs.Messages.{Spells};
+ghost use Rattle.wire.specs.Numbers.{INFORMATIONAL};
+ghost use Rattle.requests.specs.Incoming.{IsFreshRequest};
+ghost use Rattle.requests.specs.Outgoing.{IsOutstanding};
+ghost use Rattle.sadb.specs.Database.{IsAsBefore};
+ghost use Rattle.association.specs.Closing.{HoldsSpi};
+ghost use Rattle.association.specs.Phases.{spi_in};
+ghost use Rattle.association.specs.Receiving.{IsAnsweringInitial, IsReceived};
+ghost use Rattle.initial.specs.Configs.{setup_of, IsConfig};
+ghost use Rattle.initial.specs.Reading.{IsInitSent};
+ghost use Rattle.informational.specs.Orders.{IsEstablished};
+ghost use Rattle.effects.specs.Taking.{reception_of, DoesFurther, DoesInitial, DoesRequest, DoesResponse, TakesMessage};
+
+use association::laws::receptions_say_why;
+use association::{Association, MessageFault, Phase, Received, receive};
+use base::Items;
+use children::ChildFault;
+use exchange::Plain;
+use informational::{answer, count};
+use initial::{Answered, Continued, Ended, Step, answer_auth, end_auth, read_response};
+use sadb::Table;
+use std::alloc::{AllocError, Global};
+use suite::{Agreement, Proof, Sealer};
+use wire::Message;
+use wire::numbers::INFORMATIONAL;
+
+/// What came of a message.
+#[derive(Debug, Drop)]
+pub enum Effect {
+    /// It is passed over, and nothing is changed.
+    Refused(MessageFault),
+    /// A request that took effect before is answered by the same octets again; nothing is changed.
+    Repeated(Items<u8>),
+    /// A request took effect, and is answered.
+    Replied(Answered),
+    /// The response to IKE_SA_INIT asks for a cookie, and this request goes out again with it.
+    Again(Items<u8>),
+    /// The response to IKE_SA_INIT was taken: the keys are there, and IKE_AUTH goes out.
+    Identified(Items<u8>),
+    /// The response to a request of another exchange was counted.
+    Counted(Ended),
+}
+
+/// Takes a message for the association that [`association::find`] found for it. What it is, [`association::receive`] tells; a
+/// response to IKE_SA_INIT is taken by [`read_response`], IKE_AUTH by [`answer_auth`], and its response by [`end_auth`]; at an
+/// established association INFORMATIONAL is taken by [`informational::answer`], and its response by [`informational::count`].
+/// Requests of CREATE_CHILD_SA are passed over ([`MessageFault::WrongPhase`]).
+///
+/// The octets are those that the message was decoded from, and an SPI that is reserved for the association's first child is reserved
+/// in the table. An error is for want of memory alone, and changes nothing but the table's room.
+pub fn take_message<C: Sealer + Agreement + Proof>(
+    alloc: Global,
+    step: &Step<'_, C>,
+    association: &mut Association,
+    table: &mut Table,
+    octets: &[u8],
+    message: &Message,
+) -> Result<Effect, ChildFault>
+    requires config { IsConfig step.now.config.now }
+    requires spelled { Spells message.now octets.now }
+    requires reserved { HoldsSpi (spi_in association.old.phase) table.old }
+    ensures taken { IfOk result (λ effect. TakesMessage
+        (record {
+          cipher = C.cipher;
+          body_of = C.body_of;
+          plain_of = C.plain_of;
+          group = C.group_number;
+          public_value = C.public_value;
+          shared_secret = C.shared_secret;
+          own_method = C.own_method step.now.caller.now;
+          proof_of = C.proof_of step.now.caller.now;
+          accepts = C.accepts step.now.caller.now;
+        })
+        (setup_of step.now) association.old table.old octets.now message.now effect association.new table.new) }
+    ensures refused { IfErr result (λ _. (association.new ≡ association.old) × IsAsBefore table.old table.new) }
+{
+    receptions_say_why();
+    let number = message.header.id;
+    match received(alloc, step.caller, association, octets, message)? {
+        Taken::Refused(fault) => Ok(Effect::Refused(fault)),
+        Taken::Repeat(reply) => Ok(Effect::Repeated(reply)),
+        Taken::InitialResponse => Ok(take_initial(alloc, step, association, octets, message)?),
+        Taken::Request(plain) => take_request(
+            alloc,
+            step,
+            association,
+            table,
+            message.header.exchange,
+            number,
+            &plain,
+        ),
+        Taken::Response(plain) => take_response(alloc, step, association, table, number, &plain),
+    }
+}
+
+/// What a message is, with a copy of the reply that goes out again.
+#[derive(Drop)]
+enum Taken {
+    Refused(MessageFault),
+    Repeat(Items<u8>),
+    Request(Plain),
+    Response(Plain),
+    InitialResponse,
+}
+
+fn received<S: Sealer>(
+    alloc: Global,
+    sealer: &S,
+    association: &Association,
+    octets: &[u8],
+    message: &Message,
+) -> Result<Taken, AllocError>
+    requires { Spells message.now octets.now }
+    ensures { IfOk result (λ taken. IsReceived S.plain_of association.now octets.now message.now (reception_of taken)) }
+{
+    match receive(alloc, sealer, association, octets, message)? {
+        Received::Refused(fault) => Ok(Taken::Refused(fault)),
+        Received::Repeat(reply) => Ok(Taken::Repeat(Items::from_slice(alloc, reply)?)),
+        Received::Request(plain) => Ok(Taken::Request(plain)),
+        Received::Response(plain) => Ok(Taken::Response(plain)),
+        Received::InitialResponse => Ok(Taken::InitialResponse),
+    }
+}
+
+fn take_initial<C: Sealer + Agreement + Proof>(
+    alloc: Global,
+    step: &Step<'_, C>,
+    association: &mut Association,
+    octets: &[u8],
+    message: &Message,
+) -> Result<Effect, AllocError>
+    requires config { IsConfig step.now.config.now }
+    requires spelled { Spells message.now octets.now }
+    requires due { IsAnsweringInitial association.old message.now }
+    ensures taken { IfOk result (λ effect. DoesInitial
+        (record {
+          cipher = C.cipher;
+          body_of = C.body_of;
+          plain_of = C.plain_of;
+          group = C.group_number;
+          public_value = C.public_value;
+          shared_secret = C.shared_secret;
+          own_method = C.own_method step.now.caller.now;
+          proof_of = C.proof_of step.now.caller.now;
+          accepts = C.accepts step.now.caller.now;
+        })
+        (setup_of step.now) association.old octets.now message.now effect association.new) }
+    ensures refused { IfErr result (λ _. association.new ≡ association.old) }
+{
+    match read_response(alloc, step, association, message.header.id, octets, message)? {
+        Continued::Again(next) => Ok(Effect::Again(next)),
+        Continued::Identity(next) => Ok(Effect::Identified(next)),
+        Continued::Unfit => Ok(Effect::Refused(MessageFault::WrongPhase)),
+    }
+}
+
+fn take_request<C: Sealer + Agreement + Proof>(
+    alloc: Global,
+    step: &Step<'_, C>,
+    association: &mut Association,
+    table: &mut Table,
+    exchange: u8,
+    number: u32,
+    plain: &Plain,
+) -> Result<Effect, ChildFault>
+    requires config { IsConfig step.now.config.now }
+    requires fresh { IsFreshRequest association.old.incoming number }
+    ensures taken { IfOk result (λ effect. DoesRequest
+        (record {
+          cipher = C.cipher;
+          body_of = C.body_of;
+          plain_of = C.plain_of;
+          group = C.group_number;
+          public_value = C.public_value;
+          shared_secret = C.shared_secret;
+          own_method = C.own_method step.now.caller.now;
+          proof_of = C.proof_of step.now.caller.now;
+          accepts = C.accepts step.now.caller.now;
+        })
+        (setup_of step.now) association.old.phase exchange association.old table.old number plain.now effect association.new table.new) }
+    ensures refused { IfErr result (λ _. (association.new ≡ association.old) × IsAsBefore table.old table.new) }
+{
+    match &association.phase {
+        Phase::HalfOpen(_) => {
+            let answered = answer_auth(alloc, step, association, table, number, plain)?;
+            Ok(Effect::Replied(answered))
+        }
+        Phase::Established(_) => Ok(take_further(
+            alloc,
+            step,
+            association,
+            table,
+            exchange,
+            number,
+            plain,
+        )?),
+        _ => Ok(Effect::Refused(MessageFault::WrongPhase)),
+    }
+}
+
+// A request at an established association.
+fn take_further<C: Sealer + Agreement + Proof>(
+    alloc: Global,
+    step: &Step<'_, C>,
+    association: &mut Association,
+    table: &mut Table,
+    exchange: u8,
+    number: u32,
+    plain: &Plain,
+) -> Result<Effect, AllocError>
+    requires established { IsEstablished association.old.phase }
+    requires fresh { IsFreshRequest association.old.incoming number }
+    ensures taken { IfOk result (λ effect. DoesFurther (exchange == INFORMATIONAL)
+        (record {
+          cipher = C.cipher;
+          body_of = C.body_of;
+          plain_of = C.plain_of;
+          group = C.group_number;
+          public_value = C.public_value;
+          shared_secret = C.shared_secret;
+          own_method = C.own_method step.now.caller.now;
+          proof_of = C.proof_of step.now.caller.now;
+          accepts = C.accepts step.now.caller.now;
+        })
+        (setup_of step.now) association.old table.old number plain.now effect association.new table.new) }
+    ensures refused { IfErr result (λ _. (association.new ≡ association.old) × (table.new ≡ table.old)) }
+{
+    if exchange != INFORMATIONAL {
+        return Ok(Effect::Refused(MessageFault::WrongPhase));
+    }
+    let answered = answer(alloc, step, association, table, number, plain)?;
+    Ok(Effect::Replied(answered))
+}
+
+fn take_response<C: Sealer + Agreement + Proof>(
+    alloc: Global,
+    step: &Step<'_, C>,
+    association: &mut Association,
+    table: &mut Table,
+    number: u32,
+    plain: &Plain,
+) -> Result<Effect, ChildFault>
+    requires config { IsConfig step.now.config.now }
+    requires outstanding { IsOutstanding association.old.outgoing number }
+    requires reserved { HoldsSpi (spi_in association.old.phase) table.old }
+    ensures taken { IfOk result (λ effect. DoesResponse
+        (record {
+          cipher = C.cipher;
+          body_of = C.body_of;
+          plain_of = C.plain_of;
+          group = C.group_number;
+          public_value = C.public_value;
+          shared_secret = C.shared_secret;
+          own_method = C.own_method step.now.caller.now;
+          proof_of = C.proof_of step.now.caller.now;
+          accepts = C.accepts step.now.caller.now;
+        })
+        (setup_of step.now) association.old.phase association.old table.old number plain.now effect association.new table.new) }
+    ensures refused { IfErr result (λ _. (association.new ≡ association.old) × (table.new ≡ table.old)) }
+{
+    match &association.phase {
+        Phase::AuthSent(_) => {
+            let ended = end_auth(alloc, step, association, table, number, plain)?;
+            Ok(Effect::Counted(ended))
+        }
+        Phase::Established(_) => {
+            let ended = count(alloc, step, association, table, number, plain)?;
+            Ok(Effect::Counted(ended))
+        }
+        _ => Ok(Effect::Refused(MessageFault::WrongPhase)),
+    }
+}

@@ -1,0 +1,15 @@
+use Rattle.std.proofs.Common.{ap, subst, ◌∙◌}
+use Rattle.requests.specs.Outgoing.{IssuesRequest, OwnRequests}
+use Rattle.association.specs.declared.phase.Request.{Request}
+use Rattle.informational.proofs.probing.issue.Goals as goal
+
+-- Making room changes no number.
+pub returns-in-Ok-clause-issued : goal.returns-in-Ok-clause-issued
+returns-in-Ok-clause-issued c =
+    record {
+      ready = c.prepare.new.self;
+      prepared = c.prepare.ensures.content;
+      issued = subst (λ (r : Request). IssuesRequest c.prepare.new.self r c.args.association.now.outgoing.next c.issue.new.self) c.new_request.ensures
+          (subst (λ n. IssuesRequest {T = Request} c.prepare.new.self c.new_request.result n c.issue.new.self)
+          (c.issue.ensures.least ∙ ap (λ (r : OwnRequests Request). r.next) c.prepare.ensures.content.content) c.issue.ensures);
+    }

@@ -1,0 +1,33 @@
+-- An empty request of INFORMATIONAL, which asks whether the peer is there (RFC 7296 section 2.4).
+use Rattle.std.specs.Prelude.{◌≡◌, ℕ, false, [], List}
+use Rattle.base.specs.Octets.{Octets}
+use Rattle.wire.specs.Numbers.{INFORMATIONAL}
+use Rattle.wire.specs.declared.message.Message.{Message}
+use Rattle.wire.specs.declared.payload.Payload.{Payload}
+use Rattle.suite.specs.declared.key_record.KeyRecord.{KeyRecord}
+use Rattle.suite.specs.declared.keys.Keys.{Keys}
+use Rattle.exchange.specs.Headers.{keys_of, sent_header}
+use Rattle.exchange.specs.Sealed.{IsSealed}
+use Rattle.requests.specs.Outgoing.{OwnRequests}
+use Rattle.association.specs.declared.phase.Association.{Association}
+use Rattle.association.specs.declared.phase.Phase.TheVariants as phase
+use Rattle.association.specs.declared.phase.Request.{Request}
+use Rattle.initial.specs.Concluding.{with_outgoing}
+use Rattle.initial.specs.Configs.{Setup}
+use Rattle.initial.specs.Issuing.{new_request, IssuesNext}
+
+-- a request under the association's SPIs, from its own role
+abbrev pub request_message : Association → ℕ → ℕ → List Payload → Message
+request_message a exchange number payloads = record {
+  header = sent_header a.spi_i a.spi_r exchange a.role false number;
+  payloads = payloads;
+}
+
+-- The request goes out under the next number, and waits for its answer.
+pub record Probes (body_of : Keys → Octets → Octets → Octets → Octets) (setup : Setup) (old : Association) (octets : Octets) (new : Association) : Type 0 where
+  pub keys : KeyRecord
+  pub established : old.phase ≡ phase.Established keys
+  pub sealed : IsSealed body_of (keys_of old.role keys) setup.fresh.seal (request_message old INFORMATIONAL old.outgoing.next []) octets
+  pub outgoing : OwnRequests Request
+  pub issued : IssuesNext old.outgoing (new_request octets INFORMATIONAL setup.moment) outgoing
+  pub content : new ≡ with_outgoing old outgoing

@@ -1,0 +1,48 @@
+//! Why an order on an association is refused.
+ghost use Rattle.std.specs.Prelude.{◌≡◌};
+ghost use Rattle.informational.specs.Faults.{code_of_order_fault};
+
+use std::alloc::AllocError;
+use thiserror::Error;
+
+/// Why an order on an association is refused, with nothing changed.
+#[derive(Clone, Copy, Debug, PartialEq, Eq, Error)]
+pub enum OrderFault {
+    /// The association is not established.
+    #[error("E32: the association is in another phase")]
+    WrongPhase,
+    /// So many requests wait for an answer as the peer takes at once (RFC 7296, section 2.3).
+    #[error("E35: the peer's window is full")]
+    Busy,
+    /// All request numbers of the association were issued (RFC 7296, section 2.2).
+    #[error("E36: the numbers are spent")]
+    NumbersSpent,
+    /// There was no memory.
+    #[error("E10: no memory")]
+    Memory,
+}
+
+impl OrderFault {
+    /// The refusal's number, as programs print it behind `E`.
+    pub fn code(self) -> u8
+        ensures { result ≡ code_of_order_fault self }
+    {
+        match self {
+            OrderFault::WrongPhase => 32,
+            OrderFault::Busy => 35,
+            OrderFault::NumbersSpent => 36,
+            OrderFault::Memory => 10,
+        }
+    }
+}
+
+impl From<AllocError> for OrderFault {
+    ghost use Rattle.std.specs.Prelude.{◌≡◌};
+    ghost use Rattle.informational.specs.declared.fault.OrderFault.TheVariants.{Memory};
+
+    ghost from_gives = { λ _ e. e ≡ Memory };
+
+    fn from(_refused: AllocError) -> OrderFault {
+        OrderFault::Memory
+    }
+}

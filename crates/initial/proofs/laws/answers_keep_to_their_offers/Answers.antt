@@ -1,8 +1,0 @@
-use Rattle.initial.proofs.OfferLemmas.{auth_answers, initial_answers}
-use Rattle.initial.proofs.laws.answers_keep_to_their_offers.Goals as goal
-
-pub returns-clause-initial : goal.returns-clause-initial
-returns-clause-initial c = initial_answers (record { taken = c.ends_agree.ensures.taken })
-
-pub returns-clause-auth : goal.returns-clause-auth
-returns-clause-auth c = auth_answers (record { taken = c.ends_agree.ensures.taken })
