@@ -36,6 +36,3 @@ pub use identity::Identity;
 pub use proving::{Proving, is_proved, prove};
 pub use requesting::{Asked, Judgement, judge, request};
 pub use window::{peer_window, window_notice};
-
-#[cfg(test)]
-mod tests;

@@ -14,8 +14,6 @@
 mod agreement;
 mod cipher;
 mod proof;
-#[cfg(test)]
-mod tests;
 
 /// The caller of scripts and of tests. It has no state, and draws no random octets.
 #[derive(Clone, Copy, Debug, PartialEq, Eq)]

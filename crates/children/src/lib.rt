@@ -40,6 +40,3 @@ pub use asking::{Asked, ask};
 pub use fault::ChildFault;
 pub use responding::{Made, Response, install, respond};
 pub use setting::Setting;
-
-#[cfg(test)]
-mod tests;

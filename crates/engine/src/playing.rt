@@ -7,9 +7,6 @@ use console::{read_whole, write_whole};
 use std::alloc::Global;
 use std::io::{Read, Write};
 
-#[cfg(test)]
-mod tests;
-
 /// Plays the script that the reader has, prints to the writer, and answers the exit status.
 ///
 /// The script is read whole before anything is played: where a read fails or there are more than 1,048,576 octets,

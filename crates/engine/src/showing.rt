@@ -2,8 +2,6 @@
 ghost use Rattle.std.specs.Prelude.{◌≤◌};
 
 mod lines;
-#[cfg(test)]
-mod tests;
 
 use crate::stop::{Stop, end};
 use console::{read_hex, read_whole, write_whole};

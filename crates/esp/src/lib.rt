@@ -22,8 +22,6 @@ mod inbound;
 pub mod laws;
 mod outbound;
 mod packet;
-#[cfg(test)]
-mod tests;
 
 pub use answer::Answer;
 pub use fault::{EspFault, ListFault};

@@ -23,8 +23,6 @@ mod integrity;
 mod key_material;
 mod keyed_hash;
 pub mod laws;
-#[cfg(test)]
-mod tests;
 
 pub use cookies::cookie;
 pub use fault::MacFault;

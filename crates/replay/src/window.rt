@@ -59,16 +59,3 @@ pub trait Window {
     /// What holds of every window.
     ghost sound: { (w : Self) → IsSoundWindow (seen w) };
 }
-
-#[cfg(test)]
-mod tests {
-    use super::*;
-
-    #[test]
-    fn seven_counts_of_blocks(rt: HostRuntime) {
-        let counts = [2, 4, 8, 16, 32, 64, 128];
-        for m in 0..=300 {
-            assert_eq!(rt; is_block_count(m), counts.contains(&m), "at {m}");
-        }
-    }
-}

@@ -32,6 +32,3 @@ pub use judging::{
 };
 pub use requests::request;
 pub use response::{COOKIE_LIMIT, Response, Waiting, read};
-
-#[cfg(test)]
-mod tests;

@@ -33,6 +33,3 @@ pub use fault::TableFault;
 pub use pair::{Pair, State};
 pub use spi::Spi;
 pub use table::Table;
-
-#[cfg(test)]
-mod tests;

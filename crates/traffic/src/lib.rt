@@ -36,6 +36,3 @@ pub use admission::{Admission, admit};
 pub use arrival::{Arrival, receive};
 pub use departure::{Departure, send};
 pub use fault::PacketFault;
-
-#[cfg(test)]
-mod tests;

@@ -1,10 +1,23 @@
 use std::process::Abort;
 
 mod flows;
+mod gateways;
 mod keying;
 mod long;
 mod messages;
 mod numbers;
+mod of_auth;
+mod of_caller;
+mod of_children;
+mod of_console;
+mod of_engine;
+mod of_esp;
+mod of_mac;
+mod of_replay;
+mod of_requests;
+mod of_sa_init;
+mod of_sadb;
+mod of_traffic;
 mod payloads;
 mod sealing;
 mod texts;

@@ -1,0 +1,5 @@
+//! Whole gateways by the library's calls: what no script shows. What scripts show of them stands in `of_engine`.
+mod flood;
+mod lists;
+mod notices;
+mod sample;

@@ -1,0 +1,82 @@
+//! Requests of IKE_AUTH, made by hand, that close their association (RFC 7296, sections 2.21.2 and 3.10.1).
+use super::sample::{gateway, message};
+use caller::ScriptCaller;
+use console::read_hex;
+use gateway::{End, Gateway, Output};
+use mac::icv;
+use sa_init::request;
+use std::alloc::{AllocError, Global};
+use std::process::Abort;
+use std::test::Fail;
+
+/// The octets that digits spell.
+fn hex(alloc: Global, digits: &str) -> Result<Vec<u8>, AllocError> {
+    let mut octets = Vec::new(alloc);
+    read_hex(digits.as_bytes(), &mut octets).map_err(|_| AllocError)?;
+    Ok(octets)
+}
+
+/// A message as the caller of scripts seals it: with one octet 00 behind the payloads, under its integrity key.
+fn sealed(alloc: Global, digits: &str, key: &[u8; 32]) -> Result<Vec<u8>, AllocError> {
+    let mut octets = hex(alloc, digits)?;
+    octets.push(0)?;
+    let check = icv(key, &[&octets]);
+    octets.extend_from_slice(&check)?;
+    Ok(octets)
+}
+
+/// B answered the request of an initiator of SPI 1 under the SPI 2; these are the initiator's key and B.
+fn half_open(alloc: Global) -> Result<(Gateway<ScriptCaller>, [u8; 32]), Fail> {
+    let mut gateway = gateway(alloc, End::B)?;
+    let request = request(alloc, &ScriptCaller, 1, None, &[5; 32], &[6; 32])?;
+    let first = message(alloc, request.as_slice(), 2)?;
+    gateway.step(alloc, &first);
+    let key = gateway.keys_of(1).ok_or("no keys")?.sk_ai;
+    Ok((gateway, key))
+}
+
+/// What B answers to such a request of IKE_AUTH by which it closes the association.
+fn closing(alloc: Global, digits: &str) -> Result<Vec<u8>, Fail> {
+    let (mut gateway, key) = half_open(alloc)?;
+    let second = message(alloc, &sealed(alloc, digits, &key)?, 3)?;
+    match gateway.step(alloc, &second) {
+        Output::Reply {
+            octets,
+            closed: Some(1),
+        } => Ok(octets.into_vec()),
+        _ => Err(Fail::new("not closed")),
+    }
+}
+
+/// Finds that the answer is one notice alone, of this number.
+fn is_notice(rt: &impl Abort, octets: &[u8], number: u8) {
+    assert_eq!(rt; octets.len(), 57);
+    assert_eq!(rt; octets.get(28), Some(&41));
+    assert_eq!(rt;
+        octets.get(32..40),
+        Some([0, 0, 0, 8, 0, 0, 0, number].as_slice())
+    );
+}
+
+/// No payload.
+const EMPTY: &str = "0000000000000001 0000000000000002 2e202308 00000001 00000031 00000015";
+
+/// The identity `c.example`, an AUTH of zeros, an offer of ESP, and all addresses of 10.0.0.0/24 and 10.1.0.0/24.
+const STRANGER: &str = "0000000000000001 0000000000000002 2e202308 00000001 000000c2 230000a6\
+    27000011 02000000 632e6578616d706c65\
+    21000028 02000000 0000000000000000000000000000000000000000000000000000000000000000\
+    2c000028 00000024 01030403 00000100 0300000801 00000b 030000080300000c 0000000805000000\
+    2d000018 01000000 07000010 0000ffff 0a000000 0a0000ff\
+    00000018 01000000 07000010 0000ffff 0a010000 0a0100ff";
+
+#[test]
+fn invalid_syntax(rt: HostRuntime) -> Result<(), Fail> {
+    is_notice(&rt, &closing(rt.alloc(), EMPTY)?, 7);
+    Ok(())
+}
+
+#[test]
+fn authentication_failed(rt: HostRuntime) -> Result<(), Fail> {
+    is_notice(&rt, &closing(rt.alloc(), STRANGER)?, 24);
+    Ok(())
+}

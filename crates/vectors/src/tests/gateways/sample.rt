@@ -1,0 +1,112 @@
+//! What the tests share: two gateways, each the other's peer, that protect what goes between 10.0.0.0/24, A's, and 10.1.0.0/24.
+ghost use Rattle.std.specs.Prelude.{IfOk};
+ghost use Rattle.auth.specs.Proofs.{IsIdentity};
+ghost use Rattle.initial.specs.Configs.{IsConfig};
+ghost use Rattle.gateway.specs.Worlds.{HoldsNothing};
+
+use auth::Identity;
+use base::{Items, Range};
+use caller::ScriptCaller;
+use gateway::{End, Gateway, Input};
+use initial::Config;
+use policy::{Action, Entry, Policy};
+use std::alloc::{AllocError, Global};
+use std::test::Fail;
+use suite::Fresh;
+
+fn own_name(end: End) -> [u8; 9] {
+    match end {
+        End::A => *b"a.example",
+        End::B => *b"b.example",
+    }
+}
+
+fn identity(alloc: Global, name: &[u8; 9]) -> Result<Identity, AllocError>
+    ensures { IfOk result IsIdentity }
+{
+    let data = Items::from_slice(alloc, name)?;
+    Ok(Identity { kind: 2, data })
+}
+
+fn end_of(alloc: Global, end: End) -> Result<initial::End, AllocError>
+    ensures { IfOk result (λ end. IsIdentity end.identity) }
+{
+    let identity = identity(alloc, &own_name(end))?;
+    Ok(initial::End {
+        identity,
+        address: [192, 0, 2, 1],
+    })
+}
+
+fn config(alloc: Global, end: End) -> Result<Config, AllocError>
+    ensures { IfOk result IsConfig }
+{
+    let own = end_of(alloc, end)?;
+    let peer = end_of(alloc, end.other())?;
+    Ok(Config {
+        own,
+        peer,
+        extended: true,
+        blocks: 2,
+        cookie_secret: [0; 32],
+        window: 1,
+    })
+}
+
+fn policy(alloc: Global, end: End) -> Result<Policy, Fail> {
+    let a = Range::V4(0x0a00_0000, 0x0a00_00ff);
+    let b = Range::V4(0x0a01_0000, 0x0a01_00ff);
+    let (local, remote) = match end {
+        End::A => (a, b),
+        End::B => (b, a),
+    };
+    let entry = Entry {
+        protocol: 0,
+        local,
+        remote,
+        local_ports: (0, 65535),
+        remote_ports: (0, 65535),
+        action: Action::Protect,
+    };
+    Ok(Policy::new(Items::from_slice(alloc, &[entry])?)?)
+}
+
+/// A gateway that holds nothing. Its first SPI of ESP is 4096 at A, 8192 at B.
+pub fn gateway(alloc: Global, end: End) -> Result<Gateway<ScriptCaller>, Fail>
+    ensures { IfOk result HoldsNothing }
+{
+    let policy = policy(alloc, end)?;
+    let config = config(alloc, end)?;
+    let start = match end {
+        End::A => 4096,
+        End::B => 8192,
+    };
+    Ok(Gateway::new(alloc, config, policy, start, ScriptCaller))
+}
+
+/// The order to begin an association, with fresh octets of this SPI.
+pub fn order(spi: u64) -> Input {
+    Input::Start {
+        ike: None,
+        entry: 0,
+        fresh: fresh(spi),
+    }
+}
+
+/// A datagram of IKE, with fresh octets of this SPI.
+pub fn message(alloc: Global, octets: &[u8], spi: u64) -> Result<Input, AllocError> {
+    Ok(Input::Ike {
+        from: [192, 0, 2, 9],
+        octets: Items::from_slice(alloc, octets)?,
+        fresh: fresh(spi),
+    })
+}
+
+fn fresh(spi: u64) -> Fresh {
+    Fresh {
+        spi,
+        nonce: [9; 32],
+        secret: [7; 32],
+        seal: [0; 16],
+    }
+}

@@ -1,0 +1,2 @@
+mod playing;
+mod showing;

@@ -1,0 +1,102 @@
+//! Runs that pass whether an allocation fails or not: what was refused for want of memory left everything as it was. Each is
+//! to be run with every allocation failing in turn.
+use crate::tests::of_esp::fixture::{FIRST, INNER, IPV4, Receiver, damaged, packet, sender};
+use esp::{Answer, EspFault, ListFault};
+use std::alloc::{AllocError, Global};
+
+#[test]
+fn sealing_without_memory(rt: HostRuntime) {
+    let mut sender = sender(0);
+    let mut out = Vec::new(rt.alloc());
+    let mut last: u64 = 0;
+    for _ in 0..40 {
+        let before = out.len();
+        match sender.seal(IPV4, &INNER, &mut out) {
+            Ok(number) => {
+                assert_eq!(rt; Some(number), last.checked_add(1));
+                last = number;
+                assert_eq!(rt; out.len(), before + 48);
+            }
+            Err(fault) => {
+                assert_eq!(rt; fault, EspFault::Memory);
+                assert_eq!(rt; out.len(), before);
+            }
+        }
+    }
+    // No more than one allocation fails.
+    assert!(rt; last >= 39);
+    assert!(rt; out.as_slice().starts_with(&FIRST));
+}
+
+// The receiver's window grows, and may want memory for it; what it refused opens at the next try.
+#[test]
+fn opening_without_memory(rt: HostRuntime) {
+    let mut receiver = Receiver::new(rt.alloc(), false);
+    for number in 1..=80 {
+        let Ok(sealed) = packet(rt.alloc(), number, &[1, 2, 2, 4], &[]) else {
+            continue;
+        };
+        if receiver.open(&rt, &sealed).err() == Some(EspFault::Memory) {
+            let opened = receiver.open(&rt, &sealed);
+            assert_eq!(rt; opened.map(|opened| opened.number), Ok(u64::from(number)));
+        }
+        assert_eq!(rt; receiver.open(&rt, &sealed).err(), Some(EspFault::Replayed));
+    }
+}
+
+/// Five packets, of which the second is damaged and the third repeats the first.
+fn packets(alloc: Global) -> Result<[Vec<u8>; 5], AllocError> {
+    let first = packet(alloc, 1, &[1, 2, 2, 4], &[])?;
+    let second = packet(alloc, 2, &[1, 2, 2, 4], &[])?;
+    Ok([
+        first.clone()?,
+        damaged(alloc, &second, 27)?,
+        first,
+        packet(alloc, 3, &[0, 0, 2, 4], &[])?,
+        second,
+    ])
+}
+
+// Of the list, what was not answered for want of room and what was refused for memory is opened afterwards.
+#[test]
+fn a_list_without_memory(rt: HostRuntime) {
+    let Ok(packets) = packets(rt.alloc()) else {
+        return;
+    };
+    let mut receiver = Receiver::new(rt.alloc(), false);
+    let mut out = Vec::new(rt.alloc());
+    if let Err(ListFault::NoRoom(done)) = receiver.open_all(&rt, &packets, &mut out) {
+        assert_eq!(rt; out.len(), done);
+        assert!(rt; done < 5);
+        let rest = packets.as_slice();
+        assert_eq!(rt; receiver.open_all(&rt, &rest[done..], &mut out), Ok(()));
+    }
+    assert_eq!(rt; out.len(), 5);
+    let mut wanted = [
+        up(1),
+        Answer::Refused(EspFault::BadIcv),
+        Answer::Refused(EspFault::Replayed),
+        Answer::Refused(EspFault::BadPadding),
+        up(2),
+    ];
+    // Of the first packet's two deliveries the second is then the first that counts.
+    if out[0] == Answer::Refused(EspFault::Memory) {
+        wanted[0] = out[0];
+        wanted[2] = up(1);
+    }
+    assert_eq!(rt; out.as_slice(), wanted.as_slice());
+    for packet in &packets {
+        let repeated = receiver.open(&rt, packet).err();
+        assert!(rt; matches!(repeated, Some(EspFault::Replayed | EspFault::BadIcv)));
+    }
+}
+
+/// The answer to a packet with this number that carries no octet.
+fn up(number: u64) -> Answer {
+    Answer::Up {
+        number,
+        next: IPV4,
+        start: 8,
+        length: 0,
+    }
+}

@@ -1,0 +1,5 @@
+mod block;
+mod fault;
+mod plain;
+mod recovery;
+mod window;

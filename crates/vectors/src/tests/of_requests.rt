@@ -1,0 +1,7 @@
+mod draws;
+mod fixture;
+mod incoming;
+mod memory;
+mod outgoing;
+mod plain;
+mod small;

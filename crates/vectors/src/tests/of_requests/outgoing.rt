@@ -1,0 +1,138 @@
+//! The own requests beside a plain set and a plain map.
+use super::draws::Draws;
+use super::fixture::{count, issue, replace, withdraw};
+use super::plain::PlainOutgoing;
+use requests::{Outgoing, RequestFault};
+use std::alloc::Global;
+use std::process::Abort;
+use std::test::Fail;
+
+/// Issues a request of both, and compares the answers.
+fn issue_both(
+    rt: &impl Abort,
+    outgoing: &mut Outgoing<u32>,
+    plain: &mut PlainOutgoing,
+    request: u32,
+) -> Result<(), Fail> {
+    match outgoing.may_issue() {
+        Ok(number) => assert_eq!(rt; u64::from(number), plain.next),
+        Err(fault) => assert_eq!(rt; Some(fault), plain.refusal()),
+    }
+    match issue(outgoing, request) {
+        Ok(number) => {
+            assert_eq!(rt; u64::from(number), plain.next);
+            assert!(rt; plain.refusal().is_none());
+            plain.issue(number, request)?;
+        }
+        Err(fault) => assert_eq!(rt; Some(fault), plain.refusal()),
+    }
+    Ok(())
+}
+
+/// Compares the outstanding requests, by number and in their order.
+fn same_outstanding(rt: &impl Abort, outgoing: &Outgoing<u32>, plain: &PlainOutgoing) {
+    let mut last: Option<u32> = None;
+    for (number, request) in &plain.outstanding {
+        let found = outgoing.after(last).map(|next| (next.0, *next.1));
+        assert_eq!(rt; found, Some((*number, *request)));
+        assert_eq!(rt; outgoing.get(*number).copied(), Some(*request));
+        last = Some(*number);
+    }
+    assert!(rt; outgoing.after(last).is_none());
+    assert_eq!(rt;
+        outgoing.any(|request| *request % 3 == 0),
+        plain.outstanding.values().any(|request| *request % 3 == 0)
+    );
+}
+
+/// A long mixed list at one window.
+fn agree_at(rt: &impl Abort, alloc: Global, window: u8) -> Result<(), Fail> {
+    let mut outgoing: Outgoing<u32> = Outgoing::new(alloc);
+    let mut plain = PlainOutgoing::new(alloc);
+    if 1 <= window && window <= 16 {
+        outgoing.set_window(window);
+        plain.window = u32::from(window);
+    }
+    let mut draws = Draws::new(u64::from(window));
+    for round in 0..400 {
+        let near = u32::try_from(plain.next)?.saturating_sub(18);
+        let number = near.saturating_add(draws.below(20));
+        match draws.below(4) {
+            0 | 1 => issue_both(rt, &mut outgoing, &mut plain, round)?,
+            2 => assert_eq!(rt;
+                count(&mut outgoing, number),
+                plain.count(number)?,
+                "at {number}"
+            ),
+            _ => {
+                let was = plain.outstanding.get(&number).copied();
+                assert_eq!(rt; replace(&mut outgoing, number, round), was, "at {number}");
+                if was.is_some() {
+                    plain.outstanding.insert(number, round)?;
+                }
+            }
+        }
+        same_outstanding(rt, &outgoing, &plain);
+    }
+    Ok(())
+}
+
+#[test]
+fn agrees_at_window_1(rt: HostRuntime) -> Result<(), Fail> {
+    agree_at(&rt, rt.alloc(), 1)
+}
+
+#[test]
+fn agrees_at_window_4(rt: HostRuntime) -> Result<(), Fail> {
+    agree_at(&rt, rt.alloc(), 4)
+}
+
+#[test]
+fn agrees_at_window_16(rt: HostRuntime) -> Result<(), Fail> {
+    agree_at(&rt, rt.alloc(), 16)
+}
+
+#[test]
+fn the_peers_window_is_the_one_that_counts(rt: HostRuntime) -> Result<(), Fail> {
+    let mut outgoing: Outgoing<u32> = Outgoing::after_initial(rt.alloc());
+    assert_eq!(rt; issue(&mut outgoing, 10), Ok(1));
+    assert_eq!(rt; issue(&mut outgoing, 20), Err(RequestFault::Busy));
+    outgoing.invariants_hold();
+    outgoing.set_window(16);
+    for number in 2..17 {
+        assert_eq!(rt; issue(&mut outgoing, 20), Ok(number));
+    }
+    assert_eq!(rt; issue(&mut outgoing, 30), Err(RequestFault::Busy));
+    // The window begins at the least unanswered number.
+    assert_eq!(rt; count(&mut outgoing, 3), Some(20));
+    assert_eq!(rt; outgoing.may_issue(), Err(RequestFault::Busy));
+    assert_eq!(rt; count(&mut outgoing, 1), Some(10));
+    assert_eq!(rt; issue(&mut outgoing, 30), Ok(17));
+    Ok(())
+}
+
+#[test]
+fn what_is_given_up_stays_unanswered(rt: HostRuntime) -> Result<(), Fail> {
+    let mut outgoing: Outgoing<u32> = Outgoing::new(rt.alloc());
+    assert_eq!(rt; issue(&mut outgoing, 10), Ok(0));
+    outgoing.give_up();
+    assert!(rt; outgoing.after(None).is_none());
+    assert_eq!(rt; count(&mut outgoing, 0), None);
+    assert_eq!(rt; outgoing.may_issue(), Err(RequestFault::Busy));
+    Ok(())
+}
+
+#[test]
+fn one_of_two_is_withdrawn(rt: HostRuntime) -> Result<(), Fail> {
+    let mut outgoing: Outgoing<u32> = Outgoing::new(rt.alloc());
+    outgoing.set_window(2);
+    assert_eq!(rt; issue(&mut outgoing, 10), Ok(0));
+    assert_eq!(rt; issue(&mut outgoing, 20), Ok(1));
+    assert_eq!(rt; withdraw(&mut outgoing, 0), Some(10));
+    assert_eq!(rt; withdraw(&mut outgoing, 0), None);
+    assert_eq!(rt; count(&mut outgoing, 0), None);
+    assert_eq!(rt; count(&mut outgoing, 1), Some(20));
+    // Number 0 was never answered, so the window doesn't move.
+    assert_eq!(rt; outgoing.may_issue(), Err(RequestFault::Busy));
+    Ok(())
+}

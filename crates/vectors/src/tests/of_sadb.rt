@@ -1,0 +1,9 @@
+mod changes;
+mod faults;
+mod fixture;
+mod laws;
+mod limits;
+mod memory;
+mod one_association;
+mod packets;
+mod plain;
