@@ -283,7 +283,7 @@ asked_leaves meaning setup old table m next new new_table is =
       keyed = tt;
     }
 
-issued_short : (old : OwnRequests Request) (request : Request) (new : OwnRequests Request) → AllShort octets_of old.outstanding → IsShort request.octets → IssuesNext old request new → AllShort octets_of new.outstanding
+pub issued_short : (old : OwnRequests Request) (request : Request) (new : OwnRequests Request) → AllShort octets_of old.outstanding → IsShort request.octets → IssuesNext old request new → AllShort octets_of new.outstanding
 issued_short old request new before short is =
     same_short octets_of (map.insert is.ready.outstanding old.next request) new.outstanding (ap (λ (r : OwnRequests Request). r.outstanding) is.issued.content)
     (insert_short octets_of is.ready.outstanding old.next request short

@@ -14,3 +14,4 @@ mod DeterminedReadings
 mod DeterminedEffects
 mod WholeKeyLemmas
 mod ToldLemmas
+mod ProbeLemmas

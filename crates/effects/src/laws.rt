@@ -18,6 +18,7 @@ ghost use Rattle.association.specs.Contents.{association_content};
 ghost use Rattle.association.specs.declared.phase.Association.{Association};
 ghost use Rattle.suite.specs.declared.fresh.Fresh.{Fresh};
 ghost use Rattle.suite.specs.declared.key_record.KeyRecord.{KeyRecord};
+ghost use Rattle.suite.specs.declared.keys.Keys.{Keys};
 ghost use Rattle.suite.specs.declared.sealer.Cipher.{Cipher};
 ghost use Rattle.sa_init.specs.Judging.{OfferView};
 ghost use Rattle.exchange.specs.declared.sealed.Plain.{Plain};
@@ -29,6 +30,7 @@ ghost use Rattle.initial.specs.Answering.{AnswersAuth, Prover};
 ghost use Rattle.initial.specs.Beginning.{begun, Admits, Begins};
 ghost use Rattle.effects.specs.Children.{AsksForChild, IsAsking, MakesChild};
 ghost use Rattle.initial.specs.Configs.{Setup};
+ghost use Rattle.informational.specs.Probing.{Probes};
 ghost use Rattle.initial.specs.Ending.{EndsAuth};
 ghost use Rattle.effects.specs.Keeping.{child_in, sent_by, IsShort, KeepsShort, KeyedBy};
 ghost use Rattle.effects.specs.Offers.{AnswersAuthSa, AnswersInitialSa};
@@ -295,5 +297,20 @@ pub fn effects_are_determined()
     plain_spellings_are_determined();
     receptions_are_determined();
     receptions_go_by_content();
+    sealed_messages_are_determined();
+}
+
+/// A request that asks whether the peer is there has at most 3000 octets, as all has that its association keeps to send again; and it
+/// goes out in one way, by what is held of the association, whatever room there is. Of the cipher it is asked that it tells lengths, as its
+/// law says, of the association that its keys are whole, as they stay ([`keys_stay_whole`]).
+pub fn probes_are_short_and_determined()
+    ensures kept { (body_of : Keys → Octets → Octets → Octets → Octets) (setup : Setup) (old : Association) (octets : Octets)
+        (new : Association) → KeepsShort old → Probes body_of setup old octets new → KeepsShort new × IsShort octets }
+    ensures determined { (body_of : Keys → Octets → Octets → Octets → Octets) (setup : Setup) (old other a b : Association)
+        (one two : Octets) → TellsLengths body_of setup.fresh.seal → HoldsWholeKeys old.phase
+        → association_content old ≡ association_content other → Probes body_of setup old one a → Probes body_of setup other two b
+        → (one ≡ two) × (association_content a ≡ association_content b) }
+{
+    later_outgoing_are_determined::<Request>();
     sealed_messages_are_determined();
 }

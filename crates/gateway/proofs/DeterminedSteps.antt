@@ -150,7 +150,9 @@ module _ (laws : Laws) (meaning : Meaning) (entries : List Entry) (old other : M
       → SameDoing one two trace mark a b a_table b_table
   one_doing (input.Ike from octets fresh) told whole is also = one_ike (ike.Message from octets fresh) told whole is also
   one_doing (input.Start serial entry fresh) told whole is also = one_ike (ike.Start serial entry fresh) tt whole is also
+  one_doing (input.Probe serial fresh) told whole is also = one_ike (ike.Probe serial fresh) told whole is also
   one_doing (input.Secret secret) told whole is also = one_ike (ike.Secret secret) tt whole is also
+  one_doing (input.Tick moment) told whole is also = one_ike (ike.Tick moment) tt whole is also
   one_doing (input.Esp octets) told whole is also = one_arrival octets is also
   one_doing (input.Outward packet) told whole is also = one_departure packet is also
   one_doing (input.Inward packet) told whole is also = one_entry packet is also
@@ -198,7 +200,9 @@ done_whole : IkeLaws → (meaning : Meaning) (entries : List Entry) (given : Inp
     → DoesInput meaning entries given old table s trace new new_table → HoldWholeKeys new.held
 done_whole laws meaning entries (input.Ike from octets fresh) old table s trace new new_table whole is = ike_whole laws meaning entries (ike.Message from octets fresh) old table s trace new new_table whole is
 done_whole laws meaning entries (input.Start serial entry fresh) old table s trace new new_table whole is = ike_whole laws meaning entries (ike.Start serial entry fresh) old table s trace new new_table whole is
+done_whole laws meaning entries (input.Probe serial fresh) old table s trace new new_table whole is = ike_whole laws meaning entries (ike.Probe serial fresh) old table s trace new new_table whole is
 done_whole laws meaning entries (input.Secret secret) old table s trace new new_table whole is = ike_whole laws meaning entries (ike.Secret secret) old table s trace new new_table whole is
+done_whole laws meaning entries (input.Tick moment) old table s trace new new_table whole is = ike_whole laws meaning entries (ike.Tick moment) old table s trace new new_table whole is
 done_whole laws meaning entries (input.Esp octets) old table s trace new new_table whole is = machine_whole old new is.0.machine whole
 done_whole laws meaning entries (input.Outward packet) old table s trace new new_table whole is = machine_whole old new is.0.machine whole
 done_whole laws meaning entries (input.Inward packet) old table s trace new new_table whole is = machine_whole old new is.0.machine whole

@@ -1,5 +1,5 @@
 -- What a step sends and makes fits the memory that is kept for it.
-use Rattle.std.proofs.Common.{◌≡◌, ◌≤◌, ◌++◌, ℕ, List, Option, Some, None, length, refl, sym, ap, ◌∙◌, subst, inl, inr, arith}
+use Rattle.std.proofs.Common.{◌≡◌, ◌≤◌, ◌++◌, ℕ, true, false, All, List, Option, Some, None, length, refl, sym, ap, ◌∙◌, subst, inl, inr, arith}
 use Rattle.base.specs.Octets.{Octets}
 use Rattle.wire.specs.Numbers.{MESSAGE_LIMIT, SELECTOR_LIMIT}
 use Rattle.esp.specs.declared.association.Association.{Association}
@@ -20,13 +20,17 @@ use Rattle.ike.specs.declared.output.IkeOutput.TheVariants as made
 use Rattle.ike.specs.declared.output.MadeChild.{MadeChild}
 use Rattle.ike.specs.declared.output.Stepped.{Stepped}
 use Rattle.ike.specs.declared.output.Trace.{Trace}
+use Rattle.moments.specs.Due.{outstanding_count}
+use Rattle.moments.specs.declared.resent.Resent.{Resent}
+use Rattle.moments.specs.declared.ticking.Ticked.{Ticked}
 use Rattle.traffic.specs.Admitting.{Admits}
 use Rattle.traffic.specs.Outcomes as traffic
 use Rattle.traffic.specs.Receiving.{Receives}
 use Rattle.traffic.specs.Sending.{Sends}
 use Rattle.traffic.specs.declared.fault.PacketFault.{PacketFault}
-use Rattle.gateway.specs.Outputs.{said_by_ike, said_of_outcome, FewSelectors, FitsChild, FitsDatagram, Refused, Said}
+use Rattle.gateway.specs.Outputs.{said_by_ike, said_of_outcome, FewAgain, FewSelectors, FitsChild, FitsDatagram, Refused, Said}
 use Rattle.gateway.specs.States.{State}
+use Rattle.gateway.specs.Storing.{again_by}
 use Rattle.gateway.specs.Steps.{AdmitsPacket, DoesInput, ReceivesPacket, SendsPacket, StepsIke, Traces}
 use Rattle.gateway.specs.declared.fault.Reason.TheVariants as reason
 use Rattle.gateway.specs.declared.input.Input.{Input}
@@ -36,20 +40,25 @@ use Rattle.gateway.specs.declared.input.Input.TheVariants as input
 pub record SentLaws : Type 0 where
   pub short : (meaning : Meaning) (entries : List Entry) (given : ike.InputView) (old : Machine) (table : Database) (stepped : Stepped) (new : Machine) (new_table : Database) (octets : Octets)
       → IsSoundMachine old table → ike.Steps meaning entries given old table stepped new new_table → octets_in stepped.output ≡ Some octets → length octets ≤ MESSAGE_LIMIT
+  pub again : (meaning : Meaning) (entries : List Entry) (given : ike.InputView) (old : Machine) (table : Database) (stepped : Stepped) (new : Machine) (new_table : Database) (ticked : Ticked)
+      → IsSoundMachine old table → ike.Steps meaning entries given old table stepped new new_table → stepped.output ≡ made.Ticked ticked → All (λ (r : Resent). length r.octets ≤ MESSAGE_LIMIT) ticked.requests
   pub openable : (a : Association) (n next : ℕ) (payload b : List ℕ) → IsShortestPacket a n next payload b → FitsPacket payload → IsOpenable a n next payload b
 
-said_fits : (output : IkeOutput) → ((octets : Octets) → octets_in output ≡ Some octets → length octets ≤ MESSAGE_LIMIT) → FitsDatagram (said_by_ike output)
-said_fits (made.Reply octets closed) short = let few = short octets refl in omega arith
-said_fits (made.Repeat octets) short = let few = short octets refl in omega arith
-said_fits (made.Request serial octets) short = let few = short octets refl in omega arith
-said_fits (made.Counted serial child closed) short = tt
-said_fits made.Done short = tt
-said_fits (made.Dropped fault) short = tt
+said_fits : (output : IkeOutput) → ((octets : Octets) → octets_in output ≡ Some octets → length octets ≤ MESSAGE_LIMIT)
+    → ((ticked : Ticked) → output ≡ made.Ticked ticked → All (λ (r : Resent). length r.octets ≤ MESSAGE_LIMIT) ticked.requests) → FitsDatagram (said_by_ike output)
+said_fits (made.Reply octets closed) short again = let few = short octets refl in omega arith
+said_fits (made.Repeat octets) short again = let few = short octets refl in omega arith
+said_fits (made.Request serial octets) short again = let few = short octets refl in omega arith
+said_fits (made.Counted serial child closed) short again = tt
+said_fits (made.Ticked ticked) short again = again ticked refl
+said_fits made.Done short again = tt
+said_fits (made.Dropped fault) short again = tt
 
 by_ike_fits : (laws : SentLaws) (meaning : Meaning) (entries : List Entry) (given : ike.InputView) (old : Machine) (table : Database) (s : Said) (trace : Trace) (new : Machine) (new_table : Database)
     → IsSoundMachine old table → StepsIke meaning entries given old table s trace new new_table → FitsDatagram s
 by_ike_fits laws meaning entries given old table s trace new new_table sound (inl a) =
-    subst FitsDatagram (sym a.output) (said_fits a.stepped.output (λ octets is. laws.short meaning entries given old table a.stepped new new_table octets sound a.steps is))
+    subst FitsDatagram (sym a.output) (said_fits a.stepped.output (λ octets is. laws.short meaning entries given old table a.stepped new new_table octets sound a.steps is)
+    (λ ticked is. laws.again meaning entries given old table a.stepped new new_table ticked sound a.steps is))
 by_ike_fits laws meaning entries given old table s trace new new_table sound (inr r) = subst FitsDatagram (sym r.output) tt
 
 received_fits : (old : Database) (packet : Octets) (outcome : traffic.Outcome) (new : Database) → Receives old packet outcome new → FitsDatagram (said_of_outcome outcome)
@@ -90,7 +99,9 @@ input_fits : (laws : SentLaws) (meaning : Meaning) (entries : List Entry) (given
     → IsSoundMachine old table → DoesInput meaning entries given old table s trace new new_table → FitsDatagram s
 input_fits laws meaning entries (input.Ike from octets fresh) old table s trace new new_table sound is = by_ike_fits laws meaning entries (ike.Message from octets fresh) old table s trace new new_table sound is
 input_fits laws meaning entries (input.Start serial entry fresh) old table s trace new new_table sound is = by_ike_fits laws meaning entries (ike.Start serial entry fresh) old table s trace new new_table sound is
+input_fits laws meaning entries (input.Probe serial fresh) old table s trace new new_table sound is = by_ike_fits laws meaning entries (ike.Probe serial fresh) old table s trace new new_table sound is
 input_fits laws meaning entries (input.Secret secret) old table s trace new new_table sound is = by_ike_fits laws meaning entries (ike.Secret secret) old table s trace new new_table sound is
+input_fits laws meaning entries (input.Tick moment) old table s trace new new_table sound is = by_ike_fits laws meaning entries (ike.Tick moment) old table s trace new new_table sound is
 input_fits laws meaning entries (input.Esp octets) old table s trace new new_table sound is =
     subst FitsDatagram (sym is.1.output) (received_fits table octets is.1.outcome new_table is.1.receives)
 input_fits laws meaning entries (input.Outward packet) old table s trace new new_table sound is = sends_fit laws entries table packet s new_table is.1
@@ -100,6 +111,64 @@ input_fits laws meaning entries (input.Inward packet) old table s trace new new_
 pub step_fits : {C : Type 0} (laws : SentLaws) (meaning : Meaning) (given : Input) (s : Said) (trace : Trace) (old new : State C)
     → IsSoundMachine old.machine old.table → Traces meaning given old s trace new → FitsDatagram s
 step_fits {C} laws meaning given s trace old new sound is = input_fits laws meaning old.entries given old.machine old.table s trace new.machine new.table sound is.does
+
+-- what the machine of IKE says of requests that go out again
+abbrev pub AgainLaw : Type 0
+AgainLaw =
+    (meaning : Meaning) (entries : List Entry) (given : ike.InputView) (old : Machine) (table : Database) (stepped : Stepped) (new : Machine) (new_table : Database) (ticked : Ticked)
+    → ike.Steps meaning entries given old table stepped new new_table → stepped.output ≡ made.Ticked ticked → (ike.is_tick given ≡ true) × (length ticked.requests ≤ outstanding_count old.held.associations)
+
+few_said : (output : IkeOutput) (most : ℕ) → ((ticked : Ticked) → output ≡ made.Ticked ticked → length ticked.requests ≤ most) → FewAgain (said_by_ike output) most
+few_said (made.Reply octets closed) most few = tt
+few_said (made.Repeat octets) most few = tt
+few_said (made.Request serial octets) most few = tt
+few_said (made.Counted serial child closed) most few = tt
+few_said (made.Ticked ticked) most few = few ticked refl
+few_said made.Done most few = tt
+few_said (made.Dropped fault) most few = tt
+
+few_by_ike : (law : AgainLaw) (meaning : Meaning) (entries : List Entry) (given : ike.InputView) (old : Machine) (table : Database) (s : Said) (trace : Trace) (new : Machine) (new_table : Database) (most : ℕ)
+    → ((count : ℕ) → ike.is_tick given ≡ true → count ≤ outstanding_count old.held.associations → count ≤ most) → StepsIke meaning entries given old table s trace new new_table → FewAgain s most
+few_by_ike law meaning entries given old table s trace new new_table most bound (inl a) =
+    subst (λ (x : Said). FewAgain x most) (sym a.output)
+    (few_said a.stepped.output most (λ ticked is.
+    let few = law meaning entries given old table a.stepped new new_table ticked a.steps is in
+    bound (length ticked.requests) few.0 few.1))
+few_by_ike law meaning entries given old table s trace new new_table most bound (inr r) = subst (λ (x : Said). FewAgain x most) (sym r.output) tt
+
+no_tick : (count most held : ℕ) → false ≡ true → count ≤ held → count ≤ most
+no_tick count most held e less = absurd cc
+
+few_of_outcome : (outcome : traffic.Outcome) (most : ℕ) → FewAgain (said_of_outcome outcome) most
+few_of_outcome (traffic.Up child number inner) most = tt
+few_of_outcome (traffic.Dummy child number) most = tt
+few_of_outcome (traffic.Sealed child number octets) most = tt
+few_of_outcome (traffic.Clear octets) most = tt
+few_of_outcome traffic.Discarded most = tt
+few_of_outcome (traffic.Dropped fault) most = tt
+
+few_sent : (entries : List Entry) (old : Database) (packet : Octets) (s : Said) (new : Database) (most : ℕ) → SendsPacket entries old packet s new → FewAgain s most
+few_sent entries old packet s new most (inl m) = subst (λ (x : Said). FewAgain x most) (sym m.output) (few_of_outcome m.outcome most)
+few_sent entries old packet s new most (inr m) = subst (λ (x : Said). FewAgain x most) (sym m.output) tt
+
+input_few : (law : AgainLaw) (meaning : Meaning) (entries : List Entry) (given : Input) (old : Machine) (table : Database) (s : Said) (trace : Trace) (new : Machine) (new_table : Database)
+    → DoesInput meaning entries given old table s trace new new_table → FewAgain s (again_by given old)
+input_few law meaning entries (input.Ike from octets fresh) old table s trace new new_table is =
+    few_by_ike law meaning entries (ike.Message from octets fresh) old table s trace new new_table 0 (λ n e less. no_tick n 0 (outstanding_count old.held.associations) e less) is
+input_few law meaning entries (input.Start serial entry fresh) old table s trace new new_table is =
+    few_by_ike law meaning entries (ike.Start serial entry fresh) old table s trace new new_table 0 (λ n e less. no_tick n 0 (outstanding_count old.held.associations) e less) is
+input_few law meaning entries (input.Probe serial fresh) old table s trace new new_table is =
+    few_by_ike law meaning entries (ike.Probe serial fresh) old table s trace new new_table 0 (λ n e less. no_tick n 0 (outstanding_count old.held.associations) e less) is
+input_few law meaning entries (input.Secret secret) old table s trace new new_table is =
+    few_by_ike law meaning entries (ike.Secret secret) old table s trace new new_table 0 (λ n e less. no_tick n 0 (outstanding_count old.held.associations) e less) is
+input_few law meaning entries (input.Tick moment) old table s trace new new_table is =
+    few_by_ike law meaning entries (ike.Tick moment) old table s trace new new_table (outstanding_count old.held.associations) (λ n e less. less) is
+input_few law meaning entries (input.Esp octets) old table s trace new new_table is = subst (λ (x : Said). FewAgain x 0) (sym is.1.output) (few_of_outcome is.1.outcome 0)
+input_few law meaning entries (input.Outward packet) old table s trace new new_table is = few_sent entries table packet s new_table 0 is.1
+input_few law meaning entries (input.Inward packet) old table s trace new new_table is = subst (λ (x : Said). FewAgain x 0) (sym is.1.output) (few_of_outcome is.1.outcome 0)
+
+pub step_few : {C : Type 0} (law : AgainLaw) (meaning : Meaning) (given : Input) (s : Said) (trace : Trace) (old new : State C) → Traces meaning given old s trace new → FewAgain s (again_by given old.machine)
+step_few {C} law meaning given s trace old new is = input_few law meaning old.entries given old.machine old.table s trace new.machine new.table is.does
 
 -- what the machine of IKE says of the child that a step made
 pub record MadeLaws : Type 0 where
@@ -128,7 +197,9 @@ input_made : (laws : MadeLaws) (meaning : Meaning) (entries : List Entry) (given
     → IsSoundTable table → IsSoundMachine old table → DoesInput meaning entries given old table s trace new new_table → FitsChild trace.child new_table.pairs
 input_made laws meaning entries (input.Ike from octets fresh) old table s trace new new_table st sm is = by_ike_made laws meaning entries (ike.Message from octets fresh) old table s trace new new_table st sm is
 input_made laws meaning entries (input.Start serial entry fresh) old table s trace new new_table st sm is = by_ike_made laws meaning entries (ike.Start serial entry fresh) old table s trace new new_table st sm is
+input_made laws meaning entries (input.Probe serial fresh) old table s trace new new_table st sm is = by_ike_made laws meaning entries (ike.Probe serial fresh) old table s trace new new_table st sm is
 input_made laws meaning entries (input.Secret secret) old table s trace new new_table st sm is = by_ike_made laws meaning entries (ike.Secret secret) old table s trace new new_table st sm is
+input_made laws meaning entries (input.Tick moment) old table s trace new new_table st sm is = by_ike_made laws meaning entries (ike.Tick moment) old table s trace new new_table st sm is
 input_made laws meaning entries (input.Esp octets) old table s trace new new_table st sm is = none_fits trace new_table.pairs is.0.traced
 input_made laws meaning entries (input.Outward packet) old table s trace new new_table st sm is = none_fits trace new_table.pairs is.0.traced
 input_made laws meaning entries (input.Inward packet) old table s trace new new_table st sm is = none_fits trace new_table.pairs is.0.traced

@@ -65,6 +65,7 @@ not_refused_by_ike (made.Reply octets closed) why e = cc e
 not_refused_by_ike (made.Repeat octets) why e = cc e
 not_refused_by_ike (made.Request serial octets) why e = cc e
 not_refused_by_ike (made.Counted serial child closed) why e = cc e
+not_refused_by_ike (made.Ticked ticked) why e = cc e
 not_refused_by_ike made.Done why e = cc e
 not_refused_by_ike (made.Dropped fault) why e = cc e
 
@@ -119,8 +120,12 @@ kept_by_refusal meaning entries (input.Ike from octets fresh) old table why trac
     ike_kept meaning entries (ike.Message from octets fresh) old table why trace new new_table s
 kept_by_refusal meaning entries (input.Start serial entry fresh) old table why trace new new_table s =
     ike_kept meaning entries (ike.Start serial entry fresh) old table why trace new new_table s
+kept_by_refusal meaning entries (input.Probe serial fresh) old table why trace new new_table s =
+    ike_kept meaning entries (ike.Probe serial fresh) old table why trace new new_table s
 kept_by_refusal meaning entries (input.Secret secret) old table why trace new new_table s =
     ike_kept meaning entries (ike.Secret secret) old table why trace new new_table s
+kept_by_refusal meaning entries (input.Tick moment) old table why trace new new_table s =
+    ike_kept meaning entries (ike.Tick moment) old table why trace new new_table s
 kept_by_refusal meaning entries (input.Esp octets) old table why trace new new_table s = absurd (not_refused s.1.outcome why s.1.output)
 kept_by_refusal meaning entries (input.Outward packet) old table why trace new new_table s =
     record { machine = s.0.machine; pairs = as_before table new_table (sending_kept entries table packet why new_table s.1) }

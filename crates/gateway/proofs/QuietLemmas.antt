@@ -27,6 +27,7 @@ quiet_output (made.Reply octets closed) s e q = absurd (subst IsQuiet e q)
 quiet_output (made.Repeat octets) s e q = tt
 quiet_output (made.Request serial octets) s e q = absurd (subst IsQuiet e q)
 quiet_output (made.Counted serial child closed) s e q = absurd (subst IsQuiet e q)
+quiet_output (made.Ticked ticked) s e q = absurd (subst IsQuiet e q)
 quiet_output made.Done s e q = absurd (subst IsQuiet e q)
 quiet_output (made.Dropped fault) s e q = tt
 

@@ -8,4 +8,5 @@ use Rattle.gateway.specs.declared.input.Input.TheVariants as input
 -- A datagram of IKE is of octets, and a cipher tells how long bodies are with the octets that are fresh.
 abbrev pub IsGiven : Meaning → Input → Type 0
 IsGiven meaning (input.Ike from octets fresh) = IsTold meaning (ike.Message from octets fresh)
+IsGiven meaning (input.Probe serial fresh) = IsTold meaning (ike.Probe serial fresh)
 IsGiven meaning _ = Unit {0}

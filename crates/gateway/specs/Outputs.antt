@@ -1,9 +1,11 @@
 -- What comes of an input, as plain data.
-use Rattle.std.specs.Prelude.{◌≤◌, ℕ, Option, Some, None, length, Bool, false}
+use Rattle.std.specs.Prelude.{◌≤◌, ℕ, Option, Some, None, All, List, length, Bool, false}
 use Rattle.base.specs.Octets.{Octets}
+use Rattle.wire.specs.Numbers.{MESSAGE_LIMIT}
 use Rattle.sadb.specs.Database.{pair_at, PairMap}
 use Rattle.sadb.specs.declared.pair.Pair.{Pair}
 use Rattle.children.specs.Pairs.{HasFewSelectors}
+use Rattle.moments.specs.declared.resent.Resent.{Resent}
 use Rattle.ike.specs.declared.output.IkeOutput.{IkeOutput}
 use Rattle.ike.specs.declared.output.MadeChild.{MadeChild}
 use Rattle.ike.specs.declared.output.IkeOutput.TheVariants as ike
@@ -22,6 +24,8 @@ pub data Said : Type 0 where
   Request : (ike : ℕ) → Octets → Said
   -- a response of this association was counted; the child that it made, and the association that it closed
   Counted : (ike : ℕ) → Option ℕ → Option ℕ → Said
+  -- the requests that go out again, and the associations that were closed
+  Ticked : List Resent → List ℕ → Said
   Done : Said
   Up : (child number : ℕ) → Octets → Said
   Dummy : (child number : ℕ) → Said
@@ -36,6 +40,7 @@ said (output.Reply octets closed) = Reply octets closed
 said (output.Repeat octets) = Repeat octets
 said (output.Request serial octets) = Request serial octets
 said (output.Counted serial child closed) = Counted serial child closed
+said (output.Ticked requests closed) = Ticked requests closed
 said output.Done = Done
 said (output.Up child number packet) = Up child number packet.now
 said (output.Dummy child number) = Dummy child number
@@ -51,6 +56,7 @@ said_by_ike (ike.Reply octets closed) = Reply octets closed
 said_by_ike (ike.Repeat octets) = Repeat octets
 said_by_ike (ike.Request serial octets) = Request serial octets
 said_by_ike (ike.Counted serial child closed) = Counted serial child closed
+said_by_ike (ike.Ticked ticked) = Ticked ticked.requests ticked.closed
 said_by_ike ike.Done = Done
 said_by_ike (ike.Dropped fault) = Dropped (reason.Ike fault)
 
@@ -80,6 +86,7 @@ FitsDatagram (Repeat octets) = length octets ≤ DATAGRAM_LIMIT
 FitsDatagram (Request serial octets) = length octets ≤ DATAGRAM_LIMIT
 FitsDatagram (Sealed child number octets) = length octets ≤ DATAGRAM_LIMIT
 FitsDatagram (Counted serial child closed) = Unit {0}
+FitsDatagram (Ticked requests closed) = All (λ r. length r.octets ≤ MESSAGE_LIMIT) requests
 FitsDatagram Done = Unit {0}
 FitsDatagram (Up child number packet) = Unit {0}
 FitsDatagram (Dummy child number) = Unit {0}
@@ -87,6 +94,11 @@ FitsDatagram (Clear packet) = Unit {0}
 FitsDatagram Discarded = Unit {0}
 FitsDatagram (Dropped why) = Unit {0}
 FitsDatagram (Refused why) = Unit {0}
+
+-- no more requests go out again
+abbrev pub FewAgain : Said → ℕ → Type 0
+FewAgain (Ticked requests closed) most = length requests ≤ most
+FewAgain _ most = Unit {0}
 
 -- an input was refused for want of memory
 abbrev pub wants_memory : Said → Bool

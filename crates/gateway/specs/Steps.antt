@@ -80,8 +80,12 @@ DoesInput meaning entries (input.Ike from octets fresh) old table said trace new
     StepsIke meaning entries (ike.Message from octets fresh) old table said trace new new_table
 DoesInput meaning entries (input.Start serial entry fresh) old table said trace new new_table =
     StepsIke meaning entries (ike.Start serial entry fresh) old table said trace new new_table
+DoesInput meaning entries (input.Probe serial fresh) old table said trace new new_table =
+    StepsIke meaning entries (ike.Probe serial fresh) old table said trace new new_table
 DoesInput meaning entries (input.Secret secret) old table said trace new new_table =
     StepsIke meaning entries (ike.Secret secret) old table said trace new new_table
+DoesInput meaning entries (input.Tick moment) old table said trace new new_table =
+    StepsIke meaning entries (ike.Tick moment) old table said trace new new_table
 DoesInput meaning entries (input.Esp octets) old table said trace new new_table =
     LeavesIke old trace new × ReceivesPacket table octets said new_table
 DoesInput meaning entries (input.Outward packet) old table said trace new new_table =

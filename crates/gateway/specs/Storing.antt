@@ -1,30 +1,53 @@
 -- What a step may send and make, and room for it. Private contracts alone cite this.
-use Rattle.std.specs.Prelude.{◌≡◌, ◌<◌, ◌≤◌, ℕ, Option, Some, None, [], length, vec_len}
+use Rattle.std.specs.Prelude.{◌≡◌, ◌+◌, ◌<◌, ◌≤◌, ℕ, All, [], length, vec_len, Vec}
 use Rattle.std.specs.Vec.{vec_capacity}
 use Rattle.base.specs.Octets.{Octets}
-use Rattle.wire.specs.Numbers.{SELECTOR_LIMIT}
+use Rattle.wire.specs.Numbers.{MESSAGE_LIMIT, SELECTOR_LIMIT}
 use Rattle.effects.specs.Taking.{Meaning}
+use Rattle.moments.specs.Due.{outstanding_count}
+use Rattle.moments.specs.declared.resent.Resent.{Resent}
+use Rattle.ike.specs.Machines.{Machine}
 use Rattle.ike.specs.declared.output.Trace.{Trace}
 use Rattle.gateway.specs.Outputs.{DATAGRAM_LIMIT, Said}
 use Rattle.gateway.specs.States.{State}
 use Rattle.gateway.specs.Steps.{Traces}
 use Rattle.gateway.specs.Worlds.{stored_by, storing, Stored}
 use Rattle.gateway.specs.declared.input.Input.{Input}
+use Rattle.gateway.specs.declared.input.Input.TheVariants as input
 use Rattle.gateway.specs.declared.world.log.Log.{Log}
 use Rattle.gateway.specs.declared.world.log.Spare.{Spare}
 use Rattle.gateway.specs.declared.world.stored.End.{End}
 
--- memory for one datagram's octets and for one child's selectors
-pub record IsSpare (spare : Spare) : Type 0 where
+-- memory for the octets of one request that goes out again
+abbrev pub IsSpareMessage : {Z : Type 0} → Vec ℕ Z → Type 0
+IsSpareMessage v = (v.items ≡ []) × (MESSAGE_LIMIT ≤ vec_capacity v)
+
+-- and of so many
+pub record AreSpare {Y Z : Type 0} (again : Vec (Vec ℕ Z) Y) (count : ℕ) : Type 0 where
+  pub enough : count ≤ vec_len again
+  pub each : All IsSpareMessage again.items
+
+-- a request that goes out again is short
+abbrev pub IsShortResent : Resent → Type 0
+IsShortResent r = length r.octets ≤ MESSAGE_LIMIT
+
+-- memory for one datagram's octets, for so many requests that go out again, and for one child's selectors
+pub record IsSpare (spare : Spare) (count : ℕ) : Type 0 where
   pub octets : (spare.octets.items ≡ []) × (DATAGRAM_LIMIT ≤ vec_capacity spare.octets)
+  pub again : AreSpare spare.again count
   pub local : (spare.local.items ≡ []) × (SELECTOR_LIMIT ≤ vec_capacity spare.local)
   pub remote : (spare.remote.items ≡ []) × (SELECTOR_LIMIT ≤ vec_capacity spare.remote)
 
--- room for one datagram, one key record and one child
-pub record HasRoom (log : Log) : Type 0 where
-  pub sent : vec_len log.sent < vec_capacity log.sent
+-- room for so many datagrams, one key record and one child
+pub record HasRoom (log : Log) (count : ℕ) : Type 0 where
+  pub sent : vec_len log.sent + count < vec_capacity log.sent
   pub keyed : vec_len log.keyed < vec_capacity log.keyed
   pub children : vec_len log.children < vec_capacity log.children
+
+-- how many requests may go out again by an input: with a moment those that wait for an answer
+abbrev pub again_by : Input → Machine → ℕ
+again_by (input.Tick moment) machine = outstanding_count machine.held.associations
+again_by _ machine = 0
 
 -- a step of the gateway of an end, and what is stored of it
 pub record TakesAt {C : Type 0} (meaning : Meaning) (end : End) (input : Input) (old : State C) (stored : Stored) (said : Said) (new : State C) (stored_after : Stored) : Type 0 where

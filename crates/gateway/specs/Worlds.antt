@@ -1,5 +1,5 @@
 -- Two gateways that are each other's peer, and what is stored of them: what was sent under what, which keys and which children were made.
-use Rattle.std.specs.Prelude.{◌≡◌, ◌++◌, ◌∷◌, ℕ, zero, suc, List, [], Option, Some, None, slice_get, refl}
+use Rattle.std.specs.Prelude.{◌≡◌, ◌++◌, ◌∷◌, ℕ, zero, suc, List, [], Bool, false, Option, Some, None, map, slice_get, refl, if◌then◌else◌}
 use Rattle.std.specs.Coded.{Coded, code_by, coded×}
 use Rattle.std.specs.Option.{option_map, option_to_list}
 use Rattle.base.specs.Octets.{Octets}
@@ -8,11 +8,12 @@ use Rattle.suite.specs.declared.key_record.KeyRecord.{KeyRecord}
 use Rattle.sadb.specs.Database.{pair_at, Database}
 use Rattle.sadb.specs.declared.pair.Pair.{Pair}
 use Rattle.effects.specs.Taking.{Meaning}
+use Rattle.moments.specs.declared.resent.Resent.{Resent}
 use Rattle.ike.specs.Machines.{keys_of_serial, Machine}
 use Rattle.ike.specs.declared.output.MadeChild.{MadeChild}
 use Rattle.ike.specs.declared.output.Mark as ike
 use Rattle.ike.specs.declared.output.Trace.{Trace}
-use Rattle.gateway.specs.Outputs.{Said, Counted, Clear, Discarded, Done, Dropped, Dummy, Refused, Repeat, Reply, Request, Sealed, Up}
+use Rattle.gateway.specs.Outputs.{Said, Counted, Clear, Discarded, Done, Dropped, Dummy, Refused, Repeat, Reply, Request, Sealed, Ticked, Up}
 use Rattle.gateway.specs.States.{State}
 use Rattle.gateway.specs.Steps.{Traces}
 use Rattle.gateway.specs.declared.world.log.Log.{Log}
@@ -92,20 +93,37 @@ pub record IsMarked (sent : ike.Mark) (m : Mark) : Type 0 where
   pub keys : KeyRecord
   pub is : m ≡ mark.Ike keys sent.response sent.number
 
--- the datagram that a step sent
+-- what a request that goes out again was sealed under
+abbrev pub mark_again : Resent → Option ike.Mark
+mark_again r = if r.encrypted then Some (record { ike = r.ike; response = false; number = r.number }) else None
+
+-- a request that goes out again, as it is stored
+abbrev pub again_as : End → Machine → Resent → Datagram
+again_as end machine r = datagram_of end (ike_mark machine (mark_again r)) r.octets
+
+abbrev pub requests_in : Said → List Resent
+requests_in (Ticked requests closed) = requests
+requests_in _ = []
+
+-- the datagram that a step sent, if it was no request that goes out again
+abbrev pub sent_once : {C : Type 0} → End → Said → Option ike.Mark → State C → List Datagram
+sent_once end (Reply octets closed) sent gateway = datagram_of end (ike_mark gateway.machine sent) octets ∷ []
+sent_once end (Repeat octets) sent gateway = datagram_of end (ike_mark gateway.machine sent) octets ∷ []
+sent_once end (Request serial octets) sent gateway = datagram_of end (ike_mark gateway.machine sent) octets ∷ []
+sent_once end (Sealed child number octets) sent gateway = datagram_of end (esp_mark gateway.table child number) octets ∷ []
+sent_once end (Counted serial child closed) sent gateway = []
+sent_once end (Ticked requests closed) sent gateway = []
+sent_once end Done sent gateway = []
+sent_once end (Up child number packet) sent gateway = []
+sent_once end (Dummy child number) sent gateway = []
+sent_once end (Clear packet) sent gateway = []
+sent_once end Discarded sent gateway = []
+sent_once end (Dropped why) sent gateway = []
+sent_once end (Refused why) sent gateway = []
+
+-- the datagrams that a step sent
 abbrev pub sent_by : {C : Type 0} → End → Said → Option ike.Mark → State C → List Datagram
-sent_by end (Reply octets closed) sent gateway = datagram_of end (ike_mark gateway.machine sent) octets ∷ []
-sent_by end (Repeat octets) sent gateway = datagram_of end (ike_mark gateway.machine sent) octets ∷ []
-sent_by end (Request serial octets) sent gateway = datagram_of end (ike_mark gateway.machine sent) octets ∷ []
-sent_by end (Sealed child number octets) sent gateway = datagram_of end (esp_mark gateway.table child number) octets ∷ []
-sent_by end (Counted serial child closed) sent gateway = []
-sent_by end Done sent gateway = []
-sent_by end (Up child number packet) sent gateway = []
-sent_by end (Dummy child number) sent gateway = []
-sent_by end (Clear packet) sent gateway = []
-sent_by end Discarded sent gateway = []
-sent_by end (Dropped why) sent gateway = []
-sent_by end (Refused why) sent gateway = []
+sent_by end said sent gateway = sent_once end said sent gateway ++ map (again_as end gateway.machine) (requests_in said)
 
 abbrev pub keyed_with : End → Option KeyRecord → Option Keyed
 keyed_with end None = None

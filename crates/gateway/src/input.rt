@@ -31,8 +31,17 @@ pub enum Input {
         entry: u32,
         fresh: Fresh,
     },
+    /// The order to ask the peer whether it is there, under the IKE association with this serial (RFC 7296, section 2.4).
+    Probe {
+        ike: u32,
+        fresh: Fresh,
+    },
     /// The order to make cookies under another secret (RFC 7296, section 2.6).
     Secret {
         secret: [u8; 32],
+    },
+    /// The time, in milliseconds from any beginning. An earlier moment than before counts as the one before.
+    Tick {
+        moment: u64,
     },
 }

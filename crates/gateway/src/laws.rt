@@ -18,9 +18,10 @@ ghost use Rattle.ike.specs.declared.output.Trace.{Trace};
 ghost use Rattle.gateway.specs.Contents.{state_content};
 ghost use Rattle.gateway.specs.Faults.{is_after_judging_packet};
 ghost use Rattle.ike.specs.Soundness.{IsSoundMachine};
-ghost use Rattle.gateway.specs.Outputs.{Clear, Dropped, FitsChild, FitsDatagram, IsQuiet, Refused, Said, wants_memory, said};
+ghost use Rattle.gateway.specs.Outputs.{Clear, Dropped, FewAgain, FitsChild, FitsDatagram, IsQuiet, Refused, Said, wants_memory, said};
 ghost use Rattle.gateway.specs.Runs.{Runs, StepsAs};
 ghost use Rattle.gateway.specs.States.{State};
+ghost use Rattle.gateway.specs.Storing.{again_by};
 ghost use Rattle.gateway.specs.Steps.{GoesSealed, Steps, Traces};
 ghost use Rattle.gateway.specs.WorldRuns.{inputs_at, outputs_at, HappensAs, IsLater};
 ghost use Rattle.gateway.specs.Worlds.{child_by, gateway_at, ike_mark, keyed_by, IsMarked, WorldState};
@@ -96,6 +97,14 @@ pub fn what_is_sent_fits<C>()
 {
     what_is_sent_is_short();
     sealed_packets_open();
+}
+
+/// Requests go out again with a moment alone, and no more than wait for an answer.
+pub fn few_go_out_again<C>()
+    ensures { (meaning : Meaning) (given : Input) (said : Said) (trace : Trace) (old new : State C)
+        → Traces meaning given old said trace new → FewAgain said (again_by given old.machine) }
+{
+    ike::laws::few_go_out_again();
 }
 
 /// A child that a step makes has at most 16 selectors on either side (RFC 7296, section 3.13; a limit of this implementation).

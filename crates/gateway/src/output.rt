@@ -7,6 +7,7 @@ ghost use Rattle.traffic.specs.Outcomes.{outcome_of_admission, outcome_of_arriva
 use crate::Reason;
 use base::Items;
 use ike::{IkeOutput, Stepped, Trace};
+use moments::{Resent, Ticked};
 use traffic::{Admission, Arrival, Departure};
 
 /// What comes of an input. IKE associations and children are named by their serials.
@@ -34,6 +35,13 @@ pub enum Output<'a> {
         child: Option<u32>,
         /// The association that it closed.
         closed: Option<u32>,
+    },
+    /// What a moment brought.
+    Ticked {
+        /// The requests that go out again, in the order of their associations and by rising number.
+        requests: Items<Resent>,
+        /// The IKE associations that were closed, since no answer came, in their order.
+        closed: Items<u32>,
     },
     /// An order was carried out.
     Done,
@@ -110,6 +118,7 @@ impl<'a> Output<'a> {
             IkeOutput::Repeat(octets) => Output::Repeat { octets },
             IkeOutput::Request { ike, octets } => Output::Request { ike, octets },
             IkeOutput::Counted { ike, child, closed } => Output::Counted { ike, child, closed },
+            IkeOutput::Ticked(Ticked { requests, closed }) => Output::Ticked { requests, closed },
             IkeOutput::Done => Output::Done,
             IkeOutput::Dropped(fault) => Output::Dropped {
                 reason: Reason::Ike(fault),

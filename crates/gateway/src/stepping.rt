@@ -65,8 +65,15 @@ pub(crate) fn take<'a, C: Sealer + Agreement + Proof>(
             };
             step_ike(alloc, &order, ike, table, policy, caller)
         }
+        Input::Probe { ike: asked, fresh } => {
+            let order = IkeInput::Probe { ike: *asked, fresh };
+            step_ike(alloc, &order, ike, table, policy, caller)
+        }
         Input::Secret { secret } => {
             step_ike(alloc, &IkeInput::Secret(secret), ike, table, policy, caller)
+        }
+        Input::Tick { moment } => {
+            step_ike(alloc, &IkeInput::Tick(*moment), ike, table, policy, caller)
         }
         Input::Esp { octets } => Traced::plain(receive_packet(table, octets.as_slice())),
         Input::Outward { packet } => {

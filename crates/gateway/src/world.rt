@@ -8,7 +8,7 @@ mod running;
 mod stored;
 
 use crate::{Gateway, Output};
-use log::{Log, take};
+use log::{Log, most_again, take};
 pub use running::run_world;
 use std::alloc::{AllocError, Global};
 use std::marker::Model;
@@ -119,7 +119,8 @@ impl<C: Sealer + Agreement + Proof> World<C> {
             event.now self.old (said output) self.new) }
         ensures refused { IfErr result (λ _. self.new ≡ self.old) }
     {
-        let spare = self.log.prepare(alloc)?;
+        let again = most_again(&event.input, self.gateway(event.end));
+        let spare = self.log.prepare(alloc, again)?;
         let log = &mut self.log;
         match event.end {
             End::A => Ok(take(alloc, End::A, &event.input, &mut self.a, log, spare)),

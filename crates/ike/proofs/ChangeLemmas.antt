@@ -1,5 +1,5 @@
 -- A step changes one association at most, and pairs of that one alone.
-use Rattle.std.proofs.Common.{◌≡◌, inl, ℕ, ◌+◌, List, Some, ap, refl, subst, sym, ◌∙◌, arith}
+use Rattle.std.proofs.Common.{◌≡◌, inl, inr, ℕ, Bool, true, false, ◌+◌, List, Some, ap, refl, subst, sym, ◌∙◌, arith}
 use Rattle.base.specs.Octets.{Octets}
 use Rattle.wire.specs.declared.message.Message.{Message}
 use Rattle.policy.specs.declared.entry.Entry.{Entry}
@@ -14,10 +14,11 @@ use Rattle.ike.specs.Machines.{association_of, others_than, Held, Machine}
 use Rattle.ike.specs.Pairs.{ChangesOne}
 use Rattle.ike.specs.Receiving.{with_next}
 use Rattle.ike.specs.Starting.{child_by}
-use Rattle.ike.specs.Steps.{InputView, Steps}
+use Rattle.ike.specs.Steps.{is_tick, InputView, Steps}
 use Rattle.ike.specs.declared.output.Stepped.{Stepped}
 use Rattle.ike.proofs.SerialLemmas.{grown_found, grown_others, replaced_found, replaced_others}
-use Rattle.ike.proofs.WayLemmas.{admitted, rested, started, step_way, took, Takes, Way}
+use Rattle.ike.proofs.ProbeLemmas.{changed_itself}
+use Rattle.ike.proofs.WayLemmas.{admitted, probed, rested, started, step_way, took, Takes, Way}
 
 -- what is known of a message's effect
 pub record ChangeFacts : Type 0 where
@@ -71,6 +72,10 @@ came_changes old b new table new_table serial content pairs =
       pairs = pairs;
     }
 
+clash : (b : Bool) → b ≡ true → b ≡ false → ⊥
+clash true one other = cc
+clash false one other = cc
+
 way_changes : (facts : ChangeFacts) (meaning : Meaning) (setup : Setup) (octets : Octets) (old : Held) (table : Database) (stepped : Stepped) (new : Held) (new_table : Database)
     → Way meaning setup octets old table stepped new new_table → ChangesOne old new table new_table
 way_changes facts meaning setup octets old table stepped new new_table (rested is) =
@@ -83,13 +88,25 @@ way_changes facts meaning setup octets old table stepped new new_table (rested i
 way_changes facts meaning setup octets old table stepped new new_table (took is) = took_changes facts meaning setup octets old table stepped new new_table is
 way_changes facts meaning setup octets old table stepped new new_table (admitted is) =
     came_changes old is.admits.admitted.association new table new_table (ap (λ (a : Association). a.serial) is.admits.admits.content) is.admits.content (left_as table new_table old.next is.pairs)
+way_changes facts meaning setup octets old table stepped new new_table (probed is) =
+    let p = is.probes in
+    let stays = changed_itself meaning.body_of setup is.ike old stepped new p in
+    record {
+      serial = p.association.serial;
+      others = ap (λ (h : Held). others_than p.association.serial h.associations) p.content
+          ∙ replaced_others old.associations p.place p.association p.changed p.association.serial p.there refl stays.serial;
+      each = λ other apart. ap (λ (h : Held). association_of other h.associations) p.content
+          ∙ replaced_found old.associations p.place p.association p.changed other p.there apart stays.serial;
+      pairs = left_as table new_table p.association.serial is.pairs;
+    }
 way_changes facts meaning setup octets old table stepped new new_table (started is) =
     let s = is.starts in
     came_changes old (begun old.next s.beginning (child_by s.entry s.done.spi setup.config.extended)) new table new_table refl s.done.content
     (reserved_left table s.between old.next s.done.spi new_table s.room s.done.reserved)
 
 pub step_changes : ChangeFacts → (meaning : Meaning) (entries : List Entry) (input : InputView) (old : Machine) (table : Database) (stepped : Stepped) (new : Machine) (new_table : Database)
-    → Steps meaning entries input old table stepped new new_table → ChangesOne old.held new.held table new_table
-step_changes facts meaning entries input old table stepped new new_table is =
-    let w = step_way meaning entries input old table stepped new new_table is in
-    way_changes facts meaning w.setup w.octets old.held table stepped new.held new_table w.way
+    → is_tick input ≡ false → Steps meaning entries input old table stepped new new_table → ChangesOne old.held new.held table new_table
+step_changes facts meaning entries input old table stepped new new_table still is = elim (step_way meaning entries input old table stepped new new_table is) [
+  | inl w ↦ way_changes facts meaning w.setup w.octets old.held table stepped new.held new_table w.way
+  | inr passes ↦ absurd (clash (is_tick input) passes.ticks still)
+]

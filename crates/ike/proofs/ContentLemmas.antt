@@ -72,6 +72,9 @@ module _ (xs ys : List Association) (same : map association_content xs ≡ map a
   pub same_bad : (spi : ℕ) → is_bad_spi spi xs ≡ is_bad_spi spi ys
   same_bad spi = ap (λ b. spi == 0 || b) (same_any (has_own_spi spi) (λ x. refl))
 
+  pub same_first : (serial : ℕ) → position (has_serial serial) xs ≡ position (has_serial serial) ys
+  same_first serial = same_place (has_serial serial) (λ x. refl)
+
   pub same_serials : (serial : ℕ) → list_any (has_serial serial) xs ≡ list_any (has_serial serial) ys
   same_serials serial = same_any (has_serial serial) (λ x. refl)
 

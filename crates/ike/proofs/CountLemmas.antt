@@ -66,6 +66,18 @@ count_replaced (x ∷ xs) (suc place) a b there only =
     let two = count_next x xs in
     omega (arith, rest, one, two)
 
+-- one more is counted, or not
+pub count_more : (a : Association) (xs : List Association) → half_open_count xs ≤ half_open_count (a ∷ xs)
+count_more a xs = let one = count_next a xs in omega (arith, one)
+
+-- one that comes to be half open was before, and so it is with the others
+pub count_lighter : (a b : Association) (xs ys : List Association) → (IsHalfOpen b.phase → IsHalfOpen a.phase) → half_open_count ys ≤ half_open_count xs → half_open_count (b ∷ ys) ≤ half_open_count (a ∷ xs)
+count_lighter a b xs ys only less =
+    let lighter : weight b ≤ weight a = weight_by (is_half_open a) (is_half_open b) (λ is. counted_phase a.phase (only (opened_phase b.phase is))) in
+    let one = count_next b ys in
+    let two = count_next a xs in
+    omega (arith, lighter, less, one, two)
+
 -- ---- SPIs in use
 
 or_left : (b c : Bool) → (b || c) ≡ false → b ≡ false

@@ -1,5 +1,5 @@
 -- What the laws of lower crates say is determined.
-use Rattle.std.proofs.Common.{◌≡◌, ℕ, List, Option}
+use Rattle.std.proofs.Common.{◌≡◌, ℕ, List, Option, map}
 use Rattle.base.specs.Octets.{AreOctets, Octets}
 use Rattle.wire.specs.Messages.{Spells, SpellsPlainly}
 use Rattle.wire.specs.Refusals.{IsFaultOf}
@@ -19,6 +19,10 @@ use Rattle.association.specs.declared.phase.Association.{Association}
 use Rattle.initial.specs.Beginning.{begun, Admits, Begins}
 use Rattle.initial.specs.Configs.{Setup}
 use Rattle.effects.specs.Lengths.{HoldsWholeKeys, TellsLengths}
+use Rattle.informational.specs.Probing.{Probes}
+use Rattle.moments.specs.Ticking.{Ticks}
+use Rattle.moments.specs.declared.ticking.Ticked.{Ticked}
+use Rattle.suite.specs.declared.keys.Keys.{Keys}
 use Rattle.effects.specs.Taking.{Meaning, TakesMessage}
 use Rattle.initial.specs.declared.beginning.Admitted.{Admitted}
 use Rattle.initial.specs.declared.beginning.Beginning.{Beginning}
@@ -54,7 +58,18 @@ pub record TableLaws : Type 0 where
   pub prepared : (old new : Database) → IsAsBefore old new → table_content new ≡ table_content old
   pub reserved : (old other a b : Database) (spi mark : ℕ) → table_content old ≡ table_content other → Reserves old spi a → Reserves other mark b → (spi ≡ mark) × (table_content a ≡ table_content b)
 
+-- of orders to ask whether the peer is there, and of moments
+pub record OrderLaws : Type 0 where
+  pub probe : (body_of : Keys → Octets → Octets → Octets → Octets) (setup : Setup) (old other a b : Association) (one two : Octets)
+      → TellsLengths body_of setup.fresh.seal → HoldsWholeKeys old.phase → association_content old ≡ association_content other
+      → Probes body_of setup old one a → Probes body_of setup other two b → (one ≡ two) × (association_content a ≡ association_content b)
+  pub ticks : (now : ℕ) (old other a b : List Association) (table another a_table b_table : Database) (one two : Ticked)
+      → map association_content old ≡ map association_content other → table_content table ≡ table_content another
+      → Ticks now old table one a a_table → Ticks now other another two b b_table
+      → (one ≡ two) × (map association_content a ≡ map association_content b) × (table_content a_table ≡ table_content b_table)
+
 pub record Laws : Type 0 where
+  pub orders : OrderLaws
   pub messages : MessageLaws
   pub judgement : OneJudgement
   pub associations : AssociationLaws

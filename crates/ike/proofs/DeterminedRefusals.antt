@@ -26,6 +26,7 @@ use Rattle.ike.specs.declared.output.Stepped.{Stepped}
 use Rattle.ike.proofs.ContentLemmas.{same_answered, same_bad, same_length, same_list, same_next, same_serials}
 use Rattle.ike.proofs.DeterminedLaws.{Laws}
 use Rattle.ike.proofs.DeterminedSteps.{one_judgement, same_setup}
+use Rattle.ike.proofs.OrderLemmas.{moment_refused, one_probe_refusal, probe_or_refused}
 
 -- ---- requests of IKE_SA_INIT
 
@@ -37,6 +38,7 @@ can_or_cannot old spi fault.Crowded can cannot = absurd cannot
 can_or_cannot old spi fault.TableFull can cannot = absurd cannot
 can_or_cannot old spi fault.SpisSpent can cannot = absurd cannot
 can_or_cannot old spi fault.HalfOpenFull can cannot = absurd cannot
+can_or_cannot old spi fault.Busy can cannot = absurd cannot
 can_or_cannot old spi fault.NumbersSpent can cannot = absurd (omega (arith, can.serial, cannot))
 can_or_cannot old spi fault.BadFresh can cannot = absurd (cc (can.usable, cannot.1))
 can_or_cannot old spi (fault.Memory f) can cannot = refl
@@ -53,6 +55,7 @@ hinders old spi fault.Crowded other cannot = absurd cannot
 hinders old spi fault.TableFull other cannot = absurd cannot
 hinders old spi fault.SpisSpent other cannot = absurd cannot
 hinders old spi fault.HalfOpenFull other cannot = absurd cannot
+hinders old spi fault.Busy other cannot = absurd cannot
 hinders old spi fault.NumbersSpent other cannot = inl (refl, cannot)
 hinders old spi fault.BadFresh other cannot = inr (refl, cannot.0)
 hinders old spi (fault.Memory f) other cannot = absurd (cc)
@@ -73,6 +76,7 @@ refused_is meaning setup cookies from octets old fault.Crowded is = inr is
 refused_is meaning setup cookies from octets old fault.TableFull is = inr is
 refused_is meaning setup cookies from octets old fault.SpisSpent is = inr is
 refused_is meaning setup cookies from octets old fault.HalfOpenFull is = inr is
+refused_is meaning setup cookies from octets old fault.Busy is = inr is
 refused_is meaning setup cookies from octets old fault.NumbersSpent is = inr is
 refused_is meaning setup cookies from octets old fault.BadFresh is = inr is
 refused_is meaning setup cookies from octets old (fault.Memory f) is = inl refl
@@ -97,6 +101,7 @@ module _ (laws : Laws) (meaning : Meaning) (setup : Setup) (cookies : CookieSecr
   cannot_here spi fault.TableFull cannot = absurd cannot
   cannot_here spi fault.SpisSpent cannot = absurd cannot
   cannot_here spi fault.HalfOpenFull cannot = absurd cannot
+  cannot_here spi fault.Busy cannot = absurd cannot
   cannot_here spi fault.NumbersSpent cannot = same_next old other same ∙ cannot
   cannot_here spi fault.BadFresh cannot = (subst (λ (n : ℕ). n < SERIAL_END) (sym (same_next old other same)) cannot.0, same_bad old.associations other.associations (same_list old other same) spi ∙ cannot.1)
   cannot_here spi (fault.Memory f) cannot = tt
@@ -184,6 +189,7 @@ withholds table fault.Crowded other is = absurd is
 withholds table fault.TableFull other is = inl (refl, is)
 withholds table fault.SpisSpent other is = inr (refl, is.0, is.1)
 withholds table fault.HalfOpenFull other is = absurd is
+withholds table fault.Busy other is = absurd is
 withholds table fault.NumbersSpent other is = absurd is
 withholds table fault.BadFresh other is = absurd is
 withholds table (fault.Memory f) other is = absurd (cc)
@@ -202,6 +208,7 @@ given_or_not table another fault.Crowded alike not_full not_spent is = absurd is
 given_or_not table another fault.TableFull alike not_full not_spent is = absurd (not_full (subst (λ (d : Database). IsFull d) (sym alike) is))
 given_or_not table another fault.SpisSpent alike not_full not_spent is = absurd (not_spent (subst (λ (d : Database). IsSpent d) (sym alike) is.1))
 given_or_not table another fault.HalfOpenFull alike not_full not_spent is = absurd is
+given_or_not table another fault.Busy alike not_full not_spent is = absurd is
 given_or_not table another fault.NumbersSpent alike not_full not_spent is = absurd is
 given_or_not table another fault.BadFresh alike not_full not_spent is = absurd is
 given_or_not table another (fault.Memory f) alike not_full not_spent is = refl
@@ -246,6 +253,7 @@ secret_or_refused old other fault.Crowded same left is = absurd is
 secret_or_refused old other fault.TableFull same left is = absurd is
 secret_or_refused old other fault.SpisSpent same left is = absurd is
 secret_or_refused old other fault.HalfOpenFull same left is = absurd is
+secret_or_refused old other fault.Busy same left is = absurd is
 secret_or_refused old other fault.NumbersSpent same left is = absurd (is (subst (λ (m : Machine). m.cookies.version + 1 < 2 ^ 32) same left))
 secret_or_refused old other fault.BadFresh same left is = absurd is
 secret_or_refused old other (fault.Memory f) same left is = absurd is
@@ -258,6 +266,7 @@ secret_refused old fault.Crowded is = absurd is
 secret_refused old fault.TableFull is = absurd is
 secret_refused old fault.SpisSpent is = absurd is
 secret_refused old fault.HalfOpenFull is = absurd is
+secret_refused old fault.Busy is = absurd is
 secret_refused old fault.NumbersSpent is = refl
 secret_refused old fault.BadFresh is = absurd is
 secret_refused old (fault.Memory f) is = absurd is
@@ -275,6 +284,9 @@ step_or_refused laws meaning entries (steps.Message from octets fresh) old other
     datagram_or_refused laws meaning (setup_at old entries fresh) old.cookies from octets old.held other.held (ap (λ (m : Machine). m.held) same) table stepped new.held new_table reason is.1 refuses
 step_or_refused laws meaning entries (Start ike place fresh) old other new table another new_table stepped reason same alike is also =
     start_or_refused laws meaning (setup_at old entries fresh) ike place old.held other.held table another stepped new.held new_table reason (ap (λ (m : Machine). m.held) same) alike is.1 also
+step_or_refused laws meaning entries (steps.Probe ike fresh) old other new table another new_table stepped reason same alike is also =
+    probe_or_refused meaning.body_of (setup_at old entries fresh) ike old.held other.held stepped new.held reason (ap (λ (m : Machine). m.held) same) is.1 also
+step_or_refused laws meaning entries (steps.Tick moment) old other new table another new_table stepped reason same alike is also = moment_refused reason also
 step_or_refused laws meaning entries (Secret secret) old other new table another new_table stepped reason same alike is also = secret_or_refused old other reason same is.left also
 
 pub one_refusal : Laws → (meaning : Meaning) (entries : List Entry) (given : InputView) (old other : Machine) (table another : Database) (one two : IkeFault)
@@ -288,4 +300,8 @@ one_refusal laws meaning entries (steps.Message from octets fresh) old other tab
     one_datagram_refusal laws meaning (setup_at old entries fresh) old.cookies from octets old.held other.held (ap (λ (m : Machine). m.held) same) one two not_one not_two is refuses
 one_refusal laws meaning entries (Start ike place fresh) old other table another one two same alike not_one not_two is also =
     one_start_refusal entries fresh ike place old.held other.held table another one two (ap (λ (m : Machine). m.held) same) alike not_one not_two is also
+one_refusal laws meaning entries (steps.Probe ike fresh) old other table another one two same alike not_one not_two is also =
+    one_probe_refusal ike old.held other.held one two (ap (λ (m : Machine). m.held) same) not_one not_two is also
+one_refusal laws meaning entries (steps.Tick moment) old other table another one two same alike not_one not_two is also =
+    absurd (clash (is_want_of_memory one) (moment_refused one is) not_one)
 one_refusal laws meaning entries (Secret secret) old other table another one two same alike not_one not_two is also = secret_refused old one is ∙ sym (secret_refused other two also)

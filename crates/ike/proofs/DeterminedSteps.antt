@@ -1,11 +1,13 @@
 -- A step does one thing: what comes of it, and what is held of associations and in the table then, but for room.
-use Rattle.std.proofs.Common.{◌≡◌, inl, inr, ℕ, Bool, true, false, List, length, Option, Some, None, Result, Ok, Err, sym, ap, subst, ◌∙◌}
-use Rattle.std.specs.List.{position}
+use Rattle.std.proofs.Common.{◌≡◌, inl, inr, ℕ, Bool, true, false, List, length, Option, Some, None, Result, Ok, Err, sym, ap, subst, ◌∙◌, max}
+use Rattle.std.specs.List.{position, slice_get}
+use Rattle.std.specs.Prelude.{slice_set}
 use Rattle.base.specs.Octets.{AreOctets, Octets}
 use Rattle.wire.specs.declared.fault.WireFault.{WireFault}
 use Rattle.wire.specs.declared.message.Message.{Message}
 use Rattle.policy.specs.declared.entry.Entry.{Entry}
 use Rattle.suite.specs.declared.fresh.Fresh.{Fresh}
+use Rattle.suite.specs.declared.keys.Keys.{Keys}
 use Rattle.exchange.specs.declared.notices.Notice.{Notice}
 use Rattle.sadb.specs.Contents.{table_content}
 use Rattle.sadb.specs.Database.{Database}
@@ -21,24 +23,29 @@ use Rattle.association.specs.declared.phase.Association.{Association}
 use Rattle.initial.specs.Beginning.{begun, Admits}
 use Rattle.initial.specs.Configs.{Setup}
 use Rattle.effects.specs.Lengths.{TellsLengths}
+use Rattle.moments.specs.Ticking.{Ticks}
+use Rattle.moments.specs.declared.ticking.Ticked.{Ticked}
 use Rattle.effects.specs.Taking.{Meaning}
 use Rattle.initial.specs.declared.beginning.Admitted.{Admitted}
 use Rattle.initial.specs.declared.beginning.Beginning.{Beginning}
 use Rattle.effects.specs.declared.taking.Effect.{Effect}
 use Rattle.ike.specs.Contents.{held_content, machine_content}
 use Rattle.ike.specs.Lengths.{HoldWholeKeys, IsTold}
-use Rattle.ike.specs.Machines.{half_open_count, setup_at, Held, Machine}
-use Rattle.ike.specs.Outputs.{half_open_step, plain_step, stepped_of}
+use Rattle.ike.specs.Machines.{half_open_count, has_serial, setup_at, Held, Machine}
+use Rattle.ike.specs.Outputs.{asking_step, half_open_step, plain_step, stepped_of}
+use Rattle.ike.specs.Probing.{ProbesAt}
 use Rattle.effects.specs.Keeping.{kept_reply}
 use Rattle.ike.specs.Receiving.{is_answered, is_initial_request, is_sound_initial, sender_of, AdmitsNext, DoesJudgement, FailsToRead, IsJudged, PassesOver, ReadsDatagram, Repeats, SaysNotice, TakesAt, TakesDatagram, TakesFound, TakesNew, TakesOffer, TakesRead, TakesRequestAt, TakesSound}
 use Rattle.ike.specs.Starting.{child_by, protecting_entry, Starts}
 use Rattle.ike.specs.Steps as steps
+use Rattle.ike.specs.Ticking.{TakesMoment}
 use Rattle.ike.specs.Steps.{InputView, Start, Secret, Steps}
 use Rattle.ike.specs.declared.fault.IkeFault.{IkeFault}
 use Rattle.ike.specs.declared.fault.IkeFault.TheVariants as fault
+use Rattle.ike.specs.declared.output.IkeOutput.TheVariants as output
 use Rattle.ike.specs.declared.output.IkeOutput.TheVariants.{Reply, Repeat, Request}
 use Rattle.ike.specs.declared.output.Stepped.{Stepped}
-use Rattle.ike.proofs.ContentLemmas.{same_after_change, same_after_next, same_answered, same_count, same_found, same_length, same_list, same_next, same_there}
+use Rattle.ike.proofs.ContentLemmas.{same_after_change, same_after_next, same_answered, same_count, same_first, same_found, same_length, same_list, same_next, same_there}
 use Rattle.ike.proofs.DeterminedLaws.{Laws}
 
 -- what comes of a step, and what is held
@@ -247,6 +254,57 @@ module _ (laws : Laws) (meaning : Meaning) (setup : Setup) (old other : Held) (s
         table = reserved.1;
       }
 
+-- ---- orders to ask whether the peer is there, and moments
+
+same_place_of : (o : Option ℕ) (one two : ℕ) → o ≡ Some one → o ≡ Some two → one ≡ two
+same_place_of o one two is also = cc
+
+one_probing : Laws → (body_of : Keys → Octets → Octets → Octets → Octets) (setup : Setup) (ike : ℕ) (old other : Held) (one two : Stepped) (a b : Held) (table another a_table b_table : Database)
+    → TellsLengths body_of setup.fresh.seal → HoldWholeKeys old → held_content old ≡ held_content other → table_content table ≡ table_content another
+    → ProbesAt body_of setup ike old one a → ProbesAt body_of setup ike other two b → a_table ≡ table → b_table ≡ another → SameLeft one two a b a_table b_table
+one_probing laws body_of setup ike old other one two a b table another a_table b_table tells whole same alike is also same_table other_table =
+    let place : is.place ≡ also.place = same_place_of (position (has_serial ike) other.associations) is.place also.place (sym (same_first old.associations other.associations (same_list old other same) ike) ∙ is.first) also.first in
+    let there : slice_get other.associations is.place ≡ Some also.association = subst (λ n. slice_get other.associations n ≡ Some also.association) (sym place) also.there in
+    let association : association_content is.association ≡ association_content also.association =
+    same_there old.associations other.associations (same_list old other same) is.place is.association also.association is.there there in
+    let did = laws.orders.probe body_of setup is.association also.association is.changed also.changed is.octets also.octets tells (whole is.place is.association is.there) association is.probes also.probes in
+    let number : is.association.outgoing.next ≡ also.association.outgoing.next = ap (λ (z : Association). z.outgoing.next) association in
+    record {
+      stepped = is.said ∙ ap (λ n. asking_step ike n is.octets) number ∙ ap (asking_step ike also.association.outgoing.next) did.0 ∙ sym also.said;
+      held =
+          ap held_content is.content
+          ∙ same_after_change old other same is.place is.changed also.changed did.1
+          ∙ ap (λ n. held_content (record other { associations = slice_set other.associations n also.changed })) place
+          ∙ sym (ap held_content also.content);
+      table = ap table_content same_table ∙ alike ∙ sym (ap table_content other_table);
+    }
+
+alike_after : (now : ℕ) (old other a b : Machine) → machine_content old ≡ machine_content other → a ≡ record old { moment = now; held = a.held } → b ≡ record other { moment = now; held = b.held } → held_content a.held ≡ held_content b.held
+    → machine_content a ≡ machine_content b
+alike_after now old other a b same is also held =
+    ap machine_content is
+    ∙ ap (λ (m : Machine). record m { moment = now; held = held_content a.held }) same
+    ∙ ap (λ (h : Held). record (machine_content other) { moment = now; held = h }) held
+    ∙ sym (ap machine_content also)
+
+one_moment : Laws → (moment : ℕ) (old other a b : Machine) (table another a_table b_table : Database) (one two : Stepped)
+    → machine_content old ≡ machine_content other → table_content table ≡ table_content another
+    → TakesMoment moment old table one a a_table → TakesMoment moment other another two b b_table
+    → (one ≡ two) × (machine_content a ≡ machine_content b) × (table_content a_table ≡ table_content b_table)
+one_moment laws moment old other a b table another a_table b_table one two same alike is also =
+    let now = max old.moment moment in
+    let moments : old.moment ≡ other.moment = ap (λ (m : Machine). m.moment) same in
+    let held : held_content old.held ≡ held_content other.held = ap (λ (m : Machine). m.held) same in
+    let ticks : Ticks now other.held.associations another also.takes.ticked b.held.associations b_table =
+    subst (λ n. Ticks (max n moment) other.held.associations another also.takes.ticked b.held.associations b_table) (sym moments) also.takes.ticks in
+    let content : b ≡ record other { moment = now; held = b.held } = subst (λ n. b ≡ record other { moment = max n moment; held = b.held }) (sym moments) also.content in
+    let did = laws.orders.ticks now old.held.associations other.held.associations a.held.associations b.held.associations table another a_table b_table is.takes.ticked also.takes.ticked (same_list old.held other.held held) alike is.takes.ticks ticks in
+    let next : a.held.next ≡ b.held.next = is.takes.next ∙ same_next old.held other.held held ∙ sym also.takes.next in (
+      is.takes.said ∙ ap (λ (t : Ticked). plain_step (output.Ticked t)) did.0 ∙ sym also.takes.said,
+      alike_after now old other a b same is.content content (λ i. record { next = next i; associations = did.1 i }),
+      did.2,
+    )
+
 -- ---- steps
 
 pub same_setup : (old other : Machine) (entries : List Entry) (fresh : Fresh) → machine_content old ≡ machine_content other → setup_at other entries fresh ≡ setup_at old entries fresh
@@ -280,6 +338,13 @@ one_step laws meaning entries (Start ike place fresh) old other a b table anothe
     subst (λ (s : Setup). Starts meaning s ike place other.held another two b.held b_table) (same_setup old other entries fresh same) also.1 in
     same_whole one two old other a b a_table b_table same is.0 also.0
     (one_start laws meaning (setup_at old entries fresh) old.held other.held (ap (λ (m : Machine). m.held) same) ike place table another one two a.held b.held a_table b_table alike is.1 starts)
+one_step laws meaning entries (steps.Probe ike fresh) old other a b table another a_table b_table one two told whole same alike is also =
+    let probes : ProbesAt meaning.body_of (setup_at old entries fresh) ike other.held two b.held =
+    subst (λ (s : Setup). ProbesAt meaning.body_of s ike other.held two b.held) (same_setup old other entries fresh same) also.1 in
+    same_whole one two old other a b a_table b_table same is.0 also.0
+    (one_probing laws meaning.body_of (setup_at old entries fresh) ike old.held other.held one two a.held b.held table another a_table b_table told whole (ap (λ (m : Machine). m.held) same) alike is.1 probes is.2 also.2)
+one_step laws meaning entries (steps.Tick moment) old other a b table another a_table b_table one two told whole same alike is also =
+    one_moment laws moment old other a b table another a_table b_table one two same alike is also
 one_step laws meaning entries (Secret secret) old other a b table another a_table b_table one two told whole same alike is also = (
   is.said ∙ sym also.said,
   ap machine_content is.content ∙ ap (λ (m : Machine). record m { cookies = changed m.cookies secret }) same ∙ sym (ap machine_content also.content),

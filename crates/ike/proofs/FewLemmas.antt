@@ -33,6 +33,9 @@ pub record FirstLaw : Type 0 where
 no_child : (said : IkeOutput) (stepped : Stepped) (made : MadeChild) → stepped ≡ plain_step said → stepped.trace.child ≡ Some made → ⊥
 no_child said stepped made is e = let none : None ≡ Some made = sym (ap (λ (s : Stepped). s.trace.child) is) ∙ e in cc
 
+none_made : (made : MadeChild) → None ≡ Some made → ⊥
+none_made made e = cc
+
 few_by : (meaning : Meaning) (setup : Setup) (old : Association) (octets : Octets) (m : Message) (e : Effect) (keys : KeyRecord) (pair : Pair) → MadeBy meaning setup old octets m e keys pair → HasFewSelectors pair
 few_by meaning setup old octets m (effect.Refused fault) keys pair is = absurd is
 few_by meaning setup old octets m (effect.Repeated said) keys pair is = absurd is
@@ -52,4 +55,7 @@ few_selectors law meaning entries (steps.Message from octets fresh) old table st
     let few = few_by meaning (setup_at old entries fresh) first.was octets first.message first.effect first.makes.keys first.makes.pair first.makes.made in
     subst (λ (p : Pair). HasFewSelectors p) (same_pair first.makes.pair pair (sym first.makes.brings.there ∙ there)) few
 few_selectors law meaning entries (steps.Start ike place fresh) old table stepped new new_table made pair st sm is e there = absurd (no_child _ stepped made is.1.done.said e)
+few_selectors law meaning entries (steps.Probe ike fresh) old table stepped new new_table made pair st sm is e there =
+    absurd (none_made made (sym (ap (λ (s : Stepped). s.trace.child) is.1.said) ∙ e))
+few_selectors law meaning entries (steps.Tick moment) old table stepped new new_table made pair st sm is e there = absurd (no_child _ stepped made is.takes.said e)
 few_selectors law meaning entries (steps.Secret secret) old table stepped new new_table made pair st sm is e there = absurd (no_child _ stepped made is.said e)

@@ -5,7 +5,6 @@ mod CountLemmas
 mod SoundLemmas
 mod StepLemmas
 mod QuietLemmas
-mod PairLemmas
 mod ReachLemmas
 mod WayLemmas
 mod SerialLemmas
@@ -19,3 +18,6 @@ mod DeterminedSteps
 mod DeterminedRefusals
 mod WholeKeyLemmas
 mod ProvingLemmas
+mod TickLemmas
+mod ProbeLemmas
+mod OrderLemmas

@@ -1,11 +1,12 @@
 -- Who is established proved itself, by the ways of a step.
-use Rattle.std.proofs.Common.{◌≡◌, ◌⊎◌, inl, inr, ℕ, List, Option, Some, ap, refl, subst, sym, ◌∙◌}
+use Rattle.std.proofs.Common.{◌≡◌, ◌⊎◌, inl, inr, ℕ, List, Option, Some, ap, refl, subst, sym, ◌∙◌, max}
 use Rattle.std.proofs.lemmas.Bool.Decides.{eqb_tells}
 use Rattle.base.specs.Octets.{Octets}
 use Rattle.wire.specs.declared.message.Message.{Message}
 use Rattle.policy.specs.declared.entry.Entry.{Entry}
 use Rattle.suite.specs.declared.key_record.KeyRecord.{KeyRecord}
 use Rattle.sadb.specs.Database.{Database}
+use Rattle.association.specs.Phases.{keys_in}
 use Rattle.association.specs.declared.phase.Association.{Association}
 use Rattle.association.specs.declared.phase.HalfOpen.{HalfOpen}
 use Rattle.association.specs.declared.phase.InitSent.{InitSent}
@@ -16,15 +17,19 @@ use Rattle.effects.specs.Proving.{ProvesByMessage}
 use Rattle.effects.specs.Taking.{Meaning, StaysItself, TakesMessage}
 use Rattle.effects.specs.declared.taking.Effect.{Effect}
 use Rattle.ike.specs.Machines.{association_of, setup_at, Held, Machine}
+use Rattle.ike.specs.Probing.{ProbesAt}
 use Rattle.ike.specs.Proving.{ProvedItself, WasKnown}
 use Rattle.ike.specs.Receiving.{with_next}
 use Rattle.ike.specs.Soundness.{AreSound, IsSoundMachine}
 use Rattle.ike.specs.Starting.{child_by, Starts}
 use Rattle.ike.specs.Steps.{InputView, Steps}
 use Rattle.ike.specs.Steps as steps
+use Rattle.ike.specs.Ticking.{TakesHeld}
 use Rattle.ike.specs.declared.output.Stepped.{Stepped}
 use Rattle.ike.proofs.SerialLemmas.{grown_found, grown_stands, replaced_found, replaced_stands, same_one, sound_found}
-use Rattle.ike.proofs.WayLemmas.{admitted, datagram_way, rested, started, took, Takes, Way}
+use Rattle.ike.proofs.ProbeLemmas.{probed_stood}
+use Rattle.ike.proofs.TickLemmas.{ticked_stood, TicksHold}
+use Rattle.ike.proofs.WayLemmas.{admitted, datagram_way, probed, rested, started, took, Takes, Way}
 
 -- what is known of a message's effect
 pub record ProvingFacts : Type 0 where
@@ -107,6 +112,28 @@ took_known facts meaning setup octets old table stepped new new_table ike a keys
       }
     ]
 
+probed_so : (meaning : Meaning) (setup : Setup) (serial : ℕ) (old : Held) (table : Database) (stepped : Stepped) (new : Held) (ike : ℕ) (a : Association) (keys : KeyRecord)
+    → AreSound old table → ProbesAt meaning.body_of setup serial old stepped new → association_of ike new.associations ≡ Some a → a.phase ≡ phase.Established keys → StoodSo ike keys old
+probed_so meaning setup serial old table stepped new ike a keys sound is stands established =
+    let before = probed_stood meaning.body_of setup serial old stepped new is table ike a sound stands in
+    record { was = before.was; stood = before.stood; established = sym before.phase_is ∙ established }
+
+closed_stands : (keys : Option KeyRecord) (at : ℕ) (other : KeyRecord) → phase.Closed keys at ≡ phase.Established other → ⊥
+closed_stands keys at other e = cc
+
+passed_so : (held : TicksHold) (now : ℕ) (old : Held) (table : Database) (new : Held) (new_table : Database) (stepped : Stepped) (ike : ℕ) (a : Association) (keys : KeyRecord)
+    → AreSound old table → TakesHeld now old table new new_table stepped → association_of ike new.associations ≡ Some a → a.phase ≡ phase.Established keys → StoodSo ike keys old
+passed_so held now old table new new_table stepped ike a keys sound is stands established =
+    let before = ticked_stood now old new table ike a sound (held now old.associations table is.ticked new.associations new_table is.ticks) stands in
+    record {
+      was = before.was;
+      stood = before.stood;
+      established = elim before.on.phase [
+        | inl stays ↦ sym stays.1 ∙ established
+        | inr closes ↦ absurd (closed_stands (keys_in before.was.phase) now keys (sym closes ∙ established))
+      ];
+    }
+
 way_known : (facts : ProvingFacts) (meaning : Meaning) (setup : Setup) (octets : Octets) (old : Held) (table : Database) (stepped : Stepped) (new : Held) (new_table : Database) (ike : ℕ) (a : Association) (keys : KeyRecord)
     → AreSound old table → Way meaning setup octets old table stepped new new_table → association_of ike new.associations ≡ Some a → a.phase ≡ phase.Established keys
     → StoodKnown meaning setup octets ike keys old
@@ -118,19 +145,27 @@ way_known facts meaning setup octets old table stepped new new_table ike a keys 
     still_known meaning setup octets ike keys old
     (came_stood old table is.admits.admitted.association new ike a keys sound (ap (λ (x : Association). x.serial) is.admits.admits.content) is.admits.content
     (λ e. opened_stands _ keys (sym (ap (λ (x : Association). x.phase) is.admits.admits.content) ∙ e)) stands established)
+way_known facts meaning setup octets old table stepped new new_table ike a keys sound (probed is) stands established =
+    still_known meaning setup octets ike keys old (probed_so meaning setup is.ike old table stepped new ike a keys sound is.probes stands established)
 way_known facts meaning setup octets old table stepped new new_table ike a keys sound (started is) stands established =
     still_known meaning setup octets ike keys old (started_stood meaning setup is.ike is.place old table stepped new new_table ike a keys sound is.starts stands established)
 
-pub step_known : ProvingFacts → (meaning : Meaning) (entries : List Entry) (input : InputView) (old : Machine) (table : Database) (stepped : Stepped) (new : Machine) (new_table : Database) (ike : ℕ) (a : Association) (keys : KeyRecord)
+pub step_known : ProvingFacts → TicksHold → (meaning : Meaning) (entries : List Entry) (input : InputView) (old : Machine) (table : Database) (stepped : Stepped) (new : Machine) (new_table : Database) (ike : ℕ) (a : Association) (keys : KeyRecord)
     → IsSoundMachine old table → Steps meaning entries input old table stepped new new_table → association_of ike new.held.associations ≡ Some a → a.phase ≡ phase.Established keys
     → WasKnown meaning entries input old ike keys
-step_known facts meaning entries (steps.Message from octets fresh) old table stepped new new_table ike a keys sound is stands established =
+step_known facts held meaning entries (steps.Message from octets fresh) old table stepped new new_table ike a keys sound is stands established =
     let known = way_known facts meaning (setup_at old entries fresh) octets old.held table stepped new.held new_table ike a keys sound
     (datagram_way meaning (setup_at old entries fresh) old.cookies from octets old.held table stepped new.held new_table is.1) stands established in
     record { was = known.was; stood = known.stood; known = known.known }
-step_known facts meaning entries (steps.Start order place fresh) old table stepped new new_table ike a keys sound is stands established =
+step_known facts held meaning entries (steps.Start order place fresh) old table stepped new new_table ike a keys sound is stands established =
     let stood = started_stood meaning (setup_at old entries fresh) order place old.held table stepped new.held new_table ike a keys sound is.1 stands established in
     record { was = stood.was; stood = stood.stood; known = inl stood.established }
-step_known facts meaning entries (steps.Secret secret) old table stepped new new_table ike a keys sound is stands established =
+step_known facts held meaning entries (steps.Probe serial fresh) old table stepped new new_table ike a keys sound is stands established =
+    let stood = probed_so meaning (setup_at old entries fresh) serial old.held table stepped new.held ike a keys sound is.1 stands established in
+    record { was = stood.was; stood = stood.stood; known = inl stood.established }
+step_known facts held meaning entries (steps.Tick moment) old table stepped new new_table ike a keys sound is stands established =
+    let stood = passed_so held (max old.moment moment) old.held table new.held new_table stepped ike a keys sound is.takes stands established in
+    record { was = stood.was; stood = stood.stood; known = inl stood.established }
+step_known facts held meaning entries (steps.Secret secret) old table stepped new new_table ike a keys sound is stands established =
     let stood = same_stood old.held new.held ike a keys (ap (λ (m : Machine). m.held) is.content) stands established in
     record { was = stood.was; stood = stood.stood; known = inl stood.established }

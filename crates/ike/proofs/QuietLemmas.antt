@@ -40,7 +40,7 @@ quiet_like s t same quiet = subst (λ (x : Stepped). IsQuiet x.output) same quie
 first_item : {A : Type 0} (z x : A) → Some z ≡ Some x → x ≡ z
 first_item z x e = cc
 
-put_back : {A : Type 0} (xs : List A) (place : ℕ) (x y : A) → slice_get xs place ≡ Some x → y ≡ x → slice_set xs place y ≡ xs
+pub put_back : {A : Type 0} (xs : List A) (place : ℕ) (x y : A) → slice_get xs place ≡ Some x → y ≡ x → slice_set xs place y ≡ xs
 put_back [] place x y there same = refl
 put_back (z ∷ xs) zero x y there same = ap (λ w. w ∷ xs) (same ∙ first_item z x there)
 put_back (z ∷ xs) (suc place) x y there same = ap (λ ws. z ∷ ws) (put_back xs place x y there same)
@@ -117,5 +117,9 @@ quiet_step facts meaning entries (steps.Message from octets fresh) old table ste
     (whole old new is.0 still.0, still.1)
 quiet_step facts meaning entries (steps.Start ike place fresh) old table stepped new new_table is quiet =
     absurd (quiet_like stepped _ is.1.done.said quiet)
+quiet_step facts meaning entries (steps.Probe ike fresh) old table stepped new new_table is quiet =
+    absurd (quiet_like stepped _ is.1.said quiet)
+quiet_step facts meaning entries (steps.Tick moment) old table stepped new new_table is quiet =
+    absurd (quiet_like stepped _ is.takes.said quiet)
 quiet_step facts meaning entries (steps.Secret secret) old table stepped new new_table is quiet =
     absurd (quiet_like stepped _ is.said quiet)

@@ -1,5 +1,5 @@
 -- A step keeps associations and table sound, by what a message does to one association.
-use Rattle.std.proofs.Common.{◌≡◌, ◌≢◌, ◌||◌, ◌⊎◌, inl, inr, ℕ, ◌+◌, ◌<◌, ◌≤◌, Bool, true, false, List, length, Option, Some, None, Result, Ok, Err, ap, refl, subst, sym, ◌∙◌, arith}
+use Rattle.std.proofs.Common.{◌≡◌, ◌≢◌, ◌||◌, ◌⊎◌, inl, inr, ℕ, ◌+◌, ◌<◌, ◌≤◌, Bool, true, false, List, length, Option, Some, None, Result, Ok, Err, ap, refl, subst, sym, ◌∙◌, arith, max}
 use Rattle.std.specs.Cmp.{nat_cmp_total, unsigned_tied}
 use Rattle.std.specs.FinSet as set
 use Rattle.std.specs.Prelude.{◌==◌, if◌then◌else◌, nat_le, IfErr, IfOk}
@@ -11,6 +11,7 @@ use Rattle.wire.specs.declared.message.Message.{Message}
 use Rattle.wire.specs.declared.payload.Payload.{Payload}
 use Rattle.policy.specs.declared.entry.Entry.{Entry}
 use Rattle.suite.specs.declared.fresh.Fresh.{Fresh}
+use Rattle.suite.specs.declared.keys.Keys.{Keys}
 use Rattle.suite.specs.declared.sealer.Cipher.{Cipher}
 use Rattle.sadb.specs.Database.{Database, IsAsBefore, IsReserved, IsSoundTable, Reserves}
 use Rattle.sa_init.specs.Cookies.{CookieSecrets}
@@ -30,6 +31,10 @@ use Rattle.initial.specs.Configs.{Setup}
 use Rattle.initial.specs.Answering.{IsHalfOpen}
 use Rattle.initial.specs.Ending.{IsAuthSent}
 use Rattle.initial.specs.Reading.{IsInitSent}
+use Rattle.informational.specs.Probing.{Probes}
+use Rattle.moments.specs.Holding.{HoldSome, HoldsNone}
+use Rattle.moments.specs.Ticking.{Ticks}
+use Rattle.moments.specs.declared.ticking.Ticked.{Ticked}
 use Rattle.effects.specs.Taking.{Meaning, StaysItself, TakesMessage}
 use Rattle.effects.specs.declared.taking.Effect.{Effect}
 use Rattle.association.specs.Finding.{found}
@@ -39,12 +44,16 @@ use Rattle.initial.specs.declared.beginning.Admitted.{Admitted}
 use Rattle.initial.specs.declared.beginning.Beginning.{Beginning}
 use Rattle.ike.specs.Machines.{half_open_count, is_bad_spi, own_spi, setup_at, Held, Machine, SERIAL_END}
 use Rattle.ike.specs.Receiving.{is_initial_request, is_sound_initial, is_answered, with_next, AdmitsNext, CanMake, DoesJudgement, TakesAt, TakesDatagram, TakesFound, TakesOffer, TakesRead, TakesRequestAt, TakesSound}
+use Rattle.ike.specs.Probing.{ProbesAt}
 use Rattle.ike.specs.Soundness.{AreSound, IsSoundMachine}
+use Rattle.ike.specs.Ticking.{TakesHeld}
 use Rattle.ike.specs.Starting.{child_by, new_order_fault, order_fault_of, protecting_entry, Starts}
 use Rattle.ike.specs.Steps.{InputView, Refuses, Steps}
 use Rattle.ike.specs.Steps as steps
 use Rattle.ike.specs.declared.fault.IkeFault.{IkeFault}
 use Rattle.ike.specs.declared.output.Stepped.{Stepped}
+use Rattle.ike.proofs.ProbeLemmas.{changed_itself, changed_phase}
+use Rattle.ike.proofs.TickLemmas.{ticked_sound}
 use Rattle.ike.proofs.CountLemmas.{count_grown, count_replaced, not_used, not_zero, weight_most}
 use Rattle.ike.proofs.SoundLemmas.{alone, apart_after, apart_before, held_by, own_stays, sound_grown, sound_replaced, sound_with, waited_before, Joins}
 use Rattle.std.specs.List.{position}
@@ -67,6 +76,13 @@ pub record Laws : Type 0 where
       → Admits cipher group public_value shared_secret fresh moment serial offer spi_i request admitted → KeepsShort admitted.association × IsShort admitted.octets
   pub room : (cipher : Cipher) (group : ℕ) (secrets : CookieSecrets) (sender : Sender) (half_open held : ℕ) (payloads : List Payload) (offer : OfferView)
       → IsJudgement cipher group secrets sender half_open held payloads (Accepted offer) → (half_open < HALF_OPEN_LIMIT) × (held < ASSOCIATION_LIMIT)
+
+-- what is known of a probe, and of a moment
+pub record OrderLaws : Type 0 where
+  pub probed : (body_of : Keys → Octets → Octets → Octets → Octets) (setup : Setup) (old : Association) (octets : Octets) (new : Association) → KeepsShort old → Probes body_of setup old octets new → KeepsShort new × IsShort octets
+  pub held : (now : ℕ) (old : List Association) (table : Database) (ticked : Ticked) (new : List Association) (new_table : Database) → Ticks now old table ticked new new_table → HoldSome now old new
+  pub reserved : (now : ℕ) (old : List Association) (table : Database) (ticked : Ticked) (new : List Association) (new_table : Database) (spi : ℕ)
+      → HoldsNone now old spi → IsReserved table spi → Ticks now old table ticked new new_table → IsReserved new_table spi
 
 -- nothing changed
 same_sound : (old new : Held) (table new_table : Database) → AreSound old table → new ≡ old → new_table ≡ table → AreSound new new_table
@@ -306,15 +322,63 @@ start_sound laws meaning setup ike place old table stepped new new_table sound_t
     let is_new : is.done.spi ≡ spi = same_spi is.done.spi spi e in
     absurd (omega (arith, given, is_new, same_next, is.done.reserved.in_order)))))
 
+-- ---- an order to ask whether the peer is there
+
+same_spis : (a b : Association) → b.phase ≡ a.phase → held_by b ≡ held_by a
+same_spis a b same = ap spi_in same
+
+probed_joins : (laws : OrderLaws) (body_of : Keys → Octets → Octets → Octets → Octets) (setup : Setup) (ike : ℕ) (old : Held) (table new_table : Database) (stepped : Stepped) (new : Held)
+    → AreSound old table → new_table ≡ table → (is : ProbesAt body_of setup ike old stepped new) → Joins old is.place is.changed old.next table new_table
+probed_joins laws body_of setup ike old table new_table stepped new sound same is =
+    let was = sound.each is.place is.association is.there in
+    let stays = changed_itself body_of setup ike old stepped new is in
+    let phase_is = changed_phase body_of setup ike old stepped new is in
+    let own : own_spi is.changed ≡ own_spi is.association = own_stays is.association is.changed (λ w. was.initiator (inl w)) stays in
+    let none : (spi : ℕ) → held_by is.changed ≡ Some spi → held_by is.association ≡ Some spi = λ spi e. sym (same_spis is.association is.changed phase_is) ∙ e in
+    record {
+      sound = record {
+        serial_least = subst (λ n. 1 ≤ n) (sym stays.serial) was.serial_least;
+        serial_given = subst (λ n. n < old.next) (sym stays.serial) was.serial_given;
+        own = λ e. was.own (sym own ∙ e);
+        initiator = λ w. stays.role ∙ was.initiator (waited_before is.association is.changed stays w);
+        responder = λ h. stays.role ∙ was.responder (stays.half_open h);
+        reserved = subst (λ (d : Database). HoldsSpi (held_by is.changed) d) (sym same) (subst (λ o. HoldsSpi o table) (sym (same_spis is.association is.changed phase_is)) was.reserved);
+        short = (laws.probed body_of setup is.association is.octets is.changed was.short is.probes).0;
+      };
+      more = omega arith;
+      others = λ k c spi other there held reserved. subst (λ (d : Database). IsReserved d spi) (sym same) reserved;
+      before = λ k c less there. apart_before is.association is.changed c own stays none (sound.apart k is.place c is.association less there is.there);
+      after = λ k c less there. apart_after is.association is.changed c own stays none (sound.apart is.place k is.association c less is.there there);
+    }
+
+probed_sound : (laws : OrderLaws) (body_of : Keys → Octets → Octets → Octets → Octets) (setup : Setup) (ike : ℕ) (old : Held) (table new_table : Database) (stepped : Stepped) (new : Held)
+    → AreSound old table → new_table ≡ table → ProbesAt body_of setup ike old stepped new → AreSound new new_table
+probed_sound laws body_of setup ike old table new_table stepped new sound same is =
+    subst (λ (h : Held). AreSound h new_table) (sym is.content)
+    (sound_replaced old is.place is.changed table new_table
+    (count_replaced old.associations is.place is.association is.changed is.there (changed_itself body_of setup ike old stepped new is).half_open)
+    sound (probed_joins laws body_of setup ike old table new_table stepped new sound same is))
+
+-- ---- a moment
+
+passed_sound : (laws : OrderLaws) (now : ℕ) (old : Held) (table : Database) (new : Held) (new_table : Database) (stepped : Stepped) → AreSound old table → TakesHeld now old table new new_table stepped → AreSound new new_table
+passed_sound laws now old table new new_table stepped sound is =
+    ticked_sound now old new table new_table sound (laws.held now old.associations table is.ticked new.associations new_table is.ticks) is.next
+    (λ spi none kept. laws.reserved now old.associations table is.ticked new.associations new_table spi none kept is.ticks)
+
 -- ---- a step
 
-pub step_sound : (laws : Laws) (meaning : Meaning) (entries : List Entry) (input : InputView) (old : Machine) (table : Database) (stepped : Stepped) (new : Machine) (new_table : Database)
+pub step_sound : (laws : Laws) (orders : OrderLaws) (meaning : Meaning) (entries : List Entry) (input : InputView) (old : Machine) (table : Database) (stepped : Stepped) (new : Machine) (new_table : Database)
     → IsSoundTable table → IsSoundMachine old table → Steps meaning entries input old table stepped new new_table → IsSoundMachine new new_table
-step_sound laws meaning entries (steps.Message from octets fresh) old table stepped new new_table sound_table sound is =
+step_sound laws orders meaning entries (steps.Message from octets fresh) old table stepped new new_table sound_table sound is =
     datagram_sound laws meaning (setup_at old entries fresh) old.cookies from octets old.held table stepped new.held new_table sound_table sound is.1
-step_sound laws meaning entries (steps.Start ike place fresh) old table stepped new new_table sound_table sound is =
+step_sound laws orders meaning entries (steps.Start ike place fresh) old table stepped new new_table sound_table sound is =
     start_sound laws meaning (setup_at old entries fresh) ike place old.held table stepped new.held new_table sound_table sound is.1
-step_sound laws meaning entries (steps.Secret secret) old table stepped new new_table sound_table sound is =
+step_sound laws orders meaning entries (steps.Probe ike fresh) old table stepped new new_table sound_table sound is =
+    probed_sound orders meaning.body_of (setup_at old entries fresh) ike old.held table new_table stepped new.held sound is.2 is.1
+step_sound laws orders meaning entries (steps.Tick moment) old table stepped new new_table sound_table sound is =
+    passed_sound orders (max old.moment moment) old.held table new.held new_table stepped sound is.takes
+step_sound laws orders meaning entries (steps.Secret secret) old table stepped new new_table sound_table sound is =
     same_sound old.held new.held table new_table sound (ap (λ (m : Machine). m.held) is.content) is.unchanged
 
 -- what is refused changes the table's room alone

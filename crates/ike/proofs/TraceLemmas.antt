@@ -1,12 +1,16 @@
 -- What goes out of a step is short, and its trace names associations that are held and have keys.
-use Rattle.std.proofs.Common.{◌≡◌, ◌⊎◌, inl, inr, ℕ, Bool, true, false, List, length, Option, Some, None, IsSome, ap, refl, subst, sym, ◌∙◌, arith}
+use Rattle.std.proofs.Common.{◌≡◌, ◌⊎◌, ◌≤◌, inl, inr, ℕ, Bool, true, false, List, length, Option, Some, None, IsSome, ap, refl, subst, sym, ◌∙◌, arith}
+use Rattle.std.specs.FinMap as map
 use Rattle.std.specs.List.{slice_get}
+use Rattle.std.specs.Prelude.{All, slice_index_or}
+use Rattle.std.proofs.lemmas.Option.{slice_get_read}
 use Rattle.std.proofs.lemmas.Bool.Decides.{eqb_tells}
 use Rattle.base.specs.Octets.{Octets}
 use Rattle.wire.specs.declared.message.Message.{Message}
 use Rattle.policy.specs.declared.entry.Entry.{Entry}
 use Rattle.suite.specs.declared.fresh.Fresh.{Fresh}
 use Rattle.suite.specs.declared.key_record.KeyRecord.{KeyRecord}
+use Rattle.suite.specs.declared.keys.Keys.{Keys}
 use Rattle.suite.specs.declared.sealer.Cipher.{Cipher}
 use Rattle.sadb.specs.Database.{pair_at, Database, IsSoundTable, PairMap}
 use Rattle.sadb.specs.declared.pair.Pair.{Pair}
@@ -20,37 +24,54 @@ use Rattle.association.specs.declared.phase.HalfOpen.{HalfOpen}
 use Rattle.association.specs.declared.phase.InitSent.{InitSent}
 use Rattle.association.specs.declared.phase.Phase.{Phase}
 use Rattle.association.specs.declared.phase.Phase.TheVariants as phase
+use Rattle.association.specs.declared.phase.Request.{Request}
 use Rattle.initial.specs.Beginning.{begun, half_open, Admits, Begins}
 use Rattle.effects.specs.Children.{AsksForChild, IsAsking, MakesChild}
 use Rattle.initial.specs.Configs.{Setup}
 use Rattle.effects.specs.Keeping.{child_in, sent_by, HasKeys, IsShort, KeepsShort, KeyedBy}
 use Rattle.effects.specs.Pairs.{IsUnused}
 use Rattle.effects.specs.Taking.{Meaning, StaysItself, TakesMessage}
+use Rattle.informational.specs.Probing.{Probes}
+use Rattle.moments.specs.Due.{outstanding_count}
+use Rattle.moments.specs.Held.{IsOutstandingOf}
+use Rattle.moments.specs.Holding.{LeavesFewer}
+use Rattle.moments.specs.Ticking.{Ticks}
+use Rattle.moments.specs.declared.resent.Resent.{Resent}
+use Rattle.moments.specs.declared.ticking.Ticked.{Ticked}
 use Rattle.initial.specs.declared.beginning.Admitted.{Admitted}
 use Rattle.initial.specs.declared.beginning.Beginning.{Beginning}
 use Rattle.effects.specs.declared.taking.Effect.{Effect}
 use Rattle.effects.specs.declared.taking.Effect.TheVariants as effect
 use Rattle.ike.specs.Children.{AsksFirstChild, AsksNow, MakesFirstChild, WaitedBefore}
 use Rattle.ike.specs.Machines.{association_of, keys_of_serial, setup_at, Held, Machine}
-use Rattle.ike.specs.Outputs.{child_of, half_open_step, octets_in, plain_step, stepped_of}
+use Rattle.ike.specs.Outputs.{asking_step, child_of, half_open_step, octets_in, plain_step, stepped_of}
+use Rattle.ike.specs.Probing.{ProbesAt}
 use Rattle.ike.specs.Receiving.{with_next}
 use Rattle.ike.specs.Soundness.{AreSound, At, IsSoundMachine}
 use Rattle.ike.specs.Starting.{child_by}
-use Rattle.ike.specs.Steps.{InputView, Steps}
+use Rattle.ike.specs.Steps.{is_tick, InputView, Steps}
 use Rattle.ike.specs.Steps as steps
+use Rattle.ike.specs.Ticking.{TakesHeld}
 use Rattle.ike.specs.Tracing.{HoldsChild, HoldsKeys, IsTraced, NamesChild}
 use Rattle.ike.specs.declared.output.IkeOutput.{IkeOutput}
 use Rattle.ike.specs.declared.output.IkeOutput.TheVariants as output
 use Rattle.ike.specs.declared.output.MadeChild.{MadeChild}
 use Rattle.ike.specs.declared.output.Mark.{Mark}
 use Rattle.ike.specs.declared.output.Stepped.{Stepped}
+use Rattle.ike.proofs.ProbeLemmas.{changed_itself, changed_phase, probed_serial, probed_stands, probed_stood}
+use Rattle.ike.proofs.TickLemmas.{on_keys, ticked_stood, TicksHold}
 use Rattle.ike.proofs.SerialLemmas.{grown_found, grown_keys, keys_of, last_there, none_next, replaced_found, set_there, sound_found}
-use Rattle.ike.proofs.WayLemmas.{admitted, datagram_way, rested, started, step_way, took, AdmitsOne, GoesOut, StartsOne, Takes, Way}
+use Rattle.ike.proofs.WayLemmas.{admitted, datagram_way, probed, rested, started, step_way, took, AdmitsOne, GoesOut, PassesMoment, ProbesOne, StartsOne, Takes, Way}
+
+-- what is known of requests that go out again
+abbrev pub TicksAgain : Type 0
+TicksAgain = (now : ℕ) (old new : List Association) (table new_table : Database) (ticked : Ticked) → Ticks now old table ticked new new_table → All (IsOutstandingOf now old new) ticked.requests
 
 -- ---- what goes out is short
 
 -- what is known of what an association keeps
 pub record ShortFacts : Type 0 where
+  pub probed : (body_of : Keys → Octets → Octets → Octets → Octets) (setup : Setup) (old : Association) (octets : Octets) (new : Association) → KeepsShort old → Probes body_of setup old octets new → KeepsShort new × IsShort octets
   pub sent : (meaning : Meaning) (setup : Setup) (old : Association) (table : Database) (octets : Octets) (m : Message) (effect : Effect) (new : Association) (new_table : Database) (said : Octets)
       → KeepsShort old → TakesMessage meaning setup old table octets m effect new new_table → sent_by effect ≡ Some said → IsShort said
   pub begins : (cipher : Cipher) (group : ℕ) (public_value : Octets → Octets) (fresh : Fresh) (moment serial : ℕ) (beginning : Beginning) (child : FirstChildView)
@@ -76,6 +97,7 @@ rests_short old table (output.Reply octets closed) sound goes = λ o e. short_on
 rests_short old table (output.Repeat octets) sound goes = λ o e. short_one octets o ((sound.each goes.place goes.association goes.there).short.first octets goes.kept) e
 rests_short old table (output.Request ike octets) sound goes = absurd goes
 rests_short old table (output.Counted ike child closed) sound goes = λ o e. absurd (none_out o e)
+rests_short old table (output.Ticked ticked) sound goes = absurd goes
 rests_short old table output.Done sound goes = λ o e. absurd (none_out o e)
 rests_short old table (output.Dropped f) sound goes = λ o e. absurd (none_out o e)
 
@@ -101,6 +123,10 @@ way_short facts meaning setup octets old table stepped new new_table sound (admi
     λ o e. short_one a.admitted.octets o
     (facts.admits meaning.cipher meaning.group meaning.public_value meaning.shared_secret setup.fresh setup.moment old.next is.offer is.spi_i octets a.admitted a.admits).1
     (sym (ap (λ (s : Stepped). octets_in s.output) a.said) ∙ e)
+way_short facts meaning setup octets old table stepped new new_table sound (probed is) =
+    let p = is.probes in
+    λ o e. short_one p.octets o (facts.probed meaning.body_of setup p.association p.octets p.changed (sound.each p.place p.association p.there).short p.probes).1
+    (sym (ap (λ (s : Stepped). octets_in s.output) p.said) ∙ e)
 way_short facts meaning setup octets old table stepped new new_table sound (started is) =
     let s = is.starts in
     λ o e. short_one s.beginning.octets o
@@ -109,9 +135,80 @@ way_short facts meaning setup octets old table stepped new new_table sound (star
 
 pub step_short : ShortFacts → (meaning : Meaning) (entries : List Entry) (input : InputView) (old : Machine) (table : Database) (stepped : Stepped) (new : Machine) (new_table : Database) (octets : Octets)
     → IsSoundMachine old table → Steps meaning entries input old table stepped new new_table → octets_in stepped.output ≡ Some octets → IsShort octets
-step_short facts meaning entries input old table stepped new new_table octets sound is named =
-    let w = step_way meaning entries input old table stepped new new_table is in
-    way_short facts meaning w.setup w.octets old.held table stepped new.held new_table sound w.way octets named
+step_short facts meaning entries input old table stepped new new_table octets sound is named = elim (step_way meaning entries input old table stepped new new_table is) [
+  | inl w ↦ way_short facts meaning w.setup w.octets old.held table stepped new.held new_table sound w.way octets named
+  | inr passes ↦ absurd (none_out octets (sym (ap (λ (s : Stepped). octets_in s.output) passes.takes.said) ∙ named))
+]
+
+-- what goes out again with a moment
+same_ticked : (one other : Ticked) → output.Ticked one ≡ output.Ticked other → one ≡ other
+same_ticked one other e = cc
+
+again_short : TicksAgain → (input : InputView) (old new : Held) (table new_table : Database) (stepped : Stepped) (ticked : Ticked) → AreSound old table
+    → PassesMoment input old table stepped new new_table → stepped.output ≡ output.Ticked ticked → All (λ (r : Resent). IsShort r.octets) ticked.requests
+again_short again input old new table new_table stepped ticked sound passes said =
+    let t = passes.takes in
+    let same : t.ticked ≡ ticked = same_ticked t.ticked ticked (sym (ap (λ (s : Stepped). s.output) t.said) ∙ said) in
+    subst (λ (x : Ticked). All (λ (r : Resent). IsShort r.octets) x.requests) same
+    (λ k d within.
+    let o = again passes.now old.associations new.associations table new_table t.ticked t.ticks k d within in
+    let place = o.held_before in
+    subst (λ (x : Octets). IsShort x) (sym (ap (λ (r : Resent). r.octets) o.resent))
+    ((sound.each place.0 o.before (slice_get_read old.associations (length old.associations) place.0 o.before refl place.1 (sym place.2))).short.requests (slice_index_or t.ticked.requests k d).number o.request o.there))
+
+-- a moment alone brings this
+still_output : (old : Held) (said : IkeOutput) (ticked : Ticked) → GoesOut old said → said ≡ output.Ticked ticked → ⊥
+still_output old (output.Reply octets closed) ticked goes e = cc
+still_output old (output.Repeat octets) ticked goes e = cc
+still_output old (output.Request ike octets) ticked goes e = cc
+still_output old (output.Counted ike child closed) ticked goes e = cc
+still_output old (output.Ticked other) ticked goes e = goes
+still_output old output.Done ticked goes e = cc
+still_output old (output.Dropped f) ticked goes e = cc
+
+effect_output : (ike number : ℕ) (e : Effect) (ticked : Ticked) → (stepped_of ike number e).output ≡ output.Ticked ticked → ⊥
+effect_output ike number (effect.Refused f) ticked e = cc
+effect_output ike number (effect.Repeated octets) ticked e = cc
+effect_output ike number (effect.Replied answered) ticked e = cc
+effect_output ike number (effect.Again octets) ticked e = cc
+effect_output ike number (effect.Identified octets) ticked e = cc
+effect_output ike number (effect.Counted ended) ticked e = cc
+
+reply_ticked : (octets : Octets) (closed : Option ℕ) (ticked : Ticked) → output.Reply octets closed ≡ output.Ticked ticked → ⊥
+reply_ticked octets closed ticked e = cc
+
+request_ticked : (ike : ℕ) (octets : Octets) (ticked : Ticked) → output.Request ike octets ≡ output.Ticked ticked → ⊥
+request_ticked ike octets ticked e = cc
+
+way_not_ticked : (meaning : Meaning) (setup : Setup) (octets : Octets) (old : Held) (table : Database) (stepped : Stepped) (new : Held) (new_table : Database) (ticked : Ticked)
+    → Way meaning setup octets old table stepped new new_table → stepped.output ≡ output.Ticked ticked → ⊥
+way_not_ticked meaning setup octets old table stepped new new_table ticked (rested is) said = still_output old is.said ticked is.goes (sym (ap (λ (s : Stepped). s.output) is.is) ∙ said)
+way_not_ticked meaning setup octets old table stepped new new_table ticked (took is) said =
+    effect_output is.takes.association.serial is.message.header.id is.takes.effect ticked (sym (ap (λ (s : Stepped). s.output) is.takes.said) ∙ said)
+way_not_ticked meaning setup octets old table stepped new new_table ticked (admitted is) said = reply_ticked _ None ticked (sym (ap (λ (s : Stepped). s.output) is.admits.said) ∙ said)
+way_not_ticked meaning setup octets old table stepped new new_table ticked (probed is) said = request_ticked is.ike _ ticked (sym (ap (λ (s : Stepped). s.output) is.probes.said) ∙ said)
+way_not_ticked meaning setup octets old table stepped new new_table ticked (started is) said = request_ticked old.next _ ticked (sym (ap (λ (s : Stepped). s.output) is.starts.done.said) ∙ said)
+
+pub step_again : TicksAgain → (meaning : Meaning) (entries : List Entry) (input : InputView) (old : Machine) (table : Database) (stepped : Stepped) (new : Machine) (new_table : Database) (ticked : Ticked)
+    → IsSoundMachine old table → Steps meaning entries input old table stepped new new_table → stepped.output ≡ output.Ticked ticked → All (λ (r : Resent). IsShort r.octets) ticked.requests
+step_again again meaning entries input old table stepped new new_table ticked sound is said = elim (step_way meaning entries input old table stepped new new_table is) [
+  | inl w ↦ absurd (way_not_ticked meaning w.setup w.octets old.held table stepped new.held new_table ticked w.way said)
+  | inr passes ↦ again_short again input old.held new.held table new_table stepped ticked sound passes said
+]
+
+-- what is known of how many go out again
+abbrev pub TicksFew : Type 0
+TicksFew = (now : ℕ) (old new : List Association) (table new_table : Database) (ticked : Ticked) → Ticks now old table ticked new new_table → length ticked.requests ≤ outstanding_count old
+
+pub step_few : TicksFew → (meaning : Meaning) (entries : List Entry) (input : InputView) (old : Machine) (table : Database) (stepped : Stepped) (new : Machine) (new_table : Database) (ticked : Ticked)
+    → Steps meaning entries input old table stepped new new_table → stepped.output ≡ output.Ticked ticked → (is_tick input ≡ true) × (length ticked.requests ≤ outstanding_count old.held.associations)
+step_few few meaning entries input old table stepped new new_table ticked is said = elim (step_way meaning entries input old table stepped new new_table is) [
+  | inl w ↦ absurd (way_not_ticked meaning w.setup w.octets old.held table stepped new.held new_table ticked w.way said)
+  | inr passes ↦
+      let t = passes.takes in
+      let same : t.ticked ≡ ticked = same_ticked t.ticked ticked (sym (ap (λ (s : Stepped). s.output) t.said) ∙ said) in
+      (passes.ticks, subst (λ (x : Ticked). length x.requests ≤ outstanding_count old.held.associations) same (few passes.now old.held.associations new.held.associations table new_table t.ticked t.ticks))
+]
 
 -- ---- what the trace names
 
@@ -341,6 +438,49 @@ last_come old b new new_table serial keys now content are =
           inl (sym same_keys ∙ are)
     ]
 
+-- what is known of a moment
+pub record TickFacts : Type 0 where
+  pub held : TicksHold
+  pub pairs : (now : ℕ) (old : List Association) (table : Database) (ticked : Ticked) (new : List Association) (new_table : Database) → Ticks now old table ticked new new_table → LeavesFewer table new_table
+
+-- keys that there are belong to an association
+record Keyed_by (xs : List Association) (serial : ℕ) (keys : KeyRecord) : Type 0 where
+  association : Association
+  stands : association_of serial xs ≡ Some association
+  has : keys_in association.phase ≡ Some keys
+
+keyed_of : (o : Option Association) (xs : List Association) (serial : ℕ) (keys : KeyRecord) → association_of serial xs ≡ o → keys_of o ≡ Some keys → Keyed_by xs serial keys
+keyed_of None xs serial keys stands has = absurd (none_out keys has)
+keyed_of (Some a) xs serial keys stands has = record { association = a; stands = stands; has = has }
+
+probed_had : (meaning : Meaning) (setup : Setup) (ike : ℕ) (old : Held) (table : Database) (stepped : Stepped) (new : Held) → ProbesAt meaning.body_of setup ike old stepped new → (serial : ℕ) (keys : KeyRecord)
+    → AreSound old table → keys_of_serial serial new.associations ≡ Some keys → keys_of_serial serial old.associations ≡ Some keys
+probed_had meaning setup ike old table stepped new is serial keys sound are =
+    let k = keyed_of (association_of serial new.associations) new.associations serial keys refl are in
+    let before = probed_stood meaning.body_of setup ike old stepped new is table serial k.association sound k.stands in
+    ap keys_of before.stood ∙ ap keys_in (sym before.phase_is) ∙ k.has
+
+probed_has : (meaning : Meaning) (setup : Setup) (ike : ℕ) (old : Held) (table : Database) (stepped : Stepped) (new : Held) → ProbesAt meaning.body_of setup ike old stepped new → (serial : ℕ) (keys : KeyRecord)
+    → AreSound old table → keys_of_serial serial old.associations ≡ Some keys → keys_of_serial serial new.associations ≡ Some keys
+probed_has meaning setup ike old table stepped new is serial keys sound are =
+    let stays = changed_itself meaning.body_of setup ike old stepped new is in
+    elim (eqb_tells serial is.association.serial) [
+      | inl (one, same) ↦
+          let before : association_of serial old.associations ≡ Some is.association = subst (λ n. association_of n old.associations ≡ Some is.association) (sym same) (sound_found old table is.place is.association sound is.there) in
+          let after : association_of serial new.associations ≡ Some is.changed =
+          subst (λ n. association_of n new.associations ≡ Some is.changed) (sym (probed_serial meaning.body_of setup ike old stepped new is) ∙ sym same) (probed_stands meaning.body_of setup ike old stepped new is table sound) in
+          ap keys_of after ∙ ap keys_in (changed_phase meaning.body_of setup ike old stepped new is) ∙ sym (ap keys_of before) ∙ are
+      | inr (none, apart) ↦
+          ap keys_of (ap (λ (h : Held). association_of serial h.associations) is.content ∙ replaced_found old.associations is.place is.association is.changed serial is.there apart stays.serial) ∙ are
+    ]
+
+passed_had : (held : TicksHold) (now : ℕ) (old : Held) (table : Database) (new : Held) (new_table : Database) (stepped : Stepped) (serial : ℕ) (keys : KeyRecord) → AreSound old table
+    → TakesHeld now old table new new_table stepped → keys_of_serial serial new.associations ≡ Some keys → keys_of_serial serial old.associations ≡ Some keys
+passed_had held now old table new new_table stepped serial keys sound is are =
+    let k = keyed_of (association_of serial new.associations) new.associations serial keys refl are in
+    let before = ticked_stood now old new table serial k.association sound (held now old.associations table is.ticked new.associations new_table is.ticks) k.stands in
+    ap keys_of before.stood ∙ sym (on_keys now before.was k.association before.on) ∙ k.has
+
 admitted_traced : (meaning : Meaning) (setup : Setup) (octets : Octets) (old : Held) (table : Database) (stepped : Stepped) (new : Held) (new_table : Database)
     → AreSound old table → AreSound new new_table → AdmitsOne meaning setup octets old table stepped new new_table → IsTraced old table stepped new new_table
 admitted_traced meaning setup octets old table stepped new new_table sound now is =
@@ -380,20 +520,53 @@ started_traced meaning setup old table stepped new new_table now is =
     ])
     (ap (λ (d : Database). d.pairs) s.done.reserved.content ∙ ap (λ (d : Database). d.pairs) s.room.content)
 
+-- an association that asks has keys, and all others have those that they had
+probed_traced : (meaning : Meaning) (setup : Setup) (old : Held) (table : Database) (stepped : Stepped) (new : Held) (new_table : Database)
+    → AreSound old table → ProbesOne meaning setup old table stepped new new_table → IsTraced old table stepped new new_table
+probed_traced meaning setup old table stepped new new_table sound is =
+    let p = is.probes in
+    let stands = probed_stands meaning.body_of setup is.ike old stepped new p table sound in
+    let has : HasKeys p.changed.phase = record { keys = p.probes.keys; are = ap keys_in (changed_phase meaning.body_of setup is.ike old stepped new p ∙ p.probes.established) } in
+    let traced : IsTraced old table (asking_step is.ike p.association.outgoing.next p.octets) new new_table = record {
+      octets = λ mark e. refl;
+      sent = λ mark e. holds_keys new is.ike mark.ike p.changed (mark_named _ mark e) stands has;
+      keyed = λ other e. absurd (none_out other e);
+      child = λ made e. absurd (none_out made e);
+      keys = λ serial keys are. inl (probed_had meaning setup is.ike old table stepped new p serial keys sound are);
+      pairs = λ serial pair there. inl (subst (λ (d : Database). pair_at d.pairs serial ≡ Some pair) is.pairs there);
+    } in
+    subst (λ (s : Stepped). IsTraced old table s new new_table) (sym p.said) traced
+
+-- with a moment no keys come, and no pair
+passed_traced : (facts : TickFacts) (now : ℕ) (old : Held) (table : Database) (new : Held) (new_table : Database) (stepped : Stepped) → AreSound old table → TakesHeld now old table new new_table stepped
+    → IsTraced old table stepped new new_table
+passed_traced facts now old table new new_table stepped sound is =
+    let traced : IsTraced old table (plain_step (output.Ticked is.ticked)) new new_table = record {
+      octets = λ mark e. absurd (none_out mark e);
+      sent = λ mark e. absurd (none_out mark e);
+      keyed = λ other e. absurd (none_out other e);
+      child = λ made e. absurd (none_out made e);
+      keys = λ serial keys are. inl (passed_had facts.held now old table new new_table stepped serial keys sound is are);
+      pairs = λ serial pair there. inl ((facts.pairs now old.associations table is.ticked new.associations new_table is.ticks).each serial pair there);
+    } in
+    subst (λ (s : Stepped). IsTraced old table s new new_table) (sym is.said) traced
+
 way_traced : (facts : ToldFacts) (meaning : Meaning) (setup : Setup) (octets : Octets) (old : Held) (table : Database) (stepped : Stepped) (new : Held) (new_table : Database)
     → IsSoundTable table → AreSound old table → AreSound new new_table → Way meaning setup octets old table stepped new new_table → IsTraced old table stepped new new_table
 way_traced facts meaning setup octets old table stepped new new_table sound_table sound now (rested is) =
     untraced old table stepped is.said new new_table is.is (λ serial keys are. sym (ap (λ (h : Held). keys_of_serial serial h.associations) is.same) ∙ are) (ap (λ (d : Database). d.pairs) is.pairs)
 way_traced facts meaning setup octets old table stepped new new_table sound_table sound now (took is) = took_traced facts meaning setup octets old table stepped new new_table sound_table sound now is
 way_traced facts meaning setup octets old table stepped new new_table sound_table sound now (admitted is) = admitted_traced meaning setup octets old table stepped new new_table sound now is
+way_traced facts meaning setup octets old table stepped new new_table sound_table sound now (probed is) = probed_traced meaning setup old table stepped new new_table sound is
 way_traced facts meaning setup octets old table stepped new new_table sound_table sound now (started is) = started_traced meaning setup old table stepped new new_table now is
 
-pub step_traced : ToldFacts → (meaning : Meaning) (entries : List Entry) (input : InputView) (old : Machine) (table : Database) (stepped : Stepped) (new : Machine) (new_table : Database)
+pub step_traced : ToldFacts → TickFacts → (meaning : Meaning) (entries : List Entry) (input : InputView) (old : Machine) (table : Database) (stepped : Stepped) (new : Machine) (new_table : Database)
     → IsSoundTable table → IsSoundMachine old table → Steps meaning entries input old table stepped new new_table → IsTraced old.held table stepped new.held new_table
-step_traced facts meaning entries input old table stepped new new_table sound_table sound is =
-    let w = step_way meaning entries input old table stepped new new_table is in
-    way_traced facts meaning w.setup w.octets old.held table stepped new.held new_table sound_table sound
-    (facts.trace.sound meaning entries input old table stepped new new_table sound_table sound is) w.way
+step_traced facts ticks meaning entries input old table stepped new new_table sound_table sound is = elim (step_way meaning entries input old table stepped new new_table is) [
+  | inl w ↦ way_traced facts meaning w.setup w.octets old.held table stepped new.held new_table sound_table sound
+      (facts.trace.sound meaning entries input old table stepped new new_table sound_table sound is) w.way
+  | inr passes ↦ passed_traced ticks passes.now old.held table new.held new_table stepped sound passes.takes
+]
 
 -- ---- keys stay
 
@@ -417,17 +590,21 @@ way_keys facts meaning setup octets old table stepped new new_table serial keys 
 way_keys facts meaning setup octets old table stepped new new_table serial keys sound now (took is) are = took_keys facts meaning setup octets old table stepped new new_table serial keys sound now is are
 way_keys facts meaning setup octets old table stepped new new_table serial keys sound now (admitted is) are =
     ap (λ (h : Held). keys_of_serial serial h.associations) is.admits.content ∙ grown_keys old.associations is.admits.admitted.association serial keys are
+way_keys facts meaning setup octets old table stepped new new_table serial keys sound now (probed is) are = probed_has meaning setup is.ike old table stepped new is.probes serial keys sound are
 way_keys facts meaning setup octets old table stepped new new_table serial keys sound now (started is) are =
     ap (λ (h : Held). keys_of_serial serial h.associations) is.starts.done.content
     ∙ grown_keys old.associations (begun old.next is.starts.beginning (child_by is.starts.entry is.starts.done.spi setup.config.extended)) serial keys are
 
-pub step_keys : TraceFacts → (meaning : Meaning) (entries : List Entry) (input : InputView) (old : Machine) (table : Database) (stepped : Stepped) (new : Machine) (new_table : Database) (serial : ℕ) (keys : KeyRecord)
+pub step_keys : TraceFacts → TicksHold → (meaning : Meaning) (entries : List Entry) (input : InputView) (old : Machine) (table : Database) (stepped : Stepped) (new : Machine) (new_table : Database) (serial : ℕ) (keys : KeyRecord) (a : Association)
     → IsSoundTable table → IsSoundMachine old table → Steps meaning entries input old table stepped new new_table
-    → keys_of_serial serial old.held.associations ≡ Some keys → keys_of_serial serial new.held.associations ≡ Some keys
-step_keys facts meaning entries input old table stepped new new_table serial keys sound_table sound is are =
-    let w = step_way meaning entries input old table stepped new new_table is in
-    way_keys facts meaning w.setup w.octets old.held table stepped new.held new_table serial keys sound
-    (facts.sound meaning entries input old table stepped new new_table sound_table sound is) w.way are
+    → keys_of_serial serial old.held.associations ≡ Some keys → association_of serial new.held.associations ≡ Some a → keys_in a.phase ≡ Some keys
+step_keys facts held meaning entries input old table stepped new new_table serial keys a sound_table sound is are stands = elim (step_way meaning entries input old table stepped new new_table is) [
+  | inl w ↦ sym (ap keys_of stands) ∙ way_keys facts meaning w.setup w.octets old.held table stepped new.held new_table serial keys sound
+      (facts.sound meaning entries input old table stepped new new_table sound_table sound is) w.way are
+  | inr passes ↦
+      let before = ticked_stood passes.now old.held new.held table serial a sound (held passes.now old.held.associations table passes.takes.ticked new.held.associations new_table passes.takes.ticks) stands in
+      on_keys passes.now before.was a before.on ∙ sym (ap keys_of before.stood) ∙ are
+]
 
 -- ---- first children
 
@@ -461,6 +638,7 @@ way_makes : (facts : TraceFacts) (meaning : Meaning) (setup : Setup) (octets : O
 way_makes facts meaning setup octets old table stepped made new new_table sound_table sound now (rested is) named = absurd (none_made stepped is.said made is.is named)
 way_makes facts meaning setup octets old table stepped made new new_table sound_table sound now (took is) named = took_makes facts meaning setup octets old table stepped made new new_table sound_table sound now is named
 way_makes facts meaning setup octets old table stepped made new new_table sound_table sound now (admitted is) named = absurd (none_out made (sym (ap (λ (s : Stepped). s.trace.child) is.admits.said) ∙ named))
+way_makes facts meaning setup octets old table stepped made new new_table sound_table sound now (probed is) named = absurd (none_out made (sym (ap (λ (s : Stepped). s.trace.child) is.probes.said) ∙ named))
 way_makes facts meaning setup octets old table stepped made new new_table sound_table sound now (started is) named =
     absurd (none_made stepped (output.Request old.next is.starts.beginning.octets) made is.starts.done.said named)
 
@@ -517,6 +695,7 @@ way_asks facts meaning setup octets old table stepped ike next new new_table now
 way_asks facts meaning setup octets old table stepped ike next new new_table now (took is) said keyed = took_asks facts meaning setup octets old table stepped ike next new new_table now is said keyed
 way_asks facts meaning setup octets old table stepped ike next new new_table now (admitted is) said keyed =
     absurd (reply_request is.admits.admitted.octets None ike next (sym (ap (λ (s : Stepped). s.output) is.admits.said) ∙ said))
+way_asks facts meaning setup octets old table stepped ike next new new_table now (probed is) said keyed = absurd (none_out ike (sym (ap (λ (s : Stepped). s.trace.keyed) is.probes.said) ∙ keyed))
 way_asks facts meaning setup octets old table stepped ike next new new_table now (started is) said keyed =
     absurd (none_keyed stepped (output.Request old.next is.starts.beginning.octets) ike is.starts.done.said keyed)
 
@@ -596,14 +775,30 @@ way_waits facts meaning setup octets old table stepped new new_table ike a sent 
 way_waits facts meaning setup octets old table stepped new new_table ike a sent sound now (admitted is) stands waits =
     came_waits old is.admits.admitted.association stepped new new_table ike a sent now is.admits.content
     (λ e. opened_waits _ sent (sym (ap (λ (x : Association). x.phase) is.admits.admits.content) ∙ e)) stands waits
+way_waits facts meaning setup octets old table stepped new new_table ike a sent sound now (probed is) stands waits =
+    let before = probed_stood meaning.body_of setup is.ike old stepped new is.probes table ike a sound stands in
+    inl (record { was = before.was; stood = before.stood; waited = sym before.phase_is ∙ waits })
 way_waits facts meaning setup octets old table stepped new new_table ike a sent sound now (started is) stands waits =
     came_waits old (begun old.next is.starts.beginning (child_by is.starts.entry is.starts.done.spi setup.config.extended)) stepped new new_table ike a sent now is.starts.done.content
     (λ e. begun_waits _ sent e) stands waits
 
-pub step_waits : TraceFacts → (meaning : Meaning) (entries : List Entry) (input : InputView) (old : Machine) (table : Database) (stepped : Stepped) (new : Machine) (new_table : Database) (ike : ℕ) (a : Association) (sent : AuthSent)
+closed_waits : (keys : Option KeyRecord) (at : ℕ) (sent : AuthSent) → phase.Closed keys at ≡ phase.AuthSent sent → ⊥
+closed_waits keys at sent e = cc
+
+pub step_waits : TraceFacts → TicksHold → (meaning : Meaning) (entries : List Entry) (input : InputView) (old : Machine) (table : Database) (stepped : Stepped) (new : Machine) (new_table : Database) (ike : ℕ) (a : Association) (sent : AuthSent)
     → IsSoundTable table → IsSoundMachine old table → Steps meaning entries input old table stepped new new_table
     → association_of ike new.held.associations ≡ Some a → a.phase ≡ phase.AuthSent sent → WaitedBefore ike sent old.held ⊎ AsksNow ike stepped
-step_waits facts meaning entries input old table stepped new new_table ike a sent sound_table sound is stands waits =
-    let w = step_way meaning entries input old table stepped new new_table is in
-    way_waits facts meaning w.setup w.octets old.held table stepped new.held new_table ike a sent sound
-    (facts.sound meaning entries input old table stepped new new_table sound_table sound is) w.way stands waits
+step_waits facts held meaning entries input old table stepped new new_table ike a sent sound_table sound is stands waits = elim (step_way meaning entries input old table stepped new new_table is) [
+  | inl w ↦ way_waits facts meaning w.setup w.octets old.held table stepped new.held new_table ike a sent sound
+      (facts.sound meaning entries input old table stepped new new_table sound_table sound is) w.way stands waits
+  | inr passes ↦
+      let before = ticked_stood passes.now old.held new.held table ike a sound (held passes.now old.held.associations table passes.takes.ticked new.held.associations new_table passes.takes.ticks) stands in
+      inl (record {
+        was = before.was;
+        stood = before.stood;
+        waited = elim before.on.phase [
+          | inl stays ↦ sym stays.1 ∙ waits
+          | inr closes ↦ absurd (closed_waits (keys_in before.was.phase) passes.now sent (sym closes ∙ waits))
+        ];
+      })
+]

@@ -1,5 +1,5 @@
 -- What a step did, by the ways in which it can do something.
-use Rattle.std.proofs.Common.{◌≡◌, inl, inr, ℕ, Bool, true, false, [], List, Option, Some, None, Result, Ok, Err, ap}
+use Rattle.std.proofs.Common.{◌≡◌, ◌⊎◌, inl, inr, ℕ, Bool, true, false, [], List, Option, Some, None, Result, Ok, Err, ap, max, refl}
 use Rattle.std.specs.List.{position, slice_get}
 use Rattle.base.specs.Octets.{Octets}
 use Rattle.wire.specs.Messages.{Spells}
@@ -18,8 +18,10 @@ use Rattle.effects.specs.Taking.{Meaning}
 use Rattle.ike.specs.Machines.{setup_at, Held, Machine}
 use Rattle.ike.specs.Outputs.{plain_step}
 use Rattle.ike.specs.Receiving.{is_answered, is_initial_request, is_sound_initial, AdmitsNext, DoesJudgement, PassesOver, TakesAt, TakesDatagram, TakesFound, TakesRead, TakesRequestAt, TakesSound}
+use Rattle.ike.specs.Probing.{ProbesAt}
 use Rattle.ike.specs.Starting.{Starts}
-use Rattle.ike.specs.Steps.{InputView, Steps}
+use Rattle.ike.specs.Ticking.{TakesHeld}
+use Rattle.ike.specs.Steps.{is_tick, InputView, Steps}
 use Rattle.ike.specs.Steps as steps
 use Rattle.ike.specs.declared.fault.IkeFault.{IkeFault}
 use Rattle.ike.specs.declared.output.IkeOutput.{IkeOutput}
@@ -39,6 +41,7 @@ GoesOut old (output.Reply octets closed) = IsShort octets
 GoesOut old (output.Repeat octets) = IsKept old octets
 GoesOut old (output.Request ike octets) = ⊥
 GoesOut old (output.Counted ike child closed) = Unit {0}
+GoesOut old (output.Ticked ticked) = ⊥
 GoesOut old output.Done = Unit {0}
 GoesOut old (output.Dropped f) = Unit {0}
 
@@ -69,11 +72,24 @@ pub record StartsOne (meaning : Meaning) (setup : Setup) (old : Held) (table : D
   pub place : ℕ
   pub starts : Starts meaning setup ike place old table stepped new new_table
 
+-- an association asks whether the peer is there
+pub record ProbesOne (meaning : Meaning) (setup : Setup) (old : Held) (table : Database) (stepped : Stepped) (new : Held) (new_table : Database) : Type 0 where
+  pub ike : ℕ
+  pub probes : ProbesAt meaning.body_of setup ike old stepped new
+  pub pairs : new_table ≡ table
+
+-- what is due at a moment is done
+pub record PassesMoment (input : InputView) (old : Held) (table : Database) (stepped : Stepped) (new : Held) (new_table : Database) : Type 0 where
+  pub now : ℕ
+  pub ticks : is_tick input ≡ true
+  pub takes : TakesHeld now old table new new_table stepped
+
 pub data Way (meaning : Meaning) (setup : Setup) (octets : Octets) (old : Held) (table : Database) (stepped : Stepped) (new : Held) (new_table : Database) : Type 0 where
   rested : Rests old table stepped new new_table → Way meaning setup octets old table stepped new new_table
   took : Takes meaning setup octets old table stepped new new_table → Way meaning setup octets old table stepped new new_table
   admitted : AdmitsOne meaning setup octets old table stepped new new_table → Way meaning setup octets old table stepped new new_table
   started : StartsOne meaning setup old table stepped new new_table → Way meaning setup octets old table stepped new new_table
+  probed : ProbesOne meaning setup old table stepped new new_table → Way meaning setup octets old table stepped new new_table
 
 passed_way : (meaning : Meaning) (setup : Setup) (octets : Octets) (reason : IkeFault) (old : Held) (table : Database) (stepped : Stepped) (new : Held) (new_table : Database)
     → PassesOver reason old stepped new → new_table ≡ table → Way meaning setup octets old table stepped new new_table
@@ -142,18 +158,22 @@ pub record SomeWay (meaning : Meaning) (old : Held) (table : Database) (stepped 
   pub way : Way meaning setup octets old table stepped new new_table
 
 pub step_way : (meaning : Meaning) (entries : List Entry) (input : InputView) (old : Machine) (table : Database) (stepped : Stepped) (new : Machine) (new_table : Database)
-    → Steps meaning entries input old table stepped new new_table → SomeWay meaning old.held table stepped new.held new_table
+    → Steps meaning entries input old table stepped new new_table → SomeWay meaning old.held table stepped new.held new_table ⊎ PassesMoment input old.held table stepped new.held new_table
 step_way meaning entries (steps.Message from octets fresh) old table stepped new new_table is =
-    record {
+    inl (record {
       setup = setup_at old entries fresh;
       octets = octets;
       way = datagram_way meaning (setup_at old entries fresh) old.cookies from octets old.held table stepped new.held new_table is.1;
-    }
+    })
 step_way meaning entries (steps.Start ike place fresh) old table stepped new new_table is =
-    record { setup = setup_at old entries fresh; octets = []; way = started (record { ike = ike; place = place; starts = is.1 }) }
+    inl (record { setup = setup_at old entries fresh; octets = []; way = started (record { ike = ike; place = place; starts = is.1 }) })
+step_way meaning entries (steps.Probe ike fresh) old table stepped new new_table is =
+    inl (record { setup = setup_at old entries fresh; octets = []; way = probed (record { ike = ike; probes = is.1; pairs = is.2 }) })
+step_way meaning entries (steps.Tick moment) old table stepped new new_table is =
+    inr (record { now = max old.moment moment; ticks = refl; takes = is.takes })
 step_way meaning entries (steps.Secret secret) old table stepped new new_table is =
-    record {
+    inl (record {
       setup = setup_at old entries no_fresh;
       octets = [];
       way = rested (record { said = output.Done; is = is.said; goes = tt; same = ap (λ (m : Machine). m.held) is.content; pairs = is.unchanged });
-    }
+    })

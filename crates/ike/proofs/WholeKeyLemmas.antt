@@ -1,5 +1,5 @@
 -- The keys of all associations stay whole, whatever a step does.
-use Rattle.std.proofs.Common.{◌≡◌, ◌≢◌, ◌⊎◌, inl, inr, ℕ, Bool, true, false, List, length, Option, Some, None, Result, Ok, Err, sym, ap, subst}
+use Rattle.std.proofs.Common.{◌≡◌, ◌≢◌, ◌⊎◌, inl, inr, ℕ, Bool, true, false, List, length, Option, Some, None, Result, Ok, Err, sym, ap, subst, ◌∙◌, max}
 use Rattle.std.specs.List.{position, slice_get}
 use Rattle.std.specs.Prelude.{slice_set}
 use Rattle.base.specs.Octets.{Octets}
@@ -30,9 +30,12 @@ use Rattle.ike.specs.Steps as steps
 use Rattle.ike.specs.Steps.{InputView, Start, Secret, Steps}
 use Rattle.ike.specs.declared.output.Stepped.{Stepped}
 use Rattle.ike.proofs.ListLemmas.{grown, replaced}
+use Rattle.ike.proofs.ProbeLemmas.{changed_phase}
+use Rattle.ike.proofs.TickLemmas.{on_keys, origin, TicksHold}
 
 -- what the laws of lower crates say of keys
 pub record KeyLaws : Type 0 where
+  pub held : TicksHold
   pub admitted : (cipher : Cipher) (group : ℕ) (public_value : Octets → Octets) (shared_secret : Octets → Octets → Option Octets) (fresh : Fresh) (moment serial : ℕ) (offer : OfferView) (spi_i : ℕ) (request : Octets) (admitted : Admitted)
       → Admits cipher group public_value shared_secret fresh moment serial offer spi_i request admitted → HoldsWholeKeys admitted.association.phase
   pub taken : (meaning : Meaning) (setup : Setup) (old : Association) (table : Database) (octets : Octets) (m : Message) (effect : Effect) (new : Association) (new_table : Database) → HoldsWholeKeys old.phase
@@ -106,6 +109,15 @@ stepped_whole laws meaning entries (steps.Message from octets fresh) old table s
     datagram laws meaning (setup_at old entries fresh) old.held whole new.held stepped old.cookies from octets table new_table is.1
 stepped_whole laws meaning entries (Start ike place fresh) old table stepped new new_table whole is =
     started laws meaning (setup_at old entries fresh) old.held whole new.held stepped ike place table new_table is.1
+stepped_whole laws meaning entries (steps.Probe ike fresh) old table stepped new new_table whole is =
+    let p = is.1 in
+    subst HoldWholeKeys (sym p.content)
+    (after_change old.held p.place p.changed whole (subst HoldsWholeKeys (sym (changed_phase meaning.body_of (setup_at old entries fresh) ike old.held stepped new.held p)) (whole p.place p.association p.there)))
+stepped_whole laws meaning entries (steps.Tick moment) old table stepped new new_table whole is =
+    let some = laws.held (max old.moment moment) old.held.associations table is.takes.ticked new.held.associations new_table is.takes.ticks in
+    λ place b there.
+    let o = origin (max old.moment moment) old.held.associations new.held.associations place b some there in
+    λ keys are. whole o.from o.was o.there keys (sym (on_keys (max old.moment moment) o.was b o.on) ∙ are)
 stepped_whole laws meaning entries (Secret secret) old table stepped new new_table whole is =
     subst HoldWholeKeys (sym (ap (λ (m : Machine). m.held) is.content)) whole
 

@@ -14,6 +14,7 @@ code_of_ike_fault fault.Crowded = 25
 code_of_ike_fault fault.TableFull = 25
 code_of_ike_fault fault.SpisSpent = 26
 code_of_ike_fault fault.HalfOpenFull = 34
+code_of_ike_fault fault.Busy = 35
 code_of_ike_fault fault.NumbersSpent = 36
 code_of_ike_fault fault.BadFresh = 37
 code_of_ike_fault (fault.Memory f) = code_of_child_fault f

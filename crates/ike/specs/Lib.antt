@@ -3,6 +3,8 @@ pub mod Outputs
 pub mod Machines
 pub mod Receiving
 pub mod Starting
+pub mod Probing
+pub mod Ticking
 pub mod Steps
 pub mod Soundness
 pub mod Pairs

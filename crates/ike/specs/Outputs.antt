@@ -6,18 +6,19 @@ use Rattle.effects.specs.declared.taking.Effect.TheVariants as effect
 use Rattle.ike.specs.declared.fault.IkeFault.{IkeFault}
 use Rattle.ike.specs.declared.fault.IkeFault.TheVariants as fault
 use Rattle.ike.specs.declared.output.IkeOutput.{IkeOutput}
-use Rattle.ike.specs.declared.output.IkeOutput.TheVariants.{Reply, Repeat, Request, Counted, Done, Dropped}
+use Rattle.ike.specs.declared.output.IkeOutput.TheVariants.{Reply, Repeat, Request, Counted, Ticked, Done, Dropped}
 use Rattle.ike.specs.declared.output.MadeChild.{MadeChild}
 use Rattle.ike.specs.declared.output.Mark.{Mark}
 use Rattle.ike.specs.declared.output.Stepped.{Stepped}
 use Rattle.ike.specs.declared.output.Trace.{Trace}
 
--- the octets that go out
+-- the octets that go out, but for requests that go out again with a moment
 abbrev pub octets_in : IkeOutput → Option Octets
 octets_in (Reply octets closed) = Some octets
 octets_in (Repeat octets) = Some octets
 octets_in (Request ike octets) = Some octets
 octets_in (Counted ike child closed) = None
+octets_in (Ticked ticked) = None
 octets_in Done = None
 octets_in (Dropped f) = None
 
@@ -65,6 +66,10 @@ stepped_of ike number (effect.Counted ended) = record {
   output = Counted ike ended.child (closed_of ike ended.closed);
   trace = record { sent = None; keyed = None; child = child_of ike number true ended.child };
 }
+
+-- a request under keys goes out for the first time
+abbrev pub asking_step : ℕ → ℕ → Octets → Stepped
+asking_step ike number octets = record { output = Request ike octets; trace = record { sent = request_mark ike number; keyed = None; child = None } }
 
 abbrev pub half_open_step : ℕ → Octets → Stepped
 half_open_step ike octets = record { output = Reply octets None; trace = record { sent = None; keyed = Some ike; child = None } }

@@ -4,11 +4,6 @@ use Rattle.sadb.specs.Database.{Database}
 use Rattle.effects.specs.Pairs.{LeavesPairs}
 use Rattle.ike.specs.Machines.{association_of, others_than, Held}
 
--- pairs of one IKE association at most come or go
-pub record LeavesPairsOfOthers (old new : Database) : Type 0 where
-  pub ike : ℕ
-  pub leaves : LeavesPairs old ike new
-
 -- One association at most is changed, comes or goes, and pairs of that one alone.
 pub record ChangesOne (old new : Held) (table new_table : Database) : Type 0 where
   pub serial : ℕ

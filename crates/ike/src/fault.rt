@@ -4,6 +4,7 @@ ghost use Rattle.ike.specs.Faults.{code_of_ike_fault};
 
 use association::MessageFault;
 use children::ChildFault;
+use informational::OrderFault;
 use std::alloc::AllocError;
 use thiserror::Error;
 use wire::WireFault;
@@ -32,7 +33,10 @@ pub enum IkeFault {
     /// 32 associations are half open, or 128 are held; limits of this implementation.
     #[error("E34: too many associations are half open")]
     HalfOpenFull,
-    /// No serial, or no version of the cookies' secrets, is left.
+    /// The association has as many requests waiting for an answer as the peer takes at once (RFC 7296, section 2.3).
+    #[error("E35: the peer's window is full")]
+    Busy,
+    /// No serial, no version of the cookies' secrets, or no request number of the association is left.
     #[error("E36: the numbers are spent")]
     NumbersSpent,
     /// The fresh SPI is zero, or one of this end that is in use.
@@ -55,6 +59,7 @@ impl IkeFault {
             IkeFault::Crowded | IkeFault::TableFull => 25,
             IkeFault::SpisSpent => 26,
             IkeFault::HalfOpenFull => 34,
+            IkeFault::Busy => 35,
             IkeFault::NumbersSpent => 36,
             IkeFault::BadFresh => 37,
             IkeFault::Memory(fault) => fault.code(),
@@ -82,5 +87,21 @@ impl From<AllocError> for IkeFault {
 
     fn from(_refused: AllocError) -> IkeFault {
         IkeFault::Memory(ChildFault::Message)
+    }
+}
+
+impl From<OrderFault> for IkeFault {
+    ghost use Rattle.std.specs.Prelude.{◌≡◌};
+    ghost use Rattle.ike.specs.Probing.{fault_of_order};
+
+    ghost from_gives = { λ f e. e ≡ fault_of_order f };
+
+    fn from(fault: OrderFault) -> IkeFault {
+        match fault {
+            OrderFault::WrongPhase => IkeFault::Message(MessageFault::WrongPhase),
+            OrderFault::Busy => IkeFault::Busy,
+            OrderFault::NumbersSpent => IkeFault::NumbersSpent,
+            OrderFault::Memory => IkeFault::Memory(ChildFault::Message),
+        }
     }
 }

@@ -18,6 +18,14 @@ pub enum IkeInput<'a> {
         entry: u32,
         fresh: &'a Fresh,
     },
+    /// Ask the peer whether it is there, by an empty request of INFORMATIONAL under the association with this serial (RFC 7296,
+    /// section 2.4).
+    Probe {
+        ike: u32,
+        fresh: &'a Fresh,
+    },
     /// Make cookies under another secret (RFC 7296, section 2.6).
     Secret(&'a [u8; 32]),
+    /// The time, in milliseconds from any beginning. What is due is done; an earlier moment than before counts as the one before.
+    Tick(u64),
 }

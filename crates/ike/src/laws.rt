@@ -1,5 +1,5 @@
 //! What follows from the definitions alone. No function here does anything.
-ghost use Rattle.std.specs.Prelude.{◌≡◌, ◌<◌, ◌≤◌, List, Some, ℕ, length, true, false, ◌⊎◌};
+ghost use Rattle.std.specs.Prelude.{◌≡◌, ◌<◌, ◌≤◌, All, List, Some, ℕ, length, true, false, ◌⊎◌};
 ghost use Rattle.policy.specs.declared.entry.Entry.{Entry};
 ghost use Rattle.sadb.specs.Database.{pair_at, Database, IsReserved, IsSoundTable};
 ghost use Rattle.sadb.specs.Contents.{table_content};
@@ -11,6 +11,7 @@ ghost use Rattle.wire.specs.declared.payload.Payload.{Payload};
 ghost use Rattle.sadb.specs.Mirrors.{Mirrors};
 ghost use Rattle.sadb.specs.declared.pair.Pair.{Pair};
 ghost use Rattle.association.specs.FirstChildren.{asked_of, FirstChildView};
+ghost use Rattle.association.specs.Phases.{keys_in};
 ghost use Rattle.association.specs.declared.phase.Association.{Association};
 ghost use Rattle.association.specs.declared.phase.AuthSent.{AuthSent};
 ghost use Rattle.association.specs.declared.phase.Phase.TheVariants as phase;
@@ -23,13 +24,17 @@ ghost use Rattle.effects.specs.Taking.{Meaning};
 ghost use Rattle.ike.specs.Children.{AsksFirstChild, MakesFirstChild, AsksNow, WaitedBefore};
 ghost use Rattle.ike.specs.Machines.{half_open_count, keys_of_serial, setup_at, Machine, new_machine, association_of};
 ghost use Rattle.ike.specs.Outputs.{octets_in, IsQuiet};
-ghost use Rattle.ike.specs.Pairs.{ChangesOne, LeavesPairsOfOthers};
+ghost use Rattle.ike.specs.Pairs.{ChangesOne};
 ghost use Rattle.ike.specs.Proving.{WasKnown};
 ghost use Rattle.ike.specs.Reaching.{WasReached};
 ghost use Rattle.ike.specs.Soundness.{IsSoundMachine};
-ghost use Rattle.ike.specs.Steps.{InputView, Message, Steps, Refuses};
+ghost use Rattle.ike.specs.Steps.{is_tick, InputView, Message, Steps, Refuses};
 ghost use Rattle.ike.specs.Tracing.{IsTraced};
+ghost use Rattle.ike.specs.declared.output.IkeOutput.TheVariants as output;
 ghost use Rattle.ike.specs.declared.output.IkeOutput.TheVariants.{Request};
+ghost use Rattle.moments.specs.Due.{outstanding_count};
+ghost use Rattle.moments.specs.declared.resent.Resent.{Resent};
+ghost use Rattle.moments.specs.declared.ticking.Ticked.{Ticked};
 ghost use Rattle.ike.specs.declared.output.MadeChild.{MadeChild};
 ghost use Rattle.initial.specs.declared.config.Config.{Config};
 ghost use Rattle.ike.specs.Contents.{machine_content};
@@ -41,8 +46,13 @@ ghost use Rattle.ike.specs.declared.output.Stepped.{Stepped};
 use children::laws::children_mirror;
 use effects::laws::{
     associations_stay_themselves, beginnings_are_determined, children_are_made_of_their_messages,
-    effects_are_determined, keys_stay, no_spi_comes, pairs_that_come_are_told, spis_stay_reserved,
-    what_is_kept_is_short, what_is_passed_over_changes_nothing, what_others_hold_stays,
+    effects_are_determined, keys_stay, no_spi_comes, pairs_that_come_are_told,
+    probes_are_short_and_determined, spis_stay_reserved, what_is_kept_is_short,
+    what_is_passed_over_changes_nothing, what_others_hold_stays,
+};
+use moments::laws::{
+    no_more_go_out_than_wait, some_are_held_on, ticks_are_determined,
+    what_goes_out_again_is_outstanding,
 };
 use sa_init::laws::{acceptance_is_limited, judgements_are_determined};
 use sadb::laws::later_tables_are_determined;
@@ -65,40 +75,61 @@ pub fn soundness_stays()
     associations_stay_themselves();
     what_is_kept_is_short();
     acceptance_is_limited();
+    probes_are_short_and_determined();
+    some_are_held_on();
 }
 
-/// What goes out of a step has at most 3000 octets, as a message may have: an answer, a request that goes out, or what goes out again.
+/// What goes out of a step has at most 3000 octets, as a message may have: an answer, a request that goes out, or what goes out again,
+/// with a moment or without.
 pub fn what_is_sent_is_short()
-    ensures { (meaning : Meaning) (entries : List Entry) (input : InputView) (old : Machine) (table : Database)
+    ensures sent { (meaning : Meaning) (entries : List Entry) (input : InputView) (old : Machine) (table : Database)
         (stepped : Stepped) (new : Machine) (new_table : Database) (octets : Octets) → IsSoundMachine old table
         → Steps meaning entries input old table stepped new new_table → octets_in stepped.output ≡ Some octets → IsShort octets }
+    ensures again { (meaning : Meaning) (entries : List Entry) (input : InputView) (old : Machine) (table : Database)
+        (stepped : Stepped) (new : Machine) (new_table : Database) (ticked : Ticked) → IsSoundMachine old table
+        → Steps meaning entries input old table stepped new new_table → stepped.output ≡ output.Ticked ticked
+        → All (λ (request : Resent). IsShort request.octets) ticked.requests }
 {
     what_is_kept_is_short();
+    probes_are_short_and_determined();
+    what_goes_out_again_is_outstanding();
+}
+
+/// Requests go out again with a moment alone, and no more than wait for an answer.
+pub fn few_go_out_again()
+    ensures { (meaning : Meaning) (entries : List Entry) (input : InputView) (old : Machine) (table : Database)
+        (stepped : Stepped) (new : Machine) (new_table : Database) (ticked : Ticked)
+        → Steps meaning entries input old table stepped new new_table → stepped.output ≡ output.Ticked ticked
+        → (is_tick input ≡ true) × (length ticked.requests ≤ outstanding_count old.held.associations) }
+{
+    no_more_go_out_than_wait();
 }
 
 /// What the trace of a step names is held by the machine from then on: an association under whose keys something was sent, or whose keys
 /// were made, which had none before, with its keys, and a child that was made, with its pair. And it names all that came: keys that an
-/// association did not have, and a pair that was not in the table. An association that had keys before has them still.
+/// association did not have, and a pair that was not in the table. An association that had keys before has them as long as it is held.
 pub fn traces_name_what_is_held()
     ensures traced { (meaning : Meaning) (entries : List Entry) (input : InputView) (old : Machine) (table : Database)
         (stepped : Stepped) (new : Machine) (new_table : Database) → IsSoundTable table → IsSoundMachine old table
         → Steps meaning entries input old table stepped new new_table → IsTraced old.held table stepped new.held new_table }
     ensures keys { (meaning : Meaning) (entries : List Entry) (input : InputView) (old : Machine) (table : Database)
-        (stepped : Stepped) (new : Machine) (new_table : Database) (serial : ℕ) (keys : KeyRecord) → IsSoundTable table
-        → IsSoundMachine old table → Steps meaning entries input old table stepped new new_table
-        → keys_of_serial serial old.held.associations ≡ Some keys → keys_of_serial serial new.held.associations ≡ Some keys }
+        (stepped : Stepped) (new : Machine) (new_table : Database) (serial : ℕ) (keys : KeyRecord) (a : Association)
+        → IsSoundTable table → IsSoundMachine old table → Steps meaning entries input old table stepped new new_table
+        → keys_of_serial serial old.held.associations ≡ Some keys → association_of serial new.held.associations ≡ Some a
+        → keys_in a.phase ≡ Some keys }
 {
     soundness_stays();
     associations_stay_themselves();
     keys_stay();
     children_are_made_of_their_messages();
     pairs_that_come_are_told();
+    some_are_held_on();
 }
 
-/// A step changes one association at most, and pairs of no other.
+/// A step changes one association at most, and pairs of no other, but for what a moment brings.
 pub fn one_association_is_changed()
     ensures { (meaning : Meaning) (entries : List Entry) (input : InputView) (old : Machine) (table : Database)
-        (stepped : Stepped) (new : Machine) (new_table : Database)
+        (stepped : Stepped) (new : Machine) (new_table : Database) → is_tick input ≡ false
         → Steps meaning entries input old table stepped new new_table → ChangesOne old.held new.held table new_table }
 {
     associations_stay_themselves();
@@ -132,6 +163,7 @@ pub fn first_children_are_made_of_their_messages()
     associations_stay_themselves();
     keys_stay();
     children_are_made_of_their_messages();
+    some_are_held_on();
 }
 
 /// A child that a step makes has at most 16 selectors on either side (RFC 7296, section 3.13; a limit of this implementation).
@@ -164,6 +196,7 @@ pub fn the_established_proved_themselves()
         → association_of ike new.held.associations ≡ Some a → a.phase ≡ phase.Established keys
         → WasKnown meaning entries input old ike keys }
 {
+    some_are_held_on();
     associations_stay_themselves();
     effects::laws::the_established_proved_themselves();
 }
@@ -180,16 +213,6 @@ pub fn no_association_without_a_cookie()
 {
     acceptance_is_limited();
     associations_stay_themselves();
-}
-
-/// Whatever a step does, each pair in the table is as it was, or came by it, under the next serial and with no number sent or taken;
-/// and pairs of one IKE association at most come or go.
-pub fn pairs_stay_as_they_were()
-    ensures { (meaning : Meaning) (entries : List Entry) (input : InputView) (old : Machine) (table : Database)
-        (stepped : Stepped) (new : Machine) (new_table : Database)
-        → Steps meaning entries input old table stepped new new_table → LeavesPairsOfOthers table new_table }
-{
-    effects::laws::pairs_stay_as_they_were();
 }
 
 /// A datagram that is dropped, or that took effect before, changes nothing.
@@ -217,6 +240,7 @@ pub fn keys_stay_whole()
         → Steps meaning entries input old table stepped new new_table → HoldWholeKeys new.held }
 {
     effects::laws::keys_stay_whole();
+    some_are_held_on();
 }
 
 /// A step does one thing. What comes of it, what the machine holds then and what the table holds go by what both held before,
@@ -242,6 +266,8 @@ pub fn steps_are_determined()
 {
     beginnings_are_determined();
     effects_are_determined();
+    probes_are_short_and_determined();
+    ticks_are_determined();
     first_faults_are_determined();
     judgements_are_determined();
     later_tables_are_determined();

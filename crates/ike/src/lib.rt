@@ -20,8 +20,10 @@ mod input;
 pub mod laws;
 mod machine;
 mod output;
+mod probing;
 mod receiving;
 mod starting;
+mod ticking;
 
 pub use fault::IkeFault;
 pub use input::IkeInput;

@@ -11,8 +11,10 @@ ghost use Rattle.ike.specs.Steps.{input_view, Refuses, Steps};
 
 use crate::held::{Held, association_of};
 use crate::laws::soundness_stays;
+use crate::probing::probe;
 use crate::receiving::take_datagram;
 use crate::starting::start;
+use crate::ticking::take_moment;
 use crate::{IkeFault, IkeInput, IkeOutput, Stepped};
 use association::Association;
 use initial::{Config, Step};
@@ -87,7 +89,9 @@ impl Ike {
     /// of memory, but for a datagram whose length, length field or version is at fault.
     ///
     /// An order to start is refused, in this order: [`IkeFault::Unprotected`] (E23); for a further child E28 or E32; E25 where 128
-    /// associations are held, E36, E37; then E25 or E26 by the table; and for want of memory. Another secret is refused by E36.
+    /// associations are held, E36, E37; then E25 or E26 by the table; and for want of memory. The order to ask whether the peer is there
+    /// is refused, in this order: E28 where no association has the serial, E32 where it is not established, E35, E36, and for want of
+    /// memory. Another secret is refused by E36, and a moment for want of memory alone.
     ///
     /// What is refused changes nothing but the table's room.
     pub fn step<C: Sealer + Agreement + Proof>(
@@ -204,7 +208,23 @@ impl Ike {
                 };
                 start(alloc, &step, &mut self.held, table, *ike, *entry)
             }
+            IkeInput::Probe { ike, fresh } => {
+                let step = Step {
+                    caller,
+                    config: &self.config,
+                    policy,
+                    fresh,
+                    moment: self.moment,
+                };
+                probe(alloc, &step, &mut self.held, *ike)
+            }
             IkeInput::Secret(secret) => change_secret(&mut self.cookies, secret),
+            IkeInput::Tick(moment) => {
+                let now = self.moment.max(*moment);
+                let stepped = take_moment(alloc, &mut self.held, table, now)?;
+                self.moment = now;
+                Ok(stepped)
+            }
         }
     }
 }

@@ -5,6 +5,7 @@ ghost use Rattle.ike.specs.Outputs.{child_of, closed_of, passed_over, plain_step
 use crate::IkeFault;
 use base::Items;
 use effects::Effect;
+use moments::Ticked;
 
 /// What comes of a step. Associations and children are named by their serials.
 #[derive(Debug, Drop)]
@@ -30,6 +31,8 @@ pub enum IkeOutput {
         /// The association that it closed.
         closed: Option<u32>,
     },
+    /// What a moment brought.
+    Ticked(Ticked),
     /// An order was carried out.
     Done,
     /// What came is passed over.

@@ -5,7 +5,7 @@
 //! that it needs before it changes anything. A request with Delete payloads is answered as if it had none: deletions are not known yet.
 //!
 //! ```text
-//! send(probe(alloc, &step, &mut association)?);
+//! send(probe(alloc, &step, &mut association)?.octets);
 //! let answered = answer(alloc, &step, &mut association, &mut table, number, &plain)?;
 //! send(answered.octets);
 //! ```
@@ -19,4 +19,4 @@ mod probing;
 pub use answering::answer;
 pub use counting::count;
 pub use fault::OrderFault;
-pub use probing::probe;
+pub use probing::{Probed, probe};

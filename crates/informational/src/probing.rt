@@ -20,6 +20,14 @@ use suite::Sealer;
 use wire::Message;
 use wire::numbers::INFORMATIONAL;
 
+/// A request that goes out.
+#[derive(Debug, Drop)]
+pub struct Probed {
+    /// Its number.
+    pub number: u32,
+    pub octets: Items<u8>,
+}
+
 /// Makes an empty request of INFORMATIONAL (RFC 7296, sections 1.4 and 2.4), which waits for its answer from then on.
 ///
 /// Refused, in this order: [`OrderFault::WrongPhase`] where the association is not established, [`OrderFault::Busy`] where the peer takes
@@ -29,8 +37,9 @@ pub fn probe<C: Sealer>(
     alloc: Global,
     step: &Step<'_, C>,
     association: &mut Association,
-) -> Result<Items<u8>, OrderFault>
-    ensures probed { IfOk result (λ octets. Probes C.body_of (setup_of step.now) association.old octets association.new) }
+) -> Result<Probed, OrderFault>
+    ensures probed { IfOk result (λ probed. Probes C.body_of (setup_of step.now) association.old probed.octets association.new) }
+    ensures number { IfOk result (λ probed. probed.number ≡ association.old.outgoing.next) }
     ensures refused { IfErr result (λ fault. RefusesOrder association.old fault × (association.new ≡ association.old)) }
 {
     let Phase::Established(keys) = &association.phase else {
@@ -53,7 +62,7 @@ pub fn probe<C: Sealer>(
     let octets = sealed(alloc, step.caller, role, keys, &message, &step.fresh.seal)?;
     let kept = Items::from_slice(alloc, octets.as_slice())?;
     issue(association, kept, step.moment)?;
-    Ok(octets)
+    Ok(Probed { number, octets })
 }
 
 // The number that the next request is to have.

@@ -13,6 +13,7 @@ mod of_console;
 mod of_engine;
 mod of_esp;
 mod of_mac;
+mod of_moments;
 mod of_replay;
 mod of_requests;
 mod of_sa_init;

@@ -1,21 +1,22 @@
 //! What two gateways sent and made, and one step of one of them.
-ghost use Rattle.std.specs.Prelude.{◌≡◌, ◌++◌, ◌≤◌, ◌<◌, [], MatchOption, None, Some, IfErr, IfOk, length, vec_len};
+ghost use Rattle.std.specs.Prelude.{◌≡◌, ◌+◌, ◌++◌, ◌≤◌, ◌<◌, ◌^◌, ◌∷◌, [], All, MatchOption, None, Some, IfErr, IfOk, length, map, vec_len};
 ghost use Rattle.std.specs.Option.{option_to_list};
 ghost use Rattle.std.specs.Vec.{vec_capacity};
-ghost use Rattle.wire.specs.Numbers.{SELECTOR_LIMIT};
+ghost use Rattle.wire.specs.Numbers.{MESSAGE_LIMIT, SELECTOR_LIMIT};
 ghost use Rattle.gateway.specs.Outputs.{said, DATAGRAM_LIMIT, FitsChild, FitsDatagram};
-ghost use Rattle.gateway.specs.Storing.{HasRoom, IsSpare, TakesAt};
-ghost use Rattle.gateway.specs.Worlds.{child_by, esp_mark, ike_mark, keyed_by, nothing_stored, sent_by, simplex_of, stored_by};
+ghost use Rattle.gateway.specs.Storing.{again_by, AreSpare, HasRoom, IsShortResent, IsSpare, IsSpareMessage, TakesAt};
+ghost use Rattle.gateway.specs.Worlds.{again_as, child_by, esp_mark, ike_mark, keyed_by, mark_again, nothing_stored, requests_in, sent_once, simplex_of, stored_by};
 
 use super::stored::{Child, Datagram, End, Keyed, Mark, Simplex};
-use crate::laws::{what_is_made_fits, what_is_sent_fits};
+use crate::laws::{few_go_out_again, what_is_made_fits, what_is_sent_fits};
 use crate::{Gateway, Input, Output, Traced};
 use base::{Items, Selector};
 use ike::MadeChild;
+use moments::{Resent, outstanding_count};
 use sadb::{Pair, Table};
 use std::alloc::{AllocError, Global};
 use suite::{Agreement, KeyRecord, Proof, Sealer};
-use wire::numbers::SELECTOR_LIMIT;
+use wire::numbers::{MESSAGE_LIMIT, SELECTOR_LIMIT};
 
 /// No datagram has more octets: an ESP packet has at most so many, a message of IKE fewer.
 const DATAGRAM_LIMIT: usize = 16_664;
@@ -28,24 +29,37 @@ pub struct Log {
     pub children: Vec<Child>,
 }
 
-/// Memory for the octets of one datagram, and for the selectors of one child.
+/// Memory for the octets of one datagram and of the requests that may go out again, and for the selectors of one child.
 #[derive(Drop)]
 pub struct Spare {
     octets: Vec<u8>,
+    again: Vec<Vec<u8>>,
     local: Vec<Selector>,
     remote: Vec<Selector>,
 }
 
 impl Spare {
-    fn new(alloc: Global) -> Result<Spare, AllocError>
-        ensures { IfOk result IsSpare }
+    fn new(alloc: Global, again: usize) -> Result<Spare, AllocError>
+        ensures { IfOk result (λ spare. IsSpare spare again) }
     {
         Ok(Spare {
             octets: Vec::with_capacity(alloc, DATAGRAM_LIMIT)?,
+            again: spare_messages(alloc, again)?,
             local: Vec::with_capacity(alloc, SELECTOR_LIMIT)?,
             remote: Vec::with_capacity(alloc, SELECTOR_LIMIT)?,
         })
     }
+}
+
+// Memory for the octets of so many messages of IKE.
+fn spare_messages(alloc: Global, count: usize) -> Result<Vec<Vec<u8>>, AllocError>
+    ensures { IfOk result (λ spare. AreSpare spare count) }
+{
+    let mut spare = Vec::with_capacity(alloc, count)?;
+    for _made in 0..count {
+        spare.push_reserved(Vec::with_capacity(alloc, MESSAGE_LIMIT)?);
+    }
+    Ok(spare)
 }
 
 impl Log {
@@ -59,15 +73,15 @@ impl Log {
         }
     }
 
-    /// Makes room for what one step may send and make.
-    pub fn prepare(&mut self, alloc: Global) -> Result<Spare, AllocError>
-        ensures ready { IfOk result (λ spare. IsSpare spare × HasRoom self.new) }
+    /// Makes room for what one step may send and make: one datagram, or so many requests that go out again.
+    pub fn prepare(&mut self, alloc: Global, again: usize) -> Result<Spare, AllocError>
+        ensures ready { IfOk result (λ spare. IsSpare spare again × HasRoom self.new again) }
         ensures content { stored_by self.new ≡ stored_by self.old }
     {
-        self.sent.reserve(1)?;
+        self.sent.reserve(again.checked_add(1).ok_or(AllocError)?)?;
         self.keyed.reserve(1)?;
         self.children.reserve(1)?;
-        Spare::new(alloc)
+        Spare::new(alloc, again)
     }
 }
 
@@ -80,8 +94,8 @@ pub fn take<'a, C: Sealer + Agreement + Proof>(
     log: &mut Log,
     spare: Spare,
 ) -> Output<'a>
-    requires room { HasRoom log.old }
-    requires spare { IsSpare spare }
+    requires room { HasRoom log.old (again_by input.now gateway.old.machine) }
+    requires spare { IsSpare spare (again_by input.now gateway.old.machine) }
     ensures { TakesAt
         (record {
           cipher = C.cipher;
@@ -99,9 +113,11 @@ pub fn take<'a, C: Sealer + Agreement + Proof>(
     gateway.invariants_hold();
     what_is_sent_fits::<C>();
     what_is_made_fits::<C>();
+    few_go_out_again::<C>();
     let Traced { output, trace } = gateway.traced_step(alloc, input);
     let Spare {
         octets,
+        again,
         local,
         remote,
     } = spare;
@@ -114,13 +130,102 @@ pub fn take<'a, C: Sealer + Agreement + Proof>(
         &mut log.sent,
         datagram(end, gateway, trace.sent, &output, octets),
     );
+    keep_all(&mut log.sent, end, gateway, requests_in(&output), again);
     output
+}
+
+/// How many requests may go out again by an input.
+pub fn most_again<C>(input: &Input, gateway: &Gateway<C>) -> usize
+    ensures { result ≡ again_by input.now gateway.now.machine }
+{
+    match input {
+        Input::Tick { .. } => outstanding_count(gateway.associations()),
+        _ => 0,
+    }
+}
+
+// The requests that went out again.
+fn requests_in<'b>(output: &'b Output<'_>) -> &'b [Resent]
+    ensures { result.now ≡ requests_in (said output.now) }
+{
+    match output {
+        Output::Ticked { requests, .. } => requests.as_slice(),
+        _ => &[],
+    }
+}
+
+// Keeps the requests that went out again, for which there is room and memory.
+fn keep_all<C>(
+    log: &mut Vec<Datagram>,
+    end: End,
+    gateway: &Gateway<C>,
+    requests: &[Resent],
+    mut again: Vec<Vec<u8>>,
+)
+    requires room { vec_len log.old + length requests.now ≤ vec_capacity log.old }
+    requires spare { AreSpare again (length requests.now) }
+    requires short { All IsShortResent requests.now }
+    ensures { log.new.items ≡ log.old.items ++ map (again_as end gateway.now.machine) requests.now }
+{
+    for request in requests {
+        keep_one(log, end, gateway, request, &mut again);
+    }
+}
+
+fn keep_one<C>(
+    log: &mut Vec<Datagram>,
+    end: End,
+    gateway: &Gateway<C>,
+    request: &Resent,
+    again: &mut Vec<Vec<u8>>,
+)
+    requires room { vec_len log.old < vec_capacity log.old }
+    requires spare { AreSpare again.old 1 }
+    requires short { IsShortResent request.now }
+    ensures items { log.new.items ≡ log.old.items ++ again_as end gateway.now.machine request.now ∷ [] }
+    ensures len { vec_len log.new ≡ vec_len log.old + 1 }
+    ensures capacity { vec_capacity log.new ≡ vec_capacity log.old }
+    ensures left { vec_len again.old ≡ vec_len again.new + 1 }
+    ensures each { All IsSpareMessage again.new.items }
+{
+    let memory = spare_one(again);
+    log.push_reserved(Datagram {
+        end,
+        mark: ike_mark(gateway, mark_again(request)),
+        octets: filled(memory, request.octets.as_slice()),
+    });
+}
+
+// Takes the memory for one request.
+fn spare_one(again: &mut Vec<Vec<u8>>) -> Vec<u8>
+    requires { AreSpare again.old 1 }
+    ensures memory { IsSpareMessage result }
+    ensures left { vec_len again.old ≡ vec_len again.new + 1 }
+    ensures each { All IsSpareMessage again.new.items }
+{
+    again.pop().unwrap()
+}
+
+// What a request that goes out again was sealed under.
+fn mark_again(request: &Resent) -> Option<ike::Mark>
+    ensures { result ≡ mark_again request.now }
+{
+    if !request.encrypted {
+        return None;
+    }
+    Some(ike::Mark {
+        ike: request.ike,
+        response: false,
+        number: request.number,
+    })
 }
 
 // Keeps an item, for which there is room.
 fn keep<T>(log: &mut Vec<T>, item: Option<T>)
     requires { vec_len log.old < vec_capacity log.old }
-    ensures { log.new.items ≡ log.old.items ++ option_to_list item }
+    ensures items { log.new.items ≡ log.old.items ++ option_to_list item }
+    ensures len { vec_len log.new ≤ vec_len log.old + 1 }
+    ensures capacity { vec_capacity log.new ≡ vec_capacity log.old }
 {
     if let Some(item) = item {
         log.push_reserved(item);
@@ -164,7 +269,7 @@ fn child<C>(
     })
 }
 
-// The datagram that was sent, if one was.
+// The datagram that was sent, if one was. Requests that go out again are kept apart.
 fn datagram<C>(
     end: End,
     gateway: &Gateway<C>,
@@ -174,7 +279,7 @@ fn datagram<C>(
 ) -> Option<Datagram>
     requires fits { FitsDatagram (said output.now) }
     requires spare { (spare.items ≡ []) × (DATAGRAM_LIMIT ≤ vec_capacity spare) }
-    ensures { option_to_list result ≡ sent_by end (said output.now) sent gateway.now }
+    ensures { option_to_list result ≡ sent_once end (said output.now) sent gateway.now }
 {
     let (mark, octets) = match output {
         Output::Reply { octets, .. } | Output::Repeat { octets } | Output::Request { octets, .. } =>

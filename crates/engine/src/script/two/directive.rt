@@ -34,6 +34,16 @@ pub enum Act {
         side: Side,
         entry: u32,
     },
+    /// `probe END IKE`: the peer of an IKE association is asked whether it is there.
+    Probe {
+        side: Side,
+        ike: u32,
+    },
+    /// `tick END MOMENT`: the time at an end, in milliseconds.
+    Tick {
+        side: Side,
+        moment: u64,
+    },
     /// `secret END HEX`: another secret of cookies.
     Secret {
         side: Side,
@@ -156,6 +166,16 @@ fn read_act(alloc: Global, name: &[u8], words: &mut Words) -> Result<Act, LineFa
             let side = read_side(words)?;
             let entry = words.number(u64::from(u32::MAX))? as u32;
             Ok(Act::Start { side, entry })
+        }
+        b"probe" => {
+            let side = read_side(words)?;
+            let ike = words.number(u64::from(u32::MAX))? as u32;
+            Ok(Act::Probe { side, ike })
+        }
+        b"tick" => {
+            let side = read_side(words)?;
+            let moment = words.number(u64::MAX)?;
+            Ok(Act::Tick { side, moment })
         }
         b"secret" => {
             let side = read_side(words)?;

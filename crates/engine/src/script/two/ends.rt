@@ -35,6 +35,8 @@ impl Ends {
     pub fn follow(&mut self, act: Act) -> Result<String, LineFault> {
         match act {
             Act::Start { side, entry } => self.start(side, entry),
+            Act::Probe { side, ike } => self.probe(side, ike),
+            Act::Tick { side, moment } => self.give(side, Input::Tick { moment }),
             Act::Secret { side, secret } => self.give(side, Input::Secret { secret }),
             Act::Deliver(delivery) => self.deliver(delivery),
             Act::Raw {
@@ -53,6 +55,11 @@ impl Ends {
         let fresh = fresh(self.alloc, self.input)?;
         let ike = None;
         self.give(side, Input::Start { ike, entry, fresh })
+    }
+
+    fn probe(&mut self, side: Side, ike: u32) -> Result<String, LineFault> {
+        let fresh = fresh(self.alloc, self.input)?;
+        self.give(side, Input::Probe { ike, fresh })
     }
 
     fn deliver(&mut self, delivery: Delivery) -> Result<String, LineFault> {

@@ -1,10 +1,11 @@
 //! What a directive prints.
 use console::hex_text;
 use gateway::Output;
+use moments::Resent;
 use sadb::{Pair, State, Table};
 use std::alloc::{AllocError, Global};
 
-/// The lines of what came of an input. A datagram that is sent is known by this place among all, from 1.
+/// The lines of what came of an input. The first datagram that is sent is known by this place among all, from 1.
 pub fn of_output(alloc: Global, output: &Output<'_>, place: usize) -> Result<String, AllocError> {
     match output {
         Output::Request { ike, octets } => {
@@ -29,6 +30,9 @@ pub fn of_output(alloc: Global, output: &Output<'_>, place: usize) -> Result<Str
             format!(in alloc; "sealed {place} child {child} number {number} length {length}\n")
         }
         Output::Counted { ike, child, closed } => of_counted(alloc, *ike, *child, *closed),
+        Output::Ticked { requests, closed } => {
+            of_moment(alloc, requests.as_slice(), closed.as_slice(), place)
+        }
         Output::Up {
             child,
             number,
@@ -55,6 +59,31 @@ pub fn of_output(alloc: Global, output: &Output<'_>, place: usize) -> Result<Str
             format!(in alloc; "refused E{number}\n")
         }
     }
+}
+
+/// The lines of what a moment brought; where that is nothing, a line that says so.
+fn of_moment(
+    alloc: Global,
+    requests: &[Resent],
+    closed: &[u32],
+    place: usize,
+) -> Result<String, AllocError> {
+    if requests.is_empty() && closed.is_empty() {
+        return String::from_str(alloc, "ticked\n");
+    }
+    let mut text = String::new(alloc);
+    for (index, request) in requests.iter().enumerate() {
+        let place = place.saturating_add(index);
+        let ike = request.ike;
+        let length = request.octets.len();
+        let line = format!(in alloc; "request {place} ike {ike} length {length}\n")?;
+        text.push_str(line.as_str())?;
+    }
+    for ike in closed {
+        let line = format!(in alloc; "closed ike {ike}\n")?;
+        text.push_str(line.as_str())?;
+    }
+    Ok(text)
 }
 
 fn of_counted(

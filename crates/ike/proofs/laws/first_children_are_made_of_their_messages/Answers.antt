@@ -35,4 +35,4 @@ returns-clause-waits c =
       asks = c.children_are_made_of_their_messages.ensures.asked;
       waits = c.children_are_made_of_their_messages.ensures.waits;
       sound = c.soundness_stays.ensures;
-    })
+    }) c.some_are_held_on.ensures.held

@@ -5,4 +5,4 @@ pub returns-clause-begun : goal.returns-clause-begun
 returns-clause-begun c = new_whole
 
 pub returns-clause-stepped : goal.returns-clause-stepped
-returns-clause-stepped c = stepped_whole (record { admitted = c.keys_stay_whole.ensures.admitted; taken = c.keys_stay_whole.ensures.taken })
+returns-clause-stepped c = stepped_whole (record { held = c.some_are_held_on.ensures.held; admitted = c.keys_stay_whole.ensures.admitted; taken = c.keys_stay_whole.ensures.taken })

@@ -12,4 +12,8 @@ returns c =
       begins = c.what_is_kept_is_short.ensures.begun;
       admits = c.what_is_kept_is_short.ensures.admitted;
       room = c.acceptance_is_limited.ensures.room;
+    }) (record {
+      probed = c.probes_are_short_and_determined.ensures.kept;
+      held = c.some_are_held_on.ensures.held;
+      reserved = c.some_are_held_on.ensures.reserved;
     })

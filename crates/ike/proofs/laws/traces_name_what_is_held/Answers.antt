@@ -16,7 +16,7 @@ returns-clause-traced c =
       come = c.keys_stay.ensures.come;
       none = c.keys_stay.ensures.none;
       told = c.pairs_that_come_are_told.ensures;
-    })
+    }) (record { held = c.some_are_held_on.ensures.held; pairs = c.some_are_held_on.ensures.pairs })
 
 pub returns-clause-keys : goal.returns-clause-keys
 returns-clause-keys c =
@@ -28,4 +28,4 @@ returns-clause-keys c =
       asks = c.children_are_made_of_their_messages.ensures.asked;
       waits = c.children_are_made_of_their_messages.ensures.waits;
       sound = c.soundness_stays.ensures;
-    })
+    }) c.some_are_held_on.ensures.held

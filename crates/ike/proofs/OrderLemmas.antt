@@ -1,0 +1,147 @@
+-- An order on an association is done or refused by what is held of it, and a refusal has one reason.
+use Rattle.std.proofs.Common.{◌≡◌, ◌⊎◌, inl, inr, ℕ, ◌+◌, ◌≤◌, Bool, true, false, cond, ◌∷◌, [], List, map, Option, Some, None, ap, refl, subst, sym, ◌∙◌}
+use Rattle.std.specs.List.{position}
+use Rattle.std.specs.Option.{option_map}
+use Rattle.std.specs.Prelude.{slice_get}
+use Rattle.suite.specs.declared.key_record.KeyRecord.{KeyRecord}
+use Rattle.suite.specs.declared.keys.Keys.{Keys}
+use Rattle.base.specs.Octets.{Octets}
+use Rattle.requests.specs.Contents.{outgoing_content}
+use Rattle.requests.specs.Numbers.{IsGap}
+use Rattle.requests.specs.Outgoing.{AreNumbersSpent, HasSameOwnRequests, IsBusy, MayIssue, OwnRequests}
+use Rattle.association.specs.Contents.{association_content}
+use Rattle.association.specs.declared.phase.Association.{Association}
+use Rattle.association.specs.declared.phase.Phase.{Phase}
+use Rattle.association.specs.declared.phase.Request.{Request}
+use Rattle.initial.specs.Configs.{Setup}
+use Rattle.informational.specs.Orders.{IsEstablished, RefusesOrder}
+use Rattle.informational.specs.Probing.{Probes}
+use Rattle.informational.specs.declared.fault.OrderFault.{OrderFault}
+use Rattle.informational.specs.declared.fault.OrderFault.TheVariants as order
+use Rattle.ike.specs.Contents.{held_content}
+use Rattle.ike.specs.Faults.{is_want_of_memory}
+use Rattle.ike.specs.Machines.{association_of, has_serial, Held}
+use Rattle.ike.specs.Probing.{fault_of_order, ProbesAt, RefusesOrderAt}
+use Rattle.ike.specs.Ticking.{RefusesMoment}
+use Rattle.ike.specs.Soundness.{AreSound}
+use Rattle.ike.specs.declared.fault.IkeFault.{IkeFault}
+use Rattle.ike.specs.declared.fault.IkeFault.TheVariants as fault
+use Rattle.ike.specs.declared.output.Stepped.{Stepped}
+use Rattle.ike.proofs.ContentLemmas.{same_list}
+use Rattle.ike.proofs.ProbeLemmas.{probed_first}
+
+-- ---- by content
+
+kept_first : (b : Bool) (x : Association) (kept found : Option Association) → kept ≡ option_map association_content found
+    → cond b (Some (association_content x)) kept ≡ option_map association_content (cond b (Some x) found)
+kept_first true x kept found same = refl
+kept_first false x kept found same = same
+
+kept_found : (serial : ℕ) (xs : List Association) → association_of serial (map association_content xs) ≡ option_map association_content (association_of serial xs)
+kept_found serial [] = refl
+kept_found serial (x ∷ xs) = kept_first (has_serial serial x) x (association_of serial (map association_content xs)) (association_of serial xs) (kept_found serial xs)
+
+same_association : (serial : ℕ) (old other : Held) → held_content old ≡ held_content other
+    → option_map association_content (association_of serial old.associations) ≡ option_map association_content (association_of serial other.associations)
+same_association serial old other same =
+    sym (kept_found serial old.associations) ∙ ap (association_of serial) (same_list old other same) ∙ kept_found serial other.associations
+
+busy_as : (a b : OwnRequests Request) → outgoing_content a ≡ outgoing_content b → IsBusy a → IsBusy b
+busy_as a b same is =
+    record {
+      gap = is.gap;
+      is_gap = subst (λ (r : OwnRequests Request). IsGap r.answered is.gap) same is.is_gap;
+      full = subst (λ (r : OwnRequests Request). is.gap + r.window ≤ r.next) same is.full;
+    }
+
+spent_as : (a b : OwnRequests Request) → outgoing_content a ≡ outgoing_content b → AreNumbersSpent a → AreNumbersSpent b
+spent_as a b same is = subst (λ (r : OwnRequests Request). AreNumbersSpent r) same is
+
+established_as : (a b : Association) → association_content a ≡ association_content b → IsEstablished a.phase → IsEstablished b.phase
+established_as a b same is = record { keys = is.keys; is = sym (ap (λ (z : Association). z.phase) same) ∙ is.is }
+
+same_outgoing : (a b : Association) → association_content a ≡ association_content b → outgoing_content a.outgoing ≡ outgoing_content b.outgoing
+same_outgoing a b same = ap (λ (z : Association). z.outgoing) same
+
+-- ---- one reason
+
+-- what an order meets that is not for want of memory
+abbrev pub Hinders : Association → OrderFault → Type 0
+Hinders a o = RefusesOrder a o × (is_want_of_memory (fault_of_order o) ≡ false)
+
+memory_only : (b : Bool) → b ≡ true → b ≡ false → ⊥
+memory_only true one other = cc
+memory_only false one other = cc
+
+one_order : (a b : Association) → association_content a ≡ association_content b → (one two : OrderFault) → Hinders a one → Hinders b two → fault_of_order one ≡ fault_of_order two
+one_order a b same order.WrongPhase order.WrongPhase is also = refl
+one_order a b same order.WrongPhase order.Busy is also = absurd (is.0 (established_as b a (sym same) also.0.0))
+one_order a b same order.WrongPhase order.NumbersSpent is also = absurd (is.0 (established_as b a (sym same) also.0.0))
+one_order a b same order.Busy order.WrongPhase is also = absurd (also.0 (established_as a b same is.0.0))
+one_order a b same order.Busy order.Busy is also = refl
+one_order a b same order.Busy order.NumbersSpent is also = absurd (also.0.1 (busy_as a.outgoing b.outgoing (same_outgoing a b same) is.0.1))
+one_order a b same order.NumbersSpent order.WrongPhase is also = absurd (also.0 (established_as a b same is.0.0))
+one_order a b same order.NumbersSpent order.Busy is also = absurd (is.0.1 (busy_as b.outgoing a.outgoing (sym (same_outgoing a b same)) also.0.1))
+one_order a b same order.NumbersSpent order.NumbersSpent is also = refl
+one_order a b same order.Memory two is also = absurd (memory_only true refl is.1)
+one_order a b same one order.Memory is also = absurd (memory_only true refl also.1)
+
+one_at : (o p : Option Association) (one two : IkeFault) → option_map association_content o ≡ option_map association_content p → is_want_of_memory one ≡ false → is_want_of_memory two ≡ false
+    → RefusesOrderAt o one → RefusesOrderAt p two → one ≡ two
+one_at None None one two same not_one not_two is also = is ∙ sym also
+one_at None (Some b) one two same not_one not_two is also = absurd cc
+one_at (Some a) None one two same not_one not_two is also = absurd cc
+one_at (Some a) (Some b) one two same not_one not_two is also =
+    let alike : association_content a ≡ association_content b = cc in
+    is.2
+    ∙ one_order a b alike is.0 also.0 (is.1, sym (ap is_want_of_memory is.2) ∙ not_one) (also.1, sym (ap is_want_of_memory also.2) ∙ not_two)
+    ∙ sym also.2
+
+pub one_probe_refusal : (serial : ℕ) (old other : Held) (one two : IkeFault) → held_content old ≡ held_content other → is_want_of_memory one ≡ false → is_want_of_memory two ≡ false
+    → RefusesOrderAt (association_of serial old.associations) one → RefusesOrderAt (association_of serial other.associations) two → one ≡ two
+one_probe_refusal serial old other one two same not_one not_two is also =
+    one_at (association_of serial old.associations) (association_of serial other.associations) one two (same_association serial old other same) not_one not_two is also
+
+-- ---- done, or refused
+
+may_before : (old ready : OwnRequests Request) → HasSameOwnRequests old ready → MayIssue ready → MayIssue old
+may_before old ready room may =
+    subst (λ (r : OwnRequests Request). MayIssue r → MayIssue old) (sym room.content) (λ m. record {
+      not_busy = λ busy. m.not_busy (record { gap = busy.gap; is_gap = busy.is_gap; full = busy.full });
+      not_spent = m.not_spent;
+    }) may
+
+not_refused : (body_of : Keys → Octets → Octets → Octets → Octets) (setup : Setup) (a b : Association) (octets : Octets) (changed : Association) → association_content a ≡ association_content b
+    → Probes body_of setup a octets changed → (o : OrderFault) → RefusesOrder b o → is_want_of_memory (fault_of_order o) ≡ true
+not_refused body_of setup a b octets changed same is order.WrongPhase refuses = absurd (refuses (established_as a b same (record { keys = is.keys; is = is.established })))
+not_refused body_of setup a b octets changed same is order.Busy refuses =
+    absurd ((may_before a.outgoing is.issued.ready is.issued.prepared is.issued.issued.allowed).not_busy (busy_as b.outgoing a.outgoing (sym (same_outgoing a b same)) refuses.1))
+not_refused body_of setup a b octets changed same is order.NumbersSpent refuses =
+    absurd ((may_before a.outgoing is.issued.ready is.issued.prepared is.issued.issued.allowed).not_spent (spent_as b.outgoing a.outgoing (sym (same_outgoing a b same)) refuses.2))
+not_refused body_of setup a b octets changed same is order.Memory refuses = refl
+
+done_or_not : (body_of : Keys → Octets → Octets → Octets → Octets) (setup : Setup) (a : Association) (p : Option Association) (octets : Octets) (changed : Association) (reason : IkeFault)
+    → Some (association_content a) ≡ option_map association_content p → Probes body_of setup a octets changed → RefusesOrderAt p reason → is_want_of_memory reason ≡ true
+done_or_not body_of setup a None octets changed reason same is refuses = absurd cc
+done_or_not body_of setup a (Some b) octets changed reason same is refuses =
+    let alike : association_content a ≡ association_content b = cc in
+    ap is_want_of_memory refuses.2 ∙ not_refused body_of setup a b octets changed alike is refuses.0 refuses.1
+
+pub probe_or_refused : (body_of : Keys → Octets → Octets → Octets → Octets) (setup : Setup) (serial : ℕ) (old other : Held) (stepped : Stepped) (new : Held) (reason : IkeFault) → held_content old ≡ held_content other
+    → ProbesAt body_of setup serial old stepped new → RefusesOrderAt (association_of serial other.associations) reason → is_want_of_memory reason ≡ true
+probe_or_refused body_of setup serial old other stepped new reason same is refuses =
+    done_or_not body_of setup is.association (association_of serial other.associations) is.octets is.changed reason
+    (sym (ap (option_map association_content) (probed_first body_of setup serial old stepped new is)) ∙ same_association serial old other same) is.probes refuses
+
+pub moment_refused : (reason : IkeFault) → RefusesMoment reason → is_want_of_memory reason ≡ true
+moment_refused (fault.Unread f) is = absurd is
+moment_refused (fault.Message f) is = absurd is
+moment_refused fault.Unprotected is = absurd is
+moment_refused fault.Crowded is = absurd is
+moment_refused fault.TableFull is = absurd is
+moment_refused fault.SpisSpent is = absurd is
+moment_refused fault.HalfOpenFull is = absurd is
+moment_refused fault.Busy is = absurd is
+moment_refused fault.NumbersSpent is = absurd is
+moment_refused fault.BadFresh is = absurd is
+moment_refused (fault.Memory f) is = refl

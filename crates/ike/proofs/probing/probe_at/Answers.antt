@@ -1,0 +1,40 @@
+use Rattle.std.proofs.Common.{◌≡◌, ◌<◌, List, Some, ap, length, refl, subst, sym, slice_set, ◌∙◌}
+use Rattle.std.specs.List.{slice_get}
+use Rattle.std.proofs.lemmas.Option.{slice_get_read}
+use Rattle.association.specs.declared.phase.Association.{Association}
+use Rattle.informational.specs.Orders.{RefusesOrder}
+use Rattle.ike.specs.Machines.{Held}
+use Rattle.ike.proofs.ProbeLemmas.{err_and}
+use Rattle.ike.proofs.QuietLemmas.{put_back}
+use Rattle.ike.proofs.probing.probe_at.Goals as goal
+
+pub returns-in_err-probed-clause-refused : goal.returns-in_err-probed-clause-refused
+returns-in_err-probed-clause-refused g c =
+    let items = c.held.inside.associations.items in
+    let within : c.args.place < length items = subst (λ (h : Held). c.args.place < length h.associations) (sym c.held.view_is) c.requires in
+    err_and c.from_residual.result _ _ c.from_residual.ensures.1 (λ e is. (
+      record {
+        association = c.index_mut-association.result.now;
+        there = subst (λ (h : Held). slice_get h.associations c.args.place ≡ Some c.index_mut-association.result.now) c.held.view_is
+            (slice_get_read items (length items) c.args.place c.index_mut-association.result.now refl within c.index_mut-association.ensures.value);
+        refuses = subst (λ f. RefusesOrder c.index_mut-association.result.now f) (sym is) c.in_err-probed.ensures.refused.0;
+      },
+      ap (λ (xs : List Association). record { next = c.held.inside.next; associations = xs })
+          (put_back items c.args.place c.index_mut-association.result.now c.probe.new.association
+          (slice_get_read items (length items) c.args.place c.index_mut-association.result.now refl within c.index_mut-association.ensures.value) c.in_err-probed.ensures.refused.1)
+          ∙ c.held.view_is,
+    ))
+
+pub returns-clause-probed : goal.returns-clause-probed
+returns-clause-probed g c =
+    let items = c.held.inside.associations.items in
+    let within : c.args.place < length items = subst (λ (h : Held). c.args.place < length h.associations) (sym c.held.view_is) c.requires in
+    record {
+      association = c.index_mut-association.result.now;
+      there = subst (λ (h : Held). slice_get h.associations c.args.place ≡ Some c.index_mut-association.result.now) c.held.view_is
+          (slice_get_read items (length items) c.args.place c.index_mut-association.result.now refl within c.index_mut-association.ensures.value);
+      changed = c.probe.new.association;
+      probes = c.in_ok-probed.ensures.probed;
+      number = c.in_ok-probed.ensures.number;
+      content = ap (λ (h : Held). record { next = h.next; associations = slice_set h.associations c.args.place c.probe.new.association }) c.held.view_is;
+    }

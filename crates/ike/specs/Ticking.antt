@@ -1,0 +1,28 @@
+-- What a moment brings (RFC 7296 sections 2.1 and 2.4).
+use Rattle.std.specs.Prelude.{◌≡◌, ℕ, max}
+use Rattle.sadb.specs.Database.{Database}
+use Rattle.moments.specs.Ticking.{Ticks}
+use Rattle.moments.specs.declared.ticking.Ticked.{Ticked}
+use Rattle.ike.specs.Machines.{Held, Machine}
+use Rattle.ike.specs.Outputs.{plain_step}
+use Rattle.ike.specs.declared.fault.IkeFault.{IkeFault}
+use Rattle.ike.specs.declared.fault.IkeFault.TheVariants as fault
+use Rattle.ike.specs.declared.output.IkeOutput.TheVariants as output
+use Rattle.ike.specs.declared.output.Stepped.{Stepped}
+
+-- what is due at a moment is done, and no serial is given
+pub record TakesHeld (now : ℕ) (old : Held) (table : Database) (new : Held) (new_table : Database) (stepped : Stepped) : Type 0 where
+  pub ticked : Ticked
+  pub ticks : Ticks now old.associations table ticked new.associations new_table
+  pub said : stepped ≡ plain_step (output.Ticked ticked)
+  pub next : new.next ≡ old.next
+
+-- The time never goes back: an earlier moment counts as the greatest so far.
+pub record TakesMoment (moment : ℕ) (old : Machine) (table : Database) (stepped : Stepped) (new : Machine) (new_table : Database) : Type 0 where
+  pub takes : TakesHeld (max old.moment moment) old.held table new.held new_table stepped
+  pub content : new ≡ record old { moment = max old.moment moment; held = new.held }
+
+-- for want of memory alone
+abbrev pub RefusesMoment : IkeFault → Type 0
+RefusesMoment (fault.Memory f) = Unit {0}
+RefusesMoment reason = ⊥

@@ -1,0 +1,26 @@
+//! What a moment brings.
+ghost use Rattle.std.specs.Prelude.{◌≡◌, IfOk, IfErr};
+ghost use Rattle.moments.specs.Ticking.{HoldTheirSpis, Ticks};
+ghost use Rattle.ike.specs.Soundness.{AreSound};
+ghost use Rattle.ike.specs.Ticking.{TakesHeld};
+
+use crate::held::Held;
+use crate::{IkeOutput, Stepped};
+use moments::tick;
+use sadb::Table;
+use std::alloc::{AllocError, Global};
+
+/// Does what is due at a moment.
+pub(crate) fn take_moment(
+    alloc: Global,
+    held: &mut Held,
+    table: &mut Table,
+    now: u64,
+) -> Result<Stepped, AllocError>
+    requires { AreSound held.old table.old }
+    ensures taken { IfOk result (TakesHeld now held.old table.old held.new table.new) }
+    ensures refused { IfErr result (λ _. (held.new ≡ held.old) × (table.new ≡ table.old)) }
+{
+    let ticked = tick(alloc, &mut held.associations, table, now)?;
+    Ok(Stepped::plain(IkeOutput::Ticked(ticked)))
+}

@@ -1,0 +1,5 @@
+use Rattle.moments.proofs.HeldLemmas.{untouched}
+use Rattle.moments.proofs.laws.nothing_comes_before_its_time.Goals as goal
+
+pub returns : goal.returns
+returns c = untouched

@@ -1,0 +1,66 @@
+-- What is due of an association at a moment (RFC 7296 sections 2.1 and 2.4). Moments are in milliseconds.
+use Rattle.std.specs.Prelude.{◌≡◌, ◌==◌, ◌+◌, ◌&&◌, ℕ, Bool, false, not, List, length, map, nat_le, nat_lt, if◌then◌else◌}
+use Rattle.std.specs.FinMap as numbers
+use Rattle.std.specs.List.{filter, list_any, sum_by}
+use Rattle.std.specs.Option.{option_map}
+use Rattle.wire.specs.Numbers.{IKE_SA_INIT}
+use Rattle.requests.specs.Timers.{due_from, waits}
+use Rattle.association.specs.declared.phase.Association.{Association}
+use Rattle.association.specs.declared.phase.Phase.{Phase}
+use Rattle.association.specs.declared.phase.Phase.TheVariants.{HalfOpen, Closed}
+use Rattle.association.specs.declared.phase.Request.{Request}
+use Rattle.moments.specs.declared.resent.Resent.{Resent}
+
+-- how long an association is held that is half open, and one that is closed (limits of this implementation)
+abbrev pub HALF_OPEN_TIME : ℕ
+HALF_OPEN_TIME = 30000
+
+abbrev pub CLOSED_TIME : ℕ
+CLOSED_TIME = 120000
+
+-- it is held no longer
+abbrev pub is_over : ℕ → Phase → Bool
+is_over now (HalfOpen opened) = nat_le (opened.made + HALF_OPEN_TIME) now
+is_over now (Closed keys at) = nat_le (at + CLOSED_TIME) now
+is_over now _ = false
+
+-- those that still are
+abbrev pub held_of : ℕ → List Association → List Association
+held_of now associations = filter (λ a. not (is_over now a.phase)) associations
+
+-- a request was sent for the last time, and no answer came in time
+abbrev pub is_unanswered : ℕ → Request → Bool
+is_unanswered now r = nat_le (due_from r.timer) now && nat_le (length waits) r.timer.repeats
+
+-- it is to go out once more
+abbrev pub is_due : ℕ → Request → Bool
+is_due now r = nat_le (due_from r.timer) now && nat_lt r.timer.repeats (length waits)
+
+-- the requests that wait for an answer, by rising number
+abbrev pub outstanding_of : Association → List (ℕ × Request)
+outstanding_of a = numbers.entries a.outgoing.outstanding
+
+-- the peer is taken to be gone (section 2.4)
+abbrev pub has_failed : ℕ → Association → Bool
+has_failed now a = list_any (λ e. is_unanswered now e.1) (outstanding_of a)
+
+-- a request of this number as it goes out again, the same octets (section 2.1)
+abbrev pub resent : Association → ℕ × Request → Resent
+resent a e = record { ike = a.serial; number = e.0; encrypted = not (e.1.exchange == IKE_SA_INIT); octets = e.1.octets }
+
+-- all that are due, by rising number
+abbrev pub due_of : ℕ → Association → List Resent
+due_of now a = map (resent a) (filter (λ e. is_due now e.1) (outstanding_of a))
+
+-- however late the moment, it goes out once, and the next wait counts from then
+abbrev pub after_sending : ℕ → Request → Request
+after_sending now r = if is_due now r then record r { timer = record { sent = now; repeats = r.timer.repeats + 1 } } else r
+
+-- those that are due went out again, and nothing else is changed
+pub record SendsAgain (now : ℕ) (old new : Association) : Type 0 where
+  pub each : (number : ℕ) → numbers.get new.outgoing.outstanding number ≡ option_map (after_sending now) (numbers.get old.outgoing.outstanding number)
+  pub content : new ≡ record old { outgoing = record old.outgoing { outstanding = new.outgoing.outstanding } }
+
+-- how many requests wait for an answer, of all associations
+abbrev pub outstanding_count : List Association → ℕ
+outstanding_count associations = sum_by (λ a. length (outstanding_of a)) associations

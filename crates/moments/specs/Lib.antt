@@ -1,0 +1,5 @@
+pub mod Due
+pub mod Held
+pub mod Passing
+pub mod Ticking
+pub mod Holding
