@@ -15,3 +15,4 @@ mod DeterminedEffects
 mod WholeKeyLemmas
 mod ToldLemmas
 mod ProbeLemmas
+mod RequestLemmas

@@ -1,11 +1,12 @@
 -- What a message did to an association, by what came of it.
-use Rattle.std.proofs.Common.{◌≡◌, ◌==◌, ◌⊎◌, inl, inr, ℕ, Bool, true, false, refl, subst, sym}
+use Rattle.std.proofs.Common.{◌≡◌, ◌≢◌, ◌==◌, ◌⊎◌, inl, inr, ℕ, Bool, true, false, refl, subst, sym}
 use Rattle.base.specs.Octets.{Octets}
 use Rattle.wire.specs.Numbers.{INFORMATIONAL}
 use Rattle.wire.specs.declared.message.Message.{Message}
 use Rattle.suite.specs.declared.key_record.KeyRecord.{KeyRecord}
 use Rattle.exchange.specs.declared.sealed.Plain.{Plain}
 use Rattle.sadb.specs.Database.{Database}
+use Rattle.sa_init.specs.Reading.{IsResponse}
 use Rattle.sa_init.specs.declared.response.Response.{Response}
 use Rattle.sa_init.specs.declared.response.Response.TheVariants as response
 use Rattle.association.specs.Receiving.{Answers, AnswersInitial, IsReceived, Reception, Refused, Repeat, TakesEffect}
@@ -16,7 +17,7 @@ use Rattle.association.specs.declared.phase.Phase.TheVariants as phase
 use Rattle.initial.specs.Answering.{AnswersAuth}
 use Rattle.initial.specs.Configs.{Setup}
 use Rattle.initial.specs.Ending.{EndsAuth}
-use Rattle.initial.specs.Reading.{BringsCookie, Continues, TellsIdentity}
+use Rattle.initial.specs.Reading.{waiting_of, BringsCookie, Continues, TellsIdentity}
 use Rattle.informational.specs.Answering.{AnswersInformational}
 use Rattle.informational.specs.Counting.{CountsInformational}
 use Rattle.effects.specs.Taking.{asker_of, prover_of, Does, DoesFurther, DoesRequest, DoesResponse, IsPassedOver, Meaning, Says, TakesMessage}
@@ -64,6 +65,7 @@ pub record WasIdentified (meaning : Meaning) (setup : Setup) (old : Association)
   pub sent : InitSent
   pub was : old.phase ≡ phase.InitSent sent
   pub keys : KeyRecord
+  pub named : m.header.spi_r ≢ 0
   pub done : TellsIdentity (asker_of meaning) setup old sent m.header.id m octets keys next new
   pub pairs : new_table ≡ table
 
@@ -103,9 +105,9 @@ response_way meaning setup p old table octets m plain (effect.Refused fault) new
 response_way meaning setup p old table octets m plain e new new_table was received is = absurd is
 
 initial_way : (meaning : Meaning) (setup : Setup) (old : Association) (sent : InitSent) (table : Database) (octets : Octets) (m : Message) (e : Effect) (c : Continued) (r : Response) (new : Association) (new_table : Database)
-    → old.phase ≡ phase.InitSent sent → Continues (asker_of meaning) setup old sent m.header.id m octets r c new → Says e c → new_table ≡ table
+    → old.phase ≡ phase.InitSent sent → IsResponse (asker_of meaning).cipher (asker_of meaning).group (asker_of meaning).shared_secret (waiting_of old.spi_i sent) m r → Continues (asker_of meaning) setup old sent m.header.id m octets r c new → Says e c → new_table ≡ table
     → Way meaning setup old table octets m e new new_table
-initial_way meaning setup old sent table octets m (effect.Again said) (continued.Again next) (response.Cookie cookie) new new_table was is says same =
+initial_way meaning setup old sent table octets m (effect.Again said) (continued.Again next) (response.Cookie cookie) new new_table was means is says same =
     record {
       sent = sent;
       was = was;
@@ -113,19 +115,20 @@ initial_way meaning setup old sent table octets m (effect.Again said) (continued
       done = subst (λ (o : Octets). BringsCookie (asker_of meaning) setup.moment old sent m.header.id cookie.now o new) (sym says) is;
       pairs = same;
     }
-initial_way meaning setup old sent table octets m (effect.Again said) (continued.Again next) r new new_table was is says same = absurd is
-initial_way meaning setup old sent table octets m (effect.Identified said) (continued.Identity next) (response.Keys keys) new new_table was is says same =
+initial_way meaning setup old sent table octets m (effect.Again said) (continued.Again next) r new new_table was means is says same = absurd is
+initial_way meaning setup old sent table octets m (effect.Identified said) (continued.Identity next) (response.Keys keys) new new_table was means is says same =
     record {
       sent = sent;
       was = was;
       keys = keys;
+      named = means.acceptance.named;
       done = subst (λ (o : Octets). TellsIdentity (asker_of meaning) setup old sent m.header.id m octets keys o new) (sym says) is;
       pairs = same;
     }
-initial_way meaning setup old sent table octets m (effect.Identified said) (continued.Identity next) r new new_table was is says same = absurd is
-initial_way meaning setup old sent table octets m (effect.Refused fault) continued.Unfit response.Unfit new new_table was is says same = record { association = is; pairs = same }
-initial_way meaning setup old sent table octets m (effect.Refused fault) continued.Unfit r new new_table was is says same = absurd is
-initial_way meaning setup old sent table octets m e c r new new_table was is says same = absurd says
+initial_way meaning setup old sent table octets m (effect.Identified said) (continued.Identity next) r new new_table was means is says same = absurd is
+initial_way meaning setup old sent table octets m (effect.Refused fault) continued.Unfit response.Unfit new new_table was means is says same = record { association = is; pairs = same }
+initial_way meaning setup old sent table octets m (effect.Refused fault) continued.Unfit r new new_table was means is says same = absurd is
+initial_way meaning setup old sent table octets m e c r new new_table was means is says same = absurd says
 
 does_way : (meaning : Meaning) (setup : Setup) (old : Association) (table : Database) (octets : Octets) (m : Message) (r : Reception) (e : Effect) (new : Association) (new_table : Database)
     → IsReceived meaning.plain_of old octets m r → Does meaning setup old table octets m r e new new_table → Way meaning setup old table octets m e new new_table
@@ -135,7 +138,7 @@ does_way meaning setup old table octets m (Repeat reply) (effect.Repeated said) 
 does_way meaning setup old table octets m (TakesEffect plain) e new new_table received is = request_way meaning setup old.phase m.header.exchange old table octets m plain e new new_table received is
 does_way meaning setup old table octets m (Answers plain) e new new_table received is = response_way meaning setup old.phase old table octets m plain e new new_table refl received is
 does_way meaning setup old table octets m AnswersInitial e new new_table received is =
-    initial_way meaning setup old is.0.read.sent table octets m e is.0.continued is.0.read.response new new_table is.0.read.was is.0.read.continues is.0.said is.1
+    initial_way meaning setup old is.0.read.sent table octets m e is.0.continued is.0.read.response new new_table is.0.read.was is.0.read.means is.0.read.continues is.0.said is.1
 does_way meaning setup old table octets m r e new new_table received is = absurd is
 
 pub way_of : (meaning : Meaning) (setup : Setup) (old : Association) (table : Database) (octets : Octets) (m : Message) (e : Effect) (new : Association) (new_table : Database)

@@ -5,3 +5,4 @@ pub mod Keeping
 pub mod Children
 pub mod Offers
 pub mod Lengths
+pub mod Requests

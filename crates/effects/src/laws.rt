@@ -1,5 +1,5 @@
 //! What follows from the definitions alone. No function here does anything.
-ghost use Rattle.std.specs.Prelude.{◌≡◌, ◌≢◌, ◌⊎◌, ◌+◌, ◌<◌, ℕ, List, Option, Some, None, length};
+ghost use Rattle.std.specs.Prelude.{◌≡◌, ◌≢◌, ◌⊎◌, ◌+◌, ◌<◌, ℕ, List, Option, Some, None, true, false, length};
 ghost use Rattle.base.specs.Octets.{Octets, AreOctets};
 ghost use Rattle.wire.specs.declared.message.Message.{Message};
 ghost use Rattle.wire.specs.declared.payload.Payload.{Payload};
@@ -13,13 +13,18 @@ ghost use Rattle.sadb.specs.declared.pair.Pair.{Pair};
 ghost use Rattle.association.specs.Closing.{HoldsSpi};
 ghost use Rattle.association.specs.FirstChildren.{FirstChildView};
 ghost use Rattle.association.specs.Phases.{keys_in, spi_in};
+ghost use Rattle.association.specs.Receiving.{opened_by, IsRepeating};
+ghost use Rattle.association.specs.declared.fault.MessageFault.TheVariants as why;
+ghost use Rattle.association.specs.declared.phase.HalfOpen.{HalfOpen};
+ghost use Rattle.requests.specs.Following.{FollowsIncoming};
+ghost use Rattle.requests.specs.Incoming.{IsFreshRequest};
+ghost use Rattle.requests.specs.Numbers.{HasNumber, LacksNumber};
+ghost use Rattle.std.specs.FinMap as map;
 ghost use Rattle.sadb.specs.Contents.{table_content};
 ghost use Rattle.association.specs.Contents.{association_content};
 ghost use Rattle.association.specs.declared.phase.Association.{Association};
-ghost use Rattle.suite.specs.declared.fresh.Fresh.{Fresh};
 ghost use Rattle.suite.specs.declared.key_record.KeyRecord.{KeyRecord};
 ghost use Rattle.suite.specs.declared.keys.Keys.{Keys};
-ghost use Rattle.suite.specs.declared.sealer.Cipher.{Cipher};
 ghost use Rattle.sa_init.specs.Judging.{OfferView};
 ghost use Rattle.exchange.specs.declared.sealed.Plain.{Plain};
 ghost use Rattle.association.specs.declared.phase.Phase.TheVariants.{Established};
@@ -33,6 +38,7 @@ ghost use Rattle.initial.specs.Configs.{Setup};
 ghost use Rattle.informational.specs.Probing.{Probes};
 ghost use Rattle.initial.specs.Ending.{EndsAuth};
 ghost use Rattle.effects.specs.Keeping.{child_in, sent_by, IsShort, KeepsShort, KeyedBy};
+ghost use Rattle.effects.specs.Requests.{is_concluded, takes_requests, IsPassing, IsSoundlyHeld, KeepsWindow, PutsIntoEffect, StaysConcluded};
 ghost use Rattle.effects.specs.Offers.{AnswersAuthSa, AnswersInitialSa};
 ghost use Rattle.effects.specs.Lengths.{HoldsWholeKeys, TellsLengths};
 ghost use Rattle.effects.specs.Proving.{ProvesByMessage, ProvesByRequest, ProvesByResponse};
@@ -44,12 +50,12 @@ ghost use Rattle.effects.specs.Pairs.{LeavesPairs};
 ghost use Rattle.effects.specs.Taking.{Meaning, StaysItself, TakesMessage};
 ghost use Rattle.association.specs.declared.fault.MessageFault.{MessageFault};
 ghost use Rattle.effects.specs.declared.taking.Effect.{Effect};
-ghost use Rattle.effects.specs.declared.taking.Effect.TheVariants.{Identified, Refused, Repeated};
+ghost use Rattle.effects.specs.declared.taking.Effect.TheVariants.{Identified, Refused, Repeated, Replied};
 
 use association::Request;
 use association::laws::{
     endings_are_determined, receptions_are_determined, receptions_go_by_content,
-    receptions_say_why, repeats_say_why,
+    receptions_say_why, repeats_say_why, what_is_due_is_received,
 };
 use auth::laws::who_is_accepted_proved_itself;
 use children::laws::{
@@ -59,7 +65,9 @@ use children::laws::{
 use exchange::laws::{
     ciphers_tell_lengths, ends_agree, sealed_messages_are_determined, what_counts_fits,
 };
-use requests::laws::{later_incoming_are_determined, later_outgoing_are_determined};
+use requests::laws::{
+    later_incoming_are_determined, later_incoming_follow, later_outgoing_are_determined,
+};
 use sadb::laws::later_tables_are_determined;
 use suite::Sealer;
 use suite::laws::derived_keys_are_keys;
@@ -313,4 +321,87 @@ pub fn probes_are_short_and_determined()
 {
     later_outgoing_are_determined::<Request>();
     sealed_messages_are_determined();
+}
+
+/// A number comes into effect by a request alone that bears it: its number did not take effect before and lies in the window, its exchange
+/// belongs to the phase, and it opens under the peer's keys; it was answered, and its reply is kept. And each such request comes into
+/// effect, but for CREATE_CHILD_SA, which is not known yet (RFC 7296, sections 2.1 to 2.3).
+pub fn requests_take_effect()
+    ensures alone { (meaning : Meaning) (setup : Setup) (old : Association) (table : Database) (octets : Octets) (m : Message)
+        (effect : Effect) (new : Association) (new_table : Database) (number : ℕ)
+        → TakesMessage meaning setup old table octets m effect new new_table
+        → LacksNumber old.incoming.in_effect number → HasNumber new.incoming.in_effect number
+        → PutsIntoEffect meaning.plain_of old octets m effect new number }
+    ensures always { (meaning : Meaning) (setup : Setup) (old : Association) (table : Database) (octets : Octets) (m : Message)
+        (effect : Effect) (new : Association) (new_table : Database) (plain : Plain)
+        → TakesMessage meaning setup old table octets m effect new new_table → m.header.flags.response ≡ false
+        → IsFreshRequest old.incoming m.header.id → takes_requests old.phase m.header.exchange ≡ true
+        → opened_by meaning.plain_of old octets m.payloads ≡ Some plain → HasNumber new.incoming.in_effect m.header.id }
+    ensures otherwise { (meaning : Meaning) (setup : Setup) (old : Association) (table : Database) (octets : Octets) (m : Message)
+        (effect : Effect) (new : Association) (new_table : Database)
+        → TakesMessage meaning setup old table octets m effect new new_table → m.header.flags.response ≡ false
+        → IsPassing effect ⊎ PutsIntoEffect meaning.plain_of old octets m effect new m.header.id }
+    ensures replied { (meaning : Meaning) (setup : Setup) (old : Association) (table : Database) (octets : Octets) (m : Message)
+        (answered : Answered) (new : Association) (new_table : Database)
+        → TakesMessage meaning setup old table octets m (Replied answered) new new_table
+        → PutsIntoEffect meaning.plain_of old octets m (Replied answered) new m.header.id }
+{
+    later_incoming_follow();
+    receptions_are_determined();
+    receptions_say_why();
+    what_is_due_is_received();
+}
+
+/// What took effect is remembered: the peer's requests after a message follow those before it, their window is widened once, when IKE_AUTH
+/// is done, to the one that this end tells, and an association that is half open was so before, by the same request with the same reply. What is kept stays sound, from the
+/// beginning on.
+pub fn requests_are_remembered()
+    ensures follows { (meaning : Meaning) (setup : Setup) (old : Association) (table : Database) (octets : Octets) (m : Message)
+        (effect : Effect) (new : Association) (new_table : Database)
+        → TakesMessage meaning setup old table octets m effect new new_table → FollowsIncoming old.incoming new.incoming }
+    ensures concluded { (meaning : Meaning) (setup : Setup) (old : Association) (table : Database) (octets : Octets) (m : Message)
+        (effect : Effect) (new : Association) (new_table : Database)
+        → TakesMessage meaning setup old table octets m effect new new_table → is_concluded old.phase ≡ true → StaysConcluded old new }
+    ensures window { (meaning : Meaning) (setup : Setup) (old : Association) (table : Database) (octets : Octets) (m : Message)
+        (effect : Effect) (new : Association) (new_table : Database)
+        → TakesMessage meaning setup old table octets m effect new new_table → KeepsWindow setup.config.window old new }
+    ensures half_open { (meaning : Meaning) (setup : Setup) (old : Association) (table : Database) (octets : Octets) (m : Message)
+        (effect : Effect) (new : Association) (new_table : Database) (opened : HalfOpen)
+        → TakesMessage meaning setup old table octets m effect new new_table → new.phase ≡ phase.HalfOpen opened
+        → old.phase ≡ phase.HalfOpen opened }
+    ensures sound { (meaning : Meaning) (setup : Setup) (old : Association) (table : Database) (octets : Octets) (m : Message)
+        (effect : Effect) (new : Association) (new_table : Database)
+        → IsSoundlyHeld old → TakesMessage meaning setup old table octets m effect new new_table → IsSoundlyHeld new }
+    ensures begun { (cipher : Cipher) (group : ℕ) (public_value : Octets → Octets) (fresh : Fresh) (moment serial : ℕ)
+        (beginning : Beginning) (child : FirstChildView) → Begins cipher group public_value fresh moment beginning
+        → IsSoundlyHeld (begun serial beginning child) }
+    ensures admitted { (cipher : Cipher) (group : ℕ) (public_value : Octets → Octets)
+        (shared_secret : Octets → Octets → Option Octets) (fresh : Fresh) (moment serial : ℕ) (offer : OfferView) (spi_i : ℕ)
+        (request : Octets) (admitted : Admitted)
+        → Admits cipher group public_value shared_secret fresh moment serial offer spi_i request admitted
+        → IsSoundlyHeld admitted.association }
+    ensures probed { (body_of : Keys → Octets → Octets → Octets → Octets) (setup : Setup) (old : Association) (octets : Octets)
+        (new : Association) → IsSoundlyHeld old → Probes body_of setup old octets new → IsSoundlyHeld new }
+{
+    later_incoming_follow();
+}
+
+/// A request that took effect before is answered by the reply that is kept of it, if it opens; where none is kept any more it is refused as
+/// forgotten (E30). Nothing else is answered by a reply that is kept.
+pub fn repeats_are_answered()
+    ensures repeated { (meaning : Meaning) (setup : Setup) (old : Association) (table : Database) (octets : Octets) (m : Message)
+        (effect : Effect) (new : Association) (new_table : Database) (plain : Plain)
+        (reply : Octets) → TakesMessage meaning setup old table octets m effect new new_table → m.header.flags.response ≡ false
+        → HasNumber old.incoming.in_effect m.header.id → map.get old.incoming.kept m.header.id ≡ Some reply
+        → opened_by meaning.plain_of old octets m.payloads ≡ Some plain → effect ≡ Repeated reply }
+    ensures forgotten { (meaning : Meaning) (setup : Setup) (old : Association) (table : Database) (octets : Octets) (m : Message)
+        (effect : Effect) (new : Association) (new_table : Database)
+        → TakesMessage meaning setup old table octets m effect new new_table → m.header.flags.response ≡ false
+        → HasNumber old.incoming.in_effect m.header.id → map.get old.incoming.kept m.header.id ≡ None
+        → effect ≡ Refused why.Forgotten }
+    ensures only { (meaning : Meaning) (setup : Setup) (old : Association) (table : Database) (octets : Octets) (m : Message)
+        (reply : Octets) (new : Association) (new_table : Database)
+        → TakesMessage meaning setup old table octets m (Repeated reply) new new_table → IsRepeating meaning.plain_of old octets m reply }
+{
+    repeats_say_why();
 }

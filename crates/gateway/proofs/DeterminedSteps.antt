@@ -228,8 +228,8 @@ one_run {C} laws meaning_of meaning (i ∷ is) [] ps old other a b meant told fi
 one_run {C} laws meaning_of meaning (i ∷ is) (o ∷ os) [] old other a b meant told first second whole same run also = absurd also
 one_run {C} laws meaning_of meaning (i ∷ is) (o ∷ os) (p ∷ ps) old other a b meant told first second whole same run also =
     let callers : old.caller ≡ other.caller = ap (λ (s : State C). s.caller) same in
-    let mine : Steps meaning i old (said o) run.0 = subst (λ (m : Meaning). Steps m i old (said o) run.0) meant run.1 in
-    let theirs : Steps meaning i other (said p) also.0 = subst (λ (m : Meaning). Steps m i other (said p) also.0) (ap meaning_of (sym callers) ∙ meant) also.1 in
+    let mine : Steps meaning i old (said o) run.0 = subst (λ (m : Meaning). Steps m i old (said o) run.0) meant run.1.steps in
+    let theirs : Steps meaning i other (said p) also.0 = subst (λ (m : Meaning). Steps m i other (said p) also.0) (ap meaning_of (sym callers) ∙ meant) also.1.steps in
     let stays : run.0.caller ≡ old.caller = ap (λ (s : State C). s.caller) mine.traces.kept in
     let here = one_step laws meaning i old other run.0 also.0 (said o) (said p) told.0 whole same first.0 second.0 mine theirs in
     let rest = one_run laws meaning_of meaning is os ps run.0 also.0 a b (ap meaning_of stays ∙ meant) told.1 first.1 second.1 (step_whole laws.ike meaning i old (said o) run.0 whole mine) here.1 run.2 also.2 in

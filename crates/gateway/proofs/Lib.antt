@@ -6,3 +6,5 @@ mod WorldLemmas
 mod FittingLemmas
 mod DeterminedSteps
 mod ToldLemmas
+mod HistoryLemmas
+mod RequestLemmas

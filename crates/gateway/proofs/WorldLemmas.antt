@@ -4,8 +4,9 @@ use Rattle.std.proofs.lemmas.List.{append-nil}
 use Rattle.effects.specs.Taking.{Meaning}
 use Rattle.ike.specs.declared.output.Trace.{Trace}
 use Rattle.gateway.specs.Outputs.{said, Said}
+use Rattle.gateway.specs.Requests.{KeepsToRequests}
 use Rattle.gateway.specs.Runs.{Runs, StepsAs}
-use Rattle.gateway.specs.States.{State}
+use Rattle.gateway.specs.States.{IsSoundState, State}
 use Rattle.gateway.specs.Steps.{Traces}
 use Rattle.gateway.specs.Storing.{TakesAt}
 use Rattle.gateway.specs.WorldRuns.{if_at, inputs_at, outputs_at, HappensAs, IsLater, PlaysFirst}
@@ -18,17 +19,17 @@ use Rattle.gateway.specs.declared.world.stored.Event.{Event}
 
 -- an event in front of a run: a step of this end, or none
 in_front : {C : Type 0} (meaning_of : C → Meaning) (end place : End) (input : Input) (o : Output) (is : List Input) (os : List Output) (old between : WorldState C) (new gateway : State C) (trace : Trace) (stored : Stored)
-    → Traces (meaning_of (gateway_at place old).caller) input (gateway_at place old) (said o) trace gateway
+    → IsSoundState (gateway_at place old) → Traces (meaning_of (gateway_at place old).caller) input (gateway_at place old) (said o) trace gateway
     → between ≡ with_gateway place gateway stored old
     → Runs (StepsAs meaning_of) is os (gateway_at end between) new
     → Runs (StepsAs meaning_of) (if_at end place input is) (if_at end place o os) (gateway_at end old) new
-in_front {C} meaning_of A A input o is os old between new gateway trace stored traces same run =
-    (gateway, record { trace = trace; traces = traces }, subst (λ (w : WorldState C). Runs (StepsAs meaning_of) is os w.a new) same run)
-in_front {C} meaning_of B B input o is os old between new gateway trace stored traces same run =
-    (gateway, record { trace = trace; traces = traces }, subst (λ (w : WorldState C). Runs (StepsAs meaning_of) is os w.b new) same run)
-in_front {C} meaning_of A B input o is os old between new gateway trace stored traces same run =
+in_front {C} meaning_of A A input o is os old between new gateway trace stored sound traces same run =
+    (gateway, record { sound = sound; steps = record { trace = trace; traces = traces } }, subst (λ (w : WorldState C). Runs (StepsAs meaning_of) is os w.a new) same run)
+in_front {C} meaning_of B B input o is os old between new gateway trace stored sound traces same run =
+    (gateway, record { sound = sound; steps = record { trace = trace; traces = traces } }, subst (λ (w : WorldState C). Runs (StepsAs meaning_of) is os w.b new) same run)
+in_front {C} meaning_of A B input o is os old between new gateway trace stored sound traces same run =
     subst (λ (w : WorldState C). Runs (StepsAs meaning_of) is os w.a new) same run
-in_front {C} meaning_of B A input o is os old between new gateway trace stored traces same run =
+in_front {C} meaning_of B A input o is os old between new gateway trace stored sound traces same run =
     subst (λ (w : WorldState C). Runs (StepsAs meaning_of) is os w.b new) same run
 
 pub apart : {C : Type 0} (meaning_of : C → Meaning) (end : End) (es : List Event) (os : List Output) (old new : WorldState C)
@@ -36,7 +37,7 @@ pub apart : {C : Type 0} (meaning_of : C → Meaning) (end : End) (es : List Eve
     → Runs (StepsAs meaning_of) (inputs_at end es) (outputs_at end es os) (gateway_at end old) (gateway_at end new)
 apart {C} meaning_of end [] [] old new run = ap (λ (w : WorldState C). gateway_at end w) run
 apart {C} meaning_of end (e ∷ es) (o ∷ os) old new run =
-    in_front meaning_of end e.end e.input o (inputs_at end es) (outputs_at end es os) old run.0 (gateway_at end new) run.1.gateway run.1.trace _ run.1.traces run.1.content
+    in_front meaning_of end e.end e.input o (inputs_at end es) (outputs_at end es os) old run.0 (gateway_at end new) run.1.gateway run.1.trace _ run.1.sound run.1.traces run.1.content
     (apart meaning_of end es os run.0 new run.2)
 apart {C} meaning_of end [] (o ∷ os) old new run = absurd run
 apart {C} meaning_of end (e ∷ es) [] old new run = absurd run
@@ -77,12 +78,13 @@ stays_stored {C} meaning_of (e ∷ es) [] old new run = absurd run
 
 -- a step of the gateway of A, after room was made, is what happens at A
 pub taken_at_a : {C : Type 0} (meaning_of : C → Meaning) (event : Event) (old : WorldState C) (a b : State C) (before ready : Stored) (s : Said) (gateway : State C) (after : Stored)
-    → event.end ≡ A → record { a = a; b = b; stored = before } ≡ old → ready ≡ before → TakesAt (meaning_of a.caller) A event.input a ready s gateway after
+    → event.end ≡ A → IsSoundState a → record { a = a; b = b; stored = before } ≡ old → ready ≡ before → TakesAt (meaning_of a.caller) A event.input a ready s gateway after
     → TakesEvent meaning_of event old s (record { a = gateway; b = b; stored = after })
-taken_at_a {C} meaning_of event old a b before ready s gateway after at_a was same t =
+taken_at_a {C} meaning_of event old a b before ready s gateway after at_a sound was same t =
     let content : record { a = gateway; b = b; stored = after } ≡ with_gateway A gateway (storing A s t.trace gateway before) (record { a = a; b = b; stored = before }) =
     ap (λ (st : Stored). record { a = gateway; b = b; stored = st }) (t.stores ∙ ap (λ (st : Stored). storing A s t.trace gateway st) same) in
     record {
+      sound = subst (λ (x : End). IsSoundState (gateway_at x old)) (sym at_a) (subst (λ (w : WorldState C). IsSoundState w.a) was sound);
       trace = t.trace;
       gateway = gateway;
       traces = subst (λ (e : End). Traces (meaning_of (gateway_at e old).caller) event.input (gateway_at e old) s t.trace gateway) (sym at_a)
@@ -93,12 +95,13 @@ taken_at_a {C} meaning_of event old a b before ready s gateway after at_a was sa
 
 -- and so it is at B
 pub taken_at_b : {C : Type 0} (meaning_of : C → Meaning) (event : Event) (old : WorldState C) (a b : State C) (before ready : Stored) (s : Said) (gateway : State C) (after : Stored)
-    → event.end ≡ B → record { a = a; b = b; stored = before } ≡ old → ready ≡ before → TakesAt (meaning_of b.caller) B event.input b ready s gateway after
+    → event.end ≡ B → IsSoundState b → record { a = a; b = b; stored = before } ≡ old → ready ≡ before → TakesAt (meaning_of b.caller) B event.input b ready s gateway after
     → TakesEvent meaning_of event old s (record { a = a; b = gateway; stored = after })
-taken_at_b {C} meaning_of event old a b before ready s gateway after at_b was same t =
+taken_at_b {C} meaning_of event old a b before ready s gateway after at_b sound was same t =
     let content : record { a = a; b = gateway; stored = after } ≡ with_gateway B gateway (storing B s t.trace gateway before) (record { a = a; b = b; stored = before }) =
     ap (λ (st : Stored). record { a = a; b = gateway; stored = st }) (t.stores ∙ ap (λ (st : Stored). storing B s t.trace gateway st) same) in
     record {
+      sound = subst (λ (x : End). IsSoundState (gateway_at x old)) (sym at_b) (subst (λ (w : WorldState C). IsSoundState w.b) was sound);
       trace = t.trace;
       gateway = gateway;
       traces = subst (λ (e : End). Traces (meaning_of (gateway_at e old).caller) event.input (gateway_at e old) s t.trace gateway) (sym at_b)
@@ -107,13 +110,19 @@ taken_at_b {C} meaning_of event old a b before ready s gateway after at_b was sa
           (subst (λ (w : WorldState C). record { a = a; b = gateway; stored = after } ≡ with_gateway B gateway (storing B s t.trace gateway w.stored) w) was content);
     }
 
+-- what is known of a run
+abbrev pub RequestsLaw : Type 0 → Type 0
+RequestsLaw C = (meaning_of : C → Meaning) (is : List Input) (os : List Output) (old new : State C) → Runs (StepsAs meaning_of) is os old new → KeepsToRequests meaning_of is os old new
+
 -- a run of a world says all of it
-pub plays : {C : Type 0} (meaning_of : C → Meaning) (count : ℕ) (events : List Event) (old : WorldState C) (before outputs : List Output) (new : WorldState C) (after : List Output)
+pub plays : {C : Type 0} → RequestsLaw C → (meaning_of : C → Meaning) (count : ℕ) (events : List Event) (old : WorldState C) (before outputs : List Output) (new : WorldState C) (after : List Output)
     → after ≡ before ++ outputs → Runs (HappensAs meaning_of) (take count events) outputs old new → PlaysFirst meaning_of count events old before new after
-plays {C} meaning_of count events old before outputs new after appended run = record {
+plays {C} law meaning_of count events old before outputs new after appended run = record {
   outputs = outputs;
   appended = appended;
   runs = run;
   ends = λ end. apart meaning_of end (take count events) outputs old new run;
+  requests = λ end. law meaning_of (inputs_at end (take count events)) (outputs_at end (take count events) outputs) (gateway_at end old) (gateway_at end new)
+      (apart meaning_of end (take count events) outputs old new run);
   stored = stays_stored meaning_of (take count events) outputs old new run;
 }

@@ -8,3 +8,5 @@ pub mod WorldRuns
 pub mod Storing
 pub mod Contents
 pub mod Lengths
+pub mod Histories
+pub mod Requests

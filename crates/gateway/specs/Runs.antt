@@ -2,7 +2,8 @@
 use Rattle.std.specs.Prelude.{◌≡◌, ◌<◌, ◌++◌, ℕ, List, [], ◌∷◌, length, take}
 use Rattle.effects.specs.Taking.{Meaning}
 use Rattle.gateway.specs.Outputs.{said}
-use Rattle.gateway.specs.States.{State}
+use Rattle.gateway.specs.Requests.{KeepsToRequests}
+use Rattle.gateway.specs.States.{IsSoundState, State}
 use Rattle.gateway.specs.Steps.{Steps}
 use Rattle.gateway.specs.declared.fault.RunFault.{RunFault}
 use Rattle.gateway.specs.declared.fault.RunFault.TheVariants.{NoRoom}
@@ -16,17 +17,19 @@ Runs {I} {O} {S} step (i ∷ is) (o ∷ os) old new = (between : S) × step i ol
 Runs {I} {O} {S} step [] (o ∷ os) old new = ⊥
 Runs {I} {O} {S} step (i ∷ is) [] old new = ⊥
 
--- the first so many were taken, and their outputs appended
-pub record RunsFirst {I O S : Type 0} (step : I → S → O → S → Type 0) (count : ℕ) (inputs : List I) (old : S) (before : List O) (new : S) (after : List O) : Type 0 where
-  pub outputs : List O
+-- a step of a gateway as its caller means it; before it, what holds of every gateway holds of this one
+pub record StepsAs {C : Type 0} (meaning_of : C → Meaning) (i : Input) (old : State C) (o : Output) (new : State C) : Type 0 where
+  pub sound : IsSoundState old
+  pub steps : Steps (meaning_of old.caller) i old (said o) new
+
+-- The first so many inputs were taken in order, and their outputs appended; and what is promised of the peer's requests holds.
+pub record RunsFirst {C : Type 0} (meaning_of : C → Meaning) (count : ℕ) (inputs : List Input) (old : State C) (before : List Output) (new : State C) (after : List Output) : Type 0 where
+  pub outputs : List Output
   pub appended : after ≡ before ++ outputs
-  pub runs : Runs step (take count inputs) outputs old new
+  pub runs : Runs (StepsAs meaning_of) (take count inputs) outputs old new
+  pub requests : KeepsToRequests meaning_of (take count inputs) outputs old new
 
 -- there was no room for what comes of one more: the list was left after some, and not at its end
-abbrev pub Stops : {I O S : Type 0} → (I → S → O → S → Type 0) → List I → S → List O → RunFault → S → List O → Type 0
-Stops {I} {O} {S} step inputs old before (NoRoom count) new after =
-    (count < length inputs) × RunsFirst step count inputs old before new after
-
--- a step of a gateway as its caller means it
-abbrev pub StepsAs : {C : Type 0} → (C → Meaning) → Input → State C → Output → State C → Type 0
-StepsAs {C} meaning_of i old o new = Steps (meaning_of old.caller) i old (said o) new
+abbrev pub Stops : {C : Type 0} → (C → Meaning) → List Input → State C → List Output → RunFault → State C → List Output → Type 0
+Stops {C} meaning_of inputs old before (NoRoom count) new after =
+    (count < length inputs) × RunsFirst meaning_of count inputs old before new after

@@ -1,10 +1,12 @@
 -- What a gateway holds.
-use Rattle.std.specs.Prelude.{ℕ, List, refl}
+use Rattle.std.specs.Prelude.{ℕ, List, Option, refl}
 use Rattle.std.specs.Coded.{Coded, code_by, coded×}
 use Rattle.policy.specs.declared.entry.Entry.{Entry}
-use Rattle.sadb.specs.Database.{empty_table, Database}
+use Rattle.sadb.specs.Database.{empty_table, Database, IsSoundTable}
+use Rattle.association.specs.declared.phase.Association.{Association}
 use Rattle.initial.specs.declared.config.Config.{Config}
-use Rattle.ike.specs.Machines.{new_machine, Machine}
+use Rattle.ike.specs.Machines.{association_of, new_machine, Machine}
+use Rattle.ike.specs.Soundness.{IsSoundMachine}
 
 pub record State (C : Type 0) : Type 0 where
   -- the machine of IKE
@@ -21,6 +23,15 @@ state_code {C} machine table entries caller =
     (λ s. (s.machine, (s.table, (s.entries, s.caller))))
     (λ c. record { machine = c.0; table = c.1.0; entries = c.1.1.0; caller = c.1.1.1 })
     (λ _. refl)
+
+-- What holds of every gateway: its machine is sound with its table, and so is the table.
+pub record IsSoundState {C : Type 0} (s : State C) : Type 0 where
+  pub machine : IsSoundMachine s.machine s.table
+  pub table : IsSoundTable s.table
+
+-- the IKE association with this serial, if it is held
+abbrev pub association_in : {C : Type 0} → State C → ℕ → Option Association
+association_in {C} s serial = association_of serial s.machine.held.associations
 
 -- no association, and no SPI given
 abbrev pub new_gateway : {C : Type 0} → Config → List Entry → ℕ → C → State C

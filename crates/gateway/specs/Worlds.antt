@@ -14,7 +14,7 @@ use Rattle.ike.specs.declared.output.MadeChild.{MadeChild}
 use Rattle.ike.specs.declared.output.Mark as ike
 use Rattle.ike.specs.declared.output.Trace.{Trace}
 use Rattle.gateway.specs.Outputs.{Said, Counted, Clear, Discarded, Done, Dropped, Dummy, Refused, Repeat, Reply, Request, Sealed, Ticked, Up}
-use Rattle.gateway.specs.States.{State}
+use Rattle.gateway.specs.States.{IsSoundState, State}
 use Rattle.gateway.specs.Steps.{Traces}
 use Rattle.gateway.specs.declared.world.log.Log.{Log}
 use Rattle.gateway.specs.declared.world.stored.Child.{Child}
@@ -163,8 +163,9 @@ storing end said trace gateway old = record {
   children = old.children ++ option_to_list (child_by end trace.child gateway);
 }
 
--- One end takes a step: what it sent and made is stored, and the other end is as it was.
+-- One end, of which holds what holds of every gateway, takes a step: what it sent and made is stored, and the other end is as it was.
 pub record TakesEvent {C : Type 0} (meaning_of : C → Meaning) (event : Event) (old : WorldState C) (said : Said) (new : WorldState C) : Type 0 where
+  pub sound : IsSoundState (gateway_at event.end old)
   pub trace : Trace
   pub gateway : State C
   pub traces : Traces (meaning_of (gateway_at event.end old).caller) event.input (gateway_at event.end old) said trace gateway

@@ -19,6 +19,7 @@ ghost use Rattle.gateway.specs.Contents.{state_content};
 ghost use Rattle.gateway.specs.Faults.{is_after_judging_packet};
 ghost use Rattle.ike.specs.Soundness.{IsSoundMachine};
 ghost use Rattle.gateway.specs.Outputs.{Clear, Dropped, FewAgain, FitsChild, FitsDatagram, IsQuiet, Refused, Said, wants_memory, said};
+ghost use Rattle.gateway.specs.Requests.{KeepsToRequests};
 ghost use Rattle.gateway.specs.Runs.{Runs, StepsAs};
 ghost use Rattle.gateway.specs.States.{State};
 ghost use Rattle.gateway.specs.Storing.{again_by};
@@ -35,6 +36,7 @@ ghost use Rattle.gateway.specs.declared.input.Input.TheVariants as input;
 
 use esp::laws::sealed_packets_open;
 use ike::laws::{children_have_few_selectors, traces_name_what_is_held, what_is_sent_is_short};
+use requests::laws::later_incoming_follow;
 use sadb::laws::later_tables_are_determined;
 use traffic::laws::{
     a_packet_takes_one_number, only_the_bypassed_goes_in_the_clear, outcomes_are_determined,
@@ -137,6 +139,23 @@ pub fn each_end_has_its_events<C>()
         → Runs (HappensAs meaning_of) events outputs old new
         → Runs (StepsAs meaning_of) (inputs_at end events) (outputs_at end events outputs) (gateway_at end old) (gateway_at end new) }
 {}
+
+/// What is promised of the peer's requests holds of every run, over however many inputs. Each request under SK of an association takes
+/// effect at most once, and exactly where it is delivered new: it opens, its number is not in effect yet and lies in the window, and its
+/// exchange belongs to the phase. And each repeat that is still remembered, of such a request or of one of IKE_SA_INIT, is answered by
+/// the octets of the first reply and changes nothing else; one that is not is E30. An input that is refused for want of memory counts as
+/// not delivered (RFC 7296, sections 2.1 to 2.3).
+pub fn every_run_keeps_to_requests<C>()
+    ensures { (meaning_of : C → Meaning) (inputs : List Input) (outputs : List Output) (old new : State C)
+        → Runs (StepsAs meaning_of) inputs outputs old new → KeepsToRequests meaning_of inputs outputs old new }
+{
+    ike::laws::repeats_are_answered();
+    ike::laws::requests_are_remembered();
+    ike::laws::requests_take_effect();
+    ike::laws::what_is_quiet_changes_nothing();
+    later_incoming_follow();
+    refusals_change_nothing::<C>();
+}
 
 /// What is stored of a world is never forgotten: it is stored from then on, before what comes later.
 pub fn what_is_stored_stays<C>()

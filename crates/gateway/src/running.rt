@@ -1,8 +1,9 @@
 //! A list of inputs.
 ghost use Rattle.std.specs.Prelude.{◌≡◌, ◌+◌, ◌≤◌, OnOk, IfErr, IsOk, length, vec_len};
 ghost use Rattle.std.specs.Vec.{vec_capacity};
-ghost use Rattle.gateway.specs.Runs.{RunsFirst, StepsAs, Stops};
+ghost use Rattle.gateway.specs.Runs.{RunsFirst, Stops};
 
+use crate::laws::every_run_keeps_to_requests;
 use crate::{Gateway, Input, Output, RunFault};
 use std::alloc::Global;
 use suite::{Agreement, Proof, Sealer};
@@ -18,7 +19,7 @@ pub fn run<'a, C: Sealer + Agreement + Proof>(
     outputs: &mut Vec<Output<'a>>,
 ) -> Result<(), RunFault>
     ensures all { OnOk result (RunsFirst
-        (StepsAs (λ caller. record {
+        (λ caller. record {
           cipher = C.cipher;
           body_of = C.body_of;
           plain_of = C.plain_of;
@@ -28,10 +29,10 @@ pub fn run<'a, C: Sealer + Agreement + Proof>(
           own_method = C.own_method caller;
           proof_of = C.proof_of caller;
           accepts = C.accepts caller;
-        }))
+        })
         (length inputs.now) inputs.now gateway.old outputs.old.items gateway.new outputs.new.items) }
     ensures stopped { IfErr result (λ fault. Stops
-        (StepsAs (λ caller. record {
+        (λ caller. record {
           cipher = C.cipher;
           body_of = C.body_of;
           plain_of = C.plain_of;
@@ -41,14 +42,16 @@ pub fn run<'a, C: Sealer + Agreement + Proof>(
           own_method = C.own_method caller;
           proof_of = C.proof_of caller;
           accepts = C.accepts caller;
-        }))
+        })
         inputs.now gateway.old outputs.old.items fault gateway.new outputs.new.items) }
     ensures room { vec_len outputs.old + length inputs.now ≤ vec_capacity outputs.old → IsOk result }
 {
+    every_run_keeps_to_requests::<C>();
     for (done, input) in inputs.iter().enumerate() {
         if outputs.reserve(1).is_err() {
             return Err(RunFault::NoRoom { done });
         }
+        gateway.invariants_hold();
         let output = gateway.step(alloc, input);
         outputs.push_reserved(output);
     }

@@ -123,8 +123,14 @@ impl<C: Sealer + Agreement + Proof> World<C> {
         let spare = self.log.prepare(alloc, again)?;
         let log = &mut self.log;
         match event.end {
-            End::A => Ok(take(alloc, End::A, &event.input, &mut self.a, log, spare)),
-            End::B => Ok(take(alloc, End::B, &event.input, &mut self.b, log, spare)),
+            End::A => {
+                self.a.invariants_hold();
+                Ok(take(alloc, End::A, &event.input, &mut self.a, log, spare))
+            }
+            End::B => {
+                self.b.invariants_hold();
+                Ok(take(alloc, End::B, &event.input, &mut self.b, log, spare))
+            }
         }
     }
 }

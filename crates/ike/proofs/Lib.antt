@@ -21,3 +21,6 @@ mod ProvingLemmas
 mod TickLemmas
 mod ProbeLemmas
 mod OrderLemmas
+mod RequestLemmas
+mod InitialLemmas
+mod OutputLemmas

@@ -11,6 +11,8 @@ use Rattle.sa_init.specs.Judging.{ASSOCIATION_LIMIT, HALF_OPEN_LIMIT}
 use Rattle.association.specs.Closing.{HoldsSpi}
 use Rattle.association.specs.Phases.{spi_in}
 use Rattle.association.specs.declared.phase.Association.{Association}
+use Rattle.association.specs.declared.phase.HalfOpen.{HalfOpen}
+use Rattle.association.specs.declared.phase.Phase.TheVariants as phase
 use Rattle.initial.specs.Ending.{IsAuthSent}
 use Rattle.initial.specs.Reading.{IsInitSent}
 use Rattle.effects.specs.Taking.{StaysItself}
@@ -50,6 +52,8 @@ still_sound old place b next table new_table sound joins k c (inr (other, there)
       responder = was.responder;
       reserved = other_holds table new_table (held_by c) (λ spi held reserved. joins.others k c spi other there held reserved) was.reserved;
       short = was.short;
+      soundly = was.soundly;
+      asked = was.asked;
     }
 
 still_apart : (old : Held) (place : ℕ) (b : Association) (next : ℕ) (table new_table : Database) → AreSound old table → Joins old place b next table new_table
@@ -109,6 +113,8 @@ sound_with old table new_table stays sound =
             responder = was.responder;
             reserved = other_holds table new_table (held_by c) (λ spi held. stays spi) was.reserved;
             short = was.short;
+            soundly = was.soundly;
+            asked = was.asked;
           };
       apart = sound.apart;
     }
@@ -132,20 +138,26 @@ own_stays a b initiator stays =
       | inr waits ↦ by_role a b Initiator (initiator waits) (stays.role ∙ initiator waits) stays.spi_i
     ]
 
-pub apart_before : (a b c : Association) → own_spi b ≡ own_spi a → StaysItself a b → ((spi : ℕ) → held_by b ≡ Some spi → held_by a ≡ Some spi) → AreApart c a → AreApart c b
-apart_before a b c own stays none was =
+-- one that is half open was so before, by the same request
+abbrev pub StaysOpened : Association → Association → Type 0
+StaysOpened a b = (opened : HalfOpen) → b.phase ≡ phase.HalfOpen opened → a.phase ≡ phase.HalfOpen opened
+
+pub apart_before : (a b c : Association) → own_spi b ≡ own_spi a → StaysItself a b → StaysOpened a b → ((spi : ℕ) → held_by b ≡ Some spi → held_by a ≡ Some spi) → AreApart c a → AreApart c b
+apart_before a b c own stays opens none was =
     record {
       rising = subst (λ n. c.serial < n) (sym stays.serial) was.rising;
       own = λ e. was.own (e ∙ own);
       held = λ spi held e. was.held spi held (none spi e);
+      asked = λ one two is also. was.asked one two is (opens two also);
     }
 
-pub apart_after : (a b c : Association) → own_spi b ≡ own_spi a → StaysItself a b → ((spi : ℕ) → held_by b ≡ Some spi → held_by a ≡ Some spi) → AreApart a c → AreApart b c
-apart_after a b c own stays none was =
+pub apart_after : (a b c : Association) → own_spi b ≡ own_spi a → StaysItself a b → StaysOpened a b → ((spi : ℕ) → held_by b ≡ Some spi → held_by a ≡ Some spi) → AreApart a c → AreApart b c
+apart_after a b c own stays opens none was =
     record {
       rising = subst (λ n. n < c.serial) (sym stays.serial) was.rising;
       own = λ e. was.own (sym own ∙ e);
       held = λ spi held e. was.held spi (none spi held) e;
+      asked = λ one two is also. was.asked one two (opens one is) also;
     }
 
 -- two at different places don't hold one SPI

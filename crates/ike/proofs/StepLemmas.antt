@@ -7,6 +7,7 @@ use Rattle.std.proofs.lemmas.Option.{slice_get_within}
 use Rattle.std.proofs.lemmas.Bool.{eq-eqb}
 use Rattle.std.proofs.lemmas.Bool.Decides.{leb_tells}
 use Rattle.base.specs.Octets.{Octets}
+use Rattle.wire.specs.Messages.{Spells}
 use Rattle.wire.specs.declared.message.Message.{Message}
 use Rattle.wire.specs.declared.payload.Payload.{Payload}
 use Rattle.policy.specs.declared.entry.Entry.{Entry}
@@ -40,12 +41,13 @@ use Rattle.effects.specs.declared.taking.Effect.{Effect}
 use Rattle.association.specs.Finding.{found}
 use Rattle.initial.specs.Beginning.{begun, half_open as half_open_association, Admits, Begins}
 use Rattle.effects.specs.Keeping.{IsShort, KeepsShort}
+use Rattle.effects.specs.Requests.{IsSoundlyHeld}
 use Rattle.initial.specs.declared.beginning.Admitted.{Admitted}
 use Rattle.initial.specs.declared.beginning.Beginning.{Beginning}
 use Rattle.ike.specs.Machines.{half_open_count, is_bad_spi, own_spi, setup_at, Held, Machine, SERIAL_END}
-use Rattle.ike.specs.Receiving.{is_initial_request, is_sound_initial, is_answered, with_next, AdmitsNext, CanMake, DoesJudgement, TakesAt, TakesDatagram, TakesFound, TakesOffer, TakesRead, TakesRequestAt, TakesSound}
+use Rattle.ike.specs.Receiving.{is_initial_request, is_sound_initial, is_answered, is_answered_phase, same_octets, with_next, AdmitsNext, CanMake, DoesJudgement, IsInitialRequest, TakesAt, TakesDatagram, TakesFound, TakesOffer, TakesRead, TakesRequestAt, TakesSound}
 use Rattle.ike.specs.Probing.{ProbesAt}
-use Rattle.ike.specs.Soundness.{AreSound, IsSoundMachine}
+use Rattle.ike.specs.Soundness.{AreSound, At, IsSoundMachine}
 use Rattle.ike.specs.Ticking.{TakesHeld}
 use Rattle.ike.specs.Starting.{child_by, new_order_fault, order_fault_of, protecting_entry, Starts}
 use Rattle.ike.specs.Steps.{InputView, Refuses, Steps}
@@ -53,9 +55,10 @@ use Rattle.ike.specs.Steps as steps
 use Rattle.ike.specs.declared.fault.IkeFault.{IkeFault}
 use Rattle.ike.specs.declared.output.Stepped.{Stepped}
 use Rattle.ike.proofs.ProbeLemmas.{changed_itself, changed_phase}
+use Rattle.ike.proofs.RepeatLemmas.{none_passes, same_octets_itself}
 use Rattle.ike.proofs.TickLemmas.{ticked_sound}
 use Rattle.ike.proofs.CountLemmas.{count_grown, count_replaced, not_used, not_zero, weight_most}
-use Rattle.ike.proofs.SoundLemmas.{alone, apart_after, apart_before, held_by, own_stays, sound_grown, sound_replaced, sound_with, waited_before, Joins}
+use Rattle.ike.proofs.SoundLemmas.{StaysOpened, alone, apart_after, apart_before, held_by, own_stays, sound_grown, sound_replaced, sound_with, waited_before, Joins}
 use Rattle.std.specs.List.{position}
 
 -- what is known of a message's effect, and of offers that are accepted
@@ -74,12 +77,21 @@ pub record Laws : Type 0 where
       → Begins cipher group public_value fresh moment beginning → KeepsShort (begun serial beginning child) × IsShort beginning.octets
   pub admits : (cipher : Cipher) (group : ℕ) (public_value : Octets → Octets) (shared_secret : Octets → Octets → Option Octets) (fresh : Fresh) (moment serial : ℕ) (offer : OfferView) (spi_i : ℕ) (request : Octets) (admitted : Admitted)
       → Admits cipher group public_value shared_secret fresh moment serial offer spi_i request admitted → KeepsShort admitted.association × IsShort admitted.octets
+  pub soundly : (meaning : Meaning) (setup : Setup) (old : Association) (table : Database) (octets : Octets) (m : Message) (effect : Effect) (new : Association) (new_table : Database)
+      → IsSoundlyHeld old → TakesMessage meaning setup old table octets m effect new new_table → IsSoundlyHeld new
+  pub opened : (meaning : Meaning) (setup : Setup) (old : Association) (table : Database) (octets : Octets) (m : Message) (effect : Effect) (new : Association) (new_table : Database) (opened : HalfOpen)
+      → TakesMessage meaning setup old table octets m effect new new_table → new.phase ≡ phase.HalfOpen opened → old.phase ≡ phase.HalfOpen opened
+  pub begins_soundly : (cipher : Cipher) (group : ℕ) (public_value : Octets → Octets) (fresh : Fresh) (moment serial : ℕ) (beginning : Beginning) (child : FirstChildView)
+      → Begins cipher group public_value fresh moment beginning → IsSoundlyHeld (begun serial beginning child)
+  pub admits_soundly : (cipher : Cipher) (group : ℕ) (public_value : Octets → Octets) (shared_secret : Octets → Octets → Option Octets) (fresh : Fresh) (moment serial : ℕ) (offer : OfferView) (spi_i : ℕ) (request : Octets) (admitted : Admitted)
+      → Admits cipher group public_value shared_secret fresh moment serial offer spi_i request admitted → IsSoundlyHeld admitted.association
   pub room : (cipher : Cipher) (group : ℕ) (secrets : CookieSecrets) (sender : Sender) (half_open held : ℕ) (payloads : List Payload) (offer : OfferView)
       → IsJudgement cipher group secrets sender half_open held payloads (Accepted offer) → (half_open < HALF_OPEN_LIMIT) × (held < ASSOCIATION_LIMIT)
 
 -- what is known of a probe, and of a moment
 pub record OrderLaws : Type 0 where
   pub probed : (body_of : Keys → Octets → Octets → Octets → Octets) (setup : Setup) (old : Association) (octets : Octets) (new : Association) → KeepsShort old → Probes body_of setup old octets new → KeepsShort new × IsShort octets
+  pub probed_soundly : (body_of : Keys → Octets → Octets → Octets → Octets) (setup : Setup) (old : Association) (octets : Octets) (new : Association) → IsSoundlyHeld old → Probes body_of setup old octets new → IsSoundlyHeld new
   pub held : (now : ℕ) (old : List Association) (table : Database) (ticked : Ticked) (new : List Association) (new_table : Database) → Ticks now old table ticked new new_table → HoldSome now old new
   pub reserved : (now : ℕ) (old : List Association) (table : Database) (ticked : Ticked) (new : List Association) (new_table : Database) (spi : ℕ)
       → HoldsNone now old spi → IsReserved table spi → Ticks now old table ticked new new_table → IsReserved new_table spi
@@ -100,6 +112,7 @@ taken_joins laws place meaning setup octets m old table stepped new new_table so
     let own : own_spi is.changed ≡ own_spi is.association = own_stays is.association is.changed (λ w. was.initiator (inl w)) stays in
     let none : (spi : ℕ) → held_by is.changed ≡ Some spi → held_by is.association ≡ Some spi =
     λ spi e. laws.none meaning setup is.association table octets m is.effect is.changed new_table spi e is.takes in
+    let opens : StaysOpened is.association is.changed = λ opened here. laws.opened meaning setup is.association table octets m is.effect is.changed new_table opened is.takes here in
     record {
       sound = record {
         serial_least = subst (λ n. 1 ≤ n) (sym stays.serial) was.serial_least;
@@ -109,13 +122,15 @@ taken_joins laws place meaning setup octets m old table stepped new new_table so
         responder = λ h. stays.role ∙ was.responder (stays.half_open h);
         reserved = laws.stays meaning setup is.association table octets m is.effect is.changed new_table was.reserved is.takes;
         short = laws.short meaning setup is.association table octets m is.effect is.changed new_table was.short is.takes;
+        soundly = laws.soundly meaning setup is.association table octets m is.effect is.changed new_table was.soundly is.takes;
+        asked = λ opened here. was.asked opened (opens opened here);
       };
       more = omega arith;
       others = λ k c spi other there held reserved.
           laws.others meaning setup is.association table octets m is.effect is.changed new_table spi
           (alone old table k place c is.association spi sound other there is.there held) reserved (sound_table.reserved_given spi reserved).before_next is.takes;
-      before = λ k c less there. apart_before is.association is.changed c own stays none (sound.apart k place c is.association less there is.there);
-      after = λ k c less there. apart_after is.association is.changed c own stays none (sound.apart place k is.association c less is.there there);
+      before = λ k c less there. apart_before is.association is.changed c own stays opens none (sound.apart k place c is.association less there is.there);
+      after = λ k c less there. apart_after is.association is.changed c own stays opens none (sound.apart place k is.association c less is.there there);
     }
 
 taken_sound : (laws : Laws) (place : ℕ) (meaning : Meaning) (setup : Setup) (octets : Octets) (m : Message) (old : Held) (table : Database) (stepped : Stepped) (new : Held) (new_table : Database)
@@ -136,10 +151,12 @@ found_sound laws (Err f) meaning setup octets m old table stepped new new_table 
 
 -- what comes last has the next serial, and an SPI that isn't in use
 last_joins : (old : Held) (b : Association) (table new_table : Database) → AreSound old table → is_bad_spi (own_spi b) old.associations ≡ false → b.serial ≡ old.next
-    → (IsInitSent b.phase ⊎ IsAuthSent b.phase → b.role ≡ Initiator) → (IsHalfOpen b.phase → b.role ≡ Responder) → KeepsShort b → HoldsSpi (held_by b) new_table
+    → (IsInitSent b.phase ⊎ IsAuthSent b.phase → b.role ≡ Initiator) → (IsHalfOpen b.phase → b.role ≡ Responder) → KeepsShort b → IsSoundlyHeld b
+    → ((opened : HalfOpen) → b.phase ≡ phase.HalfOpen opened → IsInitialRequest opened.request)
+    → ((k : ℕ) (c : Association) (one two : HalfOpen) → At old k c → c.phase ≡ phase.HalfOpen one → b.phase ≡ phase.HalfOpen two → one.request ≢ two.request) → HoldsSpi (held_by b) new_table
     → ((spi : ℕ) → IsReserved table spi → IsReserved new_table spi) → ((spi : ℕ) → IsReserved table spi → held_by b ≢ Some spi)
     → Joins old (length old.associations) b (old.next + 1) table new_table
-last_joins old b table new_table sound usable serial initiator responder short holds stays apart =
+last_joins old b table new_table sound usable serial initiator responder short soundly asked others_asked holds stays apart =
     record {
       sound = record {
         serial_least = subst (λ n. 1 ≤ n) (sym serial) sound.first;
@@ -149,6 +166,8 @@ last_joins old b table new_table sound usable serial initiator responder short h
         responder = responder;
         reserved = holds;
         short = short;
+        soundly = soundly;
+        asked = asked;
       };
       more = omega arith;
       others = λ k c spi other there held reserved. stays spi reserved;
@@ -157,6 +176,7 @@ last_joins old b table new_table sound usable serial initiator responder short h
             rising = let given = (sound.each k c there).serial_given in omega (arith, given, serial);
             own = not_used (own_spi b) old.associations k c usable there;
             held = λ spi held. apart spi (subst (λ s. HoldsSpi s table) held (sound.each k c there).reserved);
+            asked = λ one two is also. others_asked k c one two there is also;
           };
       after = λ k c more there. let within = slice_get_within old.associations k c there in absurd (omega (arith, more, within));
     }
@@ -181,56 +201,84 @@ some_none spi e = cc
 none_held : (o : Option ℕ) (spi : ℕ) → o ≡ None → o ≢ Some spi
 none_held o spi none e = some_none spi (sym e ∙ none)
 
+many_clash : (b : Bool) → b ≡ true → b ≡ false → ⊥
+many_clash true positive negative = absurd cc
+many_clash false positive negative = absurd cc
+
+-- a request of IKE_SA_INIT that no half-open association answered before
+record IsAnew (octets : Octets) (old : Held) : Type 0 where
+  asked : IsInitialRequest octets
+  first : position (is_answered octets) old.associations ≡ None
+
+-- it is none of those that were answered
+other_request : (octets : Octets) (old : Held) (k : ℕ) (c : Association) (one : HalfOpen) → IsAnew octets old → At old k c → c.phase ≡ phase.HalfOpen one → one.request ≢ octets
+other_request octets old k c one anew there opened same =
+    many_clash (is_answered octets c)
+    (ap (is_answered_phase octets) opened ∙ ap (λ o. same_octets o octets) same ∙ same_octets_itself octets)
+    (none_passes (is_answered octets) old.associations anew.first k c there)
+
+opened_as : (opened other : HalfOpen) → phase.HalfOpen opened ≡ phase.HalfOpen other → opened ≡ other
+opened_as opened other is = cc
+
+begun_asks : (sent : InitSent) (opened : HalfOpen) → phase.InitSent sent ≡ phase.HalfOpen opened → ⊥
+begun_asks sent opened is = cc
+
 admitted_sound : (laws : Laws) (meaning : Meaning) (setup : Setup) (offer : OfferView) (spi_i : ℕ) (octets : Octets) (old : Held) (stepped : Stepped) (new : Held) (table : Database)
-    → half_open_count old.associations < HALF_OPEN_LIMIT → length old.associations < ASSOCIATION_LIMIT → AreSound old table → CanMake old setup.fresh.spi
+    → half_open_count old.associations < HALF_OPEN_LIMIT → length old.associations < ASSOCIATION_LIMIT → AreSound old table → IsAnew octets old → CanMake old setup.fresh.spi
     → AdmitsNext meaning setup offer spi_i octets old stepped new → AreSound new table
-admitted_sound laws meaning setup offer spi_i octets old stepped new table half_open few sound can made =
+admitted_sound laws meaning setup offer spi_i octets old stepped new table half_open few sound anew can made =
     let b : Association = half_open_association old.next spi_i setup.fresh.spi made.admits.agreed.record octets made.admits.agreed.octets setup.moment in
     let short : KeepsShort b = subst (λ (a : Association). KeepsShort a) made.admits.content
     (laws.admits meaning.cipher meaning.group meaning.public_value meaning.shared_secret setup.fresh setup.moment old.next offer spi_i octets made.admitted made.admits).0 in
+    let soundly : IsSoundlyHeld b = subst (λ (a : Association). IsSoundlyHeld a) made.admits.content
+    (laws.admits_soundly meaning.cipher meaning.group meaning.public_value meaning.shared_secret setup.fresh setup.moment old.next offer spi_i octets made.admitted made.admits) in
     subst (λ (h : Held). AreSound h table) (sym made.content)
     (subst (λ (a : Association). AreSound (with_next old a) table) (sym made.admits.content)
     (sound_grown old b table table few can.serial
     (let more = count_grown old.associations b in let one = weight_most b in omega (arith, more, one, half_open))
     sound
-    (last_joins old b table table sound can.usable refl (λ w. absurd (opened_waits _ w)) (λ h. refl) short tt (λ spi there. there) (λ spi there. none_held None spi refl))))
+    (last_joins old b table table sound can.usable refl (λ w. absurd (opened_waits _ w)) (λ h. refl) short soundly
+    (λ opened here. subst (λ (o : HalfOpen). IsInitialRequest o.request) (opened_as _ opened here) anew.asked)
+    (λ k c one two there is also. subst (λ (o : HalfOpen). one.request ≢ o.request) (opened_as _ two also) (other_request octets old k c one anew there is))
+    tt (λ spi there. there) (λ spi there. none_held None spi refl))))
 
 offer_sound : (laws : Laws) (meaning : Meaning) (setup : Setup) (offer : OfferView) (spi_i : ℕ) (octets : Octets) (old : Held) (stepped : Stepped) (new : Held) (table : Database)
-    → half_open_count old.associations < HALF_OPEN_LIMIT → length old.associations < ASSOCIATION_LIMIT → AreSound old table → TakesOffer meaning setup offer spi_i octets old stepped new → AreSound new table
-offer_sound laws meaning setup offer spi_i octets old stepped new table half_open few sound is =
+    → half_open_count old.associations < HALF_OPEN_LIMIT → length old.associations < ASSOCIATION_LIMIT → AreSound old table → IsAnew octets old → TakesOffer meaning setup offer spi_i octets old stepped new → AreSound new table
+offer_sound laws meaning setup offer spi_i octets old stepped new table half_open few sound anew is =
     elim is.done [
       | inl refused ↦ same_sound old new table table sound refused.1.unchanged refl
-      | inr made ↦ admitted_sound laws meaning setup offer spi_i octets old stepped new table half_open few sound is.can made
+      | inr made ↦ admitted_sound laws meaning setup offer spi_i octets old stepped new table half_open few sound anew is.can made
     ]
 
 judged_sound : (laws : Laws) (meaning : Meaning) (setup : Setup) (cookies : CookieSecrets) (from octets : Octets) (m : Message) (j : JudgementView) (old : Held) (stepped : Stepped) (new : Held) (table : Database)
     → IsJudgement meaning.cipher meaning.group cookies (record { address = from; spi_i = m.header.spi_i }) (half_open_count old.associations) (length old.associations) m.payloads j
-    → AreSound old table → DoesJudgement meaning setup m.header.spi_i octets j old stepped new → AreSound new table
-judged_sound laws meaning setup cookies from octets m (Answered notice) old stepped new table judged sound is = same_sound old new table table sound is.1 refl
-judged_sound laws meaning setup cookies from octets m Incomplete old stepped new table judged sound is = same_sound old new table table sound is.unchanged refl
-judged_sound laws meaning setup cookies from octets m Full old stepped new table judged sound is = same_sound old new table table sound is.unchanged refl
-judged_sound laws meaning setup cookies from octets m (Accepted offer) old stepped new table judged sound is =
+    → AreSound old table → IsAnew octets old → DoesJudgement meaning setup m.header.spi_i octets j old stepped new → AreSound new table
+judged_sound laws meaning setup cookies from octets m (Answered notice) old stepped new table judged sound anew is = same_sound old new table table sound is.1 refl
+judged_sound laws meaning setup cookies from octets m Incomplete old stepped new table judged sound anew is = same_sound old new table table sound is.unchanged refl
+judged_sound laws meaning setup cookies from octets m Full old stepped new table judged sound anew is = same_sound old new table table sound is.unchanged refl
+judged_sound laws meaning setup cookies from octets m (Accepted offer) old stepped new table judged sound anew is =
     let room = laws.room meaning.cipher meaning.group cookies (record { address = from; spi_i = m.header.spi_i }) (half_open_count old.associations) (length old.associations) m.payloads offer judged in
-    offer_sound laws meaning setup offer m.header.spi_i octets old stepped new table room.0 room.1 sound is
+    offer_sound laws meaning setup offer m.header.spi_i octets old stepped new table room.0 room.1 sound anew is
 
 request_sound : (laws : Laws) (o : Option ℕ) (meaning : Meaning) (setup : Setup) (cookies : CookieSecrets) (from octets : Octets) (m : Message) (old : Held) (stepped : Stepped) (new : Held) (table : Database)
-    → AreSound old table → TakesRequestAt o meaning setup cookies from octets m old stepped new → AreSound new table
-request_sound laws (Some place) meaning setup cookies from octets m old stepped new table sound is = same_sound old new table table sound is.1 refl
-request_sound laws None meaning setup cookies from octets m old stepped new table sound is =
-    judged_sound laws meaning setup cookies from octets m is.judgement old stepped new table is.judged sound is.done
+    → AreSound old table → IsInitialRequest octets → position (is_answered octets) old.associations ≡ o → TakesRequestAt o meaning setup cookies from octets m old stepped new → AreSound new table
+request_sound laws (Some place) meaning setup cookies from octets m old stepped new table sound asked first is = same_sound old new table table sound is.1 refl
+request_sound laws None meaning setup cookies from octets m old stepped new table sound asked first is =
+    judged_sound laws meaning setup cookies from octets m is.judgement old stepped new table is.judged sound (record { asked = asked; first = first }) is.done
 
 initial_sound : (laws : Laws) (b : Bool) (meaning : Meaning) (setup : Setup) (cookies : CookieSecrets) (from octets : Octets) (m : Message) (old : Held) (stepped : Stepped) (new : Held) (table : Database)
-    → AreSound old table → TakesSound b meaning setup cookies from octets m old stepped new → AreSound new table
-initial_sound laws true meaning setup cookies from octets m old stepped new table sound is =
-    request_sound laws (position (is_answered octets) old.associations) meaning setup cookies from octets m old stepped new table sound is
-initial_sound laws false meaning setup cookies from octets m old stepped new table sound is = same_sound old new table table sound is.unchanged refl
+    → AreSound old table → (b ≡ true → IsInitialRequest octets) → TakesSound b meaning setup cookies from octets m old stepped new → AreSound new table
+initial_sound laws true meaning setup cookies from octets m old stepped new table sound asked is =
+    request_sound laws (position (is_answered octets) old.associations) meaning setup cookies from octets m old stepped new table sound (asked refl) refl is
+initial_sound laws false meaning setup cookies from octets m old stepped new table sound asked is = same_sound old new table table sound is.unchanged refl
 
 read_sound : (laws : Laws) (b : Bool) (meaning : Meaning) (setup : Setup) (cookies : CookieSecrets) (from octets : Octets) (m : Message) (old : Held) (table : Database) (stepped : Stepped) (new : Held) (new_table : Database)
-    → IsSoundTable table → AreSound old table → TakesRead b meaning setup cookies from octets m old table stepped new new_table → AreSound new new_table
-read_sound laws true meaning setup cookies from octets m old table stepped new new_table sound_table sound is =
+    → IsSoundTable table → AreSound old table → Spells m octets → is_initial_request m.header ≡ b → TakesRead b meaning setup cookies from octets m old table stepped new new_table → AreSound new new_table
+read_sound laws true meaning setup cookies from octets m old table stepped new new_table sound_table sound spelled initial is =
     subst (λ (d : Database). AreSound new d) (sym is.1)
-    (initial_sound laws (is_sound_initial m.header) meaning setup cookies from octets m old stepped new table sound is.0)
-read_sound laws false meaning setup cookies from octets m old table stepped new new_table sound_table sound is =
+    (initial_sound laws (is_sound_initial m.header) meaning setup cookies from octets m old stepped new table sound
+    (λ sound_header. record { message = m; spelled = spelled; initial = initial; sound = sound_header }) is.0)
+read_sound laws false meaning setup cookies from octets m old table stepped new new_table sound_table sound spelled initial is =
     found_sound laws (found m.header old.associations) meaning setup octets m old table stepped new new_table sound_table sound is
 
 datagram_sound : (laws : Laws) (meaning : Meaning) (setup : Setup) (cookies : CookieSecrets) (from octets : Octets) (old : Held) (table : Database) (stepped : Stepped) (new : Held) (new_table : Database)
@@ -238,14 +286,10 @@ datagram_sound : (laws : Laws) (meaning : Meaning) (setup : Setup) (cookies : Co
 datagram_sound laws meaning setup cookies from octets old table stepped new new_table sound_table sound is =
     elim is [
       | inl unread ↦ same_sound old new table new_table sound unread.passed.unchanged unread.unchanged
-      | inr read ↦ read_sound laws (is_initial_request read.message.header) meaning setup cookies from octets read.message old table stepped new new_table sound_table sound read.done
+      | inr read ↦ read_sound laws (is_initial_request read.message.header) meaning setup cookies from octets read.message old table stepped new new_table sound_table sound read.spelled refl read.done
     ]
 
 -- ---- an order to start
-
-many_clash : (b : Bool) → b ≡ true → b ≡ false → ⊥
-many_clash true positive negative = absurd cc
-many_clash false positive negative = absurd cc
 
 same_spi : (spi q : ℕ) → Some spi ≡ Some q → spi ≡ q
 same_spi spi q e = cc
@@ -315,6 +359,9 @@ start_sound laws meaning setup ike place old table stepped new new_table sound_t
     sound
     (last_joins old b table new_table sound (subst (λ n. is_bad_spi n old.associations ≡ false) (sym is.begins.spi) free.usable) refl (λ w. refl) (λ h. absurd (begun_opens _ h.opened h.is))
     (laws.begins meaning.cipher meaning.group meaning.public_value setup.fresh setup.moment old.next is.beginning (child_by is.entry is.done.spi setup.config.extended) is.begins).0
+    (laws.begins_soundly meaning.cipher meaning.group meaning.public_value setup.fresh setup.moment old.next is.beginning (child_by is.entry is.done.spi setup.config.extended) is.begins)
+    (λ opened here. absurd (begun_asks _ opened here))
+    (λ k c one two there is_one is_two. absurd (begun_asks _ two is_two))
     (now_reserved is.between is.done.spi new_table is.done.reserved)
     (λ spi there. still_reserved is.between is.done.spi new_table spi is.done.reserved (between_reserved spi there))
     (λ spi there e.
@@ -335,6 +382,7 @@ probed_joins laws body_of setup ike old table new_table stepped new sound same i
     let phase_is = changed_phase body_of setup ike old stepped new is in
     let own : own_spi is.changed ≡ own_spi is.association = own_stays is.association is.changed (λ w. was.initiator (inl w)) stays in
     let none : (spi : ℕ) → held_by is.changed ≡ Some spi → held_by is.association ≡ Some spi = λ spi e. sym (same_spis is.association is.changed phase_is) ∙ e in
+    let opens : StaysOpened is.association is.changed = λ opened here. sym phase_is ∙ here in
     record {
       sound = record {
         serial_least = subst (λ n. 1 ≤ n) (sym stays.serial) was.serial_least;
@@ -344,11 +392,13 @@ probed_joins laws body_of setup ike old table new_table stepped new sound same i
         responder = λ h. stays.role ∙ was.responder (stays.half_open h);
         reserved = subst (λ (d : Database). HoldsSpi (held_by is.changed) d) (sym same) (subst (λ o. HoldsSpi o table) (sym (same_spis is.association is.changed phase_is)) was.reserved);
         short = (laws.probed body_of setup is.association is.octets is.changed was.short is.probes).0;
+        soundly = laws.probed_soundly body_of setup is.association is.octets is.changed was.soundly is.probes;
+        asked = λ opened here. was.asked opened (opens opened here);
       };
       more = omega arith;
       others = λ k c spi other there held reserved. subst (λ (d : Database). IsReserved d spi) (sym same) reserved;
-      before = λ k c less there. apart_before is.association is.changed c own stays none (sound.apart k is.place c is.association less there is.there);
-      after = λ k c less there. apart_after is.association is.changed c own stays none (sound.apart is.place k is.association c less is.there there);
+      before = λ k c less there. apart_before is.association is.changed c own stays opens none (sound.apart k is.place c is.association less there is.there);
+      after = λ k c less there. apart_after is.association is.changed c own stays opens none (sound.apart is.place k is.association c less is.there there);
     }
 
 probed_sound : (laws : OrderLaws) (body_of : Keys → Octets → Octets → Octets → Octets) (setup : Setup) (ike : ℕ) (old : Held) (table new_table : Database) (stepped : Stepped) (new : Held)

@@ -5,11 +5,13 @@ use Rattle.std.proofs.lemmas.Bool.Decides.{eqb_tells}
 use Rattle.std.specs.List.{slice_get}
 use Rattle.std.specs.Prelude.{◌==◌}
 use Rattle.exchange.specs.declared.headers.Role.{Role}
-use Rattle.requests.specs.Incoming.{PeerRequests}
+use Rattle.requests.specs.Incoming.{IsLeftBehind, PeerRequests}
+use Rattle.requests.specs.Numbers.{HasNumber}
 use Rattle.sadb.specs.Database.{Database, IsReserved}
 use Rattle.association.specs.Closing.{HoldsSpi}
 use Rattle.association.specs.Phases.{keys_in, spi_in}
 use Rattle.association.specs.declared.phase.Association.{Association}
+use Rattle.association.specs.declared.phase.HalfOpen.{HalfOpen}
 use Rattle.association.specs.declared.phase.Phase.{Phase}
 use Rattle.association.specs.declared.phase.Phase.TheVariants as phase
 use Rattle.association.specs.declared.phase.Request.{Request}
@@ -18,6 +20,7 @@ use Rattle.initial.specs.Answering.{IsHalfOpen}
 use Rattle.initial.specs.Ending.{IsAuthSent}
 use Rattle.initial.specs.Reading.{IsInitSent}
 use Rattle.effects.specs.Keeping.{kept_reply, IsShort, KeepsShort}
+use Rattle.effects.specs.Requests.{is_concluded, IsSoundlyHeld}
 use Rattle.moments.specs.Due.{has_failed}
 use Rattle.moments.specs.Holding.{HoldSome, HoldsNone, HoldsOn, LeavesFewer}
 use Rattle.moments.specs.Ticking.{HoldTheirSpis, Ticks}
@@ -159,6 +162,30 @@ on_short now a b on short =
       ];
     }
 
+closed_half_open : (keys : Option KeyRecord) (at : ℕ) (opened : HalfOpen) → phase.Closed keys at ≡ phase.HalfOpen opened → ⊥
+closed_half_open keys at opened is = cc
+
+pub on_half_open : (now : ℕ) (a b : Association) → HoldsOn now a b → (opened : HalfOpen) → b.phase ≡ phase.HalfOpen opened → a.phase ≡ phase.HalfOpen opened
+on_half_open now a b on opened is = on_phase (λ p. p ≡ phase.HalfOpen opened) now a b on (λ keys at here. closed_half_open keys at opened here) is
+
+-- IKE_AUTH stays done
+pub on_concluded : (now : ℕ) (a b : Association) → HoldsOn now a b → is_concluded a.phase ≡ true → is_concluded b.phase ≡ true
+on_concluded now a b on is = elim on.phase [
+  | inl stays ↦ ap is_concluded stays.1 ∙ is
+  | inr closes ↦ ap is_concluded closes
+]
+
+pub on_soundly : (now : ℕ) (a b : Association) → HoldsOn now a b → IsSoundlyHeld a → IsSoundlyHeld b
+on_soundly now a b on held = record {
+  in_effect = λ number reply kept.
+      subst (λ (r : PeerRequests). HasNumber r.in_effect number) (sym on.incoming) (held.in_effect number reply (ap (λ (r : PeerRequests). map.get r.kept number) (sym on.incoming) ∙ kept));
+  near = λ number reply kept.
+      subst (λ (r : PeerRequests). ¬ IsLeftBehind r number) (sym on.incoming) (held.near number reply (ap (λ (r : PeerRequests). map.get r.kept number) (sym on.incoming) ∙ kept));
+  concluded = λ number reply kept. on_concluded now a b on (held.concluded number reply (ap (λ (r : PeerRequests). map.get r.kept number) (sym on.incoming) ∙ kept));
+  named = λ keyed initiator zero.
+      held.named (record { keys = keyed.keys; are = sym (on_keys now a b on) ∙ keyed.are }) (sym on.role ∙ initiator) (sym on.spi_r ∙ zero);
+}
+
 -- ---- all of them
 
 -- fewer are held, and fewer half open
@@ -206,6 +233,8 @@ each_on now held table new_table b sound keeps place o =
       responder = λ h. o.on.role ∙ was.responder (on_opened now o.was b o.on h);
       reserved = reserved_on now held table new_table o.from o.was (held_by b) sound o.there keeps (λ spi e. on_holds now o.was b spi o.on e);
       short = on_short now o.was b o.on was.short;
+      soundly = on_soundly now o.was b o.on was.soundly;
+      asked = λ opened here. was.asked opened (on_half_open now o.was b o.on opened here);
     }
 
 apart_on : (now : ℕ) (held : Held) (table : Database) (b c : Association) → AreSound held table → Origins now held.associations b c → AreApart b c
@@ -215,6 +244,7 @@ apart_on now held table b c sound o =
       rising = subst (λ n. n < c.serial) (sym o.on.serial) (subst (λ n. o.was.serial < n) (sym o.also.serial) was.rising);
       own = λ e. was.own (sym (on_own now o.was b o.on) ∙ e ∙ on_own now o.other c o.also);
       held = λ spi holds too. was.held spi (on_holds now o.was b spi o.on holds).held (on_holds now o.other c spi o.also too).held;
+      asked = λ one two is also. was.asked one two (on_half_open now o.was b o.on one is) (on_half_open now o.other c o.also two also);
     }
 
 pub ticked_sound : (now : ℕ) (old new : Held) (table new_table : Database) → AreSound old table → HoldSome now old.associations new.associations → new.next ≡ old.next → KeepsReserved now old.associations table new_table → AreSound new new_table
@@ -231,10 +261,10 @@ ticked_sound now old new table new_table sound some next keeps =
 -- ---- by serials
 
 -- where the one with a serial stands
-record Found (xs : List Association) (serial : ℕ) (b : Association) : Type 0 where
-  place : ℕ
-  there : slice_get xs place ≡ Some b
-  serial_is : b.serial ≡ serial
+pub record Found (xs : List Association) (serial : ℕ) (b : Association) : Type 0 where
+  pub place : ℕ
+  pub there : slice_get xs place ≡ Some b
+  pub serial_is : b.serial ≡ serial
 
 tested : (n m : ℕ) → (n == m) ≡ true → n ≡ m
 tested n m is = elim (eqb_tells n m) [
@@ -250,7 +280,7 @@ found_by : (here : Bool) (x : Association) (xs : List Association) (serial : ℕ
 found_by true x xs serial b is more e = record { place = 0; there = e; serial_is = ap (λ (y : Association). y.serial) (sym (same_item x b e)) ∙ tested x.serial serial is }
 found_by false x xs serial b is more e = found_next x xs serial b (more e)
 
-found_at : (xs : List Association) (serial : ℕ) (b : Association) → association_of serial xs ≡ Some b → Found xs serial b
+pub found_at : (xs : List Association) (serial : ℕ) (b : Association) → association_of serial xs ≡ Some b → Found xs serial b
 found_at [] serial b e = absurd cc
 found_at (x ∷ xs) serial b e = found_by (has_serial serial x) x xs serial b refl (found_at xs serial b) e
 

@@ -57,6 +57,7 @@ pub record Takes (meaning : Meaning) (setup : Setup) (octets : Octets) (old : He
   pub message : Message
   pub spelled : Spells message octets
   pub place : ℕ
+  pub found_there : found message.header old.associations ≡ Ok place
   pub takes : TakesAt place meaning setup octets message old table stepped new new_table
 
 -- an association is half open from then on
@@ -128,16 +129,16 @@ initial_way true meaning setup cookies from octets m old table stepped new new_t
 initial_way false meaning setup cookies from octets m old table stepped new new_table is same = passed_way meaning setup octets _ old table stepped new new_table is same
 
 found_way : (r : Result ℕ MessageFault) (meaning : Meaning) (setup : Setup) (octets : Octets) (m : Message) (old : Held) (table : Database) (stepped : Stepped) (new : Held) (new_table : Database)
-    → Spells m octets → TakesFound r meaning setup octets m old table stepped new new_table → Way meaning setup octets old table stepped new new_table
-found_way (Ok place) meaning setup octets m old table stepped new new_table spelled is = took (record { message = m; spelled = spelled; place = place; takes = is })
-found_way (Err f) meaning setup octets m old table stepped new new_table spelled is = passed_way meaning setup octets _ old table stepped new new_table is.0 is.1
+    → Spells m octets → found m.header old.associations ≡ r → TakesFound r meaning setup octets m old table stepped new new_table → Way meaning setup octets old table stepped new new_table
+found_way (Ok place) meaning setup octets m old table stepped new new_table spelled finds is = took (record { message = m; spelled = spelled; place = place; found_there = finds; takes = is })
+found_way (Err f) meaning setup octets m old table stepped new new_table spelled finds is = passed_way meaning setup octets _ old table stepped new new_table is.0 is.1
 
 read_way : (b : Bool) (meaning : Meaning) (setup : Setup) (cookies : CookieSecrets) (from octets : Octets) (m : Message) (old : Held) (table : Database) (stepped : Stepped) (new : Held) (new_table : Database)
     → Spells m octets → TakesRead b meaning setup cookies from octets m old table stepped new new_table → Way meaning setup octets old table stepped new new_table
 read_way true meaning setup cookies from octets m old table stepped new new_table spelled is =
     initial_way (is_sound_initial m.header) meaning setup cookies from octets m old table stepped new new_table is.0 is.1
 read_way false meaning setup cookies from octets m old table stepped new new_table spelled is =
-    found_way (found m.header old.associations) meaning setup octets m old table stepped new new_table spelled is
+    found_way (found m.header old.associations) meaning setup octets m old table stepped new new_table spelled refl is
 
 pub datagram_way : (meaning : Meaning) (setup : Setup) (cookies : CookieSecrets) (from octets : Octets) (old : Held) (table : Database) (stepped : Stepped) (new : Held) (new_table : Database)
     → TakesDatagram meaning setup cookies from octets old table stepped new new_table → Way meaning setup octets old table stepped new new_table

@@ -14,3 +14,4 @@ pub mod Children
 pub mod Contents
 pub mod Lengths
 pub mod Proving
+pub mod Requests

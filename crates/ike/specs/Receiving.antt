@@ -120,6 +120,13 @@ abbrev pub TakesRequestAt : Option ℕ → Meaning → Setup → CookieSecrets �
 TakesRequestAt (Some place) meaning setup cookies from octets m old stepped new = Repeats place old.associations stepped × (new ≡ old)
 TakesRequestAt None meaning setup cookies from octets m old stepped new = TakesNew meaning setup cookies from octets m old stepped new
 
+-- the octets are a request of IKE_SA_INIT with a sound header
+pub record IsInitialRequest (octets : Octets) : Type 0 where
+  pub message : Message
+  pub spelled : Spells message octets
+  pub initial : is_initial_request message.header ≡ true
+  pub sound : is_sound_initial message.header ≡ true
+
 -- by whether its header is sound
 abbrev pub TakesSound : Bool → Meaning → Setup → CookieSecrets → Octets → Octets → Message → Held → Stepped → Held → Type 0
 TakesSound true meaning setup cookies from octets m old stepped new =

@@ -6,19 +6,23 @@ use Rattle.sa_init.specs.Judging.{ASSOCIATION_LIMIT, HALF_OPEN_LIMIT}
 use Rattle.association.specs.Closing.{HoldsSpi}
 use Rattle.association.specs.Phases.{spi_in}
 use Rattle.association.specs.declared.phase.Association.{Association}
+use Rattle.association.specs.declared.phase.HalfOpen.{HalfOpen}
+use Rattle.association.specs.declared.phase.Phase.TheVariants as phase
 use Rattle.initial.specs.Answering.{IsHalfOpen}
 use Rattle.initial.specs.Ending.{IsAuthSent}
 use Rattle.effects.specs.Keeping.{KeepsShort}
+use Rattle.effects.specs.Requests.{IsSoundlyHeld}
 use Rattle.initial.specs.Reading.{IsInitSent}
 use Rattle.ike.specs.Machines.{half_open_count, own_spi, Held, Machine, SERIAL_END}
+use Rattle.ike.specs.Receiving.{IsInitialRequest}
 
 -- an association stands at a place of the list
 abbrev pub At : Held → ℕ → Association → Type 0
 At held place a = slice_get held.associations place ≡ Some a
 
 -- what holds of each association: its serial was given, the SPI of this end is not zero, who waits for the response to IKE_SA_INIT or to
--- IKE_AUTH is the initiator, who waits for IKE_AUTH is the responder, an SPI that is held for a first child is reserved, and all that can
--- go out again has at most 3000 octets
+-- IKE_AUTH is the initiator, who waits for IKE_AUTH is the responder, an SPI that is held for a first child is reserved, all that can go
+-- out again has at most 3000 octets, what is kept of the peer's requests is sound, and a half-open one was asked for by IKE_SA_INIT
 pub record IsSound (a : Association) (next : ℕ) (table : Database) : Type 0 where
   pub serial_least : 1 ≤ a.serial
   pub serial_given : a.serial < next
@@ -27,12 +31,16 @@ pub record IsSound (a : Association) (next : ℕ) (table : Database) : Type 0 wh
   pub responder : IsHalfOpen a.phase → a.role ≡ Responder
   pub reserved : HoldsSpi (spi_in a.phase) table
   pub short : KeepsShort a
+  pub soundly : IsSoundlyHeld a
+  pub asked : (opened : HalfOpen) → a.phase ≡ phase.HalfOpen opened → IsInitialRequest opened.request
 
 -- what holds of two associations, of which the other was made later
 pub record AreApart (a other : Association) : Type 0 where
   pub rising : a.serial < other.serial
   pub own : own_spi a ≢ own_spi other
   pub held : (spi : ℕ) → spi_in a.phase ≡ Some spi → spi_in other.phase ≢ Some spi
+  -- no request of IKE_SA_INIT makes a second one that is half open
+  pub asked : (one two : HalfOpen) → a.phase ≡ phase.HalfOpen one → other.phase ≡ phase.HalfOpen two → one.request ≢ two.request
 
 pub record AreSound (held : Held) (table : Database) : Type 0 where
   pub first : 1 ≤ held.next

@@ -1,5 +1,5 @@
 //! What follows from the definitions alone. No function here does anything.
-ghost use Rattle.std.specs.Prelude.{◌≡◌, ◌<◌, ◌≤◌, All, List, Some, ℕ, length, true, false, ◌⊎◌};
+ghost use Rattle.std.specs.Prelude.{◌≡◌, ◌<◌, ◌≤◌, All, List, Option, Some, None, ℕ, length, true, false, ◌⊎◌};
 ghost use Rattle.policy.specs.declared.entry.Entry.{Entry};
 ghost use Rattle.sadb.specs.Database.{pair_at, Database, IsReserved, IsSoundTable};
 ghost use Rattle.sadb.specs.Contents.{table_content};
@@ -27,6 +27,14 @@ ghost use Rattle.ike.specs.Outputs.{octets_in, IsQuiet};
 ghost use Rattle.ike.specs.Pairs.{ChangesOne};
 ghost use Rattle.ike.specs.Proving.{WasKnown};
 ghost use Rattle.ike.specs.Reaching.{WasReached};
+ghost use Rattle.std.specs.FinMap as map;
+ghost use Rattle.requests.specs.Following.{FollowsIncoming};
+ghost use Rattle.requests.specs.Numbers.{HasNumber};
+ghost use Rattle.association.specs.declared.fault.MessageFault.TheVariants as why;
+ghost use Rattle.association.specs.declared.phase.HalfOpen.{HalfOpen};
+ghost use Rattle.effects.specs.Requests.{is_concluded, IsSoundlyHeld, KeepsWindow, StaysConcluded};
+ghost use Rattle.ike.specs.Requests.{ComesIntoEffect, HoldsInEffect, IsAdmitted, IsAnswered, IsFirstReplyKept, IsGivenUp, IsHeldThrough, IsInitialDatagram, IsNewRequest, IsOfOctets, IsReplyKept, OnlySays, OpensAsRequest, PutsOneIntoEffect, first_requests};
+ghost use Rattle.ike.specs.declared.fault.IkeFault.TheVariants as fault;
 ghost use Rattle.ike.specs.Soundness.{IsSoundMachine};
 ghost use Rattle.ike.specs.Steps.{is_tick, InputView, Message, Steps, Refuses};
 ghost use Rattle.ike.specs.Tracing.{IsTraced};
@@ -52,8 +60,9 @@ use effects::laws::{
 };
 use moments::laws::{
     no_more_go_out_than_wait, some_are_held_on, ticks_are_determined,
-    what_goes_out_again_is_outstanding,
+    what_goes_out_again_is_outstanding, what_is_held_was_held,
 };
+use requests::laws::later_incoming_follow;
 use sa_init::laws::{acceptance_is_limited, judgements_are_determined};
 use sadb::laws::later_tables_are_determined;
 use wire::laws::{
@@ -76,6 +85,7 @@ pub fn soundness_stays()
     what_is_kept_is_short();
     acceptance_is_limited();
     probes_are_short_and_determined();
+    effects::laws::requests_are_remembered();
     some_are_held_on();
 }
 
@@ -273,5 +283,142 @@ pub fn steps_are_determined()
     later_tables_are_determined();
     octets_spell_one_message();
     plain_spellings_are_determined();
+    what_is_spelled_has_no_fault();
+}
+
+/// A request of the peer takes effect by its own datagram alone (RFC 7296, sections 2.1 to 2.3). A number comes into effect for an
+/// association only by a datagram that opens as the request of that number, where the number was not in effect, lay below the least one
+/// that was not, plus the window, and the phase took its exchange; it was answered, and the reply is kept. And each such datagram brings
+/// its number into effect, unless it is refused for want of memory; any other one that opens changes nothing. Nothing but a request
+/// that takes effect, or one of IKE_SA_INIT, is replied to.
+pub fn requests_take_effect()
+    ensures alone { (meaning : Meaning) (entries : List Entry) (input : InputView) (old : Machine) (table : Database)
+        (stepped : Stepped) (new : Machine) (new_table : Database) (serial : ℕ) (a b : Association)
+        (number : ℕ) → IsSoundMachine old table → Steps meaning entries input old table stepped new new_table
+        → IsHeldThrough serial old.held new.held a b → ComesIntoEffect number a b
+        → IsNewRequest meaning input a number × IsAnswered stepped number b }
+    ensures always { (meaning : Meaning) (entries : List Entry) (input : InputView) (old : Machine) (table : Database)
+        (stepped : Stepped) (new : Machine) (new_table : Database) (serial : ℕ) (a : Association)
+        (number : ℕ) → IsSoundMachine old table → Steps meaning entries input old table stepped new new_table
+        → association_of serial old.held.associations ≡ Some a → IsNewRequest meaning input a number
+        → HoldsInEffect new.held serial number }
+    ensures otherwise { (meaning : Meaning) (entries : List Entry) (input : InputView) (old : Machine) (table : Database)
+        (stepped : Stepped) (new : Machine) (new_table : Database) (serial : ℕ) (a : Association)
+        (number : ℕ) → IsSoundMachine old table → Steps meaning entries input old table stepped new new_table
+        → association_of serial old.held.associations ≡ Some a → OpensAsRequest meaning input a number
+        → IsQuiet stepped.output ⊎ IsNewRequest meaning input a number }
+    ensures replied { (meaning : Meaning) (entries : List Entry) (input : InputView) (old : Machine) (table : Database)
+        (stepped : Stepped) (new : Machine) (new_table : Database) (reply : Octets) (closed : Option ℕ)
+        → IsSoundMachine old table → Steps meaning entries input old table stepped new new_table → stepped.output ≡ output.Reply reply closed
+        → PutsOneIntoEffect old.held new.held ⊎ IsInitialDatagram input }
+{
+    associations_stay_themselves();
+    effects::laws::requests_take_effect();
+    effects::laws::requests_are_remembered();
+    effects::laws::repeats_are_answered();
+    later_incoming_follow();
+    octets_spell_one_message();
+    some_are_held_on();
+    what_is_spelled_has_no_fault();
+}
+
+/// What took effect stays in effect and is remembered, whatever a step does: the peer's requests of an association that stays held follow
+/// those before, their window is widened once, when IKE_AUTH is done, to the one that this end tells, and one that is half open was so
+/// before, by the same request with the same reply. One that comes to be half open has the request that came and the reply that went
+/// out. One that comes to be held has the next serial and begins with no request in effect, or with that of IKE_SA_INIT; it is held until
+/// a moment at which its time is over. Serials rise, and what is held of each association is sound.
+pub fn requests_are_remembered()
+    ensures follows { (meaning : Meaning) (entries : List Entry) (input : InputView) (old : Machine) (table : Database)
+        (stepped : Stepped) (new : Machine) (new_table : Database) (serial : ℕ) (a b : Association)
+        → IsSoundMachine old table → Steps meaning entries input old table stepped new new_table
+        → IsHeldThrough serial old.held new.held a b → FollowsIncoming a.incoming b.incoming }
+    ensures concluded { (meaning : Meaning) (entries : List Entry) (input : InputView) (old : Machine) (table : Database)
+        (stepped : Stepped) (new : Machine) (new_table : Database) (serial : ℕ) (a b : Association)
+        → IsSoundMachine old table → Steps meaning entries input old table stepped new new_table
+        → IsHeldThrough serial old.held new.held a b → is_concluded a.phase ≡ true → StaysConcluded a b }
+    ensures window { (meaning : Meaning) (entries : List Entry) (input : InputView) (old : Machine) (table : Database)
+        (stepped : Stepped) (new : Machine) (new_table : Database) (serial : ℕ) (a b : Association)
+        → IsSoundMachine old table → Steps meaning entries input old table stepped new new_table
+        → IsHeldThrough serial old.held new.held a b → KeepsWindow old.config.window a b }
+    ensures gone { (meaning : Meaning) (entries : List Entry) (input : InputView) (old : Machine) (table : Database)
+        (stepped : Stepped) (new : Machine) (new_table : Database) (serial : ℕ) (a : Association)
+        → IsSoundMachine old table → Steps meaning entries input old table stepped new new_table
+        → association_of serial old.held.associations ≡ Some a → association_of serial new.held.associations ≡ None
+        → IsGivenUp input old a }
+    ensures half_open { (meaning : Meaning) (entries : List Entry) (input : InputView) (old : Machine) (table : Database)
+        (stepped : Stepped) (new : Machine) (new_table : Database) (serial : ℕ) (a b : Association)
+        (opened : HalfOpen) → IsSoundMachine old table → Steps meaning entries input old table stepped new new_table
+        → IsHeldThrough serial old.held new.held a b → b.phase ≡ phase.HalfOpen opened → a.phase ≡ phase.HalfOpen opened }
+    ensures admitted { (meaning : Meaning) (entries : List Entry) (input : InputView) (old : Machine) (table : Database)
+        (stepped : Stepped) (new : Machine) (new_table : Database) (serial : ℕ) (b : Association)
+        (opened : HalfOpen) → IsSoundMachine old table → Steps meaning entries input old table stepped new new_table
+        → association_of serial old.held.associations ≡ None → association_of serial new.held.associations ≡ Some b
+        → b.phase ≡ phase.HalfOpen opened → IsAdmitted input opened stepped }
+    ensures begun { (meaning : Meaning) (entries : List Entry) (input : InputView) (old : Machine) (table : Database)
+        (stepped : Stepped) (new : Machine) (new_table : Database) (serial : ℕ) (b : Association)
+        → IsSoundMachine old table → Steps meaning entries input old table stepped new new_table
+        → association_of serial old.held.associations ≡ None → association_of serial new.held.associations ≡ Some b
+        → (serial ≡ old.held.next) × (b.incoming ≡ first_requests b.role) }
+    ensures given { (machine : Machine) (table : Database) (serial : ℕ) (a : Association) → IsSoundMachine machine table
+        → association_of serial machine.held.associations ≡ Some a → serial < machine.held.next }
+    ensures soundly { (machine : Machine) (table : Database) (serial : ℕ) (a : Association) → IsSoundMachine machine table
+        → association_of serial machine.held.associations ≡ Some a → IsSoundlyHeld a }
+    ensures rises { (meaning : Meaning) (entries : List Entry) (input : InputView) (old : Machine) (table : Database)
+        (stepped : Stepped) (new : Machine) (new_table : Database)
+        → Steps meaning entries input old table stepped new new_table → old.held.next ≤ new.held.next }
+{
+    associations_stay_themselves();
+    effects::laws::requests_take_effect();
+    effects::laws::requests_are_remembered();
+    effects::laws::repeats_are_answered();
+    later_incoming_follow();
+    octets_spell_one_message();
+    some_are_held_on();
+    what_is_held_was_held();
+    what_is_spelled_has_no_fault();
+}
+
+/// What comes again is answered by the reply that is kept, and changes nothing: a datagram that opens as a request whose reply is kept, and
+/// the very octets of the request of IKE_SA_INIT that made an association half open, as long as it is. A request in effect of which no
+/// reply is kept any more is dropped (E30). None of these is refused, but for want of memory, and nothing else is answered by a reply
+/// that is kept (RFC 7296, section 2.1).
+pub fn repeats_are_answered()
+    ensures repeated { (meaning : Meaning) (entries : List Entry) (input : InputView) (old : Machine) (table : Database)
+        (stepped : Stepped) (new : Machine) (new_table : Database) (serial : ℕ) (a : Association)
+        (number : ℕ) (reply : Octets) → IsSoundMachine old table → Steps meaning entries input old table stepped new new_table
+        → association_of serial old.held.associations ≡ Some a → OpensAsRequest meaning input a number
+        → map.get a.incoming.kept number ≡ Some reply → OnlySays (output.Repeat reply) old table stepped new new_table }
+    ensures forgotten { (meaning : Meaning) (entries : List Entry) (input : InputView) (old : Machine) (table : Database)
+        (stepped : Stepped) (new : Machine) (new_table : Database) (serial : ℕ) (a : Association)
+        (number : ℕ) → IsSoundMachine old table → Steps meaning entries input old table stepped new new_table
+        → association_of serial old.held.associations ≡ Some a → OpensAsRequest meaning input a number
+        → HasNumber a.incoming.in_effect number → map.get a.incoming.kept number ≡ None
+        → OnlySays (output.Dropped (fault.Message why.Forgotten)) old table stepped new new_table }
+    ensures first { (meaning : Meaning) (entries : List Entry) (input : InputView) (old : Machine) (table : Database)
+        (stepped : Stepped) (new : Machine) (new_table : Database) (serial : ℕ) (a : Association)
+        (opened : HalfOpen) → IsSoundMachine old table → Steps meaning entries input old table stepped new new_table
+        → association_of serial old.held.associations ≡ Some a → a.phase ≡ phase.HalfOpen opened
+        → IsOfOctets input opened.request → OnlySays (output.Repeat opened.reply) old table stepped new new_table }
+    ensures only { (meaning : Meaning) (entries : List Entry) (input : InputView) (old : Machine) (table : Database)
+        (stepped : Stepped) (new : Machine) (new_table : Database) (reply : Octets)
+        → IsSoundMachine old table → Steps meaning entries input old table stepped new new_table → stepped.output ≡ output.Repeat reply
+        → IsReplyKept meaning input old.held reply ⊎ IsFirstReplyKept input old.held reply }
+    ensures unrefused { (meaning : Meaning) (entries : List Entry) (input : InputView) (machine : Machine) (table : Database)
+        (reason : IkeFault) (serial : ℕ) (a : Association) (number : ℕ) → IsSoundMachine machine table
+        → association_of serial machine.held.associations ≡ Some a → OpensAsRequest meaning input a number
+        → Refuses meaning entries input machine table reason → is_want_of_memory reason ≡ true }
+    ensures unrefused_first { (meaning : Meaning) (entries : List Entry) (input : InputView) (machine : Machine)
+        (table : Database) (reason : IkeFault) (serial : ℕ) (a : Association) (opened : HalfOpen)
+        → association_of serial machine.held.associations ≡ Some a → a.phase ≡ phase.HalfOpen opened
+        → IsOfOctets input opened.request → Refuses meaning entries input machine table reason
+        → is_want_of_memory reason ≡ true }
+{
+    associations_stay_themselves();
+    effects::laws::requests_take_effect();
+    effects::laws::requests_are_remembered();
+    effects::laws::repeats_are_answered();
+    later_incoming_follow();
+    octets_spell_one_message();
+    what_is_quiet_changes_nothing();
     what_is_spelled_has_no_fault();
 }

@@ -3,6 +3,7 @@ ghost use Rattle.std.specs.Prelude.{OnOk, IfErr, length};
 ghost use Rattle.gateway.specs.WorldRuns.{PlaysFirst, StopsPlaying};
 
 use super::{Event, World};
+use crate::laws::every_run_keeps_to_requests;
 use crate::{Output, RunFault};
 use std::alloc::Global;
 use suite::{Agreement, Proof, Sealer};
@@ -10,8 +11,8 @@ use suite::{Agreement, Proof, Sealer};
 /// Gives each end its events in order, appends an output for each, and stores what was sent and made.
 ///
 /// [`RunFault::NoRoom`] (E38) with the number of events that took place, where there was no memory for the place of the next output or
-/// for what may be stored of it: one datagram of at most 16,664 octets, one key record, and one child. All of it is reserved before an
-/// event takes place: none does without its output.
+/// for what may be stored of it: one datagram of at most 16,664 octets, one key record, and one child, and for a moment 3000 octets for
+/// each request that waits for an answer. All of it is reserved before an event takes place: none does without its output.
 pub fn run_world<'a, C: Sealer + Agreement + Proof>(
     alloc: Global,
     world: &mut World<C>,
@@ -45,6 +46,7 @@ pub fn run_world<'a, C: Sealer + Agreement + Proof>(
         })
         events.now world.old outputs.old.items fault world.new outputs.new.items) }
 {
+    every_run_keeps_to_requests::<C>();
     for (done, event) in events.iter().enumerate() {
         if outputs.reserve(1).is_err() {
             return Err(RunFault::NoRoom { done });

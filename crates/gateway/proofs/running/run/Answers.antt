@@ -7,8 +7,15 @@ use Rattle.gateway.proofs.running.run.Goals as goal
 
 pub returns-then-is_err-clause-stopped : goal.returns-then-is_err-clause-stopped
 returns-then-is_err-clause-stopped g c =
-    let i = c.loop-done.invariant in
-    (c.loop-done-test.true, record { outputs = i.answers; appended = c.reserve.ensures.items ∙ i.appended; runs = i.runs })
+    let i = c.loop-done.invariant in (
+      c.loop-done-test.true,
+      record {
+        outputs = i.answers;
+        appended = c.reserve.ensures.items ∙ i.appended;
+        runs = i.runs;
+        requests = c.every_run_keeps_to_requests.ensures _ _ i.answers c.args.gateway.now c.loop-done.gateway i.runs;
+      },
+    )
 
 pub loop-done-preserved : goal.loop-done-preserved
 loop-done-preserved g c =
@@ -31,7 +38,7 @@ loop-done-preserved g c =
       answers = i.answers ++ o ∷ [];
       appended = pushed_after c.args.outputs.now.items i.answers c.reserve.new.self.items c.push_reserved.new.self.items o c.push_reserved.ensures.items (c.reserve.ensures.items ∙ i.appended);
       runs = subst (λ (is : List Input). Runs (StepsAs meaning_of) is (i.answers ++ o ∷ []) c.args.gateway.now c.step-output.new.self) (sym more)
-          (run_more (StepsAs meaning_of) c.args.gateway.now _ i.answers c.loop-done.gateway input o c.step-output.new.self i.runs c.step-output.ensures);
+          (run_more (StepsAs meaning_of) c.args.gateway.now _ i.answers c.loop-done.gateway input o c.step-output.new.self i.runs (record { sound = record { machine = c.invariants_hold.ensures.machine; table = c.invariants_hold.ensures.table }; steps = c.step-output.ensures }));
       length_now = omega (arith, c.push_reserved.ensures.len, c.reserve.ensures.len, i.length_now);
       capacity = omega (arith, i.capacity, c.reserve.ensures.capacity, c.push_reserved.ensures.capacity);
     }
@@ -53,5 +60,10 @@ returns-clause-all g c =
       accepts = g.C.Proof.accepts caller;
     } in
     let all : c.loop-done.done ≡ length c.args.inputs.now = omega arith in
-    subst (λ (k : ℕ). RunsFirst (StepsAs meaning_of) k c.args.inputs.now c.args.gateway.now c.args.outputs.now.items c.loop-done.gateway c.loop-done.outputs.items) all
-    (record { outputs = i.answers; appended = i.appended; runs = i.runs })
+    subst (λ (k : ℕ). RunsFirst meaning_of k c.args.inputs.now c.args.gateway.now c.args.outputs.now.items c.loop-done.gateway c.loop-done.outputs.items) all
+    (record {
+      outputs = i.answers;
+      appended = i.appended;
+      runs = i.runs;
+      requests = c.every_run_keeps_to_requests.ensures meaning_of _ i.answers c.args.gateway.now c.loop-done.gateway i.runs;
+    })

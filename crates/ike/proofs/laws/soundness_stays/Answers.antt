@@ -11,9 +11,14 @@ returns c =
       short = c.what_is_kept_is_short.ensures.stays;
       begins = c.what_is_kept_is_short.ensures.begun;
       admits = c.what_is_kept_is_short.ensures.admitted;
+      soundly = c.requests_are_remembered.ensures.sound;
+      opened = c.requests_are_remembered.ensures.half_open;
+      begins_soundly = c.requests_are_remembered.ensures.begun;
+      admits_soundly = c.requests_are_remembered.ensures.admitted;
       room = c.acceptance_is_limited.ensures.room;
     }) (record {
       probed = c.probes_are_short_and_determined.ensures.kept;
+      probed_soundly = c.requests_are_remembered.ensures.probed;
       held = c.some_are_held_on.ensures.held;
       reserved = c.some_are_held_on.ensures.reserved;
     })

@@ -16,7 +16,7 @@ const OPENING_V6: &str =
     2001:0db8:0000:0000:0000:0000:0000:0a00-2001:0db8:0000:0000:0000:0000:0000:0aff 0-65535\n";
 
 /// What B protects begins at another network than what A asks for.
-const OPENING_APART: &str =
+pub const OPENING_APART: &str =
     "entry A protect 0 10.0.0.0-10.0.0.255 0-65535 10.1.0.0-10.1.0.255 0-65535\n\
     entry B protect 0 10.2.0.0-10.2.0.255 0-65535 10.0.0.0-10.0.0.255 0-65535\n";
 

@@ -1,0 +1,97 @@
+-- The peer's requests of one association: which octets are one, which take effect, and what holds of the replies that are kept
+-- (RFC 7296 sections 2.1 to 2.3 and 3.1).
+use Rattle.std.specs.Prelude.{◌≡◌, ◌≢◌, ◌==◌, ◌⊎◌, ℕ, Bool, true, false, Some, max}
+use Rattle.std.specs.FinMap as map
+use Rattle.base.specs.Octets.{Octets}
+use Rattle.wire.specs.Messages.{Spells}
+use Rattle.wire.specs.Numbers.{IKE_AUTH, INFORMATIONAL}
+use Rattle.wire.specs.declared.message.Message.{Message}
+use Rattle.exchange.specs.declared.headers.Role.TheVariants.{Initiator}
+use Rattle.exchange.specs.declared.sealed.Plain.{Plain}
+use Rattle.requests.specs.Incoming.{IsFreshRequest, IsLeftBehind}
+use Rattle.requests.specs.Numbers.{HasNumber}
+use Rattle.association.specs.Finding.{has_pair, sent_by_other}
+use Rattle.association.specs.Receiving.{opened_by, Opening}
+use Rattle.association.specs.declared.phase.Association.{Association}
+use Rattle.association.specs.declared.phase.Phase.{Phase}
+use Rattle.association.specs.declared.phase.Phase.TheVariants.{HalfOpen, Established, Closed}
+use Rattle.initial.specs.declared.answering.Answered.{Answered}
+use Rattle.effects.specs.Keeping.{HasKeys}
+use Rattle.effects.specs.declared.taking.Effect.{Effect}
+use Rattle.effects.specs.declared.taking.Effect.TheVariants as effect
+
+-- The exchanges whose requests take effect in a phase. It admits CREATE_CHILD_SA too, which is not known yet: then the two are one.
+abbrev pub takes_requests : Phase → ℕ → Bool
+takes_requests (HalfOpen opened) exchange = exchange == IKE_AUTH
+takes_requests (Established keys) exchange = exchange == INFORMATIONAL
+takes_requests _ exchange = false
+
+-- The octets open as this request of the association: they spell a message with its SPIs, from the peer by the flag I, with R clear, whose
+-- only payload is an encrypted one that opens under the peer's keys.
+pub record OpensAs (plain_of : Opening) (a : Association) (octets : Octets) (exchange number : ℕ) : Type 0 where
+  pub message : Message
+  pub spelled : Spells message octets
+  pub spis : has_pair message.header a ≡ true
+  pub from_peer : sent_by_other a.role message.header.flags.initiator ≡ true
+  pub request : message.header.flags.response ≡ false
+  pub exchange_is : message.header.exchange ≡ exchange
+  pub number_is : message.header.id ≡ number
+  pub plain : Plain
+  pub opened : opened_by plain_of a octets message.payloads ≡ Some plain
+
+-- it takes effect if it comes: its number did not yet and lies in the window, and its exchange belongs to the phase
+pub record IsNew (plain_of : Opening) (a : Association) (octets : Octets) (number : ℕ) : Type 0 where
+  pub exchange : ℕ
+  pub opens : OpensAs plain_of a octets exchange number
+  pub fresh : IsFreshRequest a.incoming number
+  pub admitted : takes_requests a.phase exchange ≡ true
+
+-- a message that put this number into effect: a new request, which was answered, and its reply is kept
+pub record PutsIntoEffect (plain_of : Opening) (old : Association) (octets : Octets) (m : Message) (e : Effect) (new : Association) (number : ℕ) : Type 0 where
+  pub request : m.header.flags.response ≡ false
+  pub number_is : m.header.id ≡ number
+  pub fresh : IsFreshRequest old.incoming number
+  pub admitted : takes_requests old.phase m.header.exchange ≡ true
+  pub plain : Plain
+  pub opened : opened_by plain_of old octets m.payloads ≡ Some plain
+  pub answered : Answered
+  pub said : e ≡ effect.Replied answered
+  pub kept : map.get new.incoming.kept number ≡ Some answered.octets
+
+-- a message that is passed over, or whose reply goes out again
+abbrev pub IsPassing : Effect → Type 0
+IsPassing (effect.Refused fault) = Unit {0}
+IsPassing (effect.Repeated reply) = Unit {0}
+IsPassing (effect.Replied answered) = ⊥
+IsPassing (effect.Again octets) = ⊥
+IsPassing (effect.Identified octets) = ⊥
+IsPassing (effect.Counted ended) = ⊥
+
+-- IKE_AUTH is done, or the association is closed
+abbrev pub is_concluded : Phase → Bool
+is_concluded (Established keys) = true
+is_concluded (Closed keys at) = true
+is_concluded _ = false
+
+-- What holds of an association, always: replies are kept of numbers in effect that are not left behind, and of none before IKE_AUTH is
+-- done; and an initiator that has keys knows the responder's SPI.
+pub record IsSoundlyHeld (a : Association) : Type 0 where
+  pub in_effect : (number : ℕ) (reply : Octets) → map.get a.incoming.kept number ≡ Some reply → HasNumber a.incoming.in_effect number
+  pub near : (number : ℕ) (reply : Octets) → map.get a.incoming.kept number ≡ Some reply → ¬ IsLeftBehind a.incoming number
+  pub concluded : (number : ℕ) (reply : Octets) → map.get a.incoming.kept number ≡ Some reply → is_concluded a.phase ≡ true
+  pub named : HasKeys a.phase → a.role ≡ Initiator → a.spi_r ≢ 0
+
+-- what a message leaves of the peer's requests, once IKE_AUTH is done: their window stays as wide
+pub record StaysConcluded (old new : Association) : Type 0 where
+  pub concluded : is_concluded new.phase ≡ true
+  pub size : new.incoming.size ≡ old.incoming.size
+
+-- when IKE_AUTH is done, their window is widened to the one that this end tells (section 2.3)
+pub record WidensWindow (own : ℕ) (old new : Association) : Type 0 where
+  pub before : is_concluded old.phase ≡ false
+  pub after : is_concluded new.phase ≡ true
+  pub size : new.incoming.size ≡ max own old.incoming.size
+
+-- the window changes then alone
+abbrev pub KeepsWindow : ℕ → Association → Association → Type 0
+KeepsWindow own old new = (new.incoming.size ≡ old.incoming.size) ⊎ WidensWindow own old new

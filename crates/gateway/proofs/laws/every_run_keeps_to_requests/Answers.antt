@@ -1,0 +1,33 @@
+use Rattle.gateway.proofs.RequestLemmas.{keeps_to, RequestFacts}
+use Rattle.gateway.proofs.laws.every_run_keeps_to_requests.Goals as goal
+
+pub returns : goal.returns
+returns g c =
+    let facts : RequestFacts = record {
+      steps = record {
+        follows = c.requests_are_remembered.ensures.follows;
+        concluded = c.requests_are_remembered.ensures.concluded;
+        opened = c.requests_are_remembered.ensures.half_open;
+        begun = c.requests_are_remembered.ensures.begun;
+        rises = c.requests_are_remembered.ensures.rises;
+        given = c.requests_are_remembered.ensures.given;
+        reflexive = c.later_incoming_follow.ensures.reflexive;
+        transitive = c.later_incoming_follow.ensures.transitive;
+      };
+      alone = c.requests_take_effect.ensures.alone;
+      always = c.requests_take_effect.ensures.always;
+      repeated = c.repeats_are_answered.ensures.repeated;
+      forgotten = c.repeats_are_answered.ensures.forgotten;
+      first = c.repeats_are_answered.ensures.first;
+      admitted = c.requests_are_remembered.ensures.admitted;
+      unrefused = c.repeats_are_answered.ensures.unrefused;
+      unrefused_first = c.repeats_are_answered.ensures.unrefused_first;
+      otherwise = c.requests_take_effect.ensures.otherwise;
+      replied = c.requests_take_effect.ensures.replied;
+      only = c.repeats_are_answered.ensures.only;
+      window = c.requests_are_remembered.ensures.window;
+      gone = c.requests_are_remembered.ensures.gone;
+      still = c.what_is_quiet_changes_nothing.ensures;
+      soundly = c.requests_are_remembered.ensures.soundly;
+    } in
+    λ meaning_of inputs outputs old new run. keeps_to facts c.refusals_change_nothing.ensures.refused meaning_of inputs outputs old new run
