@@ -1,6 +1,8 @@
 //! What faults print, each of them once. The texts are those of the crates' documentation.
+use association::MessageFault;
 use console::HexFault;
 use engine::Stop;
+use ike::IkeFault;
 use replay::ReplayFault;
 use std::alloc::Global;
 use std::process::Abort;
@@ -95,5 +97,84 @@ fn the_fault_of_a_window(rt: HostRuntime) -> Result<(), Fail> {
 fn the_fault_of_digits(rt: HostRuntime) -> Result<(), Fail> {
     let printed = format!(in rt.alloc(); "{}", HexFault::NotHex)?;
     assert!(rt; printed.as_str() == "the text is not hexadecimal");
+    Ok(())
+}
+
+/// Compares the number and the text of a fault of IKE.
+fn tells(
+    rt: &impl Abort,
+    alloc: Global,
+    fault: IkeFault,
+    code: u8,
+    text: &str,
+) -> Result<(), Fail> {
+    let printed = format!(in alloc; "{fault}")?;
+    assert_eq!(rt; printed.as_str(), text);
+    assert_eq!(rt; fault.code(), code);
+    Ok(())
+}
+
+#[test]
+fn faults_of_ike(rt: HostRuntime) -> Result<(), Fail> {
+    for (fault, code, text) in [
+        (
+            IkeFault::Unread(WireFault::BadVersion),
+            3,
+            "E3: the version is not supported",
+        ),
+        (IkeFault::Unprotected, 23, "E23: no entry that protects"),
+        (IkeFault::Crowded, 25, "E25: 128 IKE associations are held"),
+        (IkeFault::TableFull, 25, "E25: the table is full"),
+        (IkeFault::SpisSpent, 26, "E26: the inbound SPIs are spent"),
+        (
+            IkeFault::HalfOpenFull,
+            34,
+            "E34: too many associations are half open",
+        ),
+        (IkeFault::Busy, 35, "E35: the peer's window is full"),
+        (IkeFault::NumbersSpent, 36, "E36: the numbers are spent"),
+        (
+            IkeFault::BadFresh,
+            37,
+            "E37: the fresh SPI is zero or in use",
+        ),
+    ] {
+        tells(&rt, rt.alloc(), fault, code, text)?;
+    }
+    Ok(())
+}
+
+#[test]
+fn faults_of_what_came(rt: HostRuntime) -> Result<(), Fail> {
+    for (fault, code, text) in [
+        (
+            MessageFault::UnknownAssociation,
+            28,
+            "E28: no association has these SPIs",
+        ),
+        (MessageFault::NotOpened, 29, "E29: the message doesn't open"),
+        (
+            MessageFault::Forgotten,
+            30,
+            "E30: the request was answered, and its reply is kept no more",
+        ),
+        (
+            MessageFault::OutsideWindow,
+            31,
+            "E31: the number lies outside the window",
+        ),
+        (
+            MessageFault::WrongPhase,
+            32,
+            "E32: the association is in another phase",
+        ),
+        (
+            MessageFault::WrongRole,
+            33,
+            "E33: the message claims the role of this end",
+        ),
+    ] {
+        tells(&rt, rt.alloc(), IkeFault::Message(fault), code, text)?;
+    }
     Ok(())
 }

@@ -1,5 +1,5 @@
 //! Many requests of IKE_SA_INIT from senders that were made up (RFC 7296, section 2.6), and SPIs that can't be used.
-use super::sample::{gateway, message, order};
+use super::sample::{further, gateway, message, order};
 use caller::ScriptCaller;
 use gateway::{End, Gateway, Input, Output};
 use sa_init::request;
@@ -42,19 +42,43 @@ fn ten_thousand_requests(rt: HostRuntime) -> Result<(), Fail> {
 }
 
 /// The number of a refusal; 0 where there is none.
-fn refusal(gateway: &mut Gateway<ScriptCaller>, alloc: Global, spi: u64) -> u8 {
-    match gateway.step(alloc, &order(spi)) {
+fn refusal(gateway: &mut Gateway<ScriptCaller>, alloc: Global, input: &Input) -> u8 {
+    match gateway.step(alloc, input) {
         Output::Refused { reason } => reason.code(),
         _ => 0,
     }
 }
 
-// Zero, and one that is in use.
+// Zero, and one that is in use: of an order, and of a request that would make an association.
 #[test]
 fn bad_fresh_spis(rt: HostRuntime) -> Result<(), Fail> {
     let mut gateway = gateway(rt.alloc(), End::A)?;
-    assert_eq!(rt; refusal(&mut gateway, rt.alloc(), 0), 37);
-    assert_eq!(rt; refusal(&mut gateway, rt.alloc(), 1), 0);
-    assert_eq!(rt; refusal(&mut gateway, rt.alloc(), 1), 37);
+    assert_eq!(rt; refusal(&mut gateway, rt.alloc(), &order(0)), 37);
+    assert_eq!(rt; refusal(&mut gateway, rt.alloc(), &order(1)), 0);
+    assert_eq!(rt; refusal(&mut gateway, rt.alloc(), &order(1)), 37);
+    Ok(())
+}
+
+#[test]
+fn bad_fresh_spis_of_requests(rt: HostRuntime) -> Result<(), Fail> {
+    let mut gateway = gateway(rt.alloc(), End::B)?;
+    let request = request(rt.alloc(), &ScriptCaller, 5, None, &[7; 32], &[8; 32])?;
+    let unnamed = message(rt.alloc(), request.as_slice(), 0)?;
+    assert_eq!(rt; refusal(&mut gateway, rt.alloc(), &unnamed), 37);
+    assert_eq!(rt; refusal(&mut gateway, rt.alloc(), &order(6)), 0);
+    let used = message(rt.alloc(), request.as_slice(), 6)?;
+    assert_eq!(rt; refusal(&mut gateway, rt.alloc(), &used), 37);
+    assert_eq!(rt; gateway.associations().len(), 1);
+    Ok(())
+}
+
+// An order for a further child, which is not there yet: of no association, and of one that waits.
+#[test]
+fn further_children(rt: HostRuntime) -> Result<(), Fail> {
+    let mut gateway = gateway(rt.alloc(), End::A)?;
+    assert_eq!(rt; refusal(&mut gateway, rt.alloc(), &further(1)), 28);
+    assert_eq!(rt; refusal(&mut gateway, rt.alloc(), &order(1)), 0);
+    assert_eq!(rt; refusal(&mut gateway, rt.alloc(), &further(1)), 32);
+    assert_eq!(rt; refusal(&mut gateway, rt.alloc(), &further(2)), 28);
     Ok(())
 }

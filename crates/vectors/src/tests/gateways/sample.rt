@@ -93,6 +93,15 @@ pub fn order(spi: u64) -> Input {
     }
 }
 
+/// The order for a further child of an association.
+pub fn further(ike: u32) -> Input {
+    Input::Start {
+        ike: Some(ike),
+        entry: 0,
+        fresh: fresh(9),
+    }
+}
+
 /// A datagram of IKE, with fresh octets of this SPI.
 pub fn message(alloc: Global, octets: &[u8], spi: u64) -> Result<Input, AllocError> {
     Ok(Input::Ike {

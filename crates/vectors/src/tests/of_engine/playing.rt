@@ -1,7 +1,7 @@
 //! Scripts played over readers and writers in memory.
 mod failures;
-mod refusals;
 mod probes;
+mod refusals;
 mod runs;
 mod two;
 mod two_faults;

@@ -195,3 +195,22 @@ fn half_open_associations(rt: HostRuntime) -> Result<(), Fail> {
         [wanted.as_str(), "dropped E34\n"],
     )
 }
+
+// An end that holds 128 associations begins no more (E25), and makes none of a request that comes (E34).
+#[test]
+fn associations_held(rt: HostRuntime) -> Result<(), Fail> {
+    let alloc = rt.alloc();
+    let mut script = String::new(alloc);
+    for _ in 0..129 {
+        script.push_str("start B 0\n")?;
+    }
+    let wanted = requests(alloc, 1..=128, 0, 148)?;
+    expect_two(
+        &rt,
+        [OPENING, script.as_str(), "start A 0\ndeliver 129\n"],
+        [
+            wanted.as_str(),
+            "refused E25\nrequest 129 ike 1 length 148\ndropped E34\n",
+        ],
+    )
+}
