@@ -1,5 +1,5 @@
 -- A request that asks whether the peer is there: how long it is, and that it goes out in one way.
-use Rattle.std.proofs.Common.{◌≡◌, ℕ, [], Some, ap, subst, sym, ◌∙◌}
+use Rattle.std.proofs.Common.{◌≡◌, [], ap, subst, sym, ◌∙◌}
 use Rattle.base.specs.Octets.{Octets}
 use Rattle.wire.specs.Numbers.{INFORMATIONAL}
 use Rattle.wire.specs.declared.message.Message.{Message}

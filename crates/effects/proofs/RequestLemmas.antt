@@ -1,5 +1,5 @@
 -- What a message does to the peer's requests of one association.
-use Rattle.std.proofs.Common.{◌≡◌, ◌≢◌, ◌==◌, ◌||◌, ◌⊎◌, inl, inr, ℕ, ◌+◌, ◌≤◌, Bool, true, false, cond, max, List, Option, Some, None, ap, refl, subst, sym, ◌∙◌, arith}
+use Rattle.std.proofs.Common.{◌≡◌, ◌≢◌, ◌==◌, ◌||◌, ◌⊎◌, inl, inr, ℕ, ◌≤◌, Bool, true, false, cond, max, Option, Some, None, ap, refl, subst, sym, ◌∙◌, arith}
 use Rattle.std.specs.Cmp.{nat_cmp_total, unsigned_tied}
 use Rattle.std.specs.FinMap as map
 use Rattle.std.specs.FinSet as set
@@ -14,11 +14,10 @@ use Rattle.suite.specs.declared.fresh.Fresh.{Fresh}
 use Rattle.suite.specs.declared.key_record.KeyRecord.{KeyRecord}
 use Rattle.suite.specs.declared.keys.Keys.{Keys}
 use Rattle.suite.specs.declared.sealer.Cipher.{Cipher}
-use Rattle.exchange.specs.declared.headers.Role.{Role}
 use Rattle.exchange.specs.declared.headers.Role.TheVariants.{Initiator, Responder}
 use Rattle.exchange.specs.declared.sealed.Plain.{Plain}
 use Rattle.requests.specs.Following.{FollowsIncoming}
-use Rattle.requests.specs.Incoming.{no_requests, after_number_0, HasSameRequests, IsFreshRequest, IsJudgement, IsLeftBehind, PeerRequests, TakesRequest}
+use Rattle.requests.specs.Incoming.{no_requests, HasSameRequests, IsFreshRequest, IsJudgement, IsLeftBehind, PeerRequests, TakesRequest}
 use Rattle.requests.specs.Numbers.{HasNumber, LacksNumber, NumberSet}
 use Rattle.requests.specs.declared.incoming.Judgement.{Judgement}
 use Rattle.requests.specs.declared.incoming.Judgement.TheVariants as judged
@@ -37,7 +36,7 @@ use Rattle.association.specs.declared.phase.InitSent.{InitSent}
 use Rattle.association.specs.declared.phase.Phase.{Phase}
 use Rattle.association.specs.declared.phase.Phase.TheVariants as phase
 use Rattle.initial.specs.Answering.{outcome_of, AnswersAuth}
-use Rattle.initial.specs.Beginning.{begun, half_open, Admits, Begins}
+use Rattle.initial.specs.Beginning.{begun, Admits, Begins}
 use Rattle.initial.specs.Concluding.{established, widened, with_incoming, with_outgoing, ConcludesBy}
 use Rattle.initial.specs.Configs.{Setup}
 use Rattle.initial.specs.declared.answering.Answered.{Answered}
@@ -45,17 +44,16 @@ use Rattle.initial.specs.declared.beginning.Admitted.{Admitted}
 use Rattle.initial.specs.declared.beginning.Beginning.{Beginning}
 use Rattle.initial.specs.declared.concluding.Outcome.{Outcome}
 use Rattle.initial.specs.declared.concluding.Outcome.TheVariants as outcome
-use Rattle.initial.specs.declared.ending.Ended.{Ended}
 use Rattle.informational.specs.Answering.{is_ending, verdict_on, AnswersInformational}
 use Rattle.informational.specs.Counting.{is_rejected}
 use Rattle.informational.specs.Orders.{ClosesIf}
 use Rattle.informational.specs.Probing.{Probes}
 use Rattle.effects.specs.Keeping.{HasKeys}
 use Rattle.effects.specs.Requests.{is_concluded, takes_requests, IsPassing, IsSoundlyHeld, KeepsWindow, PutsIntoEffect, StaysConcluded}
-use Rattle.effects.specs.Taking.{prover_of, Does, DoesFurther, DoesRequest, DoesResponse, IsPassedOver, Meaning, Says, TakesMessage}
+use Rattle.effects.specs.Taking.{prover_of, Does, DoesFurther, DoesRequest, DoesResponse, IsPassedOver, Meaning, TakesMessage}
 use Rattle.effects.specs.declared.taking.Effect.{Effect}
 use Rattle.effects.specs.declared.taking.Effect.TheVariants as effect
-use Rattle.effects.proofs.WayLemmas.{way_of, AnsweredAuth, AnsweredInformational, CountedAuth, CountedInformational, WasAsked, WasIdentified, WasRepeated, Way}
+use Rattle.effects.proofs.WayLemmas.{way_of, Way}
 
 -- what is known of the peer's requests
 pub record FollowLaws : Type 0 where

@@ -1,5 +1,5 @@
 -- A step of a gateway does one thing, where memory is wanted by nothing; and so does a run.
-use Rattle.std.proofs.Common.{◌≡◌, ◌⊎◌, inl, inr, Bool, true, false, List, [], ◌∷◌, refl, sym, ap, subst, ◌∙◌}
+use Rattle.std.proofs.Common.{◌≡◌, inl, inr, Bool, true, false, List, [], ◌∷◌, refl, sym, ap, subst, ◌∙◌}
 use Rattle.std.specs.Prelude.{map}
 use Rattle.std.specs.List.{AllByRecursion}
 use Rattle.base.specs.Octets.{Octets}
@@ -24,8 +24,7 @@ use Rattle.gateway.specs.Lengths.{IsGiven}
 use Rattle.gateway.specs.Outputs.{wants_memory, said, said_by_ike, said_of_outcome, Refused, Said}
 use Rattle.gateway.specs.Runs.{Runs, StepsAs}
 use Rattle.gateway.specs.States.{State}
-use Rattle.gateway.specs.Steps.{AdmitsPacket, AnswersIke, DoesInput, LeavesIke, ReceivesPacket, RefusesIke, SendsPacket, SendsWithMemory, Steps, StepsIke, Traces}
-use Rattle.gateway.specs.declared.fault.Reason.{Reason}
+use Rattle.gateway.specs.Steps.{AdmitsPacket, AnswersIke, DoesInput, LeavesIke, ReceivesPacket, RefusesIke, SendsPacket, Steps, StepsIke, Traces}
 use Rattle.gateway.specs.declared.fault.Reason.TheVariants as reason
 use Rattle.gateway.specs.declared.input.Input.{Input}
 use Rattle.gateway.specs.declared.input.Input.TheVariants as input

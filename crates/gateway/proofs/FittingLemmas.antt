@@ -1,12 +1,11 @@
 -- What a step sends and makes fits the memory that is kept for it.
-use Rattle.std.proofs.Common.{◌≡◌, ◌≤◌, ◌++◌, ℕ, true, false, All, List, Option, Some, None, length, refl, sym, ap, ◌∙◌, subst, inl, inr, arith}
+use Rattle.std.proofs.Common.{◌≡◌, ◌≤◌, ℕ, true, false, All, List, Option, Some, None, length, refl, sym, subst, inl, inr, arith}
 use Rattle.base.specs.Octets.{Octets}
-use Rattle.wire.specs.Numbers.{MESSAGE_LIMIT, SELECTOR_LIMIT}
+use Rattle.wire.specs.Numbers.{MESSAGE_LIMIT}
 use Rattle.esp.specs.declared.association.Association.{Association}
 use Rattle.esp.specs.Sealing.{FitsPacket, IsShortestPacket}
 use Rattle.esp.specs.Worked.{IsOpenable}
 use Rattle.policy.specs.declared.entry.Entry.{Entry}
-use Rattle.policy.specs.declared.flow.Flow.{Flow}
 use Rattle.sadb.specs.Database.{pair_at, Database, IsSoundTable, PairMap}
 use Rattle.sadb.specs.declared.pair.Pair.{Pair}
 use Rattle.children.specs.Pairs.{HasFewSelectors}
@@ -27,12 +26,10 @@ use Rattle.traffic.specs.Admitting.{Admits}
 use Rattle.traffic.specs.Outcomes as traffic
 use Rattle.traffic.specs.Receiving.{Receives}
 use Rattle.traffic.specs.Sending.{Sends}
-use Rattle.traffic.specs.declared.fault.PacketFault.{PacketFault}
-use Rattle.gateway.specs.Outputs.{said_by_ike, said_of_outcome, FewAgain, FewSelectors, FitsChild, FitsDatagram, Refused, Said}
+use Rattle.gateway.specs.Outputs.{said_by_ike, said_of_outcome, FewAgain, FewSelectors, FitsChild, FitsDatagram, Said}
 use Rattle.gateway.specs.States.{State}
 use Rattle.gateway.specs.Storing.{again_by}
-use Rattle.gateway.specs.Steps.{AdmitsPacket, DoesInput, ReceivesPacket, SendsPacket, StepsIke, Traces}
-use Rattle.gateway.specs.declared.fault.Reason.TheVariants as reason
+use Rattle.gateway.specs.Steps.{DoesInput, SendsPacket, StepsIke, Traces}
 use Rattle.gateway.specs.declared.input.Input.{Input}
 use Rattle.gateway.specs.declared.input.Input.TheVariants as input
 

@@ -1,8 +1,7 @@
 -- A run as the list of its steps, and what becomes of an association from one of them to another.
-use Rattle.std.proofs.Common.{◌≡◌, ◌⊎◌, inl, inr, ℕ, zero, suc, ◌+◌, ◌<◌, ◌≤◌, ◌∷◌, [], Bool, true, false, List, length, map, Option, Some, None, ap, refl, subst, sym, ◌∙◌, arith}
+use Rattle.std.proofs.Common.{◌≡◌, inl, inr, ℕ, zero, suc, ◌<◌, ◌≤◌, ◌∷◌, [], true, List, length, Option, Some, None, ap, refl, subst, sym, ◌∙◌, arith}
 use Rattle.std.specs.List.{slice_get}
 use Rattle.std.proofs.lemmas.Bool.Decides.{eqb_tells}
-use Rattle.std.proofs.lemmas.Option.{slice_get_within}
 use Rattle.policy.specs.declared.entry.Entry.{Entry}
 use Rattle.requests.specs.Following.{FollowsIncoming}
 use Rattle.requests.specs.Incoming.{PeerRequests}

@@ -7,7 +7,7 @@ use Rattle.std.proofs.lemmas.Bool.Decides.{eqb_tells, leb_tells}
 use Rattle.std.proofs.lemmas.Option.{slice_get_within}
 use Rattle.base.specs.Octets.{Octets}
 use Rattle.policy.specs.declared.entry.Entry.{Entry}
-use Rattle.requests.specs.Incoming.{IsLeftBehind, PeerRequests}
+use Rattle.requests.specs.Incoming.{IsLeftBehind}
 use Rattle.requests.specs.Numbers.{HasNumber, LacksNumber}
 use Rattle.sadb.specs.Database.{Database, IsAsBefore}
 use Rattle.association.specs.declared.fault.MessageFault.TheVariants.{Forgotten}
@@ -28,7 +28,7 @@ use Rattle.ike.specs.declared.fault.IkeFault.TheVariants.{Message}
 use Rattle.ike.specs.declared.output.IkeOutput.{IkeOutput}
 use Rattle.ike.specs.declared.output.IkeOutput.TheVariants as made
 use Rattle.ike.specs.declared.output.Stepped.{Stepped}
-use Rattle.gateway.specs.Histories.{IsHistory, IsPassage, IsTrail, Passage}
+use Rattle.gateway.specs.Histories.{IsPassage, IsTrail, Passage}
 use Rattle.gateway.specs.Outputs.{said_by_ike, wants_memory, Clear, Counted, Discarded, Done, Dropped, Dummy, IsQuiet, Refused, Repeat, Reply, Request, Said, Sealed, Ticked, Up}
 use Rattle.gateway.specs.Requests.{for_ike, AnswersBy, IsDatagram, IsFirstReply, IsInitial, IsNew, IsOverAt, IsReplied, KeepsHalfOpen, KeepsToRequests, MakesHalfOpen, OnlySays, Opens, RepeatsAreAnswered, RepeatsInitial, RepeatsRequest, RequestsTakeEffect, TakesEffect, TakesOne, TookEffect}
 use Rattle.gateway.specs.Runs.{Runs, StepsAs}

@@ -1,7 +1,6 @@
 -- What a step may send and make, and room for it. Private contracts alone cite this.
 use Rattle.std.specs.Prelude.{◌≡◌, ◌+◌, ◌<◌, ◌≤◌, ℕ, All, [], length, vec_len, Vec}
 use Rattle.std.specs.Vec.{vec_capacity}
-use Rattle.base.specs.Octets.{Octets}
 use Rattle.wire.specs.Numbers.{MESSAGE_LIMIT, SELECTOR_LIMIT}
 use Rattle.effects.specs.Taking.{Meaning}
 use Rattle.moments.specs.Due.{outstanding_count}
@@ -11,7 +10,7 @@ use Rattle.ike.specs.declared.output.Trace.{Trace}
 use Rattle.gateway.specs.Outputs.{DATAGRAM_LIMIT, Said}
 use Rattle.gateway.specs.States.{State}
 use Rattle.gateway.specs.Steps.{Traces}
-use Rattle.gateway.specs.Worlds.{stored_by, storing, Stored}
+use Rattle.gateway.specs.Worlds.{storing, Stored}
 use Rattle.gateway.specs.declared.input.Input.{Input}
 use Rattle.gateway.specs.declared.input.Input.TheVariants as input
 use Rattle.gateway.specs.declared.world.log.Log.{Log}

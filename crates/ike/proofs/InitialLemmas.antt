@@ -1,5 +1,5 @@
 -- The request of IKE_SA_INIT that comes again, and which one made an association half open.
-use Rattle.std.proofs.Common.{◌≡◌, ◌≢◌, ◌⊎◌, ◌≤◌, inl, inr, ℕ, Bool, true, false, max, List, Option, Some, None, ap, refl, subst, sym, ◌∙◌, arith}
+use Rattle.std.proofs.Common.{◌≡◌, ◌⊎◌, ◌≤◌, inl, inr, ℕ, true, max, List, Option, Some, None, ap, refl, subst, sym, ◌∙◌, arith}
 use Rattle.std.specs.Cmp.Lexicographic.{same_text}
 use Rattle.std.specs.List.{position, slice_get}
 use Rattle.std.specs.Prelude.{slice_index_or, slice_set}
@@ -9,19 +9,17 @@ use Rattle.std.proofs.lemmas.Option.{slice_get-get_or}
 use Rattle.base.specs.Octets.{Octets}
 use Rattle.wire.specs.declared.message.Message.{Message}
 use Rattle.policy.specs.declared.entry.Entry.{Entry}
-use Rattle.suite.specs.declared.fresh.Fresh.{Fresh}
 use Rattle.sadb.specs.Database.{Database}
 use Rattle.sa_init.specs.Cookies.{CookieSecrets}
 use Rattle.association.specs.declared.phase.Association.{Association}
 use Rattle.association.specs.declared.phase.HalfOpen.{HalfOpen}
 use Rattle.association.specs.declared.phase.InitSent.{InitSent}
-use Rattle.association.specs.declared.phase.Phase.{Phase}
 use Rattle.association.specs.declared.phase.Phase.TheVariants as phase
 use Rattle.initial.specs.Configs.{Setup}
 use Rattle.effects.specs.Keeping.{kept_reply}
 use Rattle.effects.specs.Taking.{Meaning}
 use Rattle.ike.specs.Machines.{association_of, setup_at, Held, Machine}
-use Rattle.ike.specs.Receiving.{is_answered, is_answered_phase, is_initial_request, is_sound_initial, same_octets, with_next, AdmitsNext, IsInitialRequest, RefusesDatagram, RefusesInitial, Repeats, TakesDatagram, TakesRead, TakesRequestAt, TakesSound}
+use Rattle.ike.specs.Receiving.{is_answered, is_answered_phase, is_initial_request, same_octets, with_next, IsInitialRequest, RefusesDatagram, RefusesInitial, TakesDatagram, TakesRead, TakesRequestAt, TakesSound}
 use Rattle.ike.specs.Requests.{first_requests, IsAdmitted, IsOfOctets, OnlySays, OpensAsRequest}
 use Rattle.ike.specs.Soundness.{AreSound, At, IsSoundMachine}
 use Rattle.ike.specs.Faults.{is_want_of_memory}
@@ -152,9 +150,10 @@ datagram_admits laws meaning setup octets old table stepped new new_table serial
     let a = is.admits in
     let one : b ≡ a.admitted.association = grown_one old table a.admitted.association new serial b sound (ap (λ (x : Association). x.serial) a.admits.content) a.content came in
     let same : record { keys = a.admits.agreed.record; request = octets; reply = a.admits.agreed.octets; made = setup.moment } ≡ opened =
-    opened_same _ opened (sym (ap (λ (x : Association). x.phase) (one ∙ a.admits.content)) ∙ half) in
-    (ap (λ (x : HalfOpen). x.request) same,
-      ap (λ (s : Stepped). s.output) a.said ∙ ap (λ o. output.Reply o None) (a.admits.octets ∙ ap (λ (x : HalfOpen). x.reply) same))
+    opened_same _ opened (sym (ap (λ (x : Association). x.phase) (one ∙ a.admits.content)) ∙ half) in (
+      ap (λ (x : HalfOpen). x.request) same,
+      ap (λ (s : Stepped). s.output) a.said ∙ ap (λ o. output.Reply o None) (a.admits.octets ∙ ap (λ (x : HalfOpen). x.reply) same),
+    )
 datagram_admits laws meaning setup octets old table stepped new new_table serial b opened sound came half (started is) =
     absurd (begun_opened old table _ _ new serial b opened sound refl refl is.starts.done.content came half)
 datagram_admits laws meaning setup octets old table stepped new new_table serial b opened sound came half (probed is) =

@@ -1,9 +1,6 @@
 -- An order on an association is done or refused by what is held of it, and a refusal has one reason.
-use Rattle.std.proofs.Common.{◌≡◌, ◌⊎◌, inl, inr, ℕ, ◌+◌, ◌≤◌, Bool, true, false, cond, ◌∷◌, [], List, map, Option, Some, None, ap, refl, subst, sym, ◌∙◌}
-use Rattle.std.specs.List.{position}
+use Rattle.std.proofs.Common.{◌≡◌, ℕ, ◌+◌, ◌≤◌, Bool, true, false, cond, ◌∷◌, [], List, map, Option, Some, None, ap, refl, subst, sym, ◌∙◌}
 use Rattle.std.specs.Option.{option_map}
-use Rattle.std.specs.Prelude.{slice_get}
-use Rattle.suite.specs.declared.key_record.KeyRecord.{KeyRecord}
 use Rattle.suite.specs.declared.keys.Keys.{Keys}
 use Rattle.base.specs.Octets.{Octets}
 use Rattle.requests.specs.Contents.{outgoing_content}
@@ -11,7 +8,6 @@ use Rattle.requests.specs.Numbers.{IsGap}
 use Rattle.requests.specs.Outgoing.{AreNumbersSpent, HasSameOwnRequests, IsBusy, MayIssue, OwnRequests}
 use Rattle.association.specs.Contents.{association_content}
 use Rattle.association.specs.declared.phase.Association.{Association}
-use Rattle.association.specs.declared.phase.Phase.{Phase}
 use Rattle.association.specs.declared.phase.Request.{Request}
 use Rattle.initial.specs.Configs.{Setup}
 use Rattle.informational.specs.Orders.{IsEstablished, RefusesOrder}
@@ -23,7 +19,6 @@ use Rattle.ike.specs.Faults.{is_want_of_memory}
 use Rattle.ike.specs.Machines.{association_of, has_serial, Held}
 use Rattle.ike.specs.Probing.{fault_of_order, ProbesAt, RefusesOrderAt}
 use Rattle.ike.specs.Ticking.{RefusesMoment}
-use Rattle.ike.specs.Soundness.{AreSound}
 use Rattle.ike.specs.declared.fault.IkeFault.{IkeFault}
 use Rattle.ike.specs.declared.fault.IkeFault.TheVariants as fault
 use Rattle.ike.specs.declared.output.Stepped.{Stepped}

@@ -1,13 +1,11 @@
 -- What may go out of a step as a reply, and how long an association is held.
 use Rattle.std.proofs.Common.{◌≡◌, ◌==◌, ◌⊎◌, inl, inr, ℕ, ◌∷◌, [], Bool, true, false, cond, not, max, List, Option, Some, None, Result, Ok, Err, ap, arith, refl, subst, sym, ◌∙◌}
 use Rattle.std.specs.Cmp.Lexicographic.{same_text}
-use Rattle.std.specs.FinMap as map
-use Rattle.std.specs.List.{position, slice_get, AllZip}
+use Rattle.std.specs.List.{position, AllZip}
 use Rattle.std.specs.Prelude.{slice_set}
 use Rattle.std.proofs.lemmas.Bool.Decides.{eqb_tells}
 use Rattle.base.specs.Octets.{Octets}
 use Rattle.wire.specs.Messages.{Spells}
-use Rattle.wire.specs.declared.message.Header.{Header}
 use Rattle.wire.specs.declared.message.Message.{Message}
 use Rattle.policy.specs.declared.entry.Entry.{Entry}
 use Rattle.suite.specs.declared.fresh.Fresh.{Fresh}
@@ -19,8 +17,6 @@ use Rattle.association.specs.Finding.{found, sent_by_other}
 use Rattle.association.specs.Receiving.{IsRepeating}
 use Rattle.association.specs.declared.fault.MessageFault.{MessageFault}
 use Rattle.association.specs.declared.phase.Association.{Association}
-use Rattle.association.specs.declared.phase.HalfOpen.{HalfOpen}
-use Rattle.association.specs.declared.phase.Phase.TheVariants as phase
 use Rattle.initial.specs.Configs.{Setup}
 use Rattle.initial.specs.declared.answering.Answered as answering
 use Rattle.moments.specs.Due.{held_of, is_over}
@@ -33,13 +29,12 @@ use Rattle.effects.specs.Taking.{Meaning, TakesMessage}
 use Rattle.effects.specs.declared.taking.Effect.{Effect}
 use Rattle.effects.specs.declared.taking.Effect.TheVariants as effect
 use Rattle.ike.specs.Machines.{association_of, has_serial, setup_at, Held, Machine}
-use Rattle.ike.specs.Outputs.{closed_of, stepped_of, IsQuiet}
-use Rattle.ike.specs.Receiving.{is_answered, is_answered_phase, is_initial_request, is_sound_initial, with_next, DoesJudgement, IsInitialRequest, TakesAt, TakesDatagram, TakesFound, TakesRead, TakesRequestAt, TakesSound}
-use Rattle.ike.specs.Requests.{ComesIntoEffect, IsFirstReplyKept, IsGivenUp, IsHeldThrough, IsInitialDatagram, IsNewRequest, IsReplyKept, OpensAsRequest, PutsOneIntoEffect}
+use Rattle.ike.specs.Outputs.{stepped_of, IsQuiet}
+use Rattle.ike.specs.Receiving.{is_answered, is_answered_phase, is_initial_request, is_sound_initial, with_next, DoesJudgement, IsInitialRequest, TakesAt, TakesFound, TakesRead, TakesRequestAt, TakesSound}
+use Rattle.ike.specs.Requests.{IsFirstReplyKept, IsGivenUp, IsHeldThrough, IsInitialDatagram, IsNewRequest, IsReplyKept, OpensAsRequest, PutsOneIntoEffect}
 use Rattle.ike.specs.Soundness.{AreSound, At, IsSoundMachine}
 use Rattle.ike.specs.Steps.{InputView, Steps}
 use Rattle.ike.specs.Steps as steps
-use Rattle.ike.specs.declared.output.IkeOutput.{IkeOutput}
 use Rattle.ike.specs.declared.output.IkeOutput.TheVariants as output
 use Rattle.ike.specs.declared.output.Stepped.{Stepped}
 use Rattle.ike.proofs.ProbeLemmas.{changed_itself}
@@ -47,8 +42,8 @@ use Rattle.ike.proofs.RepeatLemmas.{opened_of}
 use Rattle.ike.proofs.RequestLemmas.{and_left, below, finds_of, first_of, found_first, request_pair, some_none, still_same, takes_there, way_change, Change, Laws}
 use Rattle.ike.proofs.RequestLemmas.{asked, took_it, unchanged}
 use Rattle.ike.proofs.SerialLemmas.{grown_found, replaced_found, replaced_stands, same_one, sound_found}
-use Rattle.ike.proofs.TickLemmas.{found_at, ticked_stood, TicksHold}
-use Rattle.ike.proofs.WayLemmas.{admitted, datagram_way, probed, rested, started, step_way, took, Way}
+use Rattle.ike.proofs.TickLemmas.{ticked_stood, TicksHold}
+use Rattle.ike.proofs.WayLemmas.{admitted, datagram_way, probed, rested, started, took, Way}
 
 -- what more is known of one message's effect
 pub record MoreLaws : Type 0 where
@@ -209,17 +204,20 @@ taken_repeats more place meaning setup from octets fresh m old table stepped new
       association = t.association;
       there = sound_found old table place t.association sound t.there;
       kept = why.kept;
-      opens = (m.header.exchange, record {
-        message = m;
-        spelled = spelled;
-        spis = request_pair m.header t.association why.request meant;
-        from_peer = and_left (sent_by_other t.association.role m.header.flags.initiator) _ meant;
-        request = why.request;
-        exchange_is = refl;
-        number_is = refl;
-        plain = why.plain;
-        opened = why.opened;
-      });
+      opens = (
+        m.header.exchange,
+        record {
+          message = m;
+          spelled = spelled;
+          spis = request_pair m.header t.association why.request meant;
+          from_peer = and_left (sent_by_other t.association.role m.header.flags.initiator) _ meant;
+          request = why.request;
+          exchange_is = refl;
+          number_is = refl;
+          plain = why.plain;
+          opened = why.opened;
+        },
+      );
     }
 
 found_repeats : (more : MoreLaws) (r : Result ℕ MessageFault) (meaning : Meaning) (setup : Setup) (from octets : Octets) (fresh : Fresh) (m : Message) (old : Held) (table : Database) (stepped : Stepped) (new : Held) (new_table : Database) (reply : Octets)
@@ -351,7 +349,7 @@ replaced_keeps : (old : Held) (table : Database) (place : ℕ) (a b : Associatio
 replaced_keeps old table place a b new serial c sound there same content stands none = elim (eqb_tells serial a.serial) [
   | inl (one, here) ↦
       some_none b (sym none ∙ ap (λ (h : Held). association_of serial h.associations) content
-          ∙ subst (λ n. association_of n (slice_set old.associations place b) ≡ Some b) (sym here) (replaced_stands old table place a b sound there same))
+      ∙ subst (λ n. association_of n (slice_set old.associations place b) ≡ Some b) (sym here) (replaced_stands old table place a b sound there same))
   | inr (other, apart) ↦
       some_none c (sym none ∙ ap (λ (h : Held). association_of serial h.associations) content ∙ replaced_found old.associations place a b serial there apart same ∙ stands)
 ]

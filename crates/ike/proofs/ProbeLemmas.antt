@@ -13,7 +13,6 @@ use Rattle.sadb.specs.Database.{Database}
 use Rattle.association.specs.Phases.{keys_in}
 use Rattle.association.specs.declared.fault.MessageFault.TheVariants.{UnknownAssociation}
 use Rattle.association.specs.declared.phase.Association.{Association}
-use Rattle.association.specs.declared.phase.Phase.{Phase}
 use Rattle.association.specs.declared.phase.Request.{Request}
 use Rattle.initial.specs.Concluding.{with_outgoing}
 use Rattle.initial.specs.Configs.{Setup}

@@ -1,8 +1,7 @@
 -- What a step does to the peer's requests, and what it answers to those that come again.
-use Rattle.std.proofs.Common.{◌≡◌, ◌≢◌, ◌==◌, ◌&&◌, ◌||◌, ◌⊎◌, inl, inr, ℕ, zero, suc, ◌+◌, ◌<◌, ◌++◌, ◌∷◌, [], Bool, true, false, not, max, List, Option, Some, None, Result, Ok, Err, ap, refl, subst, sym, ◌∙◌, arith}
+use Rattle.std.proofs.Common.{◌≡◌, ◌≢◌, ◌==◌, ◌&&◌, ◌||◌, ◌⊎◌, inl, inr, ℕ, zero, suc, ◌<◌, ◌∷◌, [], Bool, true, false, not, max, List, Option, Some, None, Ok, ap, refl, subst, sym, ◌∙◌, arith}
 use Rattle.std.specs.FinMap as map
 use Rattle.std.specs.FinSet as set
-use Rattle.std.specs.Cmp.Lexicographic.{same_text}
 use Rattle.std.specs.List.{position, slice_get}
 use Rattle.std.specs.Prelude.{slice_index_or, slice_set}
 use Rattle.std.proofs.lemmas.Bool.{eqb-true, ne_eqb}
@@ -18,7 +17,6 @@ use Rattle.wire.specs.declared.message.Header.{Header}
 use Rattle.wire.specs.declared.message.Message.{Message}
 use Rattle.wire.specs.declared.payload.Payload.{Payload}
 use Rattle.policy.specs.declared.entry.Entry.{Entry}
-use Rattle.suite.specs.declared.fresh.Fresh.{Fresh}
 use Rattle.suite.specs.declared.key_record.KeyRecord.{KeyRecord}
 use Rattle.exchange.specs.declared.headers.Role.{Role}
 use Rattle.exchange.specs.declared.headers.Role.TheVariants.{Initiator, Responder}
@@ -26,7 +24,7 @@ use Rattle.exchange.specs.declared.sealed.Plain.{Plain}
 use Rattle.requests.specs.Following.{FollowsIncoming}
 use Rattle.requests.specs.Incoming.{IsFreshRequest, PeerRequests}
 use Rattle.requests.specs.Numbers.{HasNumber, LacksNumber}
-use Rattle.sadb.specs.Database.{Database, IsSoundTable}
+use Rattle.sadb.specs.Database.{Database}
 use Rattle.sa_init.specs.Cookies.{CookieSecrets}
 use Rattle.association.specs.Finding.{answers_initial, found, has_pair, is_meant, is_waiting, missing, place_or, sent_by_other}
 use Rattle.association.specs.Phases.{keys_in}
@@ -35,11 +33,9 @@ use Rattle.association.specs.declared.fault.MessageFault.{MessageFault}
 use Rattle.association.specs.declared.fault.MessageFault.TheVariants as why
 use Rattle.association.specs.declared.phase.Association.{Association}
 use Rattle.association.specs.declared.phase.HalfOpen.{HalfOpen}
-use Rattle.association.specs.declared.phase.Phase.{Phase}
 use Rattle.association.specs.declared.phase.Phase.TheVariants as phase
 use Rattle.initial.specs.Configs.{Setup}
-use Rattle.informational.specs.Probing.{Probes}
-use Rattle.moments.specs.Holding.{HoldsOn, HoldSome}
+use Rattle.moments.specs.Holding.{HoldsOn}
 use Rattle.effects.specs.Keeping.{HasKeys}
 use Rattle.effects.specs.Requests.{is_concluded, takes_requests, IsNew, IsSoundlyHeld, OpensAs, PutsIntoEffect, StaysConcluded}
 use Rattle.effects.specs.Taking.{Meaning, StaysItself, TakesMessage}
@@ -47,8 +43,8 @@ use Rattle.effects.specs.declared.taking.Effect.{Effect}
 use Rattle.effects.specs.declared.taking.Effect.TheVariants as effect
 use Rattle.ike.specs.Machines.{association_of, own_spi, setup_at, spi_by_role, Held, Machine}
 use Rattle.ike.specs.Outputs.{closed_of, stepped_of, IsQuiet}
-use Rattle.ike.specs.Receiving.{is_answered, is_initial_request, is_sound_initial, with_next, TakesAt, TakesDatagram, TakesFound, TakesRead}
-use Rattle.ike.specs.Requests.{ComesIntoEffect, HoldsInEffect, IsAdmitted, IsAnswered, IsHeldThrough, IsNewRequest, IsOfOctets, OnlySays, OpensAsRequest}
+use Rattle.ike.specs.Receiving.{is_initial_request, with_next, TakesAt, TakesDatagram, TakesFound, TakesRead}
+use Rattle.ike.specs.Requests.{ComesIntoEffect, HoldsInEffect, IsAnswered, IsHeldThrough, IsNewRequest, OnlySays, OpensAsRequest}
 use Rattle.ike.specs.Soundness.{AreSound, At, IsSound, IsSoundMachine}
 use Rattle.ike.specs.Steps.{InputView, Steps}
 use Rattle.ike.specs.Steps as steps
@@ -58,9 +54,9 @@ use Rattle.ike.specs.declared.fault.IkeFault.TheVariants as fault
 use Rattle.ike.specs.declared.output.IkeOutput.{IkeOutput}
 use Rattle.ike.specs.declared.output.IkeOutput.TheVariants as output
 use Rattle.ike.specs.declared.output.Stepped.{Stepped}
-use Rattle.ike.proofs.ProbeLemmas.{changed_itself, changed_phase, probed_stood}
-use Rattle.ike.proofs.RepeatLemmas.{none_passes, opened_of, same_octets_itself}
-use Rattle.ike.proofs.SerialLemmas.{grown_found, grown_stands, none_next, replaced_found, replaced_stands, same_one, sound_found}
+use Rattle.ike.proofs.ProbeLemmas.{changed_itself, changed_phase}
+use Rattle.ike.proofs.RepeatLemmas.{none_passes}
+use Rattle.ike.proofs.SerialLemmas.{grown_found, replaced_found, replaced_stands, same_one, sound_found}
 use Rattle.ike.proofs.TickLemmas.{found_at, on_concluded, on_half_open, ticked_stood, TicksHold}
 use Rattle.ike.proofs.WayLemmas.{admitted, datagram_way, probed, rested, started, step_way, took, Takes, Way}
 

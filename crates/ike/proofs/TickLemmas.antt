@@ -1,5 +1,5 @@
 -- A moment keeps what holds of the associations that are held on.
-use Rattle.std.proofs.Common.{◌≡◌, ◌≢◌, ◌⊎◌, inl, inr, ℕ, zero, suc, ◌+◌, ◌<◌, ◌≤◌, ◌∷◌, [], Bool, true, false, cond, List, length, Option, Some, None, ap, refl, subst, sym, ◌∙◌, arith}
+use Rattle.std.proofs.Common.{◌≡◌, ◌⊎◌, inl, inr, ℕ, zero, suc, ◌<◌, ◌≤◌, ◌∷◌, [], Bool, true, false, cond, List, length, Option, Some, None, ap, refl, subst, sym, ◌∙◌, arith}
 use Rattle.std.specs.FinMap as map
 use Rattle.std.proofs.lemmas.Bool.Decides.{eqb_tells}
 use Rattle.std.specs.List.{slice_get}
@@ -14,7 +14,6 @@ use Rattle.association.specs.declared.phase.Association.{Association}
 use Rattle.association.specs.declared.phase.HalfOpen.{HalfOpen}
 use Rattle.association.specs.declared.phase.Phase.{Phase}
 use Rattle.association.specs.declared.phase.Phase.TheVariants as phase
-use Rattle.association.specs.declared.phase.Request.{Request}
 use Rattle.suite.specs.declared.key_record.KeyRecord.{KeyRecord}
 use Rattle.initial.specs.Answering.{IsHalfOpen}
 use Rattle.initial.specs.Ending.{IsAuthSent}
@@ -22,13 +21,13 @@ use Rattle.initial.specs.Reading.{IsInitSent}
 use Rattle.effects.specs.Keeping.{kept_reply, IsShort, KeepsShort}
 use Rattle.effects.specs.Requests.{is_concluded, IsSoundlyHeld}
 use Rattle.moments.specs.Due.{has_failed}
-use Rattle.moments.specs.Holding.{HoldSome, HoldsNone, HoldsOn, LeavesFewer}
+use Rattle.moments.specs.Holding.{HoldSome, HoldsNone, HoldsOn}
 use Rattle.moments.specs.Ticking.{HoldTheirSpis, Ticks}
 use Rattle.moments.specs.declared.ticking.Ticked.{Ticked}
-use Rattle.ike.specs.Machines.{association_of, half_open_count, has_serial, keys_of_serial, own_spi, spi_by_role, Held, SERIAL_END}
+use Rattle.ike.specs.Machines.{association_of, half_open_count, has_serial, own_spi, spi_by_role, Held, SERIAL_END}
 use Rattle.ike.specs.Soundness.{AreApart, AreSound, At, IsSound}
 use Rattle.ike.proofs.CountLemmas.{count_lighter, count_more}
-use Rattle.ike.proofs.SerialLemmas.{keys_of, same_one, sound_found}
+use Rattle.ike.proofs.SerialLemmas.{same_one, sound_found}
 use Rattle.ike.proofs.SoundLemmas.{alone, held_by}
 
 -- what is known of a moment

@@ -1,6 +1,5 @@
 -- What goes out of a step is short, and its trace names associations that are held and have keys.
 use Rattle.std.proofs.Common.{◌≡◌, ◌⊎◌, ◌≤◌, inl, inr, ℕ, Bool, true, false, List, length, Option, Some, None, IsSome, ap, refl, subst, sym, ◌∙◌, arith}
-use Rattle.std.specs.FinMap as map
 use Rattle.std.specs.List.{slice_get}
 use Rattle.std.specs.Prelude.{All, slice_index_or}
 use Rattle.std.proofs.lemmas.Option.{slice_get_read}
@@ -24,7 +23,6 @@ use Rattle.association.specs.declared.phase.HalfOpen.{HalfOpen}
 use Rattle.association.specs.declared.phase.InitSent.{InitSent}
 use Rattle.association.specs.declared.phase.Phase.{Phase}
 use Rattle.association.specs.declared.phase.Phase.TheVariants as phase
-use Rattle.association.specs.declared.phase.Request.{Request}
 use Rattle.initial.specs.Beginning.{begun, half_open, Admits, Begins}
 use Rattle.effects.specs.Children.{AsksForChild, IsAsking, MakesChild}
 use Rattle.initial.specs.Configs.{Setup}

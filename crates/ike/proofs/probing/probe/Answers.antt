@@ -1,4 +1,4 @@
-use Rattle.std.proofs.Common.{◌≡◌, ap, refl, sym, ◌∙◌}
+use Rattle.std.proofs.Common.{ap, refl, sym, ◌∙◌}
 use Rattle.std.specs.List.{position}
 use Rattle.ike.specs.Machines.{has_serial}
 use Rattle.ike.specs.Outputs.{asking_step}

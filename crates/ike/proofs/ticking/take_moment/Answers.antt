@@ -1,5 +1,4 @@
-use Rattle.std.proofs.Common.{List, subst, sym}
-use Rattle.association.specs.declared.phase.Association.{Association}
+use Rattle.std.proofs.Common.{subst, sym}
 use Rattle.moments.specs.Ticking.{HoldTheirSpis}
 use Rattle.ike.specs.Machines.{Held}
 use Rattle.ike.proofs.TickLemmas.{hold_theirs}

@@ -1,4 +1,3 @@
-use Rattle.std.proofs.Common.{◌≡◌}
 use Rattle.effects.specs.Taking.{Meaning}
 use Rattle.gateway.specs.Outputs.{said}
 use Rattle.gateway.specs.Worlds.{stored_by}

@@ -1,4 +1,4 @@
-use Rattle.std.proofs.Common.{◌≡◌, ℕ, ◌+◌, List, [], ◌∷◌, ◌++◌, length, sym, ap, ◌∙◌, subst, arith}
+use Rattle.std.proofs.Common.{◌≡◌, ℕ, List, [], ◌∷◌, ◌++◌, length, sym, ◌∙◌, subst, arith}
 use Rattle.effects.specs.Taking.{Meaning}
 use Rattle.gateway.specs.Runs.{Runs}
 use Rattle.gateway.specs.WorldRuns.{HappensAs, PlaysFirst}

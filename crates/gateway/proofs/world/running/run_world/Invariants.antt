@@ -1,6 +1,4 @@
-use Rattle.std.proofs.Common.{◌≡◌, ◌++◌, ◌+◌, ◌≤◌, List, take}
-use Rattle.std.specs.Prelude.{vec_len}
-use Rattle.std.specs.Vec.{vec_capacity}
+use Rattle.std.proofs.Common.{◌≡◌, ◌++◌, List, take}
 use Rattle.gateway.specs.Runs.{Runs}
 use Rattle.gateway.specs.WorldRuns.{HappensAs}
 use Rattle.gateway.specs.declared.output.Output.{Output}
