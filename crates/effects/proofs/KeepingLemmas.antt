@@ -1,9 +1,7 @@
 -- What an association keeps is short, and its keys stay.
-use Rattle.std.proofs.Common.{◌≡◌, ◌⊎◌, inl, inr, ℕ, ◌+◌, Bool, true, false, cond, List, Option, Some, None, ap, refl, subst, sym, ◌∙◌}
-use Rattle.std.specs.Cmp.{nat_cmp_total, unsigned_tied}
+use Rattle.std.proofs.Common.{◌≡◌, ◌⊎◌, inl, inr, ℕ, ◌+◌, Bool, true, false, List, Option, Some, None, ap, refl, subst, sym, ◌∙◌}
 use Rattle.std.specs.FinMap as map
 use Rattle.std.specs.Ordering.{nat_cmp}
-use Rattle.std.proofs.lemmas.Bool.Decides.{eqb_tells}
 use Rattle.base.specs.Octets.{Octets}
 use Rattle.wire.specs.Numbers.{IKE_AUTH, IKE_SA_INIT}
 use Rattle.wire.specs.declared.message.Message.{Message}
@@ -45,6 +43,7 @@ use Rattle.initial.specs.declared.concluding.Outcome.TheVariants as outcome
 use Rattle.initial.specs.declared.ending.Ended.{Ended}
 use Rattle.effects.specs.declared.taking.Effect.{Effect}
 use Rattle.effects.specs.declared.taking.Effect.TheVariants as effect
+use Rattle.effects.proofs.MapLemmas.{empty_has, insert_has, remove_has, same_has, same_item, some_none, EachHas}
 use Rattle.effects.proofs.WayLemmas.{way_of, AnsweredAuth, AnsweredInformational, CountedAuth, CountedInformational, WasAsked, WasIdentified, WasRepeated, Way}
 
 -- what is known of a request that comes again
@@ -54,34 +53,19 @@ pub record RepeatFacts : Type 0 where
 -- ---- maps of what is short
 
 abbrev pub AllShort : {T : Type 0} → (T → Octets) → map.FinMap nat_cmp T → Type 0
-AllShort {T} octets_in m = (number : ℕ) (x : T) → map.get m number ≡ Some x → IsShort (octets_in x)
-
-some_none : {T : Type 0} (x : T) → None ≡ Some x → ⊥
-some_none x is = cc
-
-same_item : {T : Type 0} (x y : T) → Some x ≡ Some y → x ≡ y
-same_item x y is = cc
+AllShort {T} octets_in m = EachHas (λ (x : T). IsShort (octets_in x)) m
 
 empty_short : {T : Type 0} (octets_in : T → Octets) → AllShort octets_in map.empty
-empty_short {T} octets_in = λ number x is. absurd (some_none x (sym (map.get-empty {X = T} nat_cmp number) ∙ is))
+empty_short {T} octets_in = empty_has (λ (x : T). IsShort (octets_in x))
 
 same_short : {T : Type 0} (octets_in : T → Octets) (m n : map.FinMap nat_cmp T) → n ≡ m → AllShort octets_in m → AllShort octets_in n
-same_short {T} octets_in m n same short = subst (λ (x : map.FinMap nat_cmp T). AllShort octets_in x) (sym same) short
+same_short {T} octets_in = same_has (λ (x : T). IsShort (octets_in x))
 
 insert_short : {T : Type 0} (octets_in : T → Octets) (m : map.FinMap nat_cmp T) (k : ℕ) (v : T) → IsShort (octets_in v) → AllShort octets_in m → AllShort octets_in (map.insert m k v)
-insert_short {T} octets_in m k v new short = λ number x is.
-    elim (eqb_tells number k) [
-      | inl (one, same) ↦ subst (λ (y : T). IsShort (octets_in y))
-          (same_item v x (sym (map.get-insert nat_cmp_total m k v number ∙ ap (λ b. cond b (Some v) (map.get m number)) (unsigned_tied number k ∙ one)) ∙ is)) new
-      | inr (none, other) ↦ short number x (sym (map.get-insert nat_cmp_total m k v number ∙ ap (λ b. cond b (Some v) (map.get m number)) (unsigned_tied number k ∙ none)) ∙ is)
-    ]
+insert_short {T} octets_in = insert_has (λ (x : T). IsShort (octets_in x))
 
 remove_short : {T : Type 0} (octets_in : T → Octets) (m : map.FinMap nat_cmp T) (k : ℕ) → AllShort octets_in m → AllShort octets_in (map.remove m k)
-remove_short {T} octets_in m k short = λ number x is.
-    elim (eqb_tells number k) [
-      | inl (one, same) ↦ absurd (some_none x (sym (map.get-remove nat_cmp_total m k number ∙ ap (λ b. cond b None (map.get m number)) (unsigned_tied number k ∙ one)) ∙ is))
-      | inr (none, other) ↦ short number x (sym (map.get-remove nat_cmp_total m k number ∙ ap (λ b. cond b None (map.get m number)) (unsigned_tied number k ∙ none)) ∙ is)
-    ]
+remove_short {T} octets_in = remove_has (λ (x : T). IsShort (octets_in x))
 
 abbrev pub itself : Octets → Octets
 itself octets = octets
@@ -97,7 +81,7 @@ short_as a b same short = subst (λ (x : Association). KeepsShort x) (sym same) 
 keys_as : (a b : Association) → b ≡ a → keys_in b.phase ≡ keys_in a.phase
 keys_as a b same = ap (λ (x : Association). keys_in x.phase) same
 
-established_keys : (p : Phase) → keys_in (established_of p) ≡ keys_in p
+pub established_keys : (p : Phase) → keys_in (established_of p) ≡ keys_in p
 established_keys (phase.InitSent sent) = refl
 established_keys (phase.AuthSent sent) = refl
 established_keys (phase.HalfOpen opened) = refl

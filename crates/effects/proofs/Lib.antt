@@ -1,3 +1,4 @@
+mod MapLemmas
 mod PairLemmas
 mod SpiLemmas
 mod OtherLemmas
@@ -16,3 +17,5 @@ mod WholeKeyLemmas
 mod ToldLemmas
 mod ProbeLemmas
 mod RequestLemmas
+mod DueLemmas
+mod MoveLemmas

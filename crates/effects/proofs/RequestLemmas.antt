@@ -53,6 +53,7 @@ use Rattle.effects.specs.Requests.{is_concluded, takes_requests, IsPassing, IsSo
 use Rattle.effects.specs.Taking.{prover_of, Does, DoesFurther, DoesRequest, DoesResponse, IsPassedOver, Meaning, TakesMessage}
 use Rattle.effects.specs.declared.taking.Effect.{Effect}
 use Rattle.effects.specs.declared.taking.Effect.TheVariants as effect
+use Rattle.effects.proofs.KeepingLemmas.{established_keys}
 use Rattle.effects.proofs.WayLemmas.{way_of, Way}
 
 -- what is known of the peer's requests
@@ -110,7 +111,7 @@ came numbers n m lacks has = elim (eqb_tells m n) [
   | inr (none, apart) ↦ absurd (yes_no _ (sym (set.contains-insert nat_cmp_total numbers n m) ∙ has) (ap (λ b. b || set.contains numbers m) (unsigned_tied m n ∙ none) ∙ lacks))
 ]
 
-kept_was : (kept : map.FinMap nat_cmp Octets) (n : ℕ) (reply : Octets) (m : ℕ) (octets : Octets) → map.get (map.insert kept n reply) m ≡ Some octets → (m ≡ n) ⊎ (map.get kept m ≡ Some octets)
+pub kept_was : (kept : map.FinMap nat_cmp Octets) (n : ℕ) (reply : Octets) (m : ℕ) (octets : Octets) → map.get (map.insert kept n reply) m ≡ Some octets → (m ≡ n) ⊎ (map.get kept m ≡ Some octets)
 kept_was kept n reply m octets is = elim (eqb_tells m n) [
   | inl (one, same) ↦ inl same
   | inr (none, apart) ↦ inr (sym (map.get-insert nat_cmp_total kept n reply m ∙ ap (λ b. cond b (Some reply) (map.get kept m)) (unsigned_tied m n ∙ none)) ∙ is)
@@ -162,13 +163,6 @@ over_concludes : (laws : FollowLaws) (a : Association) (table : Database) (momen
 over_concludes laws a table moment new new_table is =
     concludes_as a (record a { outgoing = new.outgoing; phase = phase.Closed (keys_in a.phase) moment }) new is.content
     (record { follows = laws.reflexive a.incoming; in_effect = refl; kept = refl; well = λ w. w; concluded = refl; keys = refl; role = refl; spi_r = refl })
-
-established_keys : (p : Phase) → keys_in (established_of p) ≡ keys_in p
-established_keys (phase.InitSent sent) = refl
-established_keys (phase.AuthSent sent) = refl
-established_keys (phase.HalfOpen opened) = refl
-established_keys (phase.Established keys) = refl
-established_keys (phase.Closed keys at) = refl
 
 auth_concludes : (laws : FollowLaws) (setup : Setup) (a : Association) (table : Database) (o : Outcome) (child : Option ℕ) (new : Association) (new_table : Database) (keys : KeyRecord)
     → established_of a.phase ≡ phase.Established keys → ConcludesBy setup a table o child new new_table → Concludes a new

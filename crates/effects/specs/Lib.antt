@@ -6,3 +6,4 @@ pub mod Children
 pub mod Offers
 pub mod Lengths
 pub mod Requests
+pub mod Moves

@@ -7,6 +7,8 @@ use Rattle.suite.specs.declared.keys.Keys.{Keys}
 use Rattle.suite.specs.declared.sealer.Cipher.{Cipher}
 use Rattle.exchange.specs.declared.sealed.Plain.{Plain}
 use Rattle.sadb.specs.Database.{Database}
+use Rattle.children.specs.declared.fault.ChildFault.{ChildFault}
+use Rattle.children.specs.declared.fault.ChildFault.TheVariants as child
 use Rattle.association.specs.Receiving.{Answers, AnswersInitial, IsReceived, Opening, Reception, Refused, Repeat, TakesEffect}
 use Rattle.association.specs.declared.fault.MessageFault.TheVariants.{WrongPhase}
 use Rattle.association.specs.declared.phase.Association.{Association}
@@ -56,6 +58,15 @@ asker_of m = record {
 pub record IsPassedOver (old : Association) (table : Database) (new : Association) (new_table : Database) : Type 0 where
   pub association : new ≡ old
   pub pairs : new_table ≡ table
+
+-- IKE_AUTH is waited for, or its response: by either a child is made
+abbrev pub AwaitsAuth : Phase → Type 0
+AwaitsAuth p = IsHalfOpen p ⊎ IsAuthSent p
+
+-- what memory can be wanted for, by the phase: the message; where a child may be made, also its replay window, its selectors and its
+-- place in the table
+abbrev pub CanWant : Phase → ChildFault → Type 0
+CanWant p f = (f ≡ child.Message) ⊎ AwaitsAuth p
 
 -- what a request of these payloads does at an established association: that of INFORMATIONAL; CREATE_CHILD_SA is not known yet
 abbrev pub DoesFurther : Bool → Meaning → Setup → Association → Database → ℕ → Plain → Effect → Association → Database → Type 0

@@ -1,5 +1,5 @@
 //! What follows from the definitions alone. No function here does anything.
-ghost use Rattle.std.specs.Prelude.{◌≡◌, ◌≢◌, ◌⊎◌, ◌+◌, ◌<◌, ℕ, List, Option, Some, None, true, false, length};
+ghost use Rattle.std.specs.Prelude.{◌≡◌, ◌≢◌, ◌⊎◌, ◌+◌, ◌<◌, ◌≤◌, ◌∷◌, ℕ, List, [], Option, Some, None, true, false, length};
 ghost use Rattle.base.specs.Octets.{Octets, AreOctets};
 ghost use Rattle.wire.specs.declared.message.Message.{Message};
 ghost use Rattle.wire.specs.declared.payload.Payload.{Payload};
@@ -19,6 +19,7 @@ ghost use Rattle.association.specs.declared.phase.HalfOpen.{HalfOpen};
 ghost use Rattle.requests.specs.Following.{FollowsIncoming};
 ghost use Rattle.requests.specs.Incoming.{IsFreshRequest};
 ghost use Rattle.requests.specs.Numbers.{HasNumber, LacksNumber};
+ghost use Rattle.requests.specs.Outgoing.{GivesUpRequests};
 ghost use Rattle.std.specs.FinMap as map;
 ghost use Rattle.sadb.specs.Contents.{table_content};
 ghost use Rattle.association.specs.Contents.{association_content};
@@ -36,6 +37,9 @@ ghost use Rattle.initial.specs.Beginning.{begun, Admits, Begins};
 ghost use Rattle.effects.specs.Children.{AsksForChild, IsAsking, MakesChild};
 ghost use Rattle.initial.specs.Configs.{Setup};
 ghost use Rattle.informational.specs.Probing.{Probes};
+ghost use Rattle.moments.specs.Due.{SendsAgain};
+ghost use Rattle.moments.specs.Held.{IsInTime};
+ghost use Rattle.effects.specs.Moves.{ledger, moves_of, Close, Issue, Lead, Make, Remove};
 ghost use Rattle.initial.specs.Ending.{EndsAuth};
 ghost use Rattle.effects.specs.Keeping.{child_in, sent_by, IsShort, KeepsShort, KeyedBy};
 ghost use Rattle.effects.specs.Requests.{is_concluded, takes_requests, IsPassing, IsSoundlyHeld, KeepsWindow, PutsIntoEffect, StaysConcluded};
@@ -65,6 +69,7 @@ use children::laws::{
 use exchange::laws::{
     ciphers_tell_lengths, ends_agree, sealed_messages_are_determined, what_counts_fits,
 };
+use moments::laws::nothing_is_due_afterwards;
 use requests::laws::{
     later_incoming_are_determined, later_incoming_follow, later_outgoing_are_determined,
 };
@@ -384,6 +389,54 @@ pub fn requests_are_remembered()
         (new : Association) → IsSoundlyHeld old → Probes body_of setup old octets new → IsSoundlyHeld new }
 {
     later_incoming_follow();
+}
+
+/// What becomes of an association that has keys, as moves: a message makes two at most, those of what came of it, from what moves speak of
+/// before to what they speak of after; to answer a first request, to ask the peer, to close and to hold no longer are one each. What is
+/// passed over, a repeat, and a request that goes out again make none, and before both ends have come to keys there is nothing to speak of
+/// (RFC 7296, sections 2.1 to 2.4).
+pub fn messages_make_moves()
+    ensures message { (meaning : Meaning) (setup : Setup) (old : Association) (table : Database) (octets : Octets) (m : Message)
+        (effect : Effect) (new : Association) (new_table : Database)
+        → TakesMessage meaning setup old table octets m effect new new_table
+        → Lead (moves_of m.header.id (keys_in new.phase) effect) (ledger old) (ledger new) }
+    ensures probe { (body_of : Keys → Octets → Octets → Octets → Octets) (setup : Setup) (old : Association) (octets : Octets)
+        (new : Association) → Probes body_of setup old octets new
+        → Lead (Issue old.outgoing.next octets ∷ []) (ledger old) (ledger new) }
+    ensures admitted { (cipher : Cipher) (group : ℕ) (public_value : Octets → Octets)
+        (shared_secret : Octets → Octets → Option Octets) (fresh : Fresh) (moment serial : ℕ) (offer : OfferView) (spi_i : ℕ)
+        (request : Octets) (admitted : Admitted)
+        → Admits cipher group public_value shared_secret fresh moment serial offer spi_i request admitted
+        → (keys : KeyRecord) × Lead (Make keys ∷ []) None (ledger admitted.association) }
+    ensures sending { (now : ℕ) (old new : Association) → SendsAgain now old new → Lead [] (ledger old) (ledger new) }
+    ensures closing { (old new : Association) (keys : KeyRecord) (moment : ℕ) → keys_in old.phase ≡ Some keys
+        → GivesUpRequests old.outgoing new.outgoing
+        → new ≡ record old { outgoing = new.outgoing; phase = phase.Closed (keys_in old.phase) moment }
+        → Lead (Close ∷ []) (ledger old) (ledger new) }
+    ensures removal { (old : Association) (keys : KeyRecord) → keys_in old.phase ≡ Some keys
+        → Lead (Remove ∷ []) (ledger old) None }
+    ensures few { (number : ℕ) (keys : Option KeyRecord) (effect : Effect) → length (moves_of number keys effect) ≤ 2 }
+{}
+
+/// Whatever comes, and whatever is begun or asked, nothing of an association is due at that moment that was not before, and nothing waits
+/// from a later one on: a request that goes out waits from then on, and an association that comes half open or is closed is held from
+/// then on.
+pub fn nothing_comes_due()
+    ensures taken { (meaning : Meaning) (setup : Setup) (old : Association) (table : Database) (octets : Octets) (m : Message)
+        (effect : Effect) (new : Association) (new_table : Database) → IsInTime setup.moment old
+        → TakesMessage meaning setup old table octets m effect new new_table → IsInTime setup.moment new }
+    ensures begun { (cipher : Cipher) (group : ℕ) (public_value : Octets → Octets) (fresh : Fresh) (moment serial : ℕ)
+        (beginning : Beginning) (child : FirstChildView) → Begins cipher group public_value fresh moment beginning
+        → IsInTime moment (begun serial beginning child) }
+    ensures admitted { (cipher : Cipher) (group : ℕ) (public_value : Octets → Octets)
+        (shared_secret : Octets → Octets → Option Octets) (fresh : Fresh) (moment serial : ℕ) (offer : OfferView) (spi_i : ℕ)
+        (request : Octets) (admitted : Admitted)
+        → Admits cipher group public_value shared_secret fresh moment serial offer spi_i request admitted
+        → IsInTime moment admitted.association }
+    ensures probed { (body_of : Keys → Octets → Octets → Octets → Octets) (setup : Setup) (old : Association) (octets : Octets)
+        (new : Association) → IsInTime setup.moment old → Probes body_of setup old octets new → IsInTime setup.moment new }
+{
+    nothing_is_due_afterwards();
 }
 
 /// A request that took effect before is answered by the reply that is kept of it, if it opens; where none is kept any more it is refused as

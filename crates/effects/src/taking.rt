@@ -11,7 +11,7 @@ ghost use Rattle.association.specs.Receiving.{IsAnsweringInitial, IsReceived};
 ghost use Rattle.initial.specs.Configs.{setup_of, IsConfig};
 ghost use Rattle.initial.specs.Reading.{IsInitSent};
 ghost use Rattle.informational.specs.Orders.{IsEstablished};
-ghost use Rattle.effects.specs.Taking.{reception_of, DoesFurther, DoesInitial, DoesRequest, DoesResponse, TakesMessage};
+ghost use Rattle.effects.specs.Taking.{reception_of, CanWant, DoesFurther, DoesInitial, DoesRequest, DoesResponse, TakesMessage};
 
 use association::laws::receptions_say_why;
 use association::{Association, MessageFault, Phase, Received, receive};
@@ -49,7 +49,8 @@ pub enum Effect {
 /// Requests of CREATE_CHILD_SA are passed over ([`MessageFault::WrongPhase`]).
 ///
 /// The octets are those that the message was decoded from, and an SPI that is reserved for the association's first child is reserved
-/// in the table. An error is for want of memory alone, and changes nothing but the table's room.
+/// in the table. An error is for want of memory alone, and changes nothing but the table's room: [`ChildFault::Message`], or where
+/// IKE_AUTH makes a child also one of the other three.
 pub fn take_message<C: Sealer + Agreement + Proof>(
     alloc: Global,
     step: &Step<'_, C>,
@@ -75,6 +76,7 @@ pub fn take_message<C: Sealer + Agreement + Proof>(
         })
         (setup_of step.now) association.old table.old octets.now message.now effect association.new table.new) }
     ensures refused { IfErr result (λ _. (association.new ≡ association.old) × IsAsBefore table.old table.new) }
+    ensures wanted { IfErr result (CanWant association.old.phase) }
 {
     receptions_say_why();
     let number = message.header.id;
@@ -181,6 +183,7 @@ fn take_request<C: Sealer + Agreement + Proof>(
         })
         (setup_of step.now) association.old.phase exchange association.old table.old number plain.now effect association.new table.new) }
     ensures refused { IfErr result (λ _. (association.new ≡ association.old) × IsAsBefore table.old table.new) }
+    ensures wanted { IfErr result (CanWant association.old.phase) }
 {
     match &association.phase {
         Phase::HalfOpen(_) => {
@@ -259,6 +262,7 @@ fn take_response<C: Sealer + Agreement + Proof>(
         })
         (setup_of step.now) association.old.phase association.old table.old number plain.now effect association.new table.new) }
     ensures refused { IfErr result (λ _. (association.new ≡ association.old) × (table.new ≡ table.old)) }
+    ensures wanted { IfErr result (CanWant association.old.phase) }
 {
     match &association.phase {
         Phase::AuthSent(_) => {

@@ -20,7 +20,7 @@ use Rattle.ike.specs.declared.output.Stepped.{Stepped}
 use Rattle.ike.specs.declared.output.Trace.{Trace}
 use Rattle.gateway.specs.Histories.{IsHistory, IsPassage, IsTrail, Passage}
 use Rattle.traffic.specs.Outcomes as traffic
-use Rattle.gateway.specs.Outputs.{said, said_by_ike, said_of_outcome, Refused, Repeat, Reply, Said}
+use Rattle.gateway.specs.Outputs.{said, said_by_ike, said_of_outcome, Refused, Repeat, Reply, Said, Ticked}
 use Rattle.gateway.specs.Requests.{for_ike}
 use Rattle.gateway.specs.Runs.{Runs, StepsAs}
 use Rattle.gateway.specs.States.{association_in, State}
@@ -96,6 +96,7 @@ exists {C} (p ∷ ps) (suc k) less = let rest = exists ps k (omega (arith, less)
 abbrev pub IsOfPacket : Said → Type 0
 IsOfPacket (Reply octets closed) = ⊥
 IsOfPacket (Repeat octets) = ⊥
+IsOfPacket (Ticked requests closed) = ⊥
 IsOfPacket _ = Unit {0}
 
 outcome_said : (outcome : traffic.Outcome) → IsOfPacket (said_of_outcome outcome)

@@ -8,3 +8,5 @@ mod DeterminedSteps
 mod ToldLemmas
 mod HistoryLemmas
 mod RequestLemmas
+mod MomentLemmas
+mod PromiseLemmas

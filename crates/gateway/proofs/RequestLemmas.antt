@@ -30,7 +30,7 @@ use Rattle.ike.specs.declared.output.IkeOutput.TheVariants as made
 use Rattle.ike.specs.declared.output.Stepped.{Stepped}
 use Rattle.gateway.specs.Histories.{IsPassage, IsTrail, Passage}
 use Rattle.gateway.specs.Outputs.{said_by_ike, wants_memory, Clear, Counted, Discarded, Done, Dropped, Dummy, IsQuiet, Refused, Repeat, Reply, Request, Said, Sealed, Ticked, Up}
-use Rattle.gateway.specs.Requests.{for_ike, AnswersBy, IsDatagram, IsFirstReply, IsInitial, IsNew, IsOverAt, IsReplied, KeepsHalfOpen, KeepsToRequests, MakesHalfOpen, OnlySays, Opens, RepeatsAreAnswered, RepeatsInitial, RepeatsRequest, RequestsTakeEffect, TakesEffect, TakesOne, TookEffect}
+use Rattle.gateway.specs.Requests.{for_ike, AnswersBy, IsDatagram, IsFirstReply, IsInitial, IsNew, IsOverAt, IsReplied, KeepsHalfOpen, MakesHalfOpen, OnlySays, Opens, RepeatsAreAnswered, RepeatsInitial, RepeatsRequest, RequestsTakeEffect, TakesEffect, TakesOne, TookEffect}
 use Rattle.gateway.specs.Runs.{Runs, StepsAs}
 use Rattle.gateway.specs.States.{association_in, State}
 use Rattle.gateway.specs.Steps.{Steps}
@@ -631,14 +631,3 @@ module _ {C : Type 0} (facts : RequestFacts) (changes_nothing : RefusalLaw C) (m
     only = λ place reply q there said_so. only facts meaning_of q (at_k place q there).passage reply said_so;
     held = λ place serial q a there before after. gone facts meaning_of q (at_k place q there).passage serial a before after;
   }
-
-pub keeps_to : {C : Type 0} (facts : RequestFacts) (changes_nothing : RefusalLaw C) (meaning_of : C → Meaning) (is : List Input) (os : List Output) (old new : State C)
-    → Runs (StepsAs meaning_of) is os old new → KeepsToRequests meaning_of is os old new
-keeps_to {C} facts changes_nothing meaning_of is os old new run =
-    let t = told meaning_of is os old new run in
-    record {
-      passages = t.passages;
-      history = t.history;
-      requests = requests_kept facts changes_nothing meaning_of old new t.passages t.history.trail;
-      repeats = repeats_kept facts changes_nothing meaning_of old new t.passages t.history.trail;
-    }

@@ -4,7 +4,7 @@ use Rattle.std.proofs.lemmas.List.{append-nil}
 use Rattle.effects.specs.Taking.{Meaning}
 use Rattle.ike.specs.declared.output.Trace.{Trace}
 use Rattle.gateway.specs.Outputs.{said, Said}
-use Rattle.gateway.specs.Requests.{KeepsToRequests}
+use Rattle.gateway.specs.Promises.{KeepsPromises}
 use Rattle.gateway.specs.Runs.{Runs, StepsAs}
 use Rattle.gateway.specs.States.{IsSoundState, State}
 use Rattle.gateway.specs.Steps.{Traces}
@@ -111,18 +111,18 @@ taken_at_b {C} meaning_of event old a b before ready s gateway after at_b sound 
     }
 
 -- what is known of a run
-abbrev pub RequestsLaw : Type 0 → Type 0
-RequestsLaw C = (meaning_of : C → Meaning) (is : List Input) (os : List Output) (old new : State C) → Runs (StepsAs meaning_of) is os old new → KeepsToRequests meaning_of is os old new
+abbrev pub PromisesLaw : Type 0 → Type 0
+PromisesLaw C = (meaning_of : C → Meaning) (is : List Input) (os : List Output) (old new : State C) → Runs (StepsAs meaning_of) is os old new → KeepsPromises meaning_of is os old new
 
 -- a run of a world says all of it
-pub plays : {C : Type 0} → RequestsLaw C → (meaning_of : C → Meaning) (count : ℕ) (events : List Event) (old : WorldState C) (before outputs : List Output) (new : WorldState C) (after : List Output)
+pub plays : {C : Type 0} → PromisesLaw C → (meaning_of : C → Meaning) (count : ℕ) (events : List Event) (old : WorldState C) (before outputs : List Output) (new : WorldState C) (after : List Output)
     → after ≡ before ++ outputs → Runs (HappensAs meaning_of) (take count events) outputs old new → PlaysFirst meaning_of count events old before new after
 plays {C} law meaning_of count events old before outputs new after appended run = record {
   outputs = outputs;
   appended = appended;
   runs = run;
   ends = λ end. apart meaning_of end (take count events) outputs old new run;
-  requests = λ end. law meaning_of (inputs_at end (take count events)) (outputs_at end (take count events) outputs) (gateway_at end old) (gateway_at end new)
+  promises = λ end. law meaning_of (inputs_at end (take count events)) (outputs_at end (take count events) outputs) (gateway_at end old) (gateway_at end new)
       (apart meaning_of end (take count events) outputs old new run);
   stored = stays_stored meaning_of (take count events) outputs old new run;
 }

@@ -10,3 +10,5 @@ pub mod Contents
 pub mod Lengths
 pub mod Histories
 pub mod Requests
+pub mod Moments
+pub mod Promises

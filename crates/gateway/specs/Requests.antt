@@ -16,13 +16,12 @@ use Rattle.ike.specs.Machines.{Machine}
 use Rattle.ike.specs.Requests.{first_requests, ComesIntoEffect, IsGivenUp, IsHeldThrough, IsInitialDatagram, IsNewRequest, IsOfOctets, OpensAsRequest}
 use Rattle.ike.specs.Steps as ike
 use Rattle.ike.specs.declared.fault.IkeFault.TheVariants.{Message}
-use Rattle.gateway.specs.Histories.{IsHistory, Passage}
+use Rattle.gateway.specs.Histories.{Passage}
 use Rattle.gateway.specs.Outputs.{wants_memory, Dropped, IsQuiet, Repeat, Reply, Said}
-use Rattle.gateway.specs.States.{association_in, State}
+use Rattle.gateway.specs.States.{association_in}
 use Rattle.gateway.specs.declared.fault.Reason.TheVariants.{Ike}
 use Rattle.gateway.specs.declared.input.Input.{Input}
 use Rattle.gateway.specs.declared.input.Input.TheVariants as input
-use Rattle.gateway.specs.declared.output.Output.{Output}
 
 -- what the machine of IKE is given, if anything
 abbrev pub for_ike : Input → Option ike.InputView
@@ -193,10 +192,3 @@ pub record RepeatsAreAnswered {C : Type 0} (meaning_of : C → Meaning) (passage
   -- an association is held until a moment at which its time is over
   pub held : (place serial : ℕ) (q : Passage C) (a : Association) → slice_get passages place ≡ Some q → association_in q.before serial ≡ Some a
       → association_in q.after serial ≡ None → IsOverAt (for_ike q.given) q.before.machine a
-
--- What is promised of the peer's requests over a list of inputs, of which these were taken: it has a history, of which both hold.
-pub record KeepsToRequests {C : Type 0} (meaning_of : C → Meaning) (inputs : List Input) (outputs : List Output) (old new : State C) : Type 0 where
-  pub passages : List (Passage C)
-  pub history : IsHistory meaning_of inputs outputs old new passages
-  pub requests : RequestsTakeEffect meaning_of passages
-  pub repeats : RepeatsAreAnswered meaning_of passages

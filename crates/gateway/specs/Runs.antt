@@ -2,7 +2,7 @@
 use Rattle.std.specs.Prelude.{◌≡◌, ◌<◌, ◌++◌, ℕ, List, [], ◌∷◌, length, take}
 use Rattle.effects.specs.Taking.{Meaning}
 use Rattle.gateway.specs.Outputs.{said}
-use Rattle.gateway.specs.Requests.{KeepsToRequests}
+use Rattle.gateway.specs.Promises.{KeepsPromises}
 use Rattle.gateway.specs.States.{IsSoundState, State}
 use Rattle.gateway.specs.Steps.{Steps}
 use Rattle.gateway.specs.declared.fault.RunFault.{RunFault}
@@ -22,12 +22,12 @@ pub record StepsAs {C : Type 0} (meaning_of : C → Meaning) (i : Input) (old : 
   pub sound : IsSoundState old
   pub steps : Steps (meaning_of old.caller) i old (said o) new
 
--- The first so many inputs were taken in order, and their outputs appended; and what is promised of the peer's requests holds.
+-- The first so many inputs were taken in order, and their outputs appended; and what is promised of them holds.
 pub record RunsFirst {C : Type 0} (meaning_of : C → Meaning) (count : ℕ) (inputs : List Input) (old : State C) (before : List Output) (new : State C) (after : List Output) : Type 0 where
   pub outputs : List Output
   pub appended : after ≡ before ++ outputs
   pub runs : Runs (StepsAs meaning_of) (take count inputs) outputs old new
-  pub requests : KeepsToRequests meaning_of (take count inputs) outputs old new
+  pub promises : KeepsPromises meaning_of (take count inputs) outputs old new
 
 -- there was no room for what comes of one more: the list was left after some, and not at its end
 abbrev pub Stops : {C : Type 0} → (C → Meaning) → List Input → State C → List Output → RunFault → State C → List Output → Type 0

@@ -6,6 +6,7 @@ use Rattle.sadb.specs.Database.{empty_table, Database, IsSoundTable}
 use Rattle.association.specs.declared.phase.Association.{Association}
 use Rattle.initial.specs.declared.config.Config.{Config}
 use Rattle.ike.specs.Machines.{association_of, new_machine, Machine}
+use Rattle.ike.specs.Moments.{IsTimely}
 use Rattle.ike.specs.Soundness.{IsSoundMachine}
 
 pub record State (C : Type 0) : Type 0 where
@@ -24,10 +25,11 @@ state_code {C} machine table entries caller =
     (λ c. record { machine = c.0; table = c.1.0; entries = c.1.1.0; caller = c.1.1.1 })
     (λ _. refl)
 
--- What holds of every gateway: its machine is sound with its table, and so is the table.
+-- What holds of every gateway: its machine is sound with its table, and so is the table; and all that its moment has reached was done.
 pub record IsSoundState {C : Type 0} (s : State C) : Type 0 where
   pub machine : IsSoundMachine s.machine s.table
   pub table : IsSoundTable s.table
+  pub timely : IsTimely s.machine
 
 -- the IKE association with this serial, if it is held
 abbrev pub association_in : {C : Type 0} → State C → ℕ → Option Association

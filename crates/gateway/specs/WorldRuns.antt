@@ -2,7 +2,7 @@
 use Rattle.std.specs.Prelude.{◌≡◌, ◌<◌, ◌++◌, ℕ, List, [], ◌∷◌, length, take}
 use Rattle.effects.specs.Taking.{Meaning}
 use Rattle.gateway.specs.Outputs.{said}
-use Rattle.gateway.specs.Requests.{KeepsToRequests}
+use Rattle.gateway.specs.Promises.{KeepsPromises}
 use Rattle.gateway.specs.Runs.{Runs, StepsAs}
 use Rattle.gateway.specs.Worlds.{gateway_at, Stored, TakesEvent, WorldState}
 use Rattle.gateway.specs.declared.fault.RunFault.{RunFault}
@@ -43,14 +43,13 @@ pub record IsLater (old new : Stored) : Type 0 where
   pub children : new.children ≡ old.children ++ more.children
 
 -- The first so many events took place in order, and their outputs were appended. Each end had its own events in order, whatever happened
--- at the other: what became of it is a run of its gateway alone, of which holds what is promised of the peer's requests. And what was
--- stored is stored still.
+-- at the other: what became of it is a run of its gateway alone, of which holds what is promised of one. And what was stored is stored still.
 pub record PlaysFirst {C : Type 0} (meaning_of : C → Meaning) (count : ℕ) (events : List Event) (old : WorldState C) (before : List Output) (new : WorldState C) (after : List Output) : Type 0 where
   pub outputs : List Output
   pub appended : after ≡ before ++ outputs
   pub runs : Runs (HappensAs meaning_of) (take count events) outputs old new
   pub ends : (end : End) → Runs (StepsAs meaning_of) (inputs_at end (take count events)) (outputs_at end (take count events) outputs) (gateway_at end old) (gateway_at end new)
-  pub requests : (end : End) → KeepsToRequests meaning_of (inputs_at end (take count events)) (outputs_at end (take count events) outputs) (gateway_at end old) (gateway_at end new)
+  pub promises : (end : End) → KeepsPromises meaning_of (inputs_at end (take count events)) (outputs_at end (take count events) outputs) (gateway_at end old) (gateway_at end new)
   pub stored : IsLater old.stored new.stored
 
 -- there was no room for what comes of one more: the list was left after some, and not at its end

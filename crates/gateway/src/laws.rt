@@ -19,7 +19,7 @@ ghost use Rattle.gateway.specs.Contents.{state_content};
 ghost use Rattle.gateway.specs.Faults.{is_after_judging_packet};
 ghost use Rattle.ike.specs.Soundness.{IsSoundMachine};
 ghost use Rattle.gateway.specs.Outputs.{Clear, Dropped, FewAgain, FitsChild, FitsDatagram, IsQuiet, Refused, Said, wants_memory, said};
-ghost use Rattle.gateway.specs.Requests.{KeepsToRequests};
+ghost use Rattle.gateway.specs.Promises.{KeepsPromises};
 ghost use Rattle.gateway.specs.Runs.{Runs, StepsAs};
 ghost use Rattle.gateway.specs.States.{State};
 ghost use Rattle.gateway.specs.Storing.{again_by};
@@ -140,18 +140,19 @@ pub fn each_end_has_its_events<C>()
         → Runs (StepsAs meaning_of) (inputs_at end events) (outputs_at end events outputs) (gateway_at end old) (gateway_at end new) }
 {}
 
-/// What is promised of the peer's requests holds of every run, over however many inputs. Each request under SK of an association takes
+/// What is promised of a run holds of every run, over however many inputs. Each request under SK of an association takes
 /// effect at most once, and exactly where it is delivered new: it opens, its number is not in effect yet and lies in the window, and its
 /// exchange belongs to the phase. And each repeat that is still remembered, of such a request or of one of IKE_SA_INIT, is answered by
-/// the octets of the first reply and changes nothing else; one that is not is E30. An input that is refused for want of memory counts as
-/// not delivered (RFC 7296, sections 2.1 to 2.3).
-pub fn every_run_keeps_to_requests<C>()
+/// the octets of the first reply and changes nothing else; one that is not is E30. What is due comes with the first moment that reaches it.
+/// An input that is refused for want of memory counts as not delivered (RFC 7296, sections 2.1 to 2.4).
+pub fn every_run_keeps_its_promises<C>()
     ensures { (meaning_of : C → Meaning) (inputs : List Input) (outputs : List Output) (old new : State C)
-        → Runs (StepsAs meaning_of) inputs outputs old new → KeepsToRequests meaning_of inputs outputs old new }
+        → Runs (StepsAs meaning_of) inputs outputs old new → KeepsPromises meaning_of inputs outputs old new }
 {
     ike::laws::repeats_are_answered();
     ike::laws::requests_are_remembered();
     ike::laws::requests_take_effect();
+    ike::laws::what_is_due_comes_in_time();
     ike::laws::what_is_quiet_changes_nothing();
     later_incoming_follow();
     refusals_change_nothing::<C>();

@@ -4,6 +4,7 @@ ghost use Rattle.std.specs.Option.{option_copied};
 ghost use Rattle.sadb.specs.Database.{IsSoundTable, IsStart};
 ghost use Rattle.initial.specs.Configs.{IsConfig};
 ghost use Rattle.ike.specs.Machines.{keys_of_serial};
+ghost use Rattle.ike.specs.Moments.{IsTimely};
 ghost use Rattle.ike.specs.Soundness.{IsSoundMachine};
 ghost use Rattle.gateway.specs.Outputs.{said};
 ghost use Rattle.gateway.specs.States.{new_gateway};
@@ -13,6 +14,7 @@ use crate::stepping::take;
 use crate::{Input, Output, Traced};
 use association::Association;
 use ike::Ike;
+use ike::laws::what_is_due_comes_in_time;
 use initial::Config;
 use policy::Policy;
 use sadb::Table;
@@ -32,6 +34,7 @@ pub struct Gateway<C> {
 impl<C> Model for Gateway<C> {
     ghost use Rattle.std.specs.Coded.{codes};
     ghost use Rattle.association.specs.contracts.phase.Association as association;
+    ghost use Rattle.ike.specs.Moments.{IsTimely};
     ghost use Rattle.ike.specs.Soundness.{IsSoundMachine};
     ghost use Rattle.sadb.specs.Database.{database_code};
     ghost use Rattle.gateway.specs.States.{State, state_code};
@@ -42,7 +45,7 @@ impl<C> Model for Gateway<C> {
 
     ghost view = { λ g. record { machine = g.ike; table = g.table; entries = g.policy; caller = g.caller } };
 
-    ghost invariant = { λ g. IsSoundMachine g.ike g.table };
+    ghost invariant = { λ g. IsSoundMachine g.ike g.table × IsTimely g.ike };
 }
 
 impl<C> Gateway<C> {
@@ -54,6 +57,7 @@ impl<C> Gateway<C> {
         requires start { IsStart start }
         ensures { result ≡ new_gateway config policy start caller }
     {
+        what_is_due_comes_in_time();
         Gateway {
             ike: Ike::new(alloc, config),
             table: Table::new(alloc, start),
@@ -83,10 +87,12 @@ impl<C> Gateway<C> {
         self.ike.keys_of(serial)
     }
 
-    /// What holds of every gateway: its machine is sound with its table, and so is the table. Does nothing.
+    /// What holds of every gateway: its machine is sound with its table, and so is the table; and nothing is due that the greatest moment
+    /// so far has reached. Does nothing.
     pub fn invariants_hold(&self)
         ensures machine { IsSoundMachine self.now.machine self.now.table }
         ensures table { IsSoundTable self.now.table }
+        ensures timely { IsTimely self.now.machine }
     {
         self.table.invariants_hold();
     }

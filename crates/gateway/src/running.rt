@@ -3,7 +3,7 @@ ghost use Rattle.std.specs.Prelude.{◌≡◌, ◌+◌, ◌≤◌, OnOk, IfErr, 
 ghost use Rattle.std.specs.Vec.{vec_capacity};
 ghost use Rattle.gateway.specs.Runs.{RunsFirst, Stops};
 
-use crate::laws::every_run_keeps_to_requests;
+use crate::laws::every_run_keeps_its_promises;
 use crate::{Gateway, Input, Output, RunFault};
 use std::alloc::Global;
 use suite::{Agreement, Proof, Sealer};
@@ -12,6 +12,10 @@ use suite::{Agreement, Proof, Sealer};
 ///
 /// [`RunFault::NoRoom`] (E38) with the number of inputs that were taken, where there was no memory for the place of the next output.
 /// The place of an output is reserved before its input is taken: none is taken without its output.
+///
+/// Over whatever list: each request under SK of an association takes effect at most once, exactly where it is delivered new; every repeat
+/// that is still remembered is answered by the octets of the first reply; and what a moment brings comes with the first one that has
+/// reached it.
 pub fn run<'a, C: Sealer + Agreement + Proof>(
     alloc: Global,
     gateway: &mut Gateway<C>,
@@ -46,7 +50,7 @@ pub fn run<'a, C: Sealer + Agreement + Proof>(
         inputs.now gateway.old outputs.old.items fault gateway.new outputs.new.items) }
     ensures room { vec_len outputs.old + length inputs.now ≤ vec_capacity outputs.old → IsOk result }
 {
-    every_run_keeps_to_requests::<C>();
+    every_run_keeps_its_promises::<C>();
     for (done, input) in inputs.iter().enumerate() {
         if outputs.reserve(1).is_err() {
             return Err(RunFault::NoRoom { done });

@@ -1,12 +1,13 @@
 //! One input of each kind.
 ghost use Rattle.std.specs.Prelude.{◌≡◌};
+ghost use Rattle.ike.specs.Moments.{IsTimely};
 ghost use Rattle.ike.specs.Soundness.{IsSoundMachine};
 ghost use Rattle.ike.specs.Steps.{input_view};
 ghost use Rattle.gateway.specs.Outputs.{said};
 ghost use Rattle.gateway.specs.Steps.{AdmitsPacket, DoesInput, ReceivesPacket, SendsPacket, StepsIke};
 
 use crate::{Input, Output, Reason, Traced};
-use ike::laws::soundness_asks_for_reservations;
+use ike::laws::{soundness_asks_for_reservations, what_is_due_comes_in_time};
 use ike::{Ike, IkeInput};
 use policy::Policy;
 use sadb::Table;
@@ -24,6 +25,7 @@ pub(crate) fn take<'a, C: Sealer + Agreement + Proof>(
     caller: &C,
 ) -> Traced<'a>
     requires sound { IsSoundMachine ike.old table.old }
+    requires timely { IsTimely ike.old }
     ensures done { DoesInput
         (record {
           cipher = C.cipher;
@@ -38,6 +40,7 @@ pub(crate) fn take<'a, C: Sealer + Agreement + Proof>(
         })
         policy.now input.now ike.old table.old (said result.output) result.trace ike.new table.new }
     ensures sound { IsSoundMachine ike.new table.new }
+    ensures timely { IsTimely ike.new }
 {
     soundness_asks_for_reservations();
     match input {
@@ -92,6 +95,7 @@ fn step_ike<'a, C: Sealer + Agreement + Proof>(
     caller: &C,
 ) -> Traced<'a>
     requires sound { IsSoundMachine ike.old table.old }
+    requires timely { IsTimely ike.old }
     ensures stepped { StepsIke
         (record {
           cipher = C.cipher;
@@ -106,7 +110,9 @@ fn step_ike<'a, C: Sealer + Agreement + Proof>(
         })
         policy.now (input_view input.now) ike.old table.old (said result.output) result.trace ike.new table.new }
     ensures sound { IsSoundMachine ike.new table.new }
+    ensures timely { IsTimely ike.new }
 {
+    what_is_due_comes_in_time();
     match ike.step(alloc, input, table, policy, caller) {
         Ok(stepped) => Traced::by_ike(stepped),
         Err(fault) => Traced::plain(Output::Refused {

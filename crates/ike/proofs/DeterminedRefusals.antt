@@ -67,7 +67,7 @@ one_hindrance old spi one two (inr is) (inl also) = absurd (omega (arith, is.1, 
 one_hindrance old spi one two (inr is) (inr also) = is.0 ∙ sym also.0
 
 -- for want of memory, or as an offer
-refused_is : (meaning : Meaning) (setup : Setup) (cookies : CookieSecrets) (from octets : Octets) (old : Held) (reason : IkeFault) → RefusesDatagram meaning setup cookies from octets old reason
+pub refused_is : (meaning : Meaning) (setup : Setup) (cookies : CookieSecrets) (from octets : Octets) (old : Held) (reason : IkeFault) → RefusesDatagram meaning setup cookies from octets old reason
     → (is_want_of_memory reason ≡ true) ⊎ RefusesInitial meaning setup cookies from octets old reason
 refused_is meaning setup cookies from octets old (fault.Unread f) is = inr is
 refused_is meaning setup cookies from octets old (fault.Message f) is = inr is
@@ -104,7 +104,7 @@ module _ (laws : Laws) (meaning : Meaning) (setup : Setup) (cookies : CookieSecr
   cannot_here spi fault.Busy cannot = absurd cannot
   cannot_here spi fault.NumbersSpent cannot = same_next old other same ∙ cannot
   cannot_here spi fault.BadFresh cannot = (subst (λ (n : ℕ). n < SERIAL_END) (sym (same_next old other same)) cannot.0, same_bad old.associations other.associations (same_list old other same) spi ∙ cannot.1)
-  cannot_here spi (fault.Memory f) cannot = tt
+  cannot_here spi (fault.Memory f) cannot = cannot
 
   -- an offer that is accepted is taken where an association can be made of it, and refused where it can't
   new_or_refused : (m : Message) (stepped : Stepped) (new : Held) (reason : IkeFault) (offer : OfferView) → TakesNew meaning setup cookies from octets m old stepped new → IsJudged meaning cookies other from m (Accepted offer)

@@ -19,7 +19,7 @@ use Rattle.initial.specs.Configs.{Setup}
 use Rattle.effects.specs.Keeping.{kept_reply}
 use Rattle.effects.specs.Taking.{Meaning}
 use Rattle.ike.specs.Machines.{association_of, setup_at, Held, Machine}
-use Rattle.ike.specs.Receiving.{is_answered, is_answered_phase, is_initial_request, same_octets, with_next, IsInitialRequest, RefusesDatagram, RefusesInitial, TakesDatagram, TakesRead, TakesRequestAt, TakesSound}
+use Rattle.ike.specs.Receiving.{is_answered, is_answered_phase, is_initial_request, same_octets, with_next, IsInitialRequest, TakesDatagram, TakesRead, TakesRequestAt, TakesSound}
 use Rattle.ike.specs.Requests.{first_requests, IsAdmitted, IsOfOctets, OnlySays, OpensAsRequest}
 use Rattle.ike.specs.Soundness.{AreSound, At, IsSoundMachine}
 use Rattle.ike.specs.Faults.{is_want_of_memory}
@@ -29,6 +29,7 @@ use Rattle.ike.specs.declared.fault.IkeFault.{IkeFault}
 use Rattle.ike.specs.declared.fault.IkeFault.TheVariants as fault
 use Rattle.ike.specs.declared.output.IkeOutput.TheVariants as output
 use Rattle.ike.specs.declared.output.Stepped.{Stepped}
+use Rattle.ike.proofs.DeterminedRefusals.{refused_is}
 use Rattle.ike.proofs.ProbeLemmas.{probed_stood}
 use Rattle.ike.proofs.RepeatLemmas.{none_passes, opened_of, same_octets_itself}
 use Rattle.ike.proofs.RequestLemmas.{finds_of, only_says, some_none, yes_no, Laws, Quiet}
@@ -181,27 +182,12 @@ step_admits laws ticks meaning entries (steps.Tick moment) old table stepped new
 
 -- ---- what is refused
 
--- a refusal of a datagram that is not for want of memory is of a request of IKE_SA_INIT
-by_reason : (meaning : Meaning) (setup : Setup) (cookies : CookieSecrets) (from octets : Octets) (held : Held) (reason : IkeFault) → RefusesDatagram meaning setup cookies from octets held reason
-    → (is_want_of_memory reason ≡ true) ⊎ RefusesInitial meaning setup cookies from octets held reason
-by_reason meaning setup cookies from octets held (fault.Unread f) is = inr is
-by_reason meaning setup cookies from octets held (fault.Message f) is = inr is
-by_reason meaning setup cookies from octets held fault.Unprotected is = inr is
-by_reason meaning setup cookies from octets held fault.Crowded is = inr is
-by_reason meaning setup cookies from octets held fault.TableFull is = inr is
-by_reason meaning setup cookies from octets held fault.SpisSpent is = inr is
-by_reason meaning setup cookies from octets held fault.HalfOpenFull is = inr is
-by_reason meaning setup cookies from octets held fault.Busy is = inr is
-by_reason meaning setup cookies from octets held fault.NumbersSpent is = inr is
-by_reason meaning setup cookies from octets held fault.BadFresh is = inr is
-by_reason meaning setup cookies from octets held (fault.Memory f) is = inl refl
-
 pub opens_unrefused : Laws → (meaning : Meaning) (entries : List Entry) (input : InputView) (machine : Machine) (table : Database) (reason : IkeFault) (serial : ℕ) (a : Association) (number : ℕ) → IsSoundMachine machine table
     → association_of serial machine.held.associations ≡ Some a → OpensAsRequest meaning input a number → Refuses meaning entries input machine table reason → is_want_of_memory reason ≡ true
 opens_unrefused laws meaning entries (steps.Message from octets fresh) machine table reason serial a number sound stands opens is =
     let o = opens.1 in
     let f = finds_of machine.held table serial a meaning.plain_of octets opens.0 number sound stands o in
-    elim (by_reason meaning (setup_at machine entries fresh) machine.cookies from octets machine.held reason is) [
+    elim (refused_is meaning (setup_at machine entries fresh) machine.cookies from octets machine.held reason is) [
       | inl memory ↦ memory
       | inr refused ↦
           let one : refused.message ≡ o.message = laws.message refused.message o.message octets refused.spelled o.spelled in
@@ -216,7 +202,7 @@ pub first_unrefused : (meaning : Meaning) (entries : List Entry) (input : InputV
     → association_of serial machine.held.associations ≡ Some a → a.phase ≡ phase.HalfOpen opened → IsOfOctets input opened.request → Refuses meaning entries input machine table reason → is_want_of_memory reason ≡ true
 first_unrefused meaning entries (steps.Message from octets fresh) machine table reason serial a opened stands half same is =
     let f = found_at machine.held.associations serial a stands in
-    elim (by_reason meaning (setup_at machine entries fresh) machine.cookies from octets machine.held reason is) [
+    elim (refused_is meaning (setup_at machine entries fresh) machine.cookies from octets machine.held reason is) [
       | inl memory ↦ memory
       | inr refused ↦
           absurd (yes_no (is_answered octets a)

@@ -24,3 +24,6 @@ mod OrderLemmas
 mod RequestLemmas
 mod InitialLemmas
 mod OutputLemmas
+mod WantLemmas
+mod MomentLemmas
+mod MoveLemmas

@@ -325,7 +325,7 @@ not_over true false x rest held a serial is stays more stands = ap (λ b. cond b
 not_over false true x rest held a serial is stays more stands = more stands
 not_over false false x rest held a serial is stays more stands = ap (λ b. cond b (Some x) (association_of serial held)) is ∙ more stands
 
-still_held : (now serial : ℕ) (xs : List Association) (a : Association) → is_over now a.phase ≡ false → association_of serial xs ≡ Some a → association_of serial (held_of now xs) ≡ Some a
+pub still_held : (now serial : ℕ) (xs : List Association) (a : Association) → is_over now a.phase ≡ false → association_of serial xs ≡ Some a → association_of serial (held_of now xs) ≡ Some a
 still_held now serial [] a alive stands = absurd cc
 still_held now serial (x ∷ xs) a alive stands =
     not_over (has_serial serial x) (is_over now x.phase) x xs (held_of now xs) a serial refl (λ same. ap (λ (y : Association). is_over now y.phase) same ∙ alive) (still_held now serial xs a alive) stands

@@ -15,3 +15,5 @@ pub mod Contents
 pub mod Lengths
 pub mod Proving
 pub mod Requests
+pub mod Moments
+pub mod Moves

@@ -16,6 +16,8 @@ use Rattle.sa_init.specs.Cookies.{CookieSecrets}
 use Rattle.sa_init.specs.Judging.{Accepted, Answered, Full, Incomplete, IsJudgement, JudgementView, OfferView}
 use Rattle.sa_init.specs.Messages.{notice_message}
 use Rattle.sa_init.specs.declared.judging.Sender.{Sender}
+use Rattle.children.specs.declared.fault.ChildFault.{ChildFault}
+use Rattle.children.specs.declared.fault.ChildFault.TheVariants as child
 use Rattle.association.specs.Finding.{found}
 use Rattle.association.specs.declared.fault.MessageFault.{MessageFault}
 use Rattle.association.specs.declared.fault.MessageFault.TheVariants.{WrongPhase}
@@ -25,7 +27,7 @@ use Rattle.association.specs.declared.phase.Phase.TheVariants.{HalfOpen}
 use Rattle.initial.specs.Beginning.{Admits}
 use Rattle.initial.specs.Configs.{Setup}
 use Rattle.effects.specs.Keeping.{kept_reply}
-use Rattle.effects.specs.Taking.{Meaning, TakesMessage}
+use Rattle.effects.specs.Taking.{AwaitsAuth, Meaning, TakesMessage}
 use Rattle.initial.specs.declared.beginning.Admitted.{Admitted}
 use Rattle.effects.specs.declared.taking.Effect.{Effect}
 use Rattle.ike.specs.Machines.{half_open_count, is_bad_spi, Held, SERIAL_END}
@@ -176,7 +178,7 @@ TakesDatagram meaning setup cookies from octets old table stepped new new_table 
 abbrev pub CannotMake : Held → ℕ → IkeFault → Type 0
 CannotMake old spi fault.NumbersSpent = old.next ≡ SERIAL_END
 CannotMake old spi fault.BadFresh = (old.next < SERIAL_END) × (is_bad_spi spi old.associations ≡ true)
-CannotMake old spi (fault.Memory f) = Unit {0}
+CannotMake old spi (fault.Memory f) = f ≡ child.Message
 CannotMake old spi f = ⊥
 
 pub record RefusesOffer (meaning : Meaning) (setup : Setup) (cookies : CookieSecrets) (from : Octets) (m : Message) (old : Held) (reason : IkeFault) : Type 0 where
@@ -186,7 +188,7 @@ pub record RefusesOffer (meaning : Meaning) (setup : Setup) (cookies : CookieSec
 
 -- for want of memory, or as an offer
 abbrev pub RefusesNew : Meaning → Setup → CookieSecrets → Octets → Message → Held → IkeFault → Type 0
-RefusesNew meaning setup cookies from m old (fault.Memory f) = Unit {0}
+RefusesNew meaning setup cookies from m old (fault.Memory f) = f ≡ child.Message
 RefusesNew meaning setup cookies from m old reason = RefusesOffer meaning setup cookies from m old reason
 
 -- the datagram is a request that made no association which is half open, with an offer
@@ -202,7 +204,27 @@ pub record RefusesInitial (meaning : Meaning) (setup : Setup) (cookies : CookieS
 abbrev pub CanWantMemory : Octets → Type 0
 CanWantMemory octets = (f : WireFault) → IsFaultOf octets f → fault_offset f ≢ None
 
--- why a datagram is refused: for want of memory, or as an offer
+-- the association at this place makes a child by IKE_AUTH
+pub record AwaitsAuthAt (place : ℕ) (old : Held) : Type 0 where
+  pub association : Association
+  pub there : slice_get old.associations place ≡ Some association
+  pub makes : AwaitsAuth association.phase
+
+-- for what a message can want memory, by what is found for it
+abbrev pub WantsFound : Result ℕ MessageFault → Held → ChildFault → Type 0
+WantsFound (Ok place) old f = (f ≡ child.Message) ⊎ AwaitsAuthAt place old
+WantsFound (Err fault) old f = ⊥
+
+-- the octets are a message for an association that makes a child by IKE_AUTH
+pub record IsForChild (octets : Octets) (old : Held) : Type 0 where
+  pub message : Message
+  pub spelled : Spells message octets
+  pub further : is_initial_request message.header ≡ false
+  pub place : ℕ
+  pub finds : found message.header old.associations ≡ Ok place
+  pub makes : AwaitsAuthAt place old
+
+-- why a datagram is refused: for want of memory, for a message or for what a child takes; or as an offer
 abbrev pub RefusesDatagram : Meaning → Setup → CookieSecrets → Octets → Octets → Held → IkeFault → Type 0
-RefusesDatagram meaning setup cookies from octets old (fault.Memory f) = CanWantMemory octets
+RefusesDatagram meaning setup cookies from octets old (fault.Memory f) = CanWantMemory octets × ((f ≡ child.Message) ⊎ IsForChild octets old)
 RefusesDatagram meaning setup cookies from octets old reason = RefusesInitial meaning setup cookies from octets old reason

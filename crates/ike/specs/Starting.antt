@@ -8,6 +8,7 @@ use Rattle.policy.specs.declared.entry.Entry.{Entry}
 use Rattle.suite.specs.declared.fresh.Fresh.{Fresh}
 use Rattle.sadb.specs.Database.{Database, IsAsBefore, IsFull, IsSpent, Reserves}
 use Rattle.sa_init.specs.Judging.{ASSOCIATION_LIMIT}
+use Rattle.children.specs.declared.fault.ChildFault.TheVariants as child
 use Rattle.association.specs.FirstChildren.{FirstChildView}
 use Rattle.association.specs.declared.fault.MessageFault.TheVariants.{UnknownAssociation, WrongPhase}
 use Rattle.initial.specs.Beginning.{begun, Begins}
@@ -84,11 +85,11 @@ pub record Starts (meaning : Meaning) (setup : Setup) (ike : Option ℕ) (place 
   pub room : IsAsBefore table between
   pub done : BeginsNext entry setup.config.extended beginning old between stepped new new_table
 
--- The table gives no SPI; or it would, and there is no memory for the child or for its message.
+-- The table gives no SPI; or it would, and there is no memory: for the table, where it has no room left, or for the message.
 abbrev pub GivesNoSpi : Database → IkeFault → Type 0
 GivesNoSpi table fault.TableFull = IsFull table
 GivesNoSpi table fault.SpisSpent = (¬ IsFull table) × IsSpent table
-GivesNoSpi table (fault.Memory f) = (¬ IsFull table) × (¬ IsSpent table)
+GivesNoSpi table (fault.Memory f) = (¬ IsFull table) × (¬ IsSpent table) × ((f ≡ child.Message) ⊎ ((f ≡ child.Table) × (table.room ≡ 0)))
 GivesNoSpi table reason = ⊥
 
 -- why the order is refused: as said; or since the table gives no SPI, or for want of memory

@@ -1,6 +1,7 @@
 -- What a moment brings (RFC 7296 sections 2.1 and 2.4).
 use Rattle.std.specs.Prelude.{◌≡◌, ℕ, max}
 use Rattle.sadb.specs.Database.{Database}
+use Rattle.children.specs.declared.fault.ChildFault.TheVariants as child
 use Rattle.moments.specs.Ticking.{Ticks}
 use Rattle.moments.specs.declared.ticking.Ticked.{Ticked}
 use Rattle.ike.specs.Machines.{Held, Machine}
@@ -22,7 +23,7 @@ pub record TakesMoment (moment : ℕ) (old : Machine) (table : Database) (steppe
   pub takes : TakesHeld (max old.moment moment) old.held table new.held new_table stepped
   pub content : new ≡ record old { moment = max old.moment moment; held = new.held }
 
--- for want of memory alone
+-- for want of memory alone, for what is told
 abbrev pub RefusesMoment : IkeFault → Type 0
-RefusesMoment (fault.Memory f) = Unit {0}
+RefusesMoment (fault.Memory f) = f ≡ child.Message
 RefusesMoment reason = ⊥

@@ -5,6 +5,7 @@ ghost use Rattle.ike.specs.Faults.{code_of_ike_fault};
 use association::MessageFault;
 use children::ChildFault;
 use informational::OrderFault;
+use sadb::TableFault;
 use std::alloc::AllocError;
 use thiserror::Error;
 use wire::WireFault;
@@ -87,6 +88,21 @@ impl From<AllocError> for IkeFault {
 
     fn from(_refused: AllocError) -> IkeFault {
         IkeFault::Memory(ChildFault::Message)
+    }
+}
+
+impl From<TableFault> for IkeFault {
+    ghost use Rattle.std.specs.Prelude.{◌≡◌};
+    ghost use Rattle.ike.specs.Faults.{fault_of_table};
+
+    ghost from_gives = { λ f e. e ≡ fault_of_table f };
+
+    fn from(fault: TableFault) -> IkeFault {
+        match fault {
+            TableFault::Full => IkeFault::TableFull,
+            TableFault::Spent => IkeFault::SpisSpent,
+            TableFault::Memory => IkeFault::Memory(ChildFault::Table),
+        }
     }
 }
 

@@ -1,5 +1,5 @@
 //! What follows from the definitions alone. No function here does anything.
-ghost use Rattle.std.specs.Prelude.{◌≡◌, ◌<◌, ◌≤◌, All, List, Option, Some, None, ℕ, length, true, false, ◌⊎◌};
+ghost use Rattle.std.specs.Prelude.{◌≡◌, ◌<◌, ◌≤◌, All, List, Option, Some, None, ℕ, length, max, true, false, ◌⊎◌};
 ghost use Rattle.policy.specs.declared.entry.Entry.{Entry};
 ghost use Rattle.sadb.specs.Database.{pair_at, Database, IsReserved, IsSoundTable};
 ghost use Rattle.sadb.specs.Contents.{table_content};
@@ -23,6 +23,8 @@ ghost use Rattle.effects.specs.Keeping.{IsShort};
 ghost use Rattle.effects.specs.Taking.{Meaning};
 ghost use Rattle.ike.specs.Children.{AsksFirstChild, MakesFirstChild, AsksNow, WaitedBefore};
 ghost use Rattle.ike.specs.Machines.{half_open_count, keys_of_serial, setup_at, Machine, new_machine, association_of};
+ghost use Rattle.ike.specs.Moments.{ComesTo, IsTimely, StaysAt};
+ghost use Rattle.ike.specs.Moves.{MovesAt};
 ghost use Rattle.ike.specs.Outputs.{octets_in, IsQuiet};
 ghost use Rattle.ike.specs.Pairs.{ChangesOne};
 ghost use Rattle.ike.specs.Proving.{WasKnown};
@@ -36,7 +38,7 @@ ghost use Rattle.effects.specs.Requests.{is_concluded, IsSoundlyHeld, KeepsWindo
 ghost use Rattle.ike.specs.Requests.{ComesIntoEffect, HoldsInEffect, IsAdmitted, IsAnswered, IsFirstReplyKept, IsGivenUp, IsHeldThrough, IsInitialDatagram, IsNewRequest, IsOfOctets, IsReplyKept, OnlySays, OpensAsRequest, PutsOneIntoEffect, first_requests};
 ghost use Rattle.ike.specs.declared.fault.IkeFault.TheVariants as fault;
 ghost use Rattle.ike.specs.Soundness.{IsSoundMachine};
-ghost use Rattle.ike.specs.Steps.{is_tick, InputView, Message, Steps, Refuses};
+ghost use Rattle.ike.specs.Steps.{is_tick, InputView, Message, Steps, Refuses, Tick};
 ghost use Rattle.ike.specs.Tracing.{IsTraced};
 ghost use Rattle.ike.specs.declared.output.IkeOutput.TheVariants as output;
 ghost use Rattle.ike.specs.declared.output.IkeOutput.TheVariants.{Request};
@@ -54,13 +56,14 @@ ghost use Rattle.ike.specs.declared.output.Stepped.{Stepped};
 use children::laws::children_mirror;
 use effects::laws::{
     associations_stay_themselves, beginnings_are_determined, children_are_made_of_their_messages,
-    effects_are_determined, keys_stay, no_spi_comes, pairs_that_come_are_told,
-    probes_are_short_and_determined, spis_stay_reserved, what_is_kept_is_short,
-    what_is_passed_over_changes_nothing, what_others_hold_stays,
+    effects_are_determined, keys_stay, messages_make_moves, no_spi_comes, nothing_comes_due,
+    pairs_that_come_are_told, probes_are_short_and_determined, spis_stay_reserved,
+    what_is_kept_is_short, what_is_passed_over_changes_nothing, what_others_hold_stays,
 };
 use moments::laws::{
-    no_more_go_out_than_wait, some_are_held_on, ticks_are_determined,
-    what_goes_out_again_is_outstanding, what_is_held_was_held,
+    no_more_go_out_than_wait, nothing_is_due_afterwards, pairs_go_with_their_associations,
+    some_are_held_on, ticks_are_determined, what_comes_is_due, what_goes_out_again_is_outstanding,
+    what_is_held_was_held,
 };
 use requests::laws::later_incoming_follow;
 use sa_init::laws::{acceptance_is_limited, judgements_are_determined};
@@ -376,6 +379,45 @@ pub fn requests_are_remembered()
     some_are_held_on();
     what_is_held_was_held();
     what_is_spelled_has_no_fault();
+}
+
+/// What a step does to each association that has keys are two moves at most, each of which it tells: keys come, a request goes out for the
+/// first time, a response is counted, a request of the peer takes effect, the association is closed, or is held no longer. They lead from
+/// what moves speak of before the step (keys, role, numbers, and octets that wait or are kept) to what they speak of after; so nothing else
+/// of it changes (RFC 7296, sections 2.1 to 2.4).
+pub fn steps_are_moves()
+    ensures { (meaning : Meaning) (entries : List Entry) (input : InputView) (old : Machine) (table : Database)
+        (stepped : Stepped) (new : Machine) (new_table : Database) (serial : ℕ) → IsSoundMachine old table
+        → Steps meaning entries input old table stepped new new_table → MovesAt input old.held stepped new.held serial }
+{
+    associations_stay_themselves();
+    messages_make_moves();
+    what_is_held_was_held();
+}
+
+/// What is due comes with a moment that has reached it. A machine with no association has nothing due that its moment has reached
+/// (`first`), and a step leaves nothing due where nothing was (`timely`); with a moment all comes that is due then (`comes`), and it is
+/// refused for want of memory alone (`unrefused`); where no moment is given, none is told and the time stands still (`stays`) (RFC 7296,
+/// sections 2.1 and 2.4).
+pub fn what_is_due_comes_in_time()
+    ensures first { (config : Config) → IsTimely (new_machine config) }
+    ensures timely { (meaning : Meaning) (entries : List Entry) (input : InputView) (old : Machine) (table : Database)
+        (stepped : Stepped) (new : Machine) (new_table : Database) → IsTimely old
+        → Steps meaning entries input old table stepped new new_table → IsTimely new }
+    ensures comes { (meaning : Meaning) (entries : List Entry) (moment : ℕ) (old : Machine) (table : Database)
+        (stepped : Stepped) (new : Machine) (new_table : Database)
+        → Steps meaning entries (Tick moment) old table stepped new new_table → ComesTo (max old.moment moment) old table stepped new new_table }
+    ensures unrefused { (meaning : Meaning) (entries : List Entry) (moment : ℕ) (machine : Machine) (table : Database)
+        (reason : IkeFault) → Refuses meaning entries (Tick moment) machine table reason → is_want_of_memory reason ≡ true }
+    ensures stays { (meaning : Meaning) (entries : List Entry) (input : InputView) (old : Machine) (table : Database)
+        (stepped : Stepped) (new : Machine) (new_table : Database) → is_tick input ≡ false
+        → Steps meaning entries input old table stepped new new_table → StaysAt old stepped new }
+{
+    nothing_comes_due();
+    nothing_is_due_afterwards();
+    pairs_go_with_their_associations();
+    what_comes_is_due();
+    what_is_held_was_held();
 }
 
 /// What comes again is answered by the reply that is kept, and changes nothing: a datagram that opens as a request whose reply is kept, and

@@ -1,5 +1,5 @@
 //! What a datagram that came does.
-ghost use Rattle.std.specs.Prelude.{◌≡◌, ◌<◌, true, Some, IfOk, IfErr, length};
+ghost use Rattle.std.specs.Prelude.{◌≡◌, ◌<◌, true, Some, Ok, IfOk, IfErr, length};
 ghost use Rattle.std.specs.List.{position};
 ghost use Rattle.wire.specs.Messages.{Spells};
 ghost use Rattle.sadb.specs.Database.{IsAsBefore};
@@ -9,7 +9,7 @@ ghost use Rattle.association.specs.Finding.{found};
 ghost use Rattle.initial.specs.Configs.{setup_of, IsConfig};
 ghost use Rattle.ike.specs.Machines.{half_open_count, SERIAL_END};
 ghost use Rattle.ike.specs.Outputs.{half_open_step};
-ghost use Rattle.ike.specs.Receiving.{is_answered, is_initial_request, is_sound_initial, sender_of, with_next, CannotMake, CanWantMemory, RefusesDatagram, RefusesNew, Repeats, SaysNotice, TakesAt, TakesDatagram, TakesFound, TakesNew, TakesOffer, TakesRead, TakesSound};
+ghost use Rattle.ike.specs.Receiving.{is_answered, is_initial_request, is_sound_initial, sender_of, with_next, CannotMake, CanWantMemory, RefusesDatagram, RefusesNew, Repeats, SaysNotice, TakesAt, TakesDatagram, TakesFound, TakesNew, TakesOffer, TakesRead, TakesSound, WantsFound};
 ghost use Rattle.ike.specs.Soundness.{AreSound};
 
 use crate::held::{Held, answered_place, half_open_count, is_bad_spi};
@@ -165,6 +165,7 @@ fn take_found<C: Sealer + Agreement + Proof>(
         })
         (setup_of step.now) octets.now message.now held.old table.old stepped held.new table.new) }
     ensures refused { IfErr result (λ _. (held.new ≡ held.old) × IsAsBefore table.old table.new) }
+    ensures wanted { IfErr result (WantsFound (found message.now.header held.old.associations) held.old) }
 {
     match find(held.associations(), &message.header) {
         Ok(place) => take_at(alloc, step, held, place, table, octets, message),
@@ -199,6 +200,7 @@ fn take_at<C: Sealer + Agreement + Proof>(
         })
         (setup_of step.now) octets.now message.now held.old table.old stepped held.new table.new) }
     ensures refused { IfErr result (λ _. (held.new ≡ held.old) × IsAsBefore table.old table.new) }
+    ensures wanted { IfErr result (WantsFound (Ok place) held.old) }
 {
     let association = &mut held.associations[place];
     let ike = association.serial;

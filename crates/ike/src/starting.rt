@@ -12,11 +12,10 @@ use crate::held::{Held, has_serial, is_bad_spi};
 use crate::{IkeFault, IkeOutput, Stepped};
 use association::{FirstChild, MessageFault};
 use base::Selector;
-use children::ChildFault;
 use initial::{Beginning, Step, begin};
 use policy::{Action, Entry};
 use sa_init::ASSOCIATION_LIMIT;
-use sadb::{Spi, Table, TableFault};
+use sadb::{Spi, Table};
 use std::alloc::{AllocError, Global};
 use suite::{Agreement, Proof, Sealer};
 
@@ -133,18 +132,15 @@ fn new_serial(held: &Held, spi: u64) -> Result<u32, IkeFault>
 }
 
 // Makes room for the child.
+#[tactic(auto, using(crate::proofs::WantLemmas::withheld))]
 fn prepare(table: &mut Table) -> Result<(), IkeFault>
     ensures ready { IfOk result (λ _. IsReady table.new) }
     ensures left { IfOk result (λ _. (¬ IsFull table.old) × (¬ IsSpent table.old)) }
     ensures refused { IfErr result (GivesNoSpi table.old) }
     ensures content { IsAsBefore table.old table.new }
 {
-    match table.prepare() {
-        Ok(_) => Ok(()),
-        Err(TableFault::Full) => Err(IkeFault::TableFull),
-        Err(TableFault::Spent) => Err(IkeFault::SpisSpent),
-        Err(TableFault::Memory) => Err(IkeFault::Memory(ChildFault::Table)),
-    }
+    let _ = table.prepare()?;
+    Ok(())
 }
 
 // Reserves the child's SPI, and holds the association. An error is for want of memory, and changes nothing.

@@ -59,7 +59,7 @@ one_stays now all false false a table sent closed held after others later was am
         spi_i = ap (λ (x : Association). x.spi_i) is.1.content;
         spi_r = ap (λ (x : Association). x.spi_r) is.1.content;
         keys = ap (λ (x : Association). keys_in x.phase) is.1.content;
-        stays = inl is.1;
+        stays = inl (was, is.1);
       },
       rest,
     )

@@ -4,3 +4,4 @@ pub mod EntryLemmas
 pub mod HeldLemmas
 pub mod PassingLemmas
 mod HoldLemmas
+mod TimelyLemmas

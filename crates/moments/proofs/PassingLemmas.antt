@@ -11,8 +11,8 @@ use Rattle.sadb.specs.Database.{Database, IsReserved, Releases, RemovesAllOf}
 use Rattle.association.specs.Closing.{Closes, GivesUpSpi, HoldsSpi}
 use Rattle.association.specs.Phases.{spi_in}
 use Rattle.association.specs.declared.phase.Association.{Association}
-use Rattle.moments.specs.Due.{has_failed, held_of, is_over, CLOSED_TIME}
-use Rattle.moments.specs.Passing.{closed_by, closed_of, sent_by, sent_of, BecomeAll, Becomes, BecomesBy}
+use Rattle.moments.specs.Due.{closed_by, closed_of, has_failed, held_of, is_over, sent_by, sent_of, CLOSED_TIME}
+use Rattle.moments.specs.Passing.{BecomeAll, Becomes, BecomesBy}
 use Rattle.moments.specs.declared.resent.Resent.{Resent}
 use Rattle.moments.specs.Ticking.{HoldTheirSpis, PassAll, PassesBy}
 
@@ -127,7 +127,7 @@ unfolding kept_by
 kept_joins true a others = refl
 kept_joins false a others = refl
 
-closed_now : (now : ℕ) → nat_le (now + CLOSED_TIME) now ≡ false
+pub closed_now : (now : ℕ) → nat_le (now + CLOSED_TIME) now ≡ false
 closed_now now = grind (arith, nat_tests)
 
 over_stays : (over failed : Bool) (now : ℕ) (old : Association) (table : Database) (new : Association) (new_table : Database) → is_over now old.phase ≡ over → BecomesBy over failed now old table new new_table → is_over now new.phase ≡ over

@@ -1,5 +1,5 @@
 -- What is due of an association at a moment (RFC 7296 sections 2.1 and 2.4). Moments are in milliseconds.
-use Rattle.std.specs.Prelude.{◌≡◌, ◌==◌, ◌+◌, ◌&&◌, ℕ, Bool, false, not, List, length, map, nat_le, nat_lt, if◌then◌else◌}
+use Rattle.std.specs.Prelude.{◌≡◌, ◌==◌, ◌+◌, ◌&&◌, ◌∷◌, ℕ, Bool, true, false, not, List, [], length, map, nat_le, nat_lt, if◌then◌else◌}
 use Rattle.std.specs.FinMap as numbers
 use Rattle.std.specs.List.{filter, list_any, sum_by}
 use Rattle.std.specs.Option.{option_map}
@@ -51,6 +51,24 @@ resent a e = record { ike = a.serial; number = e.0; encrypted = not (e.1.exchang
 -- all that are due, by rising number
 abbrev pub due_of : ℕ → Association → List Resent
 due_of now a = map (resent a) (filter (λ e. is_due now e.1) (outstanding_of a))
+
+-- what comes of one association with a moment, by whether it is over and has failed: the requests that go out again, and its serial where
+-- it is closed
+abbrev pub sent_by : Bool → Bool → ℕ → Association → List Resent
+sent_by true failed now a = []
+sent_by false true now a = []
+sent_by false false now a = due_of now a
+
+abbrev pub closed_by : Bool → Bool → Association → List ℕ
+closed_by true failed a = []
+closed_by false true a = a.serial ∷ []
+closed_by false false a = []
+
+abbrev pub sent_of : ℕ → Association → List Resent
+sent_of now a = sent_by (is_over now a.phase) (has_failed now a) now a
+
+abbrev pub closed_of : ℕ → Association → List ℕ
+closed_of now a = closed_by (is_over now a.phase) (has_failed now a) a
 
 -- however late the moment, it goes out once, and the next wait counts from then
 abbrev pub after_sending : ℕ → Request → Request

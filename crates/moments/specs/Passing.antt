@@ -5,7 +5,7 @@ use Rattle.sadb.specs.Database.{Database}
 use Rattle.association.specs.Closing.{Closes}
 use Rattle.association.specs.declared.phase.Association.{Association}
 use Rattle.association.specs.declared.phase.Request.{Request}
-use Rattle.moments.specs.Due.{after_sending, due_of, has_failed, is_due, is_over, resent, SendsAgain}
+use Rattle.moments.specs.Due.{after_sending, has_failed, is_due, is_over, resent, SendsAgain}
 use Rattle.moments.specs.declared.resent.Resent.{Resent}
 
 -- what an outstanding request adds to those that go out again
@@ -16,23 +16,6 @@ one_due now a number r = if is_due now r then resent a (number, r) ∷ [] else [
 pub record RestartsAt (now : ℕ) (old : OwnRequests Request) (number : ℕ) (new : OwnRequests Request) : Type 0 where
   pub request : Request
   pub replaced : ReplacesRequest old number request (after_sending now request) new
-
--- what one association sends, and its serial where it is closed, by whether it is over and has failed
-abbrev pub sent_by : Bool → Bool → ℕ → Association → List Resent
-sent_by true failed now a = []
-sent_by false true now a = []
-sent_by false false now a = due_of now a
-
-abbrev pub closed_by : Bool → Bool → Association → List ℕ
-closed_by true failed a = []
-closed_by false true a = a.serial ∷ []
-closed_by false false a = []
-
-abbrev pub sent_of : ℕ → Association → List Resent
-sent_of now a = sent_by (is_over now a.phase) (has_failed now a) now a
-
-abbrev pub closed_of : ℕ → Association → List ℕ
-closed_of now a = closed_by (is_over now a.phase) (has_failed now a) a
 
 -- one that is over stays as it is, one that has failed is closed, and each other one sends what is due
 abbrev pub BecomesBy : Bool → Bool → ℕ → Association → Database → Association → Database → Type 0

@@ -1,12 +1,13 @@
 //! What follows from the definitions alone. No function here does anything.
 ghost use Rattle.std.specs.Prelude.{◌≡◌, ◌≤◌, ℕ, List, [], All, length, map};
-ghost use Rattle.std.specs.List.{AllZip};
+ghost use Rattle.std.specs.List.{flat_map, AllZip};
 ghost use Rattle.sadb.specs.Contents.{table_content};
 ghost use Rattle.sadb.specs.Database.{Database, IsReserved};
+ghost use Rattle.association.specs.Closing.{Closes};
 ghost use Rattle.association.specs.Contents.{association_content};
 ghost use Rattle.association.specs.declared.phase.Association.{Association};
-ghost use Rattle.moments.specs.Due.{held_of, outstanding_count};
-ghost use Rattle.moments.specs.Held.{HasNothingDue, IsOutstandingOf, StaysItself};
+ghost use Rattle.moments.specs.Due.{closed_of, held_of, outstanding_count, sent_of};
+ghost use Rattle.moments.specs.Held.{HasBegun, HasNothingDue, IsInTime, IsOutstandingOf, LeavesPairsBut, StaysItself};
 ghost use Rattle.moments.specs.Holding.{HoldSome, HoldsNone, LeavesFewer};
 ghost use Rattle.moments.specs.Ticking.{Ticks};
 ghost use Rattle.moments.specs.declared.ticking.Ticked.{Ticked};
@@ -36,6 +37,30 @@ pub fn what_is_held_was_held()
 pub fn what_goes_out_again_is_outstanding()
     ensures { (now : ℕ) (old new : List Association) (table new_table : Database) (ticked : Ticked)
         → Ticks now old table ticked new new_table → All (IsOutstandingOf now old new) ticked.requests }
+{}
+
+/// All that is due comes, and nothing else: of each association that is held on the requests that are due, by rising number, and the
+/// serial of each that is closed, in the order of the associations.
+pub fn what_comes_is_due()
+    ensures { (now : ℕ) (old : List Association) (table : Database) (ticked : Ticked) (new : List Association) (new_table : Database)
+        → Ticks now old table ticked new new_table
+        → (ticked.requests ≡ flat_map (sent_of now) old) × (ticked.closed ≡ flat_map (closed_of now) old) }
+{}
+
+/// After a moment nothing is due that it has reached, and nothing waits from a later one on: a request that went out again waits from
+/// then on, and a closed association is held from then on, whatever closed it. So what is due at a later moment was not at this one.
+pub fn nothing_is_due_afterwards()
+    ensures held { (earlier now : ℕ) (old : List Association) (table : Database) (ticked : Ticked) (new : List Association)
+        (new_table : Database) → earlier ≤ now → All (HasBegun earlier) old → Ticks now old table ticked new new_table
+        → All (IsInTime now) new }
+    ensures closed { (now : ℕ) (old new : Association) (table new_table : Database) → Closes old table now new new_table
+        → IsInTime now new }
+{}
+
+/// The pairs of the associations that a moment closes go, and no other pair is changed.
+pub fn pairs_go_with_their_associations()
+    ensures { (now : ℕ) (old : List Association) (table : Database) (ticked : Ticked) (new : List Association) (new_table : Database)
+        → Ticks now old table ticked new new_table → LeavesPairsBut ticked.closed table new_table }
 {}
 
 /// Before anything is due, a moment changes nothing and sends nothing.

@@ -3,7 +3,8 @@ ghost use Rattle.std.specs.Prelude.{◌≡◌, IfOk, IfErr};
 ghost use Rattle.std.specs.List.{flat_map};
 ghost use Rattle.association.specs.Closing.{HoldsSpi};
 ghost use Rattle.association.specs.Phases.{spi_in};
-ghost use Rattle.moments.specs.Passing.{closed_of, sent_of, Becomes, BecomeAll};
+ghost use Rattle.moments.specs.Due.{closed_of, sent_of};
+ghost use Rattle.moments.specs.Passing.{Becomes, BecomeAll};
 ghost use Rattle.moments.specs.Ticking.{HoldTheirSpis, Ticks};
 
 use crate::Resent;

@@ -3,7 +3,7 @@ ghost use Rattle.std.specs.Prelude.{OnOk, IfErr, length};
 ghost use Rattle.gateway.specs.WorldRuns.{PlaysFirst, StopsPlaying};
 
 use super::{Event, World};
-use crate::laws::every_run_keeps_to_requests;
+use crate::laws::every_run_keeps_its_promises;
 use crate::{Output, RunFault};
 use std::alloc::Global;
 use suite::{Agreement, Proof, Sealer};
@@ -46,7 +46,7 @@ pub fn run_world<'a, C: Sealer + Agreement + Proof>(
         })
         events.now world.old outputs.old.items fault world.new outputs.new.items) }
 {
-    every_run_keeps_to_requests::<C>();
+    every_run_keeps_its_promises::<C>();
     for (done, event) in events.iter().enumerate() {
         if outputs.reserve(1).is_err() {
             return Err(RunFault::NoRoom { done });

@@ -13,7 +13,7 @@ returns-then-is_err-clause-stopped g c =
         outputs = i.answers;
         appended = c.reserve.ensures.items ∙ i.appended;
         runs = i.runs;
-        requests = c.every_run_keeps_to_requests.ensures _ _ i.answers c.args.gateway.now c.loop-done.gateway i.runs;
+        promises = c.every_run_keeps_its_promises.ensures _ _ i.answers c.args.gateway.now c.loop-done.gateway i.runs;
       },
     )
 
@@ -38,7 +38,7 @@ loop-done-preserved g c =
       answers = i.answers ++ o ∷ [];
       appended = pushed_after c.args.outputs.now.items i.answers c.reserve.new.self.items c.push_reserved.new.self.items o c.push_reserved.ensures.items (c.reserve.ensures.items ∙ i.appended);
       runs = subst (λ (is : List Input). Runs (StepsAs meaning_of) is (i.answers ++ o ∷ []) c.args.gateway.now c.step-output.new.self) (sym more)
-          (run_more (StepsAs meaning_of) c.args.gateway.now _ i.answers c.loop-done.gateway input o c.step-output.new.self i.runs (record { sound = record { machine = c.invariants_hold.ensures.machine; table = c.invariants_hold.ensures.table }; steps = c.step-output.ensures }));
+          (run_more (StepsAs meaning_of) c.args.gateway.now _ i.answers c.loop-done.gateway input o c.step-output.new.self i.runs (record { sound = record { machine = c.invariants_hold.ensures.machine; table = c.invariants_hold.ensures.table; timely = c.invariants_hold.ensures.timely }; steps = c.step-output.ensures }));
       length_now = omega (arith, c.push_reserved.ensures.len, c.reserve.ensures.len, i.length_now);
       capacity = omega (arith, i.capacity, c.reserve.ensures.capacity, c.push_reserved.ensures.capacity);
     }
@@ -65,5 +65,5 @@ returns-clause-all g c =
       outputs = i.answers;
       appended = i.appended;
       runs = i.runs;
-      requests = c.every_run_keeps_to_requests.ensures meaning_of _ i.answers c.args.gateway.now c.loop-done.gateway i.runs;
+      promises = c.every_run_keeps_its_promises.ensures meaning_of _ i.answers c.args.gateway.now c.loop-done.gateway i.runs;
     })

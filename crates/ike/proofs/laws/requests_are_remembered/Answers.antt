@@ -3,102 +3,8 @@ use Rattle.ike.proofs.OutputLemmas.{step_gone, step_window, MoreLaws}
 use Rattle.ike.proofs.RequestLemmas.{below, held_soundly, step_concludes, step_follows, step_opened, Laws}
 use Rattle.ike.proofs.laws.requests_are_remembered.Goals as goal
 
-pub returns-clause-follows : goal.returns-clause-follows
-returns-clause-follows c =
-    let laws : Laws = record {
-      itself = c.associations_stay_themselves.ensures;
-      alone = c.requests_take_effect.ensures.alone;
-      always = c.requests_take_effect.ensures.always;
-      follows = c.requests_are_remembered.ensures.follows;
-      concluded = c.requests_are_remembered.ensures.concluded;
-      opened = c.requests_are_remembered.ensures.half_open;
-      repeated = c.repeats_are_answered.ensures.repeated;
-      forgotten = c.repeats_are_answered.ensures.forgotten;
-      reflexive = c.later_incoming_follow.ensures.reflexive;
-      message = c.octets_spell_one_message.ensures.message;
-      faultless = c.what_is_spelled_has_no_fault.ensures;
-    } in
-    step_follows laws c.some_are_held_on.ensures.held
-
-pub returns-clause-concluded : goal.returns-clause-concluded
-returns-clause-concluded c =
-    let laws : Laws = record {
-      itself = c.associations_stay_themselves.ensures;
-      alone = c.requests_take_effect.ensures.alone;
-      always = c.requests_take_effect.ensures.always;
-      follows = c.requests_are_remembered.ensures.follows;
-      concluded = c.requests_are_remembered.ensures.concluded;
-      opened = c.requests_are_remembered.ensures.half_open;
-      repeated = c.repeats_are_answered.ensures.repeated;
-      forgotten = c.repeats_are_answered.ensures.forgotten;
-      reflexive = c.later_incoming_follow.ensures.reflexive;
-      message = c.octets_spell_one_message.ensures.message;
-      faultless = c.what_is_spelled_has_no_fault.ensures;
-    } in
-    step_concludes laws c.some_are_held_on.ensures.held
-
-pub returns-clause-half_open : goal.returns-clause-half_open
-returns-clause-half_open c =
-    let laws : Laws = record {
-      itself = c.associations_stay_themselves.ensures;
-      alone = c.requests_take_effect.ensures.alone;
-      always = c.requests_take_effect.ensures.always;
-      follows = c.requests_are_remembered.ensures.follows;
-      concluded = c.requests_are_remembered.ensures.concluded;
-      opened = c.requests_are_remembered.ensures.half_open;
-      repeated = c.repeats_are_answered.ensures.repeated;
-      forgotten = c.repeats_are_answered.ensures.forgotten;
-      reflexive = c.later_incoming_follow.ensures.reflexive;
-      message = c.octets_spell_one_message.ensures.message;
-      faultless = c.what_is_spelled_has_no_fault.ensures;
-    } in
-    step_opened laws c.some_are_held_on.ensures.held
-
-pub returns-clause-admitted : goal.returns-clause-admitted
-returns-clause-admitted c =
-    let laws : Laws = record {
-      itself = c.associations_stay_themselves.ensures;
-      alone = c.requests_take_effect.ensures.alone;
-      always = c.requests_take_effect.ensures.always;
-      follows = c.requests_are_remembered.ensures.follows;
-      concluded = c.requests_are_remembered.ensures.concluded;
-      opened = c.requests_are_remembered.ensures.half_open;
-      repeated = c.repeats_are_answered.ensures.repeated;
-      forgotten = c.repeats_are_answered.ensures.forgotten;
-      reflexive = c.later_incoming_follow.ensures.reflexive;
-      message = c.octets_spell_one_message.ensures.message;
-      faultless = c.what_is_spelled_has_no_fault.ensures;
-    } in
-    step_admits laws c.some_are_held_on.ensures.held
-
-pub returns-clause-begun : goal.returns-clause-begun
-returns-clause-begun c =
-    let laws : Laws = record {
-      itself = c.associations_stay_themselves.ensures;
-      alone = c.requests_take_effect.ensures.alone;
-      always = c.requests_take_effect.ensures.always;
-      follows = c.requests_are_remembered.ensures.follows;
-      concluded = c.requests_are_remembered.ensures.concluded;
-      opened = c.requests_are_remembered.ensures.half_open;
-      repeated = c.repeats_are_answered.ensures.repeated;
-      forgotten = c.repeats_are_answered.ensures.forgotten;
-      reflexive = c.later_incoming_follow.ensures.reflexive;
-      message = c.octets_spell_one_message.ensures.message;
-      faultless = c.what_is_spelled_has_no_fault.ensures;
-    } in
-    step_next laws c.some_are_held_on.ensures.held
-
-pub returns-clause-rises : goal.returns-clause-rises
-returns-clause-rises c = step_rises
-
-pub returns-clause-given : goal.returns-clause-given
-returns-clause-given c = λ machine table serial a sound stands. below machine.held table serial a sound stands
-
-pub returns-clause-soundly : goal.returns-clause-soundly
-returns-clause-soundly c = λ machine table serial a sound stands. held_soundly machine.held table serial a sound stands
-
-pub returns-clause-window : goal.returns-clause-window
-returns-clause-window c =
+pub returns : goal.returns
+returns c =
     let laws : Laws = record {
       itself = c.associations_stay_themselves.ensures;
       alone = c.requests_take_effect.ensures.alone;
@@ -119,21 +25,15 @@ returns-clause-window c =
       only = c.repeats_are_answered.ensures.only;
       window = c.requests_are_remembered.ensures.window;
     } in
-    step_window more c.some_are_held_on.ensures.held
-
-pub returns-clause-gone : goal.returns-clause-gone
-returns-clause-gone c =
-    let laws : Laws = record {
-      itself = c.associations_stay_themselves.ensures;
-      alone = c.requests_take_effect.ensures.alone;
-      always = c.requests_take_effect.ensures.always;
-      follows = c.requests_are_remembered.ensures.follows;
-      concluded = c.requests_are_remembered.ensures.concluded;
-      opened = c.requests_are_remembered.ensures.half_open;
-      repeated = c.repeats_are_answered.ensures.repeated;
-      forgotten = c.repeats_are_answered.ensures.forgotten;
-      reflexive = c.later_incoming_follow.ensures.reflexive;
-      message = c.octets_spell_one_message.ensures.message;
-      faultless = c.what_is_spelled_has_no_fault.ensures;
-    } in
-    step_gone laws c.what_is_held_was_held.ensures
+    record {
+      follows = step_follows laws c.some_are_held_on.ensures.held;
+      concluded = step_concludes laws c.some_are_held_on.ensures.held;
+      half_open = step_opened laws c.some_are_held_on.ensures.held;
+      admitted = step_admits laws c.some_are_held_on.ensures.held;
+      begun = step_next laws c.some_are_held_on.ensures.held;
+      rises = step_rises;
+      given = λ machine table serial a sound stands. below machine.held table serial a sound stands;
+      soundly = λ machine table serial a sound stands. held_soundly machine.held table serial a sound stands;
+      window = step_window more c.some_are_held_on.ensures.held;
+      gone = step_gone laws c.what_is_held_was_held.ensures;
+    }

@@ -6,6 +6,7 @@ use Rattle.informational.specs.Orders.{RefusesOrder}
 use Rattle.ike.specs.Machines.{Held}
 use Rattle.ike.proofs.ProbeLemmas.{err_and}
 use Rattle.ike.proofs.QuietLemmas.{put_back}
+use Rattle.ike.proofs.WantLemmas.{read_there}
 use Rattle.ike.proofs.probing.probe_at.Goals as goal
 
 pub returns-in_err-probed-clause-refused : goal.returns-in_err-probed-clause-refused
@@ -15,8 +16,7 @@ returns-in_err-probed-clause-refused g c =
     err_and c.from_residual.result _ _ c.from_residual.ensures.1 (λ e is. (
       record {
         association = c.index_mut-association.result.now;
-        there = subst (λ (h : Held). slice_get h.associations c.args.place ≡ Some c.index_mut-association.result.now) c.held.view_is
-            (slice_get_read items (length items) c.args.place c.index_mut-association.result.now refl within c.index_mut-association.ensures.value);
+        there = read_there c.held.inside.next items c.args.held.now c.args.place c.index_mut-association.result.now c.held.view_is c.requires c.index_mut-association.ensures.value;
         refuses = subst (λ f. RefusesOrder c.index_mut-association.result.now f) (sym is) c.in_err-probed.ensures.refused.0;
       },
       ap (λ (xs : List Association). record { next = c.held.inside.next; associations = xs })
@@ -28,11 +28,9 @@ returns-in_err-probed-clause-refused g c =
 pub returns-clause-probed : goal.returns-clause-probed
 returns-clause-probed g c =
     let items = c.held.inside.associations.items in
-    let within : c.args.place < length items = subst (λ (h : Held). c.args.place < length h.associations) (sym c.held.view_is) c.requires in
     record {
       association = c.index_mut-association.result.now;
-      there = subst (λ (h : Held). slice_get h.associations c.args.place ≡ Some c.index_mut-association.result.now) c.held.view_is
-          (slice_get_read items (length items) c.args.place c.index_mut-association.result.now refl within c.index_mut-association.ensures.value);
+      there = read_there c.held.inside.next items c.args.held.now c.args.place c.index_mut-association.result.now c.held.view_is c.requires c.index_mut-association.ensures.value;
       changed = c.probe.new.association;
       probes = c.in_ok-probed.ensures.probed;
       number = c.in_ok-probed.ensures.number;

@@ -1,25 +1,29 @@
-use Rattle.std.proofs.Common.{◌≡◌, ◌<◌, Some, ap, length, refl, subst, sym, slice_set}
-use Rattle.std.specs.List.{slice_get}
-use Rattle.std.proofs.lemmas.Option.{slice_get_read}
+use Rattle.std.proofs.Common.{ap, slice_set, subst, sym, Ok}
+use Rattle.children.specs.declared.fault.ChildFault.{ChildFault}
 use Rattle.ike.specs.Machines.{Held}
+use Rattle.ike.specs.Receiving.{WantsFound}
+use Rattle.ike.proofs.ProbeLemmas.{err_and}
+use Rattle.ike.proofs.WantLemmas.{read_there, wants_there}
 use Rattle.ike.proofs.receiving.take_at.Goals as goal
 
 pub take_message-requires-clause-reserved : goal.take_message-requires-clause-reserved
 take_message-requires-clause-reserved g c =
-    let items = c.held.inside.associations.items in
-    let within : c.args.place < length items = subst (λ (h : Held). c.args.place < length h.associations) (sym c.held.view_is) c.requires.there in
     (c.requires.sound.each c.args.place c.index_mut-association.result.now
-    (subst (λ (h : Held). slice_get h.associations c.args.place ≡ Some c.index_mut-association.result.now) c.held.view_is
-    (slice_get_read items (length items) c.args.place c.index_mut-association.result.now refl within c.index_mut-association.ensures.value))).reserved
+    (read_there c.held.inside.next c.held.inside.associations.items c.args.held.now c.args.place c.index_mut-association.result.now c.held.view_is c.requires.there c.index_mut-association.ensures.value)).reserved
+
+pub returns-in_err-effect-clause-wanted : goal.returns-in_err-effect-clause-wanted
+returns-in_err-effect-clause-wanted g c =
+    let a = c.index_mut-association.result.now in
+    let there = read_there c.held.inside.next c.held.inside.associations.items c.args.held.now c.args.place a c.held.view_is c.requires.there c.index_mut-association.ensures.value in
+    err_and c.from_residual.result _ _ c.from_residual.ensures.1 (λ e is.
+    subst (λ (f : ChildFault). WantsFound (Ok c.args.place) c.args.held.now f) (sym is)
+    (wants_there c.args.held.now c.args.place a c.in_err-effect.field-0.0 there c.in_err-effect.ensures.wanted))
 
 pub returns-clause-taken : goal.returns-clause-taken
 returns-clause-taken g c =
-    let items = c.held.inside.associations.items in
-    let within : c.args.place < length items = subst (λ (h : Held). c.args.place < length h.associations) (sym c.held.view_is) c.requires.there in
     record {
       association = c.index_mut-association.result.now;
-      there = subst (λ (h : Held). slice_get h.associations c.args.place ≡ Some c.index_mut-association.result.now) c.held.view_is
-          (slice_get_read items (length items) c.args.place c.index_mut-association.result.now refl within c.index_mut-association.ensures.value);
+      there = read_there c.held.inside.next c.held.inside.associations.items c.args.held.now c.args.place c.index_mut-association.result.now c.held.view_is c.requires.there c.index_mut-association.ensures.value;
       effect = c.in_ok-effect.effect;
       changed = c.take_message.new.association;
       takes = c.in_ok-effect.ensures.taken;

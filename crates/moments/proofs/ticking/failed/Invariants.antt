@@ -1,7 +1,7 @@
 -- what was added so far, and what is still to come, is what all add
 use Rattle.std.proofs.Common.{◌≡◌, ◌++◌, drop}
 use Rattle.std.specs.List.{flat_map}
-use Rattle.moments.specs.Passing.{closed_of}
+use Rattle.moments.specs.Due.{closed_of}
 use Rattle.moments.proofs.ticking.failed.Given as goal
 
 abbrev pub invariant-loop-association : goal.invariant-loop-association

@@ -3,8 +3,8 @@ use Rattle.std.proofs.lemmas.Fn.{filter_same}
 use Rattle.std.proofs.lemmas.List.{take-append-le, take_all}
 use Rattle.std.specs.List.{flat_map}
 use Rattle.association.specs.declared.phase.Association.{Association}
-use Rattle.moments.specs.Due.{held_of, is_over}
-use Rattle.moments.specs.Passing.{closed_of, sent_of, BecomeAll}
+use Rattle.moments.specs.Due.{closed_of, held_of, is_over, sent_of}
+use Rattle.moments.specs.Passing.{BecomeAll}
 use Rattle.moments.proofs.PassingLemmas.{all_told}
 use Rattle.moments.proofs.ticking.tick.Goals as goal
 

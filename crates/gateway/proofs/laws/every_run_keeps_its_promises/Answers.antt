@@ -1,5 +1,7 @@
-use Rattle.gateway.proofs.RequestLemmas.{keeps_to, RequestFacts}
-use Rattle.gateway.proofs.laws.every_run_keeps_to_requests.Goals as goal
+use Rattle.gateway.proofs.MomentLemmas.{MomentFacts}
+use Rattle.gateway.proofs.PromiseLemmas.{keeps_promises}
+use Rattle.gateway.proofs.RequestLemmas.{RequestFacts}
+use Rattle.gateway.proofs.laws.every_run_keeps_its_promises.Goals as goal
 
 pub returns : goal.returns
 returns g c =
@@ -30,4 +32,10 @@ returns g c =
       still = c.what_is_quiet_changes_nothing.ensures;
       soundly = c.requests_are_remembered.ensures.soundly;
     } in
-    λ meaning_of inputs outputs old new run. keeps_to facts c.refusals_change_nothing.ensures.refused meaning_of inputs outputs old new run
+    let moments : MomentFacts = record {
+      timely = c.what_is_due_comes_in_time.ensures.timely;
+      comes = c.what_is_due_comes_in_time.ensures.comes;
+      unrefused = c.what_is_due_comes_in_time.ensures.unrefused;
+      stays = c.what_is_due_comes_in_time.ensures.stays;
+    } in
+    λ meaning_of inputs outputs old new run. keeps_promises facts c.refusals_change_nothing.ensures.refused moments meaning_of inputs outputs old new run

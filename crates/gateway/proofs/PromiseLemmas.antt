@@ -1,0 +1,23 @@
+-- Every run keeps what is promised of it.
+use Rattle.std.proofs.Common.{List}
+use Rattle.effects.specs.Taking.{Meaning}
+use Rattle.gateway.specs.Promises.{KeepsPromises}
+use Rattle.gateway.specs.Runs.{Runs, StepsAs}
+use Rattle.gateway.specs.States.{State}
+use Rattle.gateway.specs.declared.input.Input.{Input}
+use Rattle.gateway.specs.declared.output.Output.{Output}
+use Rattle.gateway.proofs.HistoryLemmas.{told}
+use Rattle.gateway.proofs.MomentLemmas.{moments_kept, MomentFacts}
+use Rattle.gateway.proofs.RequestLemmas.{repeats_kept, requests_kept, RefusalLaw, RequestFacts}
+
+pub keeps_promises : {C : Type 0} (facts : RequestFacts) (changes_nothing : RefusalLaw C) (moments : MomentFacts) (meaning_of : C → Meaning) (is : List Input) (os : List Output) (old new : State C)
+    → Runs (StepsAs meaning_of) is os old new → KeepsPromises meaning_of is os old new
+keeps_promises {C} facts changes_nothing moments meaning_of is os old new run =
+    let t = told meaning_of is os old new run in
+    record {
+      passages = t.passages;
+      history = t.history;
+      requests = requests_kept facts changes_nothing meaning_of old new t.passages t.history.trail;
+      repeats = repeats_kept facts changes_nothing meaning_of old new t.passages t.history.trail;
+      moments = moments_kept moments meaning_of old new t.passages t.history.trail;
+    }

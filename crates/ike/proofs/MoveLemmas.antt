@@ -1,0 +1,339 @@
+-- A step makes the moves that are stated, at each association.
+use Rattle.std.proofs.Common.{◌≡◌, ◌≢◌, ◌⊎◌, inl, inr, ℕ, suc, ◌≤◌, ◌∷◌, ◌++◌, [], Bool, true, false, cond, not, List, length, Option, Some, None, Contains, max, arith, ap, refl, subst, sym, ◌∙◌}
+use Rattle.std.proofs.lemmas.Bool.Decides.{eqb_tells}
+use Rattle.std.specs.List.{slice_get, AllByRecursion, AllZip}
+use Rattle.std.specs.Prelude.{slice_set, option_and_then}
+use Rattle.base.specs.Octets.{Octets}
+use Rattle.wire.specs.declared.message.Message.{Message}
+use Rattle.policy.specs.declared.entry.Entry.{Entry}
+use Rattle.suite.specs.declared.fresh.Fresh.{Fresh}
+use Rattle.suite.specs.declared.key_record.KeyRecord.{KeyRecord}
+use Rattle.suite.specs.declared.keys.Keys.{Keys}
+use Rattle.suite.specs.declared.sealer.Cipher.{Cipher}
+use Rattle.requests.specs.Outgoing.{GivesUpRequests}
+use Rattle.sadb.specs.Database.{Database}
+use Rattle.sa_init.specs.Judging.{OfferView}
+use Rattle.association.specs.Phases.{keys_in}
+use Rattle.association.specs.declared.phase.Association.{Association}
+use Rattle.association.specs.declared.phase.Phase.TheVariants as phase
+use Rattle.initial.specs.Beginning.{Admits}
+use Rattle.initial.specs.Configs.{Setup}
+use Rattle.initial.specs.declared.beginning.Admitted.{Admitted}
+use Rattle.informational.specs.Probing.{Probes}
+use Rattle.moments.specs.Due.{held_of, is_over, SendsAgain}
+use Rattle.moments.specs.Held as moments
+use Rattle.moments.specs.Ticking.{Ticks}
+use Rattle.moments.specs.declared.ticking.Ticked.{Ticked}
+use Rattle.effects.specs.Moves.{and_closes, ledger, makes_and_issues, moves_of, Close, Count, Issue, Lead, Make, Move, Remove, TakeEffect}
+use Rattle.effects.specs.Taking.{Meaning, StaysItself, TakesMessage}
+use Rattle.effects.specs.declared.taking.Effect.{Effect}
+use Rattle.effects.specs.declared.taking.Effect.TheVariants as effect
+use Rattle.ike.specs.Machines.{association_of, has_serial, setup_at, Held, Machine}
+use Rattle.ike.specs.Moves.{ledger_at, MovesAt, Tells, TellsClosed}
+use Rattle.ike.specs.Outputs.{stepped_of}
+use Rattle.ike.specs.Receiving.{with_next}
+use Rattle.ike.specs.Soundness.{AreSound, At, IsSoundMachine}
+use Rattle.ike.specs.Steps as steps
+use Rattle.ike.specs.Steps.{is_tick, InputView, Steps}
+use Rattle.ike.specs.declared.output.IkeOutput.TheVariants as output
+use Rattle.ike.specs.declared.output.Stepped.{Stepped}
+use Rattle.ike.proofs.OutputLemmas.{still_held, TicksLeave}
+use Rattle.ike.proofs.ProbeLemmas.{changed_itself, probed_serial}
+use Rattle.ike.proofs.RequestLemmas.{some_none, yes_no}
+use Rattle.ike.proofs.SerialLemmas.{grown_found, grown_stands, none_next, replaced_found, replaced_stands, same_one, sound_found}
+use Rattle.ike.proofs.TickLemmas.{found_at}
+use Rattle.ike.proofs.WayLemmas.{admitted, datagram_way, probed, rested, started, took, Way}
+
+-- what is known of moves at one association
+pub record MoveLaws : Type 0 where
+  pub itself : (meaning : Meaning) (setup : Setup) (old : Association) (table : Database) (octets : Octets) (m : Message) (e : Effect) (new : Association) (new_table : Database)
+      → TakesMessage meaning setup old table octets m e new new_table → StaysItself old new
+  pub message : (meaning : Meaning) (setup : Setup) (old : Association) (table : Database) (octets : Octets) (m : Message) (e : Effect) (new : Association) (new_table : Database)
+      → TakesMessage meaning setup old table octets m e new new_table → Lead (moves_of m.header.id (keys_in new.phase) e) (ledger old) (ledger new)
+  pub probe : (body_of : Keys → Octets → Octets → Octets → Octets) (setup : Setup) (old : Association) (octets : Octets) (new : Association)
+      → Probes body_of setup old octets new → Lead (Issue old.outgoing.next octets ∷ []) (ledger old) (ledger new)
+  pub admits : (cipher : Cipher) (group : ℕ) (public_value : Octets → Octets) (shared_secret : Octets → Octets → Option Octets) (fresh : Fresh) (moment serial : ℕ) (offer : OfferView) (spi_i : ℕ) (request : Octets) (admitted : Admitted)
+      → Admits cipher group public_value shared_secret fresh moment serial offer spi_i request admitted → (keys : KeyRecord) × Lead (Make keys ∷ []) None (ledger admitted.association)
+  pub sending : (now : ℕ) (old new : Association) → SendsAgain now old new → Lead [] (ledger old) (ledger new)
+  pub closing : (old new : Association) (keys : KeyRecord) (moment : ℕ) → keys_in old.phase ≡ Some keys → GivesUpRequests old.outgoing new.outgoing
+      → new ≡ record old { outgoing = new.outgoing; phase = phase.Closed (keys_in old.phase) moment } → Lead (Close ∷ []) (ledger old) (ledger new)
+  pub removal : (old : Association) (keys : KeyRecord) → keys_in old.phase ≡ Some keys → Lead (Remove ∷ []) (ledger old) None
+  pub few : (number : ℕ) (keys : Option KeyRecord) (e : Effect) → length (moves_of number keys e) ≤ 2
+
+-- ---- what stands under a serial
+
+abbrev looked : Option Association → Option Association → List Move → Type 0
+looked o p moves = Lead moves (option_and_then ledger o) (option_and_then ledger p)
+
+leads_by : (old new : Held) (serial : ℕ) (o p : Option Association) (moves : List Move) → association_of serial old.associations ≡ o → association_of serial new.associations ≡ p → looked o p moves
+    → Lead moves (ledger_at old serial) (ledger_at new serial)
+leads_by old new serial o p moves before after leads =
+    subst (λ (x : Option Association). looked x (association_of serial new.associations) moves) (sym before) (subst (λ (x : Option Association). looked o x moves) (sym after) leads)
+
+-- it stays as it was
+rests_at : (input : InputView) (old : Held) (stepped : Stepped) (new : Held) (serial : ℕ) → association_of serial new.associations ≡ association_of serial old.associations → MovesAt input old stepped new serial
+rests_at input old stepped new serial same = record { moves = []; few = omega arith; lead = ap (option_and_then ledger) same; told = tt }
+
+-- where one association is changed: it is this one, or this one stays
+at_changed : (old : Held) (table : Database) (place : ℕ) (a b : Association) (new : Held) (serial : ℕ) → AreSound old table → At old place a → b.serial ≡ a.serial
+    → new ≡ record old { associations = slice_set old.associations place b }
+    → ((serial ≡ a.serial) × (association_of serial old.associations ≡ Some a) × (association_of serial new.associations ≡ Some b)) ⊎ (association_of serial new.associations ≡ association_of serial old.associations)
+at_changed old table place a b new serial sound there same content = elim (eqb_tells serial a.serial) [
+  | inl (one, here) ↦ inl (
+    here,
+    subst (λ n. association_of n old.associations ≡ Some a) (sym here) (sound_found old table place a sound there),
+    ap (λ (h : Held). association_of serial h.associations) content
+        ∙ subst (λ n. association_of n (slice_set old.associations place b) ≡ Some b) (sym here) (replaced_stands old table place a b sound there same),
+  )
+  | inr (none, apart) ↦ inr (ap (λ (h : Held). association_of serial h.associations) content ∙ replaced_found old.associations place a b serial there apart same)
+]
+
+-- where one comes: it is this one, or this one stays
+at_grown : (old : Held) (table : Database) (b : Association) (new : Held) (serial : ℕ) → AreSound old table → b.serial ≡ old.next → new ≡ with_next old b
+    → ((serial ≡ b.serial) × (association_of serial old.associations ≡ None) × (association_of serial new.associations ≡ Some b)) ⊎ (association_of serial new.associations ≡ association_of serial old.associations)
+at_grown old table b new serial sound next content = elim (eqb_tells serial b.serial) [
+  | inl (one, here) ↦ inl (
+    here,
+    subst (λ n. association_of n old.associations ≡ None) (sym (here ∙ next)) (none_next old table sound),
+    ap (λ (h : Held). association_of serial h.associations) content
+        ∙ subst (λ n. association_of n (old.associations ++ b ∷ []) ≡ Some b) (sym here) (grown_stands old table b sound next),
+  )
+  | inr (none, apart) ↦ inr (ap (λ (h : Held). association_of serial h.associations) content ∙ grown_found old.associations b serial apart)
+]
+
+-- ---- what is told
+
+told_ended : (input : InputView) (stepped : Stepped) (serial : ℕ) (move : Move) (closed : Bool) → Tells input stepped serial move → (closed ≡ true → Tells input stepped serial Close)
+    → AllByRecursion (Tells input stepped serial) (and_closes move closed)
+told_ended input stepped serial move true tells closes = (tells, (closes refl, tt))
+told_ended input stepped serial move false tells closes = (tells, tt)
+
+told_made : (input : InputView) (stepped : Stepped) (serial : ℕ) (keys : Option KeyRecord) (octets : Octets) → stepped.trace.keyed ≡ Some serial → stepped.output ≡ output.Request serial octets
+    → AllByRecursion (Tells input stepped serial) (makes_and_issues keys octets)
+told_made input stepped serial (Some keys) octets keyed said = (keyed, (said, tt))
+told_made input stepped serial None octets keyed said = tt
+
+told_effect : (input : InputView) (serial number : ℕ) (keys : Option KeyRecord) (e : Effect) → AllByRecursion (Tells input (stepped_of serial number e) serial) (moves_of number keys e)
+told_effect input serial number keys (effect.Refused fault) = tt
+told_effect input serial number keys (effect.Repeated octets) = tt
+told_effect input serial number keys (effect.Again octets) = tt
+told_effect input serial number keys (effect.Identified octets) = told_made input (stepped_of serial number (effect.Identified octets)) serial keys octets refl refl
+told_effect input serial number keys (effect.Replied answered) =
+    told_ended input (stepped_of serial number (effect.Replied answered)) serial (TakeEffect number answered.octets) answered.closed (_, refl)
+    (λ closed. subst (λ (b : Bool). Tells input (stepped_of serial number (effect.Replied (record answered { closed = b }))) serial Close) (sym closed) refl)
+told_effect input serial number keys (effect.Counted ended) =
+    told_ended input (stepped_of serial number (effect.Counted ended)) serial (Count number) ended.closed (ended.child, _, refl)
+    (λ closed. subst (λ (b : Bool). Tells input (stepped_of serial number (effect.Counted (record ended { closed = b }))) serial Close) (sym closed) refl)
+
+-- ---- a datagram, and orders
+
+way_moves : (laws : MoveLaws) (input : InputView) (meaning : Meaning) (setup : Setup) (octets : Octets) (old : Held) (table : Database) (stepped : Stepped) (new : Held) (new_table : Database) (serial : ℕ)
+    → AreSound old table → Way meaning setup octets old table stepped new new_table → MovesAt input old stepped new serial
+way_moves laws input meaning setup octets old table stepped new new_table serial sound (rested is) = rests_at input old stepped new serial (ap (λ (h : Held). association_of serial h.associations) is.same)
+way_moves laws input meaning setup octets old table stepped new new_table serial sound (took is) =
+    let t = is.takes in
+    let a = t.association in
+    let stays = laws.itself meaning setup a table octets is.message t.effect t.changed new_table t.takes in
+    let number = is.message.header.id in
+    let moves = moves_of number (keys_in t.changed.phase) t.effect in
+    elim (at_changed old table is.place a t.changed new serial sound t.there stays.serial t.content) [
+      | inl (here, before, after) ↦ record {
+        moves = moves;
+        few = laws.few number (keys_in t.changed.phase) t.effect;
+        lead = leads_by old new serial (Some a) (Some t.changed) moves before after (laws.message meaning setup a table octets is.message t.effect t.changed new_table t.takes);
+        told = subst (λ (s : Stepped). AllByRecursion (Tells input s serial) moves) (sym t.said)
+            (subst (λ (n : ℕ). AllByRecursion (Tells input (stepped_of n number t.effect) serial) moves) here (told_effect input serial number (keys_in t.changed.phase) t.effect));
+      }
+      | inr same ↦ rests_at input old stepped new serial same
+    ]
+way_moves laws input meaning setup octets old table stepped new new_table serial sound (admitted is) =
+    let b = is.admits.admitted.association in
+    let made = laws.admits meaning.cipher meaning.group meaning.public_value meaning.shared_secret setup.fresh setup.moment old.next is.offer is.spi_i octets is.admits.admitted is.admits.admits in
+    elim (at_grown old table b new serial sound (ap (λ (x : Association). x.serial) is.admits.admits.content) is.admits.content) [
+      | inl (here, before, after) ↦ record {
+        moves = Make made.0 ∷ [];
+        few = omega arith;
+        lead = leads_by old new serial None (Some b) (Make made.0 ∷ []) before after made.1;
+        told = (ap (λ (s : Stepped). s.trace.keyed) is.admits.said ∙ ap Some (sym (here ∙ ap (λ (x : Association). x.serial) is.admits.admits.content)), tt);
+      }
+      | inr same ↦ rests_at input old stepped new serial same
+    ]
+way_moves laws input meaning setup octets old table stepped new new_table serial sound (started is) =
+    elim (at_grown old table _ new serial sound refl is.starts.done.content) [
+      | inl (here, before, after) ↦ record { moves = []; few = omega arith; lead = ap (option_and_then ledger) after ∙ sym (ap (option_and_then ledger) before); told = tt }
+      | inr same ↦ rests_at input old stepped new serial same
+    ]
+way_moves laws input meaning setup octets old table stepped new new_table serial sound (probed is) =
+    let p = is.probes in
+    let stays = changed_itself meaning.body_of setup is.ike old stepped new p in
+    let moves = Issue p.association.outgoing.next p.octets ∷ [] in
+    elim (at_changed old table p.place p.association p.changed new serial sound p.there stays.serial p.content) [
+      | inl (here, before, after) ↦ record {
+        moves = moves;
+        few = omega arith;
+        lead = leads_by old new serial (Some p.association) (Some p.changed) moves before after (laws.probe meaning.body_of setup p.association p.octets p.changed p.probes);
+        told = (ap (λ (s : Stepped). s.output) p.said ∙ ap (λ n. output.Request n p.octets) (sym (here ∙ probed_serial meaning.body_of setup is.ike old stepped new p)), tt);
+      }
+      | inr same ↦ rests_at input old stepped new serial same
+    ]
+
+-- ---- a moment
+
+-- one that is held on, by the list of those that are
+record Zipped (now serial : ℕ) (closed : List ℕ) (a : Association) (ys : List Association) : Type 0 where
+  held : Association
+  there : association_of serial ys ≡ Some held
+  stays : moments.StaysItself now closed a held
+
+zip_cons : (now serial : ℕ) (closed : List ℕ) (here : Bool) (x y : Association) (xs ys : List Association) (a : Association) → has_serial serial x ≡ here → moments.StaysItself now closed x y
+    → (association_of serial xs ≡ Some a → Zipped now serial closed a ys) → cond here (Some x) (association_of serial xs) ≡ Some a → Zipped now serial closed a (y ∷ ys)
+zip_cons now serial closed true x y xs ys a is stays more stands =
+    record {
+      held = y;
+      there = ap (λ b. cond b (Some y) (association_of serial ys)) (ap (λ n. has_serial serial (record y { serial = n })) stays.serial ∙ is);
+      stays = subst (λ (c : Association). moments.StaysItself now closed c y) (same_one x a stands) stays;
+    }
+zip_cons now serial closed false x y xs ys a is stays more stands =
+    let rest = more stands in
+    record {
+      held = rest.held;
+      there = ap (λ b. cond b (Some y) (association_of serial ys)) (ap (λ n. has_serial serial (record y { serial = n })) stays.serial ∙ is) ∙ rest.there;
+      stays = rest.stays;
+    }
+
+zipped : (now serial : ℕ) (closed : List ℕ) (xs ys : List Association) (a : Association) → AllZip (moments.StaysItself now closed) xs ys → association_of serial xs ≡ Some a → Zipped now serial closed a ys
+zipped now serial closed [] ys a zip stands = absurd cc
+zipped now serial closed (x ∷ xs) [] a zip stands = absurd zip
+zipped now serial closed (x ∷ xs) (y ∷ ys) a zip stands = zip_cons now serial closed (has_serial serial x) x y xs ys a refl zip.0 (zipped now serial closed xs ys a zip.1) stands
+
+none_found_too : (here : Bool) (x y : Association) (o p : Option Association) (here_too : Bool) → here_too ≡ here → (o ≡ None → p ≡ None) → cond here (Some x) o ≡ None → cond here_too (Some y) p ≡ None
+none_found_too true x y o p here_too same more none = absurd cc
+none_found_too false x y o p true same more none = absurd cc
+none_found_too false x y o p false same more none = more none
+
+none_zips : (now serial : ℕ) (closed : List ℕ) (xs ys : List Association) → AllZip (moments.StaysItself now closed) xs ys → association_of serial xs ≡ None → association_of serial ys ≡ None
+none_zips now serial closed [] [] zip none = refl
+none_zips now serial closed [] (y ∷ ys) zip none = absurd zip
+none_zips now serial closed (x ∷ xs) [] zip none = absurd zip
+none_zips now serial closed (x ∷ xs) (y ∷ ys) zip none =
+    none_found_too (has_serial serial x) x y (association_of serial xs) (association_of serial ys) (has_serial serial y) (ap (λ n. has_serial serial (record y { serial = n })) zip.0.serial) (none_zips now serial closed xs ys zip.1) none
+
+-- one that is held on was held, and is not over
+record Alive (now : ℕ) (xs : List Association) (serial : ℕ) (x : Association) : Type 0 where
+  place : ℕ
+  there : slice_get xs place ≡ Some x
+  alive : is_over now x.phase ≡ false
+  named : has_serial serial x ≡ true
+
+alive_cons : (now serial : ℕ) (over here : Bool) (x y : Association) (xs held : List Association) → is_over now y.phase ≡ over → has_serial serial y ≡ here
+    → (association_of serial held ≡ Some x → Alive now xs serial x) → association_of serial (cond (not over) (y ∷ held) held) ≡ Some x → Alive now (y ∷ xs) serial x
+alive_cons now serial true here x y xs held is named more stands = let rest = more stands in record { place = suc rest.place; there = rest.there; alive = rest.alive; named = rest.named }
+alive_cons now serial false true x y xs held is named more stands =
+    let same : y ≡ x = same_one y x (sym (ap (λ b. cond b (Some y) (association_of serial held)) named) ∙ stands) in
+    record { place = 0; there = ap Some same; alive = ap (λ (c : Association). is_over now c.phase) (sym same) ∙ is; named = ap (has_serial serial) (sym same) ∙ named }
+alive_cons now serial false false x y xs held is named more stands =
+    let rest = more (sym (ap (λ b. cond b (Some y) (association_of serial held)) named) ∙ stands) in
+    record { place = suc rest.place; there = rest.there; alive = rest.alive; named = rest.named }
+
+alive_of : (now serial : ℕ) (xs : List Association) (x : Association) → association_of serial (held_of now xs) ≡ Some x → Alive now xs serial x
+alive_of now serial [] x stands = absurd cc
+alive_of now serial (y ∷ xs) x stands = alive_cons now serial (is_over now y.phase) (has_serial serial y) x y xs (held_of now xs) refl refl (alive_of now serial xs x) stands
+
+named_is : (serial : ℕ) (x : Association) → has_serial serial x ≡ true → x.serial ≡ serial
+named_is serial x is = elim (eqb_tells x.serial serial) [ inl (_, same) ↦ same | inr (none, _) ↦ absurd (yes_no (has_serial serial x) is none) ]
+
+-- one that is over is held no longer
+over_gone : (now serial : ℕ) (old : Held) (table : Database) (a : Association) (o : Option Association) → AreSound old table → association_of serial old.associations ≡ Some a → is_over now a.phase ≡ true
+    → association_of serial (held_of now old.associations) ≡ o → o ≡ None
+over_gone now serial old table a None sound stands over found = refl
+over_gone now serial old table a (Some x) sound stands over found =
+    let f = alive_of now serial old.associations x found in
+    let there : association_of serial old.associations ≡ Some x = subst (λ n. association_of n old.associations ≡ Some x) (named_is serial x f.named) (sound_found old table f.place x sound f.there) in
+    let same : a ≡ x = same_one a x (sym stands ∙ there) in
+    absurd (yes_no (is_over now a.phase) over (ap (λ (c : Association). is_over now c.phase) same ∙ f.alive))
+
+-- moves of one that was held
+record Ends (input : InputView) (stepped : Stepped) (serial : ℕ) (a : Association) (o : Option Association) : Type 0 where
+  moves : List Move
+  few : length moves ≤ 2
+  lead : looked (Some a) o moves
+  told : AllByRecursion (Tells input stepped serial) moves
+
+without_keys : (a : Association) → keys_in a.phase ≡ None → ledger a ≡ None
+without_keys a none = cc
+
+gone_moves : (laws : MoveLaws) (input : InputView) (stepped : Stepped) (serial : ℕ) (a : Association) (keys : Option KeyRecord) → keys_in a.phase ≡ keys → is_tick input ≡ true → Ends input stepped serial a None
+gone_moves laws input stepped serial a None are ticks = record { moves = []; few = omega arith; lead = sym (without_keys a are); told = tt }
+gone_moves laws input stepped serial a (Some keys) are ticks = record { moves = Remove ∷ []; few = omega arith; lead = laws.removal a keys are; told = (ticks, tt) }
+
+closed_moves : (laws : MoveLaws) (input : InputView) (stepped : Stepped) (ticked : Ticked) (serial now : ℕ) (a b : Association) (keys : Option KeyRecord) → keys_in a.phase ≡ keys → stepped.output ≡ output.Ticked ticked
+    → Contains ticked.closed serial → moments.IsClosedAt now a b → Ends input stepped serial a (Some b)
+closed_moves laws input stepped ticked serial now a b None are said told is =
+    record {
+      moves = [];
+      few = omega arith;
+      lead = without_keys b (ap (λ (x : Association). keys_in x.phase) is.content ∙ are) ∙ sym (without_keys a are);
+      told = tt;
+    }
+closed_moves laws input stepped ticked serial now a b (Some keys) are said told is =
+    record {
+      moves = Close ∷ [];
+      few = omega arith;
+      lead = laws.closing a b keys now are is.requests is.content;
+      told = (subst (λ o. TellsClosed serial o) (sym said) told, tt);
+    }
+
+on_moves : (laws : MoveLaws) (input : InputView) (stepped : Stepped) (ticked : Ticked) (serial now : ℕ) (a b : Association) → a.serial ≡ serial → stepped.output ≡ output.Ticked ticked
+    → moments.StaysItself now ticked.closed a b → Ends input stepped serial a (Some b)
+on_moves laws input stepped ticked serial now a b named said is = elim is.stays [
+  | inl sends ↦ record { moves = []; few = omega arith; lead = laws.sending now a b sends.1; told = tt }
+  | inr closes ↦ closed_moves laws input stepped ticked serial now a b (keys_in a.phase) refl said (subst (λ n. Contains ticked.closed n) named closes.1) closes.0
+]
+
+ended_at : (input : InputView) (old : Held) (stepped : Stepped) (new : Held) (serial : ℕ) (a : Association) (o : Option Association) → association_of serial old.associations ≡ Some a → association_of serial new.associations ≡ o
+    → Ends input stepped serial a o → MovesAt input old stepped new serial
+ended_at input old stepped new serial a o before after ends = record { moves = ends.moves; few = ends.few; lead = leads_by old new serial (Some a) o ends.moves before after ends.lead; told = ends.told }
+
+-- who was not held before is not held on
+none_alive : (now serial : ℕ) (old : Held) (table : Database) (o : Option Association) → AreSound old table → association_of serial old.associations ≡ None → association_of serial (held_of now old.associations) ≡ o → o ≡ None
+none_alive now serial old table None sound none found = refl
+none_alive now serial old table (Some x) sound none found =
+    let f = alive_of now serial old.associations x found in
+    let there : association_of serial old.associations ≡ Some x = subst (λ n. association_of n old.associations ≡ Some x) (named_is serial x f.named) (sound_found old table f.place x sound f.there) in
+    absurd (some_none x (sym none ∙ there))
+
+held_moves : (laws : MoveLaws) (input : InputView) (stepped : Stepped) (ticked : Ticked) (serial now : ℕ) (old new : Held) (table : Database) (a : Association) (over : Bool) → AreSound old table
+    → association_of serial old.associations ≡ Some a → is_over now a.phase ≡ over → is_tick input ≡ true → stepped.output ≡ output.Ticked ticked
+    → AllZip (moments.StaysItself now ticked.closed) (held_of now old.associations) new.associations → MovesAt input old stepped new serial
+held_moves laws input stepped ticked serial now old new table a true sound stands over ticks said zip =
+    let gone = none_zips now serial ticked.closed (held_of now old.associations) new.associations zip (over_gone now serial old table a (association_of serial (held_of now old.associations)) sound stands over refl) in
+    ended_at input old stepped new serial a None stands gone (gone_moves laws input stepped serial a (keys_in a.phase) refl ticks)
+held_moves laws input stepped ticked serial now old new table a false sound stands over ticks said zip =
+    let z = zipped now serial ticked.closed (held_of now old.associations) new.associations a zip (still_held now serial old.associations a over stands) in
+    ended_at input old stepped new serial a (Some z.held) stands z.there (on_moves laws input stepped ticked serial now a z.held (found_at old.associations serial a stands).serial_is said z.stays)
+
+tick_moves : (laws : MoveLaws) (input : InputView) (stepped : Stepped) (ticked : Ticked) (serial now : ℕ) (old new : Held) (table : Database) (o : Option Association) → AreSound old table
+    → association_of serial old.associations ≡ o → is_tick input ≡ true → stepped.output ≡ output.Ticked ticked
+    → AllZip (moments.StaysItself now ticked.closed) (held_of now old.associations) new.associations → MovesAt input old stepped new serial
+tick_moves laws input stepped ticked serial now old new table None sound stands ticks said zip =
+    let gone = none_zips now serial ticked.closed (held_of now old.associations) new.associations zip (none_alive now serial old table (association_of serial (held_of now old.associations)) sound stands refl) in
+    rests_at input old stepped new serial (gone ∙ sym stands)
+tick_moves laws input stepped ticked serial now old new table (Some a) sound stands ticks said zip =
+    held_moves laws input stepped ticked serial now old new table a (is_over now a.phase) sound stands refl ticks said zip
+
+pub step_moves : MoveLaws → TicksLeave → (meaning : Meaning) (entries : List Entry) (input : InputView) (old : Machine) (table : Database) (stepped : Stepped) (new : Machine) (new_table : Database) (serial : ℕ)
+    → IsSoundMachine old table → Steps meaning entries input old table stepped new new_table → MovesAt input old.held stepped new.held serial
+step_moves laws leave meaning entries (steps.Message from octets fresh) old table stepped new new_table serial sound is =
+    way_moves laws (steps.Message from octets fresh) meaning (setup_at old entries fresh) octets old.held table stepped new.held new_table serial sound
+    (datagram_way meaning (setup_at old entries fresh) old.cookies from octets old.held table stepped new.held new_table is.1)
+step_moves laws leave meaning entries (steps.Start ike place fresh) old table stepped new new_table serial sound is =
+    way_moves laws (steps.Start ike place fresh) meaning (setup_at old entries fresh) [] old.held table stepped new.held new_table serial sound (started (record { ike = ike; place = place; starts = is.1 }))
+step_moves laws leave meaning entries (steps.Probe ike fresh) old table stepped new new_table serial sound is =
+    way_moves laws (steps.Probe ike fresh) meaning (setup_at old entries fresh) [] old.held table stepped new.held new_table serial sound (probed (record { ike = ike; probes = is.1; pairs = is.2 }))
+step_moves laws leave meaning entries (steps.Secret secret) old table stepped new new_table serial sound is =
+    rests_at (steps.Secret secret) old.held stepped new.held serial (ap (λ (m : Machine). association_of serial m.held.associations) is.content)
+step_moves laws leave meaning entries (steps.Tick moment) old table stepped new new_table serial sound is =
+    let t = is.takes in
+    let now = max old.moment moment in
+    tick_moves laws (steps.Tick moment) stepped t.ticked serial now old.held new.held table (association_of serial old.held.associations) sound refl refl (ap (λ (s : Stepped). s.output) t.said)
+    (leave now old.held.associations new.held.associations table new_table t.ticked t.ticks)

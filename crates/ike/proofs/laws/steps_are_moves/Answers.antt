@@ -1,0 +1,16 @@
+use Rattle.ike.proofs.MoveLemmas.{step_moves, MoveLaws}
+use Rattle.ike.proofs.laws.steps_are_moves.Goals as goal
+
+pub returns : goal.returns
+returns c =
+    let laws : MoveLaws = record {
+      itself = c.associations_stay_themselves.ensures;
+      message = c.messages_make_moves.ensures.message;
+      probe = c.messages_make_moves.ensures.probe;
+      admits = c.messages_make_moves.ensures.admitted;
+      sending = c.messages_make_moves.ensures.sending;
+      closing = c.messages_make_moves.ensures.closing;
+      removal = c.messages_make_moves.ensures.removal;
+      few = c.messages_make_moves.ensures.few;
+    } in
+    step_moves laws c.what_is_held_was_held.ensures

@@ -1,0 +1,19 @@
+use Rattle.std.proofs.lemmas.List.Elements.{All-nil}
+use Rattle.moments.specs.Held.{IsInTime}
+use Rattle.ike.proofs.OrderLemmas.{moment_refused}
+use Rattle.ike.proofs.MomentLemmas.{step_comes, step_stays, step_timely, TimelyLaws}
+use Rattle.ike.proofs.laws.what_is_due_comes_in_time.Goals as goal
+
+pub returns : goal.returns
+returns c =
+    let laws : TimelyLaws = record {
+      taken = c.nothing_comes_due.ensures.taken;
+      begins = c.nothing_comes_due.ensures.begun;
+      admits = c.nothing_comes_due.ensures.admitted;
+      probes = c.nothing_comes_due.ensures.probed;
+      ticks = c.nothing_is_due_afterwards.ensures.held;
+      pairs = c.pairs_go_with_their_associations.ensures;
+      comes = c.what_comes_is_due.ensures;
+      held_on = c.what_is_held_was_held.ensures;
+    } in
+    record { first = λ config. All-nil (IsInTime 0); timely = step_timely laws; comes = step_comes laws; unrefused = λ meaning entries moment machine table reason is. moment_refused reason is; stays = step_stays }

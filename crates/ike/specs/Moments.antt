@@ -1,0 +1,41 @@
+-- Moments at the machine: what comes with one, and that nothing is left that it has reached (RFC 7296 sections 2.1 and 2.4).
+use Rattle.std.specs.Prelude.{◌≡◌, ℕ, Bool, true, false, All}
+use Rattle.std.specs.List.{flat_map, AllZip}
+use Rattle.moments.specs.Due.{closed_of, held_of, sent_of}
+use Rattle.sadb.specs.Database.{Database}
+use Rattle.moments.specs.Held.{IsInTime, LeavesPairsBut, StaysItself}
+use Rattle.moments.specs.declared.ticking.Ticked.{Ticked}
+use Rattle.ike.specs.Machines.{Held, Machine}
+use Rattle.ike.specs.declared.output.IkeOutput.{IkeOutput}
+use Rattle.ike.specs.declared.output.IkeOutput.TheVariants as output
+use Rattle.ike.specs.declared.output.Stepped.{Stepped}
+
+-- All that the greatest moment so far has reached was done: no request is due, and no association is to be closed or over. And nothing
+-- waits from a later one on.
+abbrev pub IsTimely : Machine → Type 0
+IsTimely machine = All (IsInTime machine.moment) machine.held.associations
+
+-- All that is due at this moment comes, and nothing else: of each association in its order the requests that are due, by rising number,
+-- and the serials of those that are closed. Those that are not over are held on, as they were but for timers, or closed, and the pairs of
+-- those that are closed go, and no others.
+pub record BringsDue (now : ℕ) (old : Held) (table : Database) (ticked : Ticked) (new : Held) (new_table : Database) : Type 0 where
+  pub requests : ticked.requests ≡ flat_map (sent_of now) old.associations
+  pub closed : ticked.closed ≡ flat_map (closed_of now) old.associations
+  pub held : AllZip (StaysItself now ticked.closed) (held_of now old.associations) new.associations
+  pub pairs : LeavesPairsBut ticked.closed table new_table
+
+-- a step to this moment
+pub record ComesTo (now : ℕ) (old : Machine) (table : Database) (stepped : Stepped) (new : Machine) (new_table : Database) : Type 0 where
+  pub ticked : Ticked
+  pub said : stepped.output ≡ output.Ticked ticked
+  pub brings : BringsDue now old.held table ticked new.held new_table
+  pub moment : new.moment ≡ now
+
+abbrev pub tells_moment : IkeOutput → Bool
+tells_moment (output.Ticked ticked) = true
+tells_moment _ = false
+
+-- a step at which the time stands still
+pub record StaysAt (old : Machine) (stepped : Stepped) (new : Machine) : Type 0 where
+  pub moment : new.moment ≡ old.moment
+  pub said : tells_moment stepped.output ≡ false
