@@ -12,6 +12,7 @@ mod of_children;
 mod of_console;
 mod of_engine;
 mod of_esp;
+mod of_ike;
 mod of_mac;
 mod of_moments;
 mod of_replay;

@@ -2,4 +2,4 @@
 mod flood;
 mod lists;
 mod notices;
-mod sample;
+pub mod sample;

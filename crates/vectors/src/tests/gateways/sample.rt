@@ -1,6 +1,7 @@
 //! What the tests share: two gateways, each the other's peer, that protect what goes between 10.0.0.0/24, A's, and 10.1.0.0/24.
 ghost use Rattle.std.specs.Prelude.{IfOk};
 ghost use Rattle.auth.specs.Proofs.{IsIdentity};
+ghost use Rattle.auth.specs.Windows.{IsWindow};
 ghost use Rattle.initial.specs.Configs.{IsConfig};
 ghost use Rattle.gateway.specs.Worlds.{HoldsNothing};
 
@@ -38,7 +39,9 @@ fn end_of(alloc: Global, end: End) -> Result<initial::End, AllocError>
     })
 }
 
-fn config(alloc: Global, end: End) -> Result<Config, AllocError>
+/// What an end is set to, with a window of so many requests from 1 to 16.
+pub fn config(alloc: Global, end: End, window: u8) -> Result<Config, AllocError>
+    requires { IsWindow window }
     ensures { IfOk result IsConfig }
 {
     let own = end_of(alloc, end)?;
@@ -49,11 +52,12 @@ fn config(alloc: Global, end: End) -> Result<Config, AllocError>
         extended: true,
         blocks: 2,
         cookie_secret: [0; 32],
-        window: 1,
+        window,
     })
 }
 
-fn policy(alloc: Global, end: End) -> Result<Policy, Fail> {
+/// What an end protects.
+pub fn policy(alloc: Global, end: End) -> Result<Policy, Fail> {
     let a = Range::V4(0x0a00_0000, 0x0a00_00ff);
     let b = Range::V4(0x0a01_0000, 0x0a01_00ff);
     let (local, remote) = match end {
@@ -76,7 +80,7 @@ pub fn gateway(alloc: Global, end: End) -> Result<Gateway<ScriptCaller>, Fail>
     ensures { IfOk result HoldsNothing }
 {
     let policy = policy(alloc, end)?;
-    let config = config(alloc, end)?;
+    let config = config(alloc, end, 1)?;
     let start = match end {
         End::A => 4096,
         End::B => 8192,
@@ -111,7 +115,8 @@ pub fn message(alloc: Global, octets: &[u8], spi: u64) -> Result<Input, AllocErr
     })
 }
 
-fn fresh(spi: u64) -> Fresh {
+/// Fresh octets of this SPI.
+pub fn fresh(spi: u64) -> Fresh {
     Fresh {
         spi,
         nonce: [9; 32],
