@@ -1,0 +1,8 @@
+//! The calls of the crates below the machine, one by one and a few of them together. The crate `vectors` says why tests stand apart.
+//!
+//! The tests of one crate's calls are below a module `of_NAME`: `of_esp`, `of_sadb` and so on. It hasn't the crate's own name, which
+//! would hide the crate from what stands beside it.
+#![tactic(auto)]
+
+#[cfg(test)]
+mod tests;

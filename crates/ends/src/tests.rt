@@ -1,0 +1,5 @@
+mod gateways;
+mod of_console;
+mod of_engine;
+mod of_moments;
+mod texts;
