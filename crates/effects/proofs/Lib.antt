@@ -19,3 +19,4 @@ mod ProbeLemmas
 mod RequestLemmas
 mod DueLemmas
 mod MoveLemmas
+mod OpeningLemmas

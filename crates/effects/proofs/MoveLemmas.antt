@@ -79,8 +79,8 @@ removed_out m k n =
 
 -- ---- one request more
 
-pub issued_moves : (l : Ledger) (old : OwnRequests Request) (request : Request) (new : OwnRequests Request) → IssuesNext old request new → Issues old.next request.octets (with_own l old) (with_own l new)
-issued_moves l old request new is =
+pub issued_moves : (l : Ledger) (old : OwnRequests Request) (request : Request) (new : OwnRequests Request) → l.is_closed ≡ false → IssuesNext old request new → Issues old.next request.octets (with_own l old) (with_own l new)
+issued_moves l old request new is_open is =
     let allowed : MayIssue (record old { room = is.ready.room }) = subst (λ (r : OwnRequests Request). MayIssue r) is.prepared.content is.issued.allowed in
     record {
       least = refl;
@@ -89,6 +89,7 @@ issued_moves l old request new is =
             | inl (_, full) ↦ absurd (allowed.not_busy (record { gap = gap; is_gap = is_gap; full = full }))
             | inr (_, less) ↦ less
           ];
+      is_open = is_open;
       left = elim (leb_tells (2 ^ 32) old.next) [ inl (_, spent) ↦ absurd (allowed.not_spent spent) | inr (_, less) ↦ less ];
       content = ap (with_own l) is.issued.content
           ∙ ap (λ (r : OwnRequests Request). with_own l (record r { next = r.next + 1; outstanding = map.insert r.outstanding old.next request; room = new.room })) is.prepared.content
@@ -286,7 +287,7 @@ way_moves meaning setup old table octets m (effect.Identified next) new new_tabl
     let leads : Lead (makes_and_issues (Some is.keys) next) None (Some (ledger_of new is.keys)) = (
       Some made,
       record { keyed = refl; is_open = is_open },
-      (Some (ledger_of new is.keys), issued_moves made number_0_answered (new_request next IKE_AUTH setup.moment) new.outgoing d.issued, refl),
+      (Some (ledger_of new is.keys), issued_moves made number_0_answered (new_request next IKE_AUTH setup.moment) new.outgoing is_open d.issued, refl),
     ) in
     subst (λ (k : Option KeyRecord). Lead (makes_and_issues k next) (ledger old) (ledger new)) (sym are)
     (subst (λ (x : Option Ledger). Lead (makes_and_issues (Some is.keys) next) x (ledger new)) (sym (no_ledger old (ap keys_in is.was)))
@@ -305,7 +306,7 @@ probe_moves body_of setup old octets new is =
     let l = ledger_of old is.keys in
     let after : ledger new ≡ Some (with_own l is.outgoing) = ap ledger is.content ∙ ap (option_map (ledger_of (with_outgoing old is.outgoing))) (ap keys_in is.established) in
     from_keys (Issue old.outgoing.next octets ∷ []) old is.keys (ledger new) (ap keys_in is.established)
-    (Some (with_own l is.outgoing), issued_moves l old.outgoing (new_request octets INFORMATIONAL setup.moment) is.outgoing is.issued, after)
+    (Some (with_own l is.outgoing), issued_moves l old.outgoing (new_request octets INFORMATIONAL setup.moment) is.outgoing (ap is_closed is.established) is.issued, after)
 
 pub closing_moves : (old new : Association) (keys : KeyRecord) (moment : ℕ) → keys_in old.phase ≡ Some keys → GivesUpRequests old.outgoing new.outgoing
     → new ≡ record old { outgoing = new.outgoing; phase = phase.Closed (keys_in old.phase) moment } → Lead (Close ∷ []) (ledger old) (ledger new)

@@ -7,3 +7,4 @@ pub mod Offers
 pub mod Lengths
 pub mod Requests
 pub mod Moves
+pub mod Openings

@@ -17,7 +17,7 @@ use Rattle.effects.specs.declared.taking.Effect.{Effect}
 use Rattle.effects.specs.declared.taking.Effect.TheVariants as effect
 
 pub data Move : Type 0 where
-  -- both ends have come to these keys
+  -- this end has come to these keys (section 2.14)
   Make : KeyRecord → Move
   -- a request of this number goes out for the first time
   Issue : ℕ → Octets → Move
@@ -60,26 +60,27 @@ ledger_of a keys = record {
   outstanding = octets_out a.outgoing;
 }
 
--- none before both ends have come to keys
+-- none before this end has come to keys
 abbrev pub ledger : Association → Option Ledger
 ledger a = option_map (ledger_of a) (keys_in a.phase)
 
 abbrev pub put : (ℕ → Option Octets) → ℕ → Option Octets → ℕ → Option Octets
 put outstanding number value other = if other == number then value else outstanding other
 
--- the association has keys from now on, and is open
+-- The association has keys from now on, and is open. With which numbers it begins, moves do not say yet.
 pub record Makes (keys : KeyRecord) (new : Ledger) : Type 0 where
   pub keyed : new.keys ≡ keys
   pub is_open : new.is_closed ≡ false
 
--- The least number never issued, which lies in the peer's window and has 32 bits.
+-- An open association issues the least number never issued, which lies in the peer's window and has 32 bits.
 pub record Issues (number : ℕ) (octets : Octets) (old new : Ledger) : Type 0 where
   pub least : number ≡ old.next
   pub in_window : (gap : ℕ) → IsGap old.answered gap → old.next < gap + old.window
   pub left : old.next < 2 ^ 32
+  pub is_open : old.is_closed ≡ false
   pub content : new ≡ record old { next = old.next + 1; outstanding = put old.outstanding number (Some octets) }
 
--- An outstanding request waits no more. Windows are widened as IKE_AUTH is done, and never narrowed.
+-- An outstanding request waits no more. Windows may be widened, as IKE_AUTH does it, and are never narrowed.
 pub record Counts (number : ℕ) (old new : Ledger) : Type 0 where
   pub octets : Octets
   pub there : old.outstanding number ≡ Some octets
@@ -88,7 +89,7 @@ pub record Counts (number : ℕ) (old new : Ledger) : Type 0 where
   pub peers_wider : old.window ≤ new.window
   pub content : new ≡ record old { answered = set.insert old.answered number; outstanding = put old.outstanding number None; size = new.size; window = new.window }
 
--- A request that did not take effect yet, inside the window; its reply is kept, and others of those kept before.
+-- A request that did not take effect yet, inside the window; its reply is kept, and of those kept before some or all.
 pub record TakesEffectOnce (number : ℕ) (reply : Octets) (old new : Ledger) : Type 0 where
   pub is_open : old.is_closed ≡ false
   pub not_yet : LacksNumber old.in_effect number

@@ -1,6 +1,7 @@
 //! What follows from the definitions alone. No function here does anything.
 ghost use Rattle.std.specs.Prelude.{◌≡◌, ◌≢◌, ◌⊎◌, ◌+◌, ◌<◌, ◌≤◌, ◌∷◌, ℕ, List, [], Option, Some, None, true, false, length};
 ghost use Rattle.base.specs.Octets.{Octets, AreOctets};
+ghost use Rattle.wire.specs.Messages.{Spells};
 ghost use Rattle.wire.specs.declared.message.Message.{Message};
 ghost use Rattle.wire.specs.declared.payload.Payload.{Payload};
 ghost use Rattle.suite.specs.declared.fresh.Fresh.{Fresh};
@@ -13,7 +14,8 @@ ghost use Rattle.sadb.specs.declared.pair.Pair.{Pair};
 ghost use Rattle.association.specs.Closing.{HoldsSpi};
 ghost use Rattle.association.specs.FirstChildren.{FirstChildView};
 ghost use Rattle.association.specs.Phases.{keys_in, spi_in};
-ghost use Rattle.association.specs.Receiving.{opened_by, IsRepeating};
+ghost use Rattle.association.specs.Finding.{is_meant};
+ghost use Rattle.association.specs.Receiving.{opened_by, IsRepeating, Opening};
 ghost use Rattle.association.specs.declared.fault.MessageFault.TheVariants as why;
 ghost use Rattle.association.specs.declared.phase.HalfOpen.{HalfOpen};
 ghost use Rattle.requests.specs.Following.{FollowsIncoming};
@@ -27,6 +29,7 @@ ghost use Rattle.association.specs.declared.phase.Association.{Association};
 ghost use Rattle.suite.specs.declared.key_record.KeyRecord.{KeyRecord};
 ghost use Rattle.suite.specs.declared.keys.Keys.{Keys};
 ghost use Rattle.sa_init.specs.Judging.{OfferView};
+ghost use Rattle.exchange.specs.Headers.{other_role};
 ghost use Rattle.exchange.specs.declared.sealed.Plain.{Plain};
 ghost use Rattle.association.specs.declared.phase.Phase.TheVariants.{Established};
 ghost use Rattle.association.specs.declared.phase.Phase.TheVariants as phase;
@@ -44,6 +47,7 @@ ghost use Rattle.initial.specs.Ending.{EndsAuth};
 ghost use Rattle.effects.specs.Keeping.{child_in, sent_by, IsShort, KeepsShort, KeyedBy};
 ghost use Rattle.effects.specs.Requests.{is_concluded, takes_requests, IsPassing, IsSoundlyHeld, KeepsWindow, PutsIntoEffect, StaysConcluded};
 ghost use Rattle.effects.specs.Offers.{AnswersAuthSa, AnswersInitialSa};
+ghost use Rattle.effects.specs.Openings.{OpensAsMessage, OpensWhatItSeals};
 ghost use Rattle.effects.specs.Lengths.{HoldsWholeKeys, TellsLengths};
 ghost use Rattle.effects.specs.Proving.{ProvesByMessage, ProvesByRequest, ProvesByResponse};
 ghost use Rattle.initial.specs.declared.answering.Answered.{Answered};
@@ -54,7 +58,7 @@ ghost use Rattle.effects.specs.Pairs.{LeavesPairs};
 ghost use Rattle.effects.specs.Taking.{Meaning, StaysItself, TakesMessage};
 ghost use Rattle.association.specs.declared.fault.MessageFault.{MessageFault};
 ghost use Rattle.effects.specs.declared.taking.Effect.{Effect};
-ghost use Rattle.effects.specs.declared.taking.Effect.TheVariants.{Identified, Refused, Repeated, Replied};
+ghost use Rattle.effects.specs.declared.taking.Effect.TheVariants.{Counted, Identified, Refused, Repeated, Replied};
 
 use association::Request;
 use association::laws::{
@@ -69,6 +73,7 @@ use children::laws::{
 use exchange::laws::{
     ciphers_tell_lengths, ends_agree, sealed_messages_are_determined, what_counts_fits,
 };
+use exchange::sealed_messages_open;
 use moments::laws::nothing_is_due_afterwards;
 use requests::laws::{
     later_incoming_are_determined, later_incoming_follow, later_outgoing_are_determined,
@@ -393,7 +398,7 @@ pub fn requests_are_remembered()
 
 /// What becomes of an association that has keys, as moves: a message makes two at most, those of what came of it, from what moves speak of
 /// before to what they speak of after; to answer a first request, to ask the peer, to close and to hold no longer are one each. What is
-/// passed over, a repeat, and a request that goes out again make none, and before both ends have come to keys there is nothing to speak of
+/// passed over, a repeat, and a request that goes out again make none, and before this end has come to keys there is nothing to speak of
 /// (RFC 7296, sections 2.1 to 2.4).
 pub fn messages_make_moves()
     ensures message { (meaning : Meaning) (setup : Setup) (old : Association) (table : Database) (octets : Octets) (m : Message)
@@ -417,6 +422,43 @@ pub fn messages_make_moves()
         → Lead (Remove ∷ []) (ledger old) None }
     ensures few { (number : ℕ) (keys : Option KeyRecord) (effect : Effect) → length (moves_of number keys effect) ≤ 2 }
 {}
+
+/// What goes out under an association's keys opens as what it is, where the cipher opens what it seals: a reply as the response to its
+/// request, the request of IKE_AUTH as that of number 1, and one that asks the peer as that of the next number. What puts a request into
+/// effect opens as that request of the peer, and what is counted as that response (RFC 7296, sections 2.2, 3.1 and 3.14).
+pub fn messages_open()
+    ensures reply { (meaning : Meaning) (setup : Setup) (old : Association) (table : Database) (octets : Octets) (m : Message)
+        (answered : Answered) (new : Association) (new_table : Database)
+        → OpensWhatItSeals meaning.body_of meaning.plain_of setup.fresh.seal → HoldsWholeKeys old.phase
+        → TakesMessage meaning setup old table octets m (Replied answered) new new_table
+        → OpensAsMessage meaning.plain_of old old.role true m.header.id answered.octets }
+    ensures identity { (meaning : Meaning) (setup : Setup) (old : Association) (table : Database) (octets : Octets) (m : Message)
+        (next : Octets) (new : Association) (new_table : Database)
+        → OpensWhatItSeals meaning.body_of meaning.plain_of setup.fresh.seal → HoldsWholeKeys new.phase
+        → TakesMessage meaning setup old table octets m (Identified next) new new_table
+        → OpensAsMessage meaning.plain_of new new.role false 1 next }
+    ensures probe { (body_of : Keys → Octets → Octets → Octets → Octets) (plain_of : Opening) (setup : Setup) (old : Association)
+        (octets : Octets) (new : Association) → OpensWhatItSeals body_of plain_of setup.fresh.seal → HoldsWholeKeys old.phase
+        → Probes body_of setup old octets new → OpensAsMessage plain_of new new.role false old.outgoing.next octets }
+    ensures taken { (meaning : Meaning) (setup : Setup) (old : Association) (table : Database) (octets : Octets) (m : Message)
+        (answered : Answered) (new : Association) (new_table : Database) → Spells m octets → is_meant m.header old ≡ true
+        → TakesMessage meaning setup old table octets m (Replied answered) new new_table
+        → OpensAsMessage meaning.plain_of old (other_role old.role) false m.header.id octets }
+    ensures counted { (meaning : Meaning) (setup : Setup) (old : Association) (table : Database) (octets : Octets) (m : Message)
+        (ended : Ended) (new : Association) (new_table : Database) → Spells m octets → is_meant m.header old ≡ true
+        → TakesMessage meaning setup old table octets m (Counted ended) new new_table
+        → OpensAsMessage meaning.plain_of old (other_role old.role) true m.header.id octets }
+{
+    receptions_say_why();
+    requests_take_effect();
+}
+
+/// A caller's cipher opens what it seals with 16 fresh octets.
+pub fn what_is_sealed_opens<S: Sealer>(sealer: &S)
+    ensures { (fresh : Octets) → AreOctets fresh → length fresh ≡ 16 → OpensWhatItSeals S.body_of S.plain_of fresh }
+{
+    sealed_messages_open(sealer);
+}
 
 /// Whatever comes, and whatever is begun or asked, nothing of an association is due at that moment that was not before, and nothing waits
 /// from a later one on: a request that goes out waits from then on, and an association that comes half open or is closed is held from

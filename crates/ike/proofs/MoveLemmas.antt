@@ -4,33 +4,41 @@ use Rattle.std.proofs.lemmas.Bool.Decides.{eqb_tells}
 use Rattle.std.specs.List.{slice_get, AllByRecursion, AllZip}
 use Rattle.std.specs.Prelude.{slice_set, option_and_then}
 use Rattle.base.specs.Octets.{Octets}
+use Rattle.wire.specs.Messages.{Spells}
 use Rattle.wire.specs.declared.message.Message.{Message}
 use Rattle.policy.specs.declared.entry.Entry.{Entry}
 use Rattle.suite.specs.declared.fresh.Fresh.{Fresh}
 use Rattle.suite.specs.declared.key_record.KeyRecord.{KeyRecord}
 use Rattle.suite.specs.declared.keys.Keys.{Keys}
 use Rattle.suite.specs.declared.sealer.Cipher.{Cipher}
+use Rattle.exchange.specs.Headers.{other_role}
 use Rattle.requests.specs.Outgoing.{GivesUpRequests}
 use Rattle.sadb.specs.Database.{Database}
 use Rattle.sa_init.specs.Judging.{OfferView}
+use Rattle.association.specs.Finding.{is_meant}
 use Rattle.association.specs.Phases.{keys_in}
+use Rattle.association.specs.Receiving.{Opening}
 use Rattle.association.specs.declared.phase.Association.{Association}
 use Rattle.association.specs.declared.phase.Phase.TheVariants as phase
 use Rattle.initial.specs.Beginning.{Admits}
 use Rattle.initial.specs.Configs.{Setup}
+use Rattle.initial.specs.declared.answering.Answered.{Answered}
 use Rattle.initial.specs.declared.beginning.Admitted.{Admitted}
+use Rattle.initial.specs.declared.ending.Ended.{Ended}
 use Rattle.informational.specs.Probing.{Probes}
 use Rattle.moments.specs.Due.{held_of, is_over, SendsAgain}
 use Rattle.moments.specs.Held as moments
 use Rattle.moments.specs.Ticking.{Ticks}
 use Rattle.moments.specs.declared.ticking.Ticked.{Ticked}
+use Rattle.effects.specs.Lengths.{HoldsWholeKeys}
 use Rattle.effects.specs.Moves.{and_closes, ledger, makes_and_issues, moves_of, Close, Count, Issue, Lead, Make, Move, Remove, TakeEffect}
+use Rattle.effects.specs.Openings.{OpensAsMessage, OpensWhatItSeals}
 use Rattle.effects.specs.Taking.{Meaning, StaysItself, TakesMessage}
 use Rattle.effects.specs.declared.taking.Effect.{Effect}
 use Rattle.effects.specs.declared.taking.Effect.TheVariants as effect
 use Rattle.ike.specs.Machines.{association_of, has_serial, setup_at, Held, Machine}
-use Rattle.ike.specs.Moves.{ledger_at, MovesAt, Tells, TellsClosed}
-use Rattle.ike.specs.Outputs.{stepped_of}
+use Rattle.ike.specs.Moves.{ledger_at, IssuesOpenly, MoveComes, MoveOpens, MovesAt, OpensFresh, Tells, TellsClosed}
+use Rattle.ike.specs.Outputs.{request_mark, stepped_of}
 use Rattle.ike.specs.Receiving.{with_next}
 use Rattle.ike.specs.Soundness.{AreSound, At, IsSoundMachine}
 use Rattle.ike.specs.Steps as steps
@@ -39,10 +47,10 @@ use Rattle.ike.specs.declared.output.IkeOutput.TheVariants as output
 use Rattle.ike.specs.declared.output.Stepped.{Stepped}
 use Rattle.ike.proofs.OutputLemmas.{still_held, TicksLeave}
 use Rattle.ike.proofs.ProbeLemmas.{changed_itself, probed_serial}
-use Rattle.ike.proofs.RequestLemmas.{some_none, yes_no}
+use Rattle.ike.proofs.RequestLemmas.{found_first, some_none, yes_no}
 use Rattle.ike.proofs.SerialLemmas.{grown_found, grown_stands, none_next, replaced_found, replaced_stands, same_one, sound_found}
 use Rattle.ike.proofs.TickLemmas.{found_at}
-use Rattle.ike.proofs.WayLemmas.{admitted, datagram_way, probed, rested, started, took, Way}
+use Rattle.ike.proofs.WayLemmas.{admitted, datagram_way, probed, rested, started, took, ProbesOne, StartsOne, Way}
 
 -- what is known of moves at one association
 pub record MoveLaws : Type 0 where
@@ -59,6 +67,23 @@ pub record MoveLaws : Type 0 where
       → new ≡ record old { outgoing = new.outgoing; phase = phase.Closed (keys_in old.phase) moment } → Lead (Close ∷ []) (ledger old) (ledger new)
   pub removal : (old : Association) (keys : KeyRecord) → keys_in old.phase ≡ Some keys → Lead (Remove ∷ []) (ledger old) None
   pub few : (number : ℕ) (keys : Option KeyRecord) (e : Effect) → length (moves_of number keys e) ≤ 2
+  pub reply : (meaning : Meaning) (setup : Setup) (old : Association) (table : Database) (octets : Octets) (m : Message) (answered : Answered) (new : Association) (new_table : Database)
+      → OpensWhatItSeals meaning.body_of meaning.plain_of setup.fresh.seal → HoldsWholeKeys old.phase → TakesMessage meaning setup old table octets m (effect.Replied answered) new new_table
+      → OpensAsMessage meaning.plain_of old old.role true m.header.id answered.octets
+  pub identity : (meaning : Meaning) (setup : Setup) (old : Association) (table : Database) (octets : Octets) (m : Message) (next : Octets) (new : Association) (new_table : Database)
+      → OpensWhatItSeals meaning.body_of meaning.plain_of setup.fresh.seal → HoldsWholeKeys new.phase → TakesMessage meaning setup old table octets m (effect.Identified next) new new_table
+      → OpensAsMessage meaning.plain_of new new.role false 1 next
+  pub probed : (body_of : Keys → Octets → Octets → Octets → Octets) (plain_of : Opening) (setup : Setup) (old : Association) (octets : Octets) (new : Association)
+      → OpensWhatItSeals body_of plain_of setup.fresh.seal → HoldsWholeKeys old.phase → Probes body_of setup old octets new
+      → OpensAsMessage plain_of new new.role false old.outgoing.next octets
+  pub taken : (meaning : Meaning) (setup : Setup) (old : Association) (table : Database) (octets : Octets) (m : Message) (answered : Answered) (new : Association) (new_table : Database)
+      → Spells m octets → is_meant m.header old ≡ true → TakesMessage meaning setup old table octets m (effect.Replied answered) new new_table
+      → OpensAsMessage meaning.plain_of old (other_role old.role) false m.header.id octets
+  pub counted : (meaning : Meaning) (setup : Setup) (old : Association) (table : Database) (octets : Octets) (m : Message) (ended : Ended) (new : Association) (new_table : Database)
+      → Spells m octets → is_meant m.header old ≡ true → TakesMessage meaning setup old table octets m (effect.Counted ended) new new_table
+      → OpensAsMessage meaning.plain_of old (other_role old.role) true m.header.id octets
+  pub whole : (meaning : Meaning) (setup : Setup) (old : Association) (table : Database) (octets : Octets) (m : Message) (e : Effect) (new : Association) (new_table : Database)
+      → HoldsWholeKeys old.phase → TakesMessage meaning setup old table octets m e new new_table → HoldsWholeKeys new.phase
 
 -- ---- what stands under a serial
 
@@ -71,8 +96,8 @@ leads_by old new serial o p moves before after leads =
     subst (λ (x : Option Association). looked x (association_of serial new.associations) moves) (sym before) (subst (λ (x : Option Association). looked o x moves) (sym after) leads)
 
 -- it stays as it was
-rests_at : (input : InputView) (old : Held) (stepped : Stepped) (new : Held) (serial : ℕ) → association_of serial new.associations ≡ association_of serial old.associations → MovesAt input old stepped new serial
-rests_at input old stepped new serial same = record { moves = []; few = omega arith; lead = ap (option_and_then ledger) same; told = tt }
+rests_at : (meaning : Meaning) (input : InputView) (old : Held) (stepped : Stepped) (new : Held) (serial : ℕ) → association_of serial new.associations ≡ association_of serial old.associations → MovesAt meaning input old stepped new serial
+rests_at meaning input old stepped new serial same = record { moves = []; few = omega arith; lead = ap (option_and_then ledger) same; told = tt; came = tt; opened = λ opens whole. tt }
 
 -- where one association is changed: it is this one, or this one stays
 at_changed : (old : Held) (table : Database) (place : ℕ) (a b : Association) (new : Held) (serial : ℕ) → AreSound old table → At old place a → b.serial ≡ a.serial
@@ -108,29 +133,122 @@ told_ended : (input : InputView) (stepped : Stepped) (serial : ℕ) (move : Move
 told_ended input stepped serial move true tells closes = (tells, (closes refl, tt))
 told_ended input stepped serial move false tells closes = (tells, tt)
 
-told_made : (input : InputView) (stepped : Stepped) (serial : ℕ) (keys : Option KeyRecord) (octets : Octets) → stepped.trace.keyed ≡ Some serial → stepped.output ≡ output.Request serial octets
-    → AllByRecursion (Tells input stepped serial) (makes_and_issues keys octets)
-told_made input stepped serial (Some keys) octets keyed said = (keyed, (said, tt))
-told_made input stepped serial None octets keyed said = tt
+told_made : (input : InputView) (stepped : Stepped) (serial : ℕ) (keys : Option KeyRecord) (octets : Octets) → is_tick input ≡ false → stepped.trace.keyed ≡ Some serial → stepped.output ≡ output.Request serial octets
+    → stepped.trace.sent ≡ request_mark serial 1 → AllByRecursion (Tells input stepped serial) (makes_and_issues keys octets)
+told_made input stepped serial (Some keys) octets moves keyed said sent = ((keyed, moves), ((said, sent), tt))
+told_made input stepped serial None octets moves keyed said sent = tt
 
-told_effect : (input : InputView) (serial number : ℕ) (keys : Option KeyRecord) (e : Effect) → AllByRecursion (Tells input (stepped_of serial number e) serial) (moves_of number keys e)
-told_effect input serial number keys (effect.Refused fault) = tt
-told_effect input serial number keys (effect.Repeated octets) = tt
-told_effect input serial number keys (effect.Again octets) = tt
-told_effect input serial number keys (effect.Identified octets) = told_made input (stepped_of serial number (effect.Identified octets)) serial keys octets refl refl
-told_effect input serial number keys (effect.Replied answered) =
-    told_ended input (stepped_of serial number (effect.Replied answered)) serial (TakeEffect number answered.octets) answered.closed (_, refl)
+told_effect : (input : InputView) (serial number : ℕ) (keys : Option KeyRecord) (e : Effect) → is_tick input ≡ false → AllByRecursion (Tells input (stepped_of serial number e) serial) (moves_of number keys e)
+told_effect input serial number keys (effect.Refused fault) moves = tt
+told_effect input serial number keys (effect.Repeated octets) moves = tt
+told_effect input serial number keys (effect.Again octets) moves = tt
+told_effect input serial number keys (effect.Identified octets) moves = told_made input (stepped_of serial number (effect.Identified octets)) serial keys octets moves refl refl refl
+told_effect input serial number keys (effect.Replied answered) moves =
+    told_ended input (stepped_of serial number (effect.Replied answered)) serial (TakeEffect number answered.octets) answered.closed (_, refl, refl)
     (λ closed. subst (λ (b : Bool). Tells input (stepped_of serial number (effect.Replied (record answered { closed = b }))) serial Close) (sym closed) refl)
-told_effect input serial number keys (effect.Counted ended) =
+told_effect input serial number keys (effect.Counted ended) moves =
     told_ended input (stepped_of serial number (effect.Counted ended)) serial (Count number) ended.closed (ended.child, _, refl)
     (λ closed. subst (λ (b : Bool). Tells input (stepped_of serial number (effect.Counted (record ended { closed = b }))) serial Close) (sym closed) refl)
 
--- ---- a datagram, and orders
+-- ---- what comes, and what opens
 
-way_moves : (laws : MoveLaws) (input : InputView) (meaning : Meaning) (setup : Setup) (octets : Octets) (old : Held) (table : Database) (stepped : Stepped) (new : Held) (new_table : Database) (serial : ℕ)
-    → AreSound old table → Way meaning setup octets old table stepped new new_table → MovesAt input old stepped new serial
-way_moves laws input meaning setup octets old table stepped new new_table serial sound (rested is) = rests_at input old stepped new serial (ap (λ (h : Held). association_of serial h.associations) is.same)
-way_moves laws input meaning setup octets old table stepped new new_table serial sound (took is) =
+came_ended : (meaning : Meaning) (input : InputView) (old : Held) (serial : ℕ) (move : Move) (closed : Bool) → MoveComes meaning input old serial move
+    → AllByRecursion (MoveComes meaning input old serial) (and_closes move closed)
+came_ended meaning input old serial move true comes = (comes, (tt, tt))
+came_ended meaning input old serial move false comes = (comes, tt)
+
+came_made : (meaning : Meaning) (input : InputView) (old : Held) (serial : ℕ) (keys : Option KeyRecord) (octets : Octets) → AllByRecursion (MoveComes meaning input old serial) (makes_and_issues keys octets)
+came_made meaning input old serial (Some keys) octets = (tt, (tt, tt))
+came_made meaning input old serial None octets = tt
+
+came_effect : (laws : MoveLaws) (meaning : Meaning) (setup : Setup) (from octets : Octets) (old : Held) (table new_table : Database) (serial : ℕ) (a b : Association) (m : Message) (e : Effect)
+    → Spells m octets → is_meant m.header a ≡ true → association_of serial old.associations ≡ Some a → TakesMessage meaning setup a table octets m e b new_table
+    → AllByRecursion (MoveComes meaning (steps.Message from octets setup.fresh) old serial) (moves_of m.header.id (keys_in b.phase) e)
+came_effect laws meaning setup from octets old table new_table serial a b m (effect.Refused fault) spelled meant before takes = tt
+came_effect laws meaning setup from octets old table new_table serial a b m (effect.Repeated reply) spelled meant before takes = tt
+came_effect laws meaning setup from octets old table new_table serial a b m (effect.Again next) spelled meant before takes = tt
+came_effect laws meaning setup from octets old table new_table serial a b m (effect.Identified next) spelled meant before takes =
+    came_made meaning (steps.Message from octets setup.fresh) old serial (keys_in b.phase) next
+came_effect laws meaning setup from octets old table new_table serial a b m (effect.Replied answered) spelled meant before takes =
+    came_ended meaning (steps.Message from octets setup.fresh) old serial (TakeEffect m.header.id answered.octets) answered.closed
+    (record { association = a; there = before; comes = laws.taken meaning setup a table octets m answered b new_table spelled meant takes })
+came_effect laws meaning setup from octets old table new_table serial a b m (effect.Counted ended) spelled meant before takes =
+    came_ended meaning (steps.Message from octets setup.fresh) old serial (Count m.header.id) ended.closed
+    (record { association = a; there = before; comes = laws.counted meaning setup a table octets m ended b new_table spelled meant takes })
+
+opened_ended : (meaning : Meaning) (old new : Held) (serial : ℕ) (move : Move) (closed : Bool) → MoveOpens meaning old new serial move
+    → AllByRecursion (MoveOpens meaning old new serial) (and_closes move closed)
+opened_ended meaning old new serial move true opens = (opens, (tt, tt))
+opened_ended meaning old new serial move false opens = (opens, tt)
+
+opened_made : (meaning : Meaning) (old new : Held) (serial : ℕ) (keys : Option KeyRecord) (octets : Octets) → IssuesOpenly meaning new serial 1 octets
+    → AllByRecursion (MoveOpens meaning old new serial) (makes_and_issues keys octets)
+opened_made meaning old new serial (Some keys) octets opens = (tt, (opens, tt))
+opened_made meaning old new serial None octets opens = tt
+
+opened_effect : (laws : MoveLaws) (meaning : Meaning) (setup : Setup) (octets : Octets) (old new : Held) (table new_table : Database) (serial : ℕ) (a b : Association) (m : Message) (e : Effect)
+    → OpensWhatItSeals meaning.body_of meaning.plain_of setup.fresh.seal → HoldsWholeKeys a.phase
+    → association_of serial old.associations ≡ Some a → association_of serial new.associations ≡ Some b → TakesMessage meaning setup a table octets m e b new_table
+    → AllByRecursion (MoveOpens meaning old new serial) (moves_of m.header.id (keys_in b.phase) e)
+opened_effect laws meaning setup octets old new table new_table serial a b m (effect.Refused fault) opens whole before after takes = tt
+opened_effect laws meaning setup octets old new table new_table serial a b m (effect.Repeated reply) opens whole before after takes = tt
+opened_effect laws meaning setup octets old new table new_table serial a b m (effect.Again next) opens whole before after takes = tt
+opened_effect laws meaning setup octets old new table new_table serial a b m (effect.Identified next) opens whole before after takes =
+    opened_made meaning old new serial (keys_in b.phase) next (record {
+      association = b;
+      there = after;
+      opens = laws.identity meaning setup a table octets m next b new_table opens (laws.whole meaning setup a table octets m (effect.Identified next) b new_table whole takes) takes;
+    })
+opened_effect laws meaning setup octets old new table new_table serial a b m (effect.Replied answered) opens whole before after takes =
+    opened_ended meaning old new serial (TakeEffect m.header.id answered.octets) answered.closed
+    (record { association = a; there = before; opens = laws.reply meaning setup a table octets m answered b new_table opens whole takes })
+opened_effect laws meaning setup octets old new table new_table serial a b m (effect.Counted ended) opens whole before after takes =
+    opened_ended meaning old new serial (Count m.header.id) ended.closed tt
+
+-- ---- orders
+
+started_moves : (input : InputView) (meaning : Meaning) (setup : Setup) (old : Held) (table : Database) (stepped : Stepped) (new : Held) (new_table : Database) (serial : ℕ)
+    → AreSound old table → StartsOne meaning setup old table stepped new new_table → MovesAt meaning input old stepped new serial
+started_moves input meaning setup old table stepped new new_table serial sound is =
+    elim (at_grown old table _ new serial sound refl is.starts.done.content) [
+      | inl (here, before, after) ↦ record { moves = []; few = omega arith; lead = ap (option_and_then ledger) after ∙ sym (ap (option_and_then ledger) before); told = tt; came = tt; opened = λ opens whole. tt }
+      | inr same ↦ rests_at meaning input old stepped new serial same
+    ]
+
+probed_moves : (laws : MoveLaws) (input : InputView) (meaning : Meaning) (setup : Setup) (old : Held) (table : Database) (stepped : Stepped) (new : Held) (new_table : Database) (serial : ℕ)
+    → (OpensFresh meaning input → OpensWhatItSeals meaning.body_of meaning.plain_of setup.fresh.seal) → AreSound old table → ProbesOne meaning setup old table stepped new new_table → MovesAt meaning input old stepped new serial
+probed_moves laws input meaning setup old table stepped new new_table serial sealed sound is =
+    let p = is.probes in
+    let stays = changed_itself meaning.body_of setup is.ike old stepped new p in
+    let moves = Issue p.association.outgoing.next p.octets ∷ [] in
+    elim (at_changed old table p.place p.association p.changed new serial sound p.there stays.serial p.content) [
+      | inl (here, before, after) ↦ record {
+        moves = moves;
+        few = omega arith;
+        lead = leads_by old new serial (Some p.association) (Some p.changed) moves before after (laws.probe meaning.body_of setup p.association p.octets p.changed p.probes);
+        told = (
+          (
+            ap (λ (s : Stepped). s.output) p.said ∙ ap (λ n. output.Request n p.octets) (sym (here ∙ probed_serial meaning.body_of setup is.ike old stepped new p)),
+            ap (λ (s : Stepped). s.trace.sent) p.said ∙ ap (λ n. request_mark n p.association.outgoing.next) (sym (here ∙ probed_serial meaning.body_of setup is.ike old stepped new p)),
+          ),
+          tt,
+        );
+        came = (tt, tt);
+        opened = λ opens whole. (
+          record { association = p.changed; there = after; opens = laws.probed meaning.body_of meaning.plain_of setup p.association p.octets p.changed (sealed opens) (whole p.place p.association p.there) p.probes },
+          tt,
+        );
+      }
+      | inr same ↦ rests_at meaning input old stepped new serial same
+    ]
+
+-- ---- a datagram
+
+way_moves : (laws : MoveLaws) (meaning : Meaning) (setup : Setup) (from octets : Octets) (old : Held) (table : Database) (stepped : Stepped) (new : Held) (new_table : Database) (serial : ℕ)
+    → AreSound old table → Way meaning setup octets old table stepped new new_table → MovesAt meaning (steps.Message from octets setup.fresh) old stepped new serial
+way_moves laws meaning setup from octets old table stepped new new_table serial sound (rested is) = rests_at meaning (steps.Message from octets setup.fresh) old stepped new serial (ap (λ (h : Held). association_of serial h.associations) is.same)
+way_moves laws meaning setup from octets old table stepped new new_table serial sound (took is) =
+    let input : InputView = steps.Message from octets setup.fresh in
     let t = is.takes in
     let a = t.association in
     let stays = laws.itself meaning setup a table octets is.message t.effect t.changed new_table t.takes in
@@ -142,11 +260,14 @@ way_moves laws input meaning setup octets old table stepped new new_table serial
         few = laws.few number (keys_in t.changed.phase) t.effect;
         lead = leads_by old new serial (Some a) (Some t.changed) moves before after (laws.message meaning setup a table octets is.message t.effect t.changed new_table t.takes);
         told = subst (λ (s : Stepped). AllByRecursion (Tells input s serial) moves) (sym t.said)
-            (subst (λ (n : ℕ). AllByRecursion (Tells input (stepped_of n number t.effect) serial) moves) here (told_effect input serial number (keys_in t.changed.phase) t.effect));
+            (subst (λ (n : ℕ). AllByRecursion (Tells input (stepped_of n number t.effect) serial) moves) here (told_effect input serial number (keys_in t.changed.phase) t.effect refl));
+        came = came_effect laws meaning setup from octets old table new_table serial a t.changed is.message t.effect is.spelled (found_first is.message.header old.associations is.place a is.found_there t.there).passes before t.takes;
+        opened = λ opens whole. opened_effect laws meaning setup octets old new table new_table serial a t.changed is.message t.effect opens (whole is.place a t.there) before after t.takes;
       }
-      | inr same ↦ rests_at input old stepped new serial same
+      | inr same ↦ rests_at meaning input old stepped new serial same
     ]
-way_moves laws input meaning setup octets old table stepped new new_table serial sound (admitted is) =
+way_moves laws meaning setup from octets old table stepped new new_table serial sound (admitted is) =
+    let input : InputView = steps.Message from octets setup.fresh in
     let b = is.admits.admitted.association in
     let made = laws.admits meaning.cipher meaning.group meaning.public_value meaning.shared_secret setup.fresh setup.moment old.next is.offer is.spi_i octets is.admits.admitted is.admits.admits in
     elim (at_grown old table b new serial sound (ap (λ (x : Association). x.serial) is.admits.admits.content) is.admits.content) [
@@ -154,28 +275,15 @@ way_moves laws input meaning setup octets old table stepped new new_table serial
         moves = Make made.0 ∷ [];
         few = omega arith;
         lead = leads_by old new serial None (Some b) (Make made.0 ∷ []) before after made.1;
-        told = (ap (λ (s : Stepped). s.trace.keyed) is.admits.said ∙ ap Some (sym (here ∙ ap (λ (x : Association). x.serial) is.admits.admits.content)), tt);
+        told = ((ap (λ (s : Stepped). s.trace.keyed) is.admits.said ∙ ap Some (sym (here ∙ ap (λ (x : Association). x.serial) is.admits.admits.content)), refl), tt);
+        came = (tt, tt);
+        opened = λ opens whole. (tt, tt);
       }
-      | inr same ↦ rests_at input old stepped new serial same
+      | inr same ↦ rests_at meaning input old stepped new serial same
     ]
-way_moves laws input meaning setup octets old table stepped new new_table serial sound (started is) =
-    elim (at_grown old table _ new serial sound refl is.starts.done.content) [
-      | inl (here, before, after) ↦ record { moves = []; few = omega arith; lead = ap (option_and_then ledger) after ∙ sym (ap (option_and_then ledger) before); told = tt }
-      | inr same ↦ rests_at input old stepped new serial same
-    ]
-way_moves laws input meaning setup octets old table stepped new new_table serial sound (probed is) =
-    let p = is.probes in
-    let stays = changed_itself meaning.body_of setup is.ike old stepped new p in
-    let moves = Issue p.association.outgoing.next p.octets ∷ [] in
-    elim (at_changed old table p.place p.association p.changed new serial sound p.there stays.serial p.content) [
-      | inl (here, before, after) ↦ record {
-        moves = moves;
-        few = omega arith;
-        lead = leads_by old new serial (Some p.association) (Some p.changed) moves before after (laws.probe meaning.body_of setup p.association p.octets p.changed p.probes);
-        told = (ap (λ (s : Stepped). s.output) p.said ∙ ap (λ n. output.Request n p.octets) (sym (here ∙ probed_serial meaning.body_of setup is.ike old stepped new p)), tt);
-      }
-      | inr same ↦ rests_at input old stepped new serial same
-    ]
+way_moves laws meaning setup from octets old table stepped new new_table serial sound (started is) = started_moves (steps.Message from octets setup.fresh) meaning setup old table stepped new new_table serial sound is
+way_moves laws meaning setup from octets old table stepped new new_table serial sound (probed is) =
+    probed_moves laws (steps.Message from octets setup.fresh) meaning setup old table stepped new new_table serial (λ opens. opens) sound is
 
 -- ---- a moment
 
@@ -258,13 +366,15 @@ record Ends (input : InputView) (stepped : Stepped) (serial : ℕ) (a : Associat
   few : length moves ≤ 2
   lead : looked (Some a) o moves
   told : AllByRecursion (Tells input stepped serial) moves
+  came : (meaning : Meaning) (old : Held) → AllByRecursion (MoveComes meaning input old serial) moves
+  opened : (meaning : Meaning) (old new : Held) → AllByRecursion (MoveOpens meaning old new serial) moves
 
 without_keys : (a : Association) → keys_in a.phase ≡ None → ledger a ≡ None
 without_keys a none = cc
 
 gone_moves : (laws : MoveLaws) (input : InputView) (stepped : Stepped) (serial : ℕ) (a : Association) (keys : Option KeyRecord) → keys_in a.phase ≡ keys → is_tick input ≡ true → Ends input stepped serial a None
-gone_moves laws input stepped serial a None are ticks = record { moves = []; few = omega arith; lead = sym (without_keys a are); told = tt }
-gone_moves laws input stepped serial a (Some keys) are ticks = record { moves = Remove ∷ []; few = omega arith; lead = laws.removal a keys are; told = (ticks, tt) }
+gone_moves laws input stepped serial a None are ticks = record { moves = []; few = omega arith; lead = sym (without_keys a are); told = tt; came = λ meaning old. tt; opened = λ meaning old new. tt }
+gone_moves laws input stepped serial a (Some keys) are ticks = record { moves = Remove ∷ []; few = omega arith; lead = laws.removal a keys are; told = (ticks, tt); came = λ meaning old. (tt, tt); opened = λ meaning old new. (tt, tt) }
 
 closed_moves : (laws : MoveLaws) (input : InputView) (stepped : Stepped) (ticked : Ticked) (serial now : ℕ) (a b : Association) (keys : Option KeyRecord) → keys_in a.phase ≡ keys → stepped.output ≡ output.Ticked ticked
     → Contains ticked.closed serial → moments.IsClosedAt now a b → Ends input stepped serial a (Some b)
@@ -274,6 +384,8 @@ closed_moves laws input stepped ticked serial now a b None are said told is =
       few = omega arith;
       lead = without_keys b (ap (λ (x : Association). keys_in x.phase) is.content ∙ are) ∙ sym (without_keys a are);
       told = tt;
+      came = λ meaning old. tt;
+      opened = λ meaning old new. tt;
     }
 closed_moves laws input stepped ticked serial now a b (Some keys) are said told is =
     record {
@@ -281,18 +393,20 @@ closed_moves laws input stepped ticked serial now a b (Some keys) are said told 
       few = omega arith;
       lead = laws.closing a b keys now are is.requests is.content;
       told = (subst (λ o. TellsClosed serial o) (sym said) told, tt);
+      came = λ meaning old. (tt, tt);
+      opened = λ meaning old new. (tt, tt);
     }
 
 on_moves : (laws : MoveLaws) (input : InputView) (stepped : Stepped) (ticked : Ticked) (serial now : ℕ) (a b : Association) → a.serial ≡ serial → stepped.output ≡ output.Ticked ticked
     → moments.StaysItself now ticked.closed a b → Ends input stepped serial a (Some b)
 on_moves laws input stepped ticked serial now a b named said is = elim is.stays [
-  | inl sends ↦ record { moves = []; few = omega arith; lead = laws.sending now a b sends.1; told = tt }
+  | inl sends ↦ record { moves = []; few = omega arith; lead = laws.sending now a b sends.1; told = tt; came = λ meaning old. tt; opened = λ meaning old new. tt }
   | inr closes ↦ closed_moves laws input stepped ticked serial now a b (keys_in a.phase) refl said (subst (λ n. Contains ticked.closed n) named closes.1) closes.0
 ]
 
-ended_at : (input : InputView) (old : Held) (stepped : Stepped) (new : Held) (serial : ℕ) (a : Association) (o : Option Association) → association_of serial old.associations ≡ Some a → association_of serial new.associations ≡ o
-    → Ends input stepped serial a o → MovesAt input old stepped new serial
-ended_at input old stepped new serial a o before after ends = record { moves = ends.moves; few = ends.few; lead = leads_by old new serial (Some a) o ends.moves before after ends.lead; told = ends.told }
+ended_at : (meaning : Meaning) (input : InputView) (old : Held) (stepped : Stepped) (new : Held) (serial : ℕ) (a : Association) (o : Option Association) → association_of serial old.associations ≡ Some a → association_of serial new.associations ≡ o
+    → Ends input stepped serial a o → MovesAt meaning input old stepped new serial
+ended_at meaning input old stepped new serial a o before after ends = record { moves = ends.moves; few = ends.few; lead = leads_by old new serial (Some a) o ends.moves before after ends.lead; told = ends.told; came = ends.came meaning old; opened = λ opens whole. ends.opened meaning old new }
 
 -- who was not held before is not held on
 none_alive : (now serial : ℕ) (old : Held) (table : Database) (o : Option Association) → AreSound old table → association_of serial old.associations ≡ None → association_of serial (held_of now old.associations) ≡ o → o ≡ None
@@ -302,38 +416,38 @@ none_alive now serial old table (Some x) sound none found =
     let there : association_of serial old.associations ≡ Some x = subst (λ n. association_of n old.associations ≡ Some x) (named_is serial x f.named) (sound_found old table f.place x sound f.there) in
     absurd (some_none x (sym none ∙ there))
 
-held_moves : (laws : MoveLaws) (input : InputView) (stepped : Stepped) (ticked : Ticked) (serial now : ℕ) (old new : Held) (table : Database) (a : Association) (over : Bool) → AreSound old table
+held_moves : (laws : MoveLaws) (meaning : Meaning) (input : InputView) (stepped : Stepped) (ticked : Ticked) (serial now : ℕ) (old new : Held) (table : Database) (a : Association) (over : Bool) → AreSound old table
     → association_of serial old.associations ≡ Some a → is_over now a.phase ≡ over → is_tick input ≡ true → stepped.output ≡ output.Ticked ticked
-    → AllZip (moments.StaysItself now ticked.closed) (held_of now old.associations) new.associations → MovesAt input old stepped new serial
-held_moves laws input stepped ticked serial now old new table a true sound stands over ticks said zip =
+    → AllZip (moments.StaysItself now ticked.closed) (held_of now old.associations) new.associations → MovesAt meaning input old stepped new serial
+held_moves laws meaning input stepped ticked serial now old new table a true sound stands over ticks said zip =
     let gone = none_zips now serial ticked.closed (held_of now old.associations) new.associations zip (over_gone now serial old table a (association_of serial (held_of now old.associations)) sound stands over refl) in
-    ended_at input old stepped new serial a None stands gone (gone_moves laws input stepped serial a (keys_in a.phase) refl ticks)
-held_moves laws input stepped ticked serial now old new table a false sound stands over ticks said zip =
+    ended_at meaning input old stepped new serial a None stands gone (gone_moves laws input stepped serial a (keys_in a.phase) refl ticks)
+held_moves laws meaning input stepped ticked serial now old new table a false sound stands over ticks said zip =
     let z = zipped now serial ticked.closed (held_of now old.associations) new.associations a zip (still_held now serial old.associations a over stands) in
-    ended_at input old stepped new serial a (Some z.held) stands z.there (on_moves laws input stepped ticked serial now a z.held (found_at old.associations serial a stands).serial_is said z.stays)
+    ended_at meaning input old stepped new serial a (Some z.held) stands z.there (on_moves laws input stepped ticked serial now a z.held (found_at old.associations serial a stands).serial_is said z.stays)
 
-tick_moves : (laws : MoveLaws) (input : InputView) (stepped : Stepped) (ticked : Ticked) (serial now : ℕ) (old new : Held) (table : Database) (o : Option Association) → AreSound old table
+tick_moves : (laws : MoveLaws) (meaning : Meaning) (input : InputView) (stepped : Stepped) (ticked : Ticked) (serial now : ℕ) (old new : Held) (table : Database) (o : Option Association) → AreSound old table
     → association_of serial old.associations ≡ o → is_tick input ≡ true → stepped.output ≡ output.Ticked ticked
-    → AllZip (moments.StaysItself now ticked.closed) (held_of now old.associations) new.associations → MovesAt input old stepped new serial
-tick_moves laws input stepped ticked serial now old new table None sound stands ticks said zip =
+    → AllZip (moments.StaysItself now ticked.closed) (held_of now old.associations) new.associations → MovesAt meaning input old stepped new serial
+tick_moves laws meaning input stepped ticked serial now old new table None sound stands ticks said zip =
     let gone = none_zips now serial ticked.closed (held_of now old.associations) new.associations zip (none_alive now serial old table (association_of serial (held_of now old.associations)) sound stands refl) in
-    rests_at input old stepped new serial (gone ∙ sym stands)
-tick_moves laws input stepped ticked serial now old new table (Some a) sound stands ticks said zip =
-    held_moves laws input stepped ticked serial now old new table a (is_over now a.phase) sound stands refl ticks said zip
+    rests_at meaning input old stepped new serial (gone ∙ sym stands)
+tick_moves laws meaning input stepped ticked serial now old new table (Some a) sound stands ticks said zip =
+    held_moves laws meaning input stepped ticked serial now old new table a (is_over now a.phase) sound stands refl ticks said zip
 
 pub step_moves : MoveLaws → TicksLeave → (meaning : Meaning) (entries : List Entry) (input : InputView) (old : Machine) (table : Database) (stepped : Stepped) (new : Machine) (new_table : Database) (serial : ℕ)
-    → IsSoundMachine old table → Steps meaning entries input old table stepped new new_table → MovesAt input old.held stepped new.held serial
+    → IsSoundMachine old table → Steps meaning entries input old table stepped new new_table → MovesAt meaning input old.held stepped new.held serial
 step_moves laws leave meaning entries (steps.Message from octets fresh) old table stepped new new_table serial sound is =
-    way_moves laws (steps.Message from octets fresh) meaning (setup_at old entries fresh) octets old.held table stepped new.held new_table serial sound
+    way_moves laws meaning (setup_at old entries fresh) from octets old.held table stepped new.held new_table serial sound
     (datagram_way meaning (setup_at old entries fresh) old.cookies from octets old.held table stepped new.held new_table is.1)
 step_moves laws leave meaning entries (steps.Start ike place fresh) old table stepped new new_table serial sound is =
-    way_moves laws (steps.Start ike place fresh) meaning (setup_at old entries fresh) [] old.held table stepped new.held new_table serial sound (started (record { ike = ike; place = place; starts = is.1 }))
+    started_moves (steps.Start ike place fresh) meaning (setup_at old entries fresh) old.held table stepped new.held new_table serial sound (record { ike = ike; place = place; starts = is.1 })
 step_moves laws leave meaning entries (steps.Probe ike fresh) old table stepped new new_table serial sound is =
-    way_moves laws (steps.Probe ike fresh) meaning (setup_at old entries fresh) [] old.held table stepped new.held new_table serial sound (probed (record { ike = ike; probes = is.1; pairs = is.2 }))
+    probed_moves laws (steps.Probe ike fresh) meaning (setup_at old entries fresh) old.held table stepped new.held new_table serial (λ opens. opens) sound (record { ike = ike; probes = is.1; pairs = is.2 })
 step_moves laws leave meaning entries (steps.Secret secret) old table stepped new new_table serial sound is =
-    rests_at (steps.Secret secret) old.held stepped new.held serial (ap (λ (m : Machine). association_of serial m.held.associations) is.content)
+    rests_at meaning (steps.Secret secret) old.held stepped new.held serial (ap (λ (m : Machine). association_of serial m.held.associations) is.content)
 step_moves laws leave meaning entries (steps.Tick moment) old table stepped new new_table serial sound is =
     let t = is.takes in
     let now = max old.moment moment in
-    tick_moves laws (steps.Tick moment) stepped t.ticked serial now old.held new.held table (association_of serial old.held.associations) sound refl refl (ap (λ (s : Stepped). s.output) t.said)
+    tick_moves laws meaning (steps.Tick moment) stepped t.ticked serial now old.held new.held table (association_of serial old.held.associations) sound refl refl (ap (λ (s : Stepped). s.output) t.said)
     (leave now old.held.associations new.held.associations table new_table t.ticked t.ticks)

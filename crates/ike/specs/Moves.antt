@@ -1,9 +1,17 @@
--- What a step does to each association that has keys, as moves, and what it says of them (RFC 7296 sections 2.1 to 2.4).
-use Rattle.std.specs.Prelude.{◌≡◌, ◌≤◌, ◌∷◌, ℕ, true, Option, Some, None, List, [], Contains, length, option_and_then}
+-- What a step does to each association that has keys, as moves, what it says of them, and what their octets open as (RFC 7296 sections 2.1
+-- to 2.4, 3.1 and 3.14).
+use Rattle.std.specs.Prelude.{◌≡◌, ◌≤◌, ◌∷◌, ℕ, Bool, true, false, Option, Some, None, List, [], Contains, length, option_and_then}
 use Rattle.std.specs.List.{AllByRecursion}
+use Rattle.base.specs.Octets.{Octets}
+use Rattle.exchange.specs.Headers.{other_role}
+use Rattle.association.specs.declared.phase.Association.{Association}
 use Rattle.effects.specs.Moves.{ledger, Close, Count, Issue, Lead, Ledger, Make, Move, Remove, TakeEffect}
+use Rattle.effects.specs.Openings.{OpensAsMessage, OpensWhatItSeals}
+use Rattle.effects.specs.Taking.{Meaning}
+use Rattle.ike.specs.Lengths.{HoldWholeKeys}
 use Rattle.ike.specs.Machines.{association_of, Held}
-use Rattle.ike.specs.Steps.{is_tick, InputView}
+use Rattle.ike.specs.Outputs.{reply_mark, request_mark}
+use Rattle.ike.specs.Steps.{is_tick, InputView, Message, Probe, Secret, Start, Tick}
 use Rattle.ike.specs.declared.output.IkeOutput.{IkeOutput}
 use Rattle.ike.specs.declared.output.IkeOutput.TheVariants as output
 use Rattle.ike.specs.declared.output.Stepped.{Stepped}
@@ -19,20 +27,66 @@ TellsClosed serial (output.Counted ike child (Some closed)) = closed ≡ serial
 TellsClosed serial (output.Ticked ticked) = Contains ticked.closed serial
 TellsClosed serial o = ⊥
 
--- what a step says of a move: keys that come are in its trace, a request and a reply are its output, and so on; none is held no longer
--- but by a moment
+-- What a step says of a move: keys that come are in its trace, a request and a reply are its output, with their number in its trace, and so
+-- on; an association is let go at a moment alone.
 abbrev pub Tells : InputView → Stepped → ℕ → Move → Type 0
-Tells input stepped serial (Make keys) = stepped.trace.keyed ≡ Some serial
-Tells input stepped serial (Issue number octets) = stepped.output ≡ output.Request serial octets
+Tells input stepped serial (Make keys) = (stepped.trace.keyed ≡ Some serial) × (is_tick input ≡ false)
+Tells input stepped serial (Issue number octets) = (stepped.output ≡ output.Request serial octets) × (stepped.trace.sent ≡ request_mark serial number)
 Tells input stepped serial (Count number) = (child : Option ℕ) × (closed : Option ℕ) × (stepped.output ≡ output.Counted serial child closed)
-Tells input stepped serial (TakeEffect number reply) = (closed : Option ℕ) × (stepped.output ≡ output.Reply reply closed)
+Tells input stepped serial (TakeEffect number reply) =
+    (closed : Option ℕ) × (stepped.output ≡ output.Reply reply closed) × (stepped.trace.sent ≡ reply_mark serial number)
 Tells input stepped serial Close = TellsClosed serial stepped.output
 Tells input stepped serial Remove = is_tick input ≡ true
 
--- the moves of one step at the association with this serial: two at most, which lead from what they speak of before to what they speak of
--- after, each told
-pub record MovesAt (input : InputView) (old : Held) (stepped : Stepped) (new : Held) (serial : ℕ) : Type 0 where
+-- What is asked of a cipher: it opens what it seals with the octets that are fresh, as its law says of 16 of them.
+abbrev pub OpensFresh : Meaning → InputView → Type 0
+OpensFresh meaning (Message from octets fresh) = OpensWhatItSeals meaning.body_of meaning.plain_of fresh.seal
+OpensFresh meaning (Start ike place fresh) = OpensWhatItSeals meaning.body_of meaning.plain_of fresh.seal
+OpensFresh meaning (Probe ike fresh) = OpensWhatItSeals meaning.body_of meaning.plain_of fresh.seal
+OpensFresh meaning (Secret secret) = Unit {0}
+OpensFresh meaning (Tick moment) = Unit {0}
+
+-- the input is a datagram that opens as this request or response of the association's peer
+abbrev pub Comes : Meaning → InputView → Association → Bool → ℕ → Type 0
+Comes meaning (Message from octets fresh) a response number = OpensAsMessage meaning.plain_of a (other_role a.role) response number octets
+Comes meaning input a response number = ⊥
+
+-- the peer's message at this association, as it was before the step
+pub record ComesFor (meaning : Meaning) (input : InputView) (old : Held) (serial : ℕ) (response : Bool) (number : ℕ) : Type 0 where
+  pub association : Association
+  pub there : association_of serial old.associations ≡ Some association
+  pub comes : Comes meaning input association response number
+
+-- what is counted comes as the peer's response, and what takes effect as its request
+abbrev pub MoveComes : Meaning → InputView → Held → ℕ → Move → Type 0
+MoveComes meaning input old serial (Count number) = ComesFor meaning input old serial true number
+MoveComes meaning input old serial (TakeEffect number reply) = ComesFor meaning input old serial false number
+MoveComes meaning input old serial move = Unit {0}
+
+-- what is issued opens as this end's request
+pub record IssuesOpenly (meaning : Meaning) (new : Held) (serial number : ℕ) (octets : Octets) : Type 0 where
+  pub association : Association
+  pub there : association_of serial new.associations ≡ Some association
+  pub opens : OpensAsMessage meaning.plain_of association association.role false number octets
+
+-- a reply opens as this end's response
+pub record RepliesOpenly (meaning : Meaning) (old : Held) (serial number : ℕ) (reply : Octets) : Type 0 where
+  pub association : Association
+  pub there : association_of serial old.associations ≡ Some association
+  pub opens : OpensAsMessage meaning.plain_of association association.role true number reply
+
+abbrev pub MoveOpens : Meaning → Held → Held → ℕ → Move → Type 0
+MoveOpens meaning old new serial (Issue number octets) = IssuesOpenly meaning new serial number octets
+MoveOpens meaning old new serial (TakeEffect number reply) = RepliesOpenly meaning old serial number reply
+MoveOpens meaning old new serial move = Unit {0}
+
+-- The moves of one step at the association with this serial: two at most, which lead from what they speak of before to what they speak of
+-- after. Each is told, and what it takes of the peer's comes as that. Where the cipher opens what it seals, and keys are whole, as they
+-- stay, what goes out opens as what it is.
+pub record MovesAt (meaning : Meaning) (input : InputView) (old : Held) (stepped : Stepped) (new : Held) (serial : ℕ) : Type 0 where
   pub moves : List Move
   pub few : length moves ≤ 2
   pub lead : Lead moves (ledger_at old serial) (ledger_at new serial)
   pub told : AllByRecursion (Tells input stepped serial) moves
+  pub came : AllByRecursion (MoveComes meaning input old serial) moves
+  pub opened : OpensFresh meaning input → HoldWholeKeys old → AllByRecursion (MoveOpens meaning old new serial) moves

@@ -56,9 +56,10 @@ ghost use Rattle.ike.specs.declared.output.Stepped.{Stepped};
 use children::laws::children_mirror;
 use effects::laws::{
     associations_stay_themselves, beginnings_are_determined, children_are_made_of_their_messages,
-    effects_are_determined, keys_stay, messages_make_moves, no_spi_comes, nothing_comes_due,
-    pairs_that_come_are_told, probes_are_short_and_determined, spis_stay_reserved,
-    what_is_kept_is_short, what_is_passed_over_changes_nothing, what_others_hold_stays,
+    effects_are_determined, keys_stay, messages_make_moves, messages_open, no_spi_comes,
+    nothing_comes_due, pairs_that_come_are_told, probes_are_short_and_determined,
+    spis_stay_reserved, what_is_kept_is_short, what_is_passed_over_changes_nothing,
+    what_others_hold_stays,
 };
 use moments::laws::{
     no_more_go_out_than_wait, nothing_is_due_afterwards, pairs_go_with_their_associations,
@@ -381,17 +382,21 @@ pub fn requests_are_remembered()
     what_is_spelled_has_no_fault();
 }
 
-/// What a step does to each association that has keys are two moves at most, each of which it tells: keys come, a request goes out for the
+/// What a step does to each association that has keys is two moves at most, each of which it tells: keys come, a request goes out for the
 /// first time, a response is counted, a request of the peer takes effect, the association is closed, or is held no longer. They lead from
-/// what moves speak of before the step (keys, role, numbers, and octets that wait or are kept) to what they speak of after; so nothing else
-/// of it changes (RFC 7296, sections 2.1 to 2.4).
+/// what moves speak of before the step (keys, role, numbers, and octets that wait or are kept) to what they speak of after, so
+/// nothing else that they speak of changes. What takes effect came as that request of the peer, and what is counted as that response; where
+/// the cipher opens what it seals, and keys are whole, as they stay ([`keys_stay_whole`]), a request and a reply that go out open as this
+/// end's of that number (RFC 7296, sections 2.1 to 2.4 and 3.14).
 pub fn steps_are_moves()
     ensures { (meaning : Meaning) (entries : List Entry) (input : InputView) (old : Machine) (table : Database)
         (stepped : Stepped) (new : Machine) (new_table : Database) (serial : ℕ) → IsSoundMachine old table
-        → Steps meaning entries input old table stepped new new_table → MovesAt input old.held stepped new.held serial }
+        → Steps meaning entries input old table stepped new new_table → MovesAt meaning input old.held stepped new.held serial }
 {
     associations_stay_themselves();
+    effects::laws::keys_stay_whole();
     messages_make_moves();
+    messages_open();
     what_is_held_was_held();
 }
 

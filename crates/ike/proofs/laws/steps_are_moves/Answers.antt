@@ -12,5 +12,11 @@ returns c =
       closing = c.messages_make_moves.ensures.closing;
       removal = c.messages_make_moves.ensures.removal;
       few = c.messages_make_moves.ensures.few;
+      reply = c.messages_open.ensures.reply;
+      identity = c.messages_open.ensures.identity;
+      probed = c.messages_open.ensures.probe;
+      taken = c.messages_open.ensures.taken;
+      counted = c.messages_open.ensures.counted;
+      whole = c.keys_stay_whole.ensures.taken;
     } in
     step_moves laws c.what_is_held_was_held.ensures
