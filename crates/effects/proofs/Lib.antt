@@ -20,3 +20,4 @@ mod RequestLemmas
 mod DueLemmas
 mod MoveLemmas
 mod OpeningLemmas
+mod WaitLemmas

@@ -8,16 +8,20 @@ use Rattle.std.specs.FinSet as set
 use Rattle.std.specs.Option.{option_map}
 use Rattle.std.specs.Ordering.{nat_cmp}
 use Rattle.base.specs.Octets.{Octets}
-use Rattle.wire.specs.Numbers.{IKE_AUTH, INFORMATIONAL}
+use Rattle.wire.specs.Numbers.{IKE_AUTH, IKE_SA_INIT, INFORMATIONAL}
 use Rattle.wire.specs.declared.message.Message.{Message}
+use Rattle.wire.specs.declared.payload.Payload.{Payload}
 use Rattle.suite.specs.declared.key_record.KeyRecord.{KeyRecord}
-use Rattle.requests.specs.Incoming.{HasSameRequests, IsFreshRequest, PeerRequests, TakesRequest}
+use Rattle.exchange.specs.declared.headers.Role.{Role}
+use Rattle.exchange.specs.declared.headers.Role.TheVariants.{Initiator, Responder}
+use Rattle.exchange.specs.declared.sealed.Plain.{Plain}
+use Rattle.requests.specs.Incoming.{no_requests, HasSameRequests, IsFreshRequest, PeerRequests, TakesRequest}
 use Rattle.requests.specs.Numbers.{IsGap}
-use Rattle.requests.specs.Outgoing.{number_0_answered, CountsAnswer, GivesUpRequests, IsBusy, MayIssue, OwnRequests}
+use Rattle.requests.specs.Outgoing.{number_0_answered, CountsAnswer, GivesUpRequests, IsBusy, MayIssue, OwnRequests, SomeOutstanding}
 use Rattle.sadb.specs.Database.{Database}
 use Rattle.association.specs.Closing.{Closes}
 use Rattle.association.specs.Phases.{established_of, keys_in}
-use Rattle.association.specs.Receiving.{is_closed}
+use Rattle.association.specs.Receiving.{is_closed, opened_under, IsReceived, IsRepeating, Opening, Repeat}
 use Rattle.association.specs.declared.phase.Association.{Association}
 use Rattle.association.specs.declared.phase.Phase.{Phase}
 use Rattle.association.specs.declared.phase.Phase.TheVariants as phase
@@ -28,7 +32,8 @@ use Rattle.sa_init.specs.Judging.{OfferView}
 use Rattle.initial.specs.Answering.{outcome_of}
 use Rattle.initial.specs.Beginning.{Admits}
 use Rattle.initial.specs.declared.beginning.Admitted.{Admitted}
-use Rattle.moments.specs.Due.{after_sending, is_due, SendsAgain}
+use Rattle.moments.specs.Due.{after_sending, has_failed, is_due, is_over, is_unanswered, SendsAgain}
+use Rattle.moments.specs.Held.{IsClosedAt}
 use Rattle.initial.specs.Concluding.{is_closing, with_incoming, with_outgoing, ConcludesBy}
 use Rattle.initial.specs.Configs.{Setup}
 use Rattle.initial.specs.Issuing.{new_request, IssuesNext}
@@ -39,12 +44,14 @@ use Rattle.informational.specs.Counting.{is_rejected}
 use Rattle.informational.specs.Orders.{ClosesIf}
 use Rattle.informational.specs.Probing.{Probes}
 use Rattle.suite.specs.declared.keys.Keys.{Keys}
-use Rattle.effects.specs.Moves.{and_closes, ledger, ledger_of, makes_and_issues, moves_of, octets_out, put, ClosesLedger, Close, Count, Counts, Issue, Issues, Lead, Ledger, Make, Makes, Move, Moves, Remove, TakeEffect, TakesEffectOnce}
+use Rattle.effects.specs.Moves.{and_closes, ledger, ledger_of, ledger_with, makes_and_issues, moves_of, octets_out, put, ClosesLedger, Close, Count, Counts, Issue, Issues, KeepsReply, Lead, Ledger, Make, Makes, Move, Moves, Remove, TakeEffect, TakesEffectOnce, WaitsWith}
+use Rattle.effects.specs.Requests.{IsSoundlyHeld}
 use Rattle.effects.specs.Taking.{Meaning, TakesMessage}
+use Rattle.effects.specs.Waiting.{MayWait}
 use Rattle.effects.specs.declared.taking.Effect.{Effect}
 use Rattle.effects.specs.declared.taking.Effect.TheVariants as effect
 use Rattle.effects.proofs.KeepingLemmas.{established_keys}
-use Rattle.effects.proofs.RequestLemmas.{kept_was}
+use Rattle.effects.proofs.RequestLemmas.{kept_was, repeated_why, yes_no}
 use Rattle.effects.proofs.WayLemmas.{way_of, Way}
 
 -- ---- ledgers
@@ -150,9 +157,9 @@ counted_leads false number old l o counts ends =
     subst (λ (x : Ledger). Counts number old x) (sym ends.2.content) (counted_wider number old l m.size m.window ends.2.size ends.2.window counts) in
     (Some m, all, ends.1)
 
-closed_ends : (a : Association) (keys : KeyRecord) (moment : ℕ) (new : Association) → keys_in a.phase ≡ Some keys → GivesUpRequests a.outgoing new.outgoing
+closed_ends : (a : Association) (keys : KeyRecord) (moment : ℕ) (new : Association) → keys_in a.phase ≡ Some keys → is_closed a.phase ≡ false → GivesUpRequests a.outgoing new.outgoing
     → new ≡ record a { outgoing = new.outgoing; phase = phase.Closed (keys_in a.phase) moment } → Ends true (ledger_of a keys) (ledger new)
-closed_ends a keys moment new are gives content =
+closed_ends a keys moment new are is_open gives content =
     let l = ledger_of a keys in
     let closed : Ledger = record l { is_closed = true; outstanding = λ number. None } in (
       closed,
@@ -160,20 +167,20 @@ closed_ends a keys moment new are gives content =
           ∙ ap (option_map (ledger_of (record a { outgoing = new.outgoing; phase = phase.Closed (keys_in a.phase) moment }))) are
           ∙ ap (λ (r : OwnRequests Request). Some (record (with_own l r) { is_closed = true })) gives.content
           ∙ (λ i. Some (record l { is_closed = true; outstanding = λ n. option_map (λ (x : Request). x.octets) (map.get-empty {X = Request} nat_cmp n i) })),
-      record { content = refl },
+      record { is_open = is_open; content = refl },
     )
 
-over_ends : (a : Association) (keys : KeyRecord) (table : Database) (moment : ℕ) (new : Association) (new_table : Database) → keys_in a.phase ≡ Some keys → Closes a table moment new new_table
+over_ends : (a : Association) (keys : KeyRecord) (table : Database) (moment : ℕ) (new : Association) (new_table : Database) → keys_in a.phase ≡ Some keys → is_closed a.phase ≡ false → Closes a table moment new new_table
     → Ends true (ledger_of a keys) (ledger new)
-over_ends a keys table moment new new_table are is = closed_ends a keys moment new are is.requests is.content
+over_ends a keys table moment new new_table are is_open is = closed_ends a keys moment new are is_open is.requests is.content
 
 same_ends : (a : Association) (keys : KeyRecord) (new : Association) → keys_in a.phase ≡ Some keys → new ≡ a → Ends false (ledger_of a keys) (ledger new)
 same_ends a keys new are same = (ledger_of a keys, ap ledger same ∙ keyed a keys are, record { size = omega arith; window = omega arith; content = refl })
 
 closed_if_ends : (ending : Bool) (a : Association) (keys : KeyRecord) (table : Database) (moment : ℕ) (new : Association) (new_table : Database) → keys_in a.phase ≡ Some keys
-    → ClosesIf ending a table moment new new_table → Ends ending (ledger_of a keys) (ledger new)
-closed_if_ends true a keys table moment new new_table are is = over_ends a keys table moment new new_table are is
-closed_if_ends false a keys table moment new new_table are is = same_ends a keys new are is.0
+    → is_closed a.phase ≡ false → ClosesIf ending a table moment new new_table → Ends ending (ledger_of a keys) (ledger new)
+closed_if_ends true a keys table moment new new_table are is_open is = over_ends a keys table moment new new_table are is_open is
+closed_if_ends false a keys table moment new new_table are is_open is = same_ends a keys new are is.0
 
 established_open : (p : Phase) → is_closed (established_of p) ≡ is_closed p
 established_open (phase.InitSent sent) = refl
@@ -183,9 +190,9 @@ established_open (phase.Established keys) = refl
 established_open (phase.Closed keys at) = refl
 
 concluded_ends : (setup : Setup) (a : Association) (keys : KeyRecord) (table : Database) (o : Outcome) (child : Option ℕ) (new : Association) (new_table : Database) → keys_in a.phase ≡ Some keys
-    → ConcludesBy setup a table o child new new_table → Ends (is_closing o) (ledger_of a keys) (ledger new)
-concluded_ends setup a keys table outcome.Closes child new new_table are is = over_ends a keys table setup.moment new new_table are is.over
-concluded_ends setup a keys table (outcome.Establishes pair window) child new new_table are is =
+    → is_closed a.phase ≡ false → ConcludesBy setup a table o child new new_table → Ends (is_closing o) (ledger_of a keys) (ledger new)
+concluded_ends setup a keys table outcome.Closes child new new_table are is_open is = over_ends a keys table setup.moment new new_table are is_open is.over
+concluded_ends setup a keys table (outcome.Establishes pair window) child new new_table are is_open is =
     let l = ledger_of a keys in
     let size = max setup.config.window a.incoming.size in
     let peers = max window a.outgoing.window in
@@ -241,10 +248,10 @@ from_keys : (moves : List Move) (old : Association) (keys : KeyRecord) (o : Opti
 from_keys moves old keys o are leads = subst (λ (x : Option Ledger). Lead moves x o) (sym (keyed old keys are)) leads
 
 way_moves : (meaning : Meaning) (setup : Setup) (old : Association) (table : Database) (octets : Octets) (m : Message) (e : Effect) (new : Association) (new_table : Database)
-    → Way meaning setup old table octets m e new new_table → Lead (moves_of m.header.id (keys_in new.phase) e) (ledger old) (ledger new)
-way_moves meaning setup old table octets m (effect.Refused fault) new new_table is = ap ledger is.association
-way_moves meaning setup old table octets m (effect.Repeated reply) new new_table is = ap ledger is.same.association
-way_moves meaning setup old table octets m (effect.Replied answered) new new_table (inl is) =
+    → IsSoundlyHeld old → Way meaning setup old table octets m e new new_table → Lead (moves_of m.header.id (keys_in new.phase) e) (ledger old) (ledger new)
+way_moves meaning setup old table octets m (effect.Refused fault) new new_table held is = ap ledger is.association
+way_moves meaning setup old table octets m (effect.Repeated reply) new new_table held is = ap ledger is.same.association
+way_moves meaning setup old table octets m (effect.Replied answered) new new_table held (inl is) =
     let d = is.done in
     let keys = d.opened.keys in
     let is_open : is_closed old.phase ≡ false = ap is_closed d.was in
@@ -252,16 +259,16 @@ way_moves meaning setup old table octets m (effect.Replied answered) new new_tab
     (taken_leads answered.closed m.header.id answered.octets (ledger_of old keys) (ledger_of (with_incoming old d.incoming) keys) (ledger new)
     (taken_moves old keys d.ready d.incoming m.header.id answered.octets is_open d.prepared d.taken)
     (subst (λ (b : Bool). Ends b (ledger_of (with_incoming old d.incoming) keys) (ledger new)) (sym d.closed)
-    (concluded_ends setup (with_incoming old d.incoming) keys d.between (outcome_of d.decision) answered.child new new_table (ap keys_in d.was) d.concluded)))
-way_moves meaning setup old table octets m (effect.Replied answered) new new_table (inr is) =
+    (concluded_ends setup (with_incoming old d.incoming) keys d.between (outcome_of d.decision) answered.child new new_table (ap keys_in d.was) is_open d.concluded)))
+way_moves meaning setup old table octets m (effect.Replied answered) new new_table held (inr is) =
     let d = is.done in
     let is_open : is_closed old.phase ≡ false = ap is_closed d.established in
     from_keys (and_closes (TakeEffect m.header.id answered.octets) answered.closed) old d.keys (ledger new) (ap keys_in d.established)
     (taken_leads answered.closed m.header.id answered.octets (ledger_of old d.keys) (ledger_of (with_incoming old d.incoming) d.keys) (ledger new)
     (taken_moves old d.keys d.ready d.incoming m.header.id answered.octets is_open d.prepared d.taken)
     (subst (λ (b : Bool). Ends b (ledger_of (with_incoming old d.incoming) d.keys) (ledger new)) (sym d.closed)
-    (closed_if_ends (is_ending (verdict_on d.payloads)) (with_incoming old d.incoming) d.keys table setup.moment new new_table (ap keys_in d.established) d.concluded)))
-way_moves meaning setup old table octets m (effect.Counted ended) new new_table (inl is) =
+    (closed_if_ends (is_ending (verdict_on d.payloads)) (with_incoming old d.incoming) d.keys table setup.moment new new_table (ap keys_in d.established) is_open d.concluded)))
+way_moves meaning setup old table octets m (effect.Counted ended) new new_table held (inl is) =
     let d = is.done in
     let keys = d.sent.keys in
     let is_open : is_closed old.phase ≡ false = ap is_closed d.was in
@@ -269,24 +276,27 @@ way_moves meaning setup old table octets m (effect.Counted ended) new new_table 
     (counted_leads ended.closed m.header.id (ledger_of old keys) (ledger_of (with_outgoing old d.outgoing) keys) (ledger new)
     (counted_moves old keys m.header.id d.request d.outgoing is_open d.counted)
     (subst (λ (b : Bool). Ends b (ledger_of (with_outgoing old d.outgoing) keys) (ledger new)) (sym d.closed)
-    (concluded_ends setup (with_outgoing old d.outgoing) keys table d.verdict ended.child new new_table (ap keys_in d.was) d.concluded)))
-way_moves meaning setup old table octets m (effect.Counted ended) new new_table (inr is) =
+    (concluded_ends setup (with_outgoing old d.outgoing) keys table d.verdict ended.child new new_table (ap keys_in d.was) is_open d.concluded)))
+way_moves meaning setup old table octets m (effect.Counted ended) new new_table held (inr is) =
     let d = is.done in
     let is_open : is_closed old.phase ≡ false = ap is_closed is.was in
     from_keys (and_closes (Count m.header.id) ended.closed) old is.keys (ledger new) (ap keys_in is.was)
     (counted_leads ended.closed m.header.id (ledger_of old is.keys) (ledger_of (with_outgoing old d.outgoing) is.keys) (ledger new)
     (counted_moves old is.keys m.header.id d.request d.outgoing is_open d.counted)
     (subst (λ (b : Bool). Ends b (ledger_of (with_outgoing old d.outgoing) is.keys) (ledger new)) (sym d.closed)
-    (closed_if_ends (is_rejected d.payloads) (with_outgoing old d.outgoing) is.keys table setup.moment new new_table (ap keys_in is.was) d.concluded)))
-way_moves meaning setup old table octets m (effect.Again next) new new_table is = ap ledger is.done.content ∙ sym (no_ledger old (ap keys_in is.was))
-way_moves meaning setup old table octets m (effect.Identified next) new new_table is =
+    (closed_if_ends (is_rejected d.payloads) (with_outgoing old d.outgoing) is.keys table setup.moment new new_table (ap keys_in is.was) is_open d.concluded)))
+way_moves meaning setup old table octets m (effect.Again next) new new_table held is = ap ledger is.done.content ∙ sym (no_ledger old (ap keys_in is.was))
+way_moves meaning setup old table octets m (effect.Identified next) new new_table held is =
     let d = is.done in
     let are : keys_in new.phase ≡ Some is.keys = ap (λ (x : Association). keys_in x.phase) d.content in
     let made : Ledger = with_own (ledger_of new is.keys) number_0_answered in
     let is_open : is_closed new.phase ≡ false = ap (λ (x : Association). is_closed x.phase) d.content in
+    let none = held.took_none (record { sent = is.sent; is = is.was }) in
+    let role : new.role ≡ Initiator = ap (λ (x : Association). x.role) d.content ∙ none.role in
+    let incoming : new.incoming ≡ record no_requests { room = old.incoming.room } = ap (λ (x : Association). x.incoming) d.content ∙ none.incoming in
     let leads : Lead (makes_and_issues (Some is.keys) next) None (Some (ledger_of new is.keys)) = (
       Some made,
-      record { keyed = refl; is_open = is_open },
+      record { role = Initiator; content = λ i. ledger_with is.keys (role i) (is_open i) (incoming i) number_0_answered },
       (Some (ledger_of new is.keys), issued_moves made number_0_answered (new_request next IKE_AUTH setup.moment) new.outgoing is_open d.issued, refl),
     ) in
     subst (λ (k : Option KeyRecord). Lead (makes_and_issues k next) (ledger old) (ledger new)) (sym are)
@@ -294,8 +304,8 @@ way_moves meaning setup old table octets m (effect.Identified next) new new_tabl
     (subst (λ (x : Option Ledger). Lead (makes_and_issues (Some is.keys) next) None x) (sym (keyed new is.keys are)) leads))
 
 pub message_moves : (meaning : Meaning) (setup : Setup) (old : Association) (table : Database) (octets : Octets) (m : Message) (e : Effect) (new : Association) (new_table : Database)
-    → TakesMessage meaning setup old table octets m e new new_table → Lead (moves_of m.header.id (keys_in new.phase) e) (ledger old) (ledger new)
-message_moves meaning setup old table octets m e new new_table is = way_moves meaning setup old table octets m e new new_table (way_of meaning setup old table octets m e new new_table is)
+    → IsSoundlyHeld old → TakesMessage meaning setup old table octets m e new new_table → Lead (moves_of m.header.id (keys_in new.phase) e) (ledger old) (ledger new)
+message_moves meaning setup old table octets m e new new_table held is = way_moves meaning setup old table octets m e new new_table held (way_of meaning setup old table octets m e new new_table is)
 
 -- ---- an order, and the end
 
@@ -308,21 +318,50 @@ probe_moves body_of setup old octets new is =
     from_keys (Issue old.outgoing.next octets ∷ []) old is.keys (ledger new) (ap keys_in is.established)
     (Some (with_own l is.outgoing), issued_moves l old.outgoing (new_request octets INFORMATIONAL setup.moment) is.outgoing (ap is_closed is.established) is.issued, after)
 
-pub closing_moves : (old new : Association) (keys : KeyRecord) (moment : ℕ) → keys_in old.phase ≡ Some keys → GivesUpRequests old.outgoing new.outgoing
-    → new ≡ record old { outgoing = new.outgoing; phase = phase.Closed (keys_in old.phase) moment } → Lead (Close ∷ []) (ledger old) (ledger new)
-closing_moves old new keys moment are gives content =
-    let ends = closed_ends old keys moment new are gives content in
+-- what waits belongs to a phase that is open, and in which nothing is over
+waiting_open : (p : Phase) (number exchange : ℕ) → MayWait p number exchange → is_closed p ≡ false
+waiting_open (phase.InitSent sent) number exchange may = refl
+waiting_open (phase.AuthSent sent) number exchange may = refl
+waiting_open (phase.HalfOpen opened) number exchange may = absurd may
+waiting_open (phase.Established keys) number exchange may = refl
+waiting_open (phase.Closed keys at) number exchange may = absurd may
+
+over_waits : (now : ℕ) (p : Phase) (number exchange : ℕ) → is_over now p ≡ true → MayWait p number exchange → ⊥
+over_waits now (phase.InitSent sent) number exchange over may = cc
+over_waits now (phase.AuthSent sent) number exchange over may = cc
+over_waits now (phase.HalfOpen opened) number exchange over may = may
+over_waits now (phase.Established keys) number exchange over may = cc
+over_waits now (phase.Closed keys at) number exchange over may = may
+
+none_out : (o : Option Request) → ((request : Request) → o ≡ Some request → ⊥) → option_map (λ (x : Request). x.octets) o ≡ None
+none_out None never = refl
+none_out (Some request) never = absurd (never request refl)
+
+-- who is taken to be gone was asked
+abbrev pub WhoIsGone : Type 0
+WhoIsGone = (now : ℕ) (a : Association) → has_failed now a ≡ true → SomeOutstanding a.outgoing.outstanding (λ (r : Request) (b : Bool). is_unanswered now r ≡ b)
+
+pub closing_moves : WhoIsGone → (now : ℕ) (old new : Association) (keys : KeyRecord) → IsSoundlyHeld old → keys_in old.phase ≡ Some keys → IsClosedAt now old new → Lead (Close ∷ []) (ledger old) (ledger new)
+closing_moves gone now old new keys held are is =
+    let asked = gone now old is.failed in
+    let is_open = waiting_open old.phase asked.number asked.request.exchange (held.waits asked.number asked.request asked.there) in
+    let ends = closed_ends old keys now new are is_open is.requests is.content in
     from_keys (Close ∷ []) old keys (ledger new) are (Some ends.0, ends.2, ends.1)
 
-pub removal_moves : (old : Association) (keys : KeyRecord) → keys_in old.phase ≡ Some keys → Lead (Remove ∷ []) (ledger old) None
-removal_moves old keys are = from_keys (Remove ∷ []) old keys None are (None, tt, refl)
+pub removal_moves : (now : ℕ) (old : Association) (keys : KeyRecord) → IsSoundlyHeld old → keys_in old.phase ≡ Some keys → is_over now old.phase ≡ true → Lead (Remove ∷ []) (ledger old) None
+removal_moves now old keys held are over =
+    from_keys (Remove ∷ []) old keys None are (
+      None,
+      record { waits = λ number. none_out (map.get old.outgoing.outstanding number) (λ request there. over_waits now old.phase number request.exchange over (held.waits number request there)) },
+      refl,
+    )
 
 pub admitted_moves : (cipher : Cipher) (group : ℕ) (public_value : Octets → Octets) (shared_secret : Octets → Octets → Option Octets) (fresh : Fresh) (moment serial : ℕ) (offer : OfferView) (spi_i : ℕ) (request : Octets) (admitted : Admitted)
     → Admits cipher group public_value shared_secret fresh moment serial offer spi_i request admitted → (keys : KeyRecord) × Lead (Make keys ∷ []) None (ledger admitted.association)
 admitted_moves cipher group public_value shared_secret fresh moment serial offer spi_i request admitted is =
     let keys = is.agreed.record in
     let are : keys_in admitted.association.phase ≡ Some keys = ap (λ (x : Association). keys_in x.phase) is.content in
-    (keys, (Some (ledger_of admitted.association keys), record { keyed = refl; is_open = ap (λ (x : Association). is_closed x.phase) is.content }, keyed admitted.association keys are))
+    (keys, (Some (ledger_of admitted.association keys), record { role = Responder; content = ap (λ (x : Association). ledger_of x keys) is.content }, keyed admitted.association keys are))
 
 -- a request that goes out again has the octets that it had
 again_out : (now : ℕ) (r : Request) (due : Bool) → (cond due (record r { timer = record { sent = now; repeats = r.timer.repeats + 1 } }) r).octets ≡ r.octets
@@ -337,6 +376,33 @@ pub sending_moves : (now : ℕ) (old new : Association) → SendsAgain now old n
 sending_moves now old new is =
     let out = λ (n : ℕ). ap (option_map (λ (x : Request). x.octets)) (is.each n) ∙ again_outs now (map.get old.outgoing.outstanding n) in
     ap ledger is.content ∙ (λ i. option_map (λ (k : KeyRecord). record (ledger_of old k) { outstanding = λ n. out n i }) (keys_in old.phase))
+
+-- ---- what goes out again
+
+with_keys : (keys : Option KeyRecord) (plain_of : Opening) (role : Role) (octets : Octets) (payloads : List Payload) (plain : Plain) → opened_under plain_of role keys octets payloads ≡ Some plain → (k : KeyRecord) × (keys ≡ Some k)
+with_keys None plain_of role octets payloads plain is = absurd cc
+with_keys (Some k) plain_of role octets payloads plain is = (k, refl)
+
+pub kept_again : ((plain_of : Opening) (a : Association) (octets : Octets) (m : Message) (reply : Octets) → IsReceived plain_of a octets m (Repeat reply) → IsRepeating plain_of a octets m reply)
+    → (meaning : Meaning) (setup : Setup) (old : Association) (table : Database) (octets : Octets) (m : Message) (reply : Octets) (new : Association) (new_table : Database)
+    → TakesMessage meaning setup old table octets m (effect.Repeated reply) new new_table → KeepsReply (ledger old) m.header.id reply
+kept_again why meaning setup old table octets m reply new new_table is =
+    let repeats = repeated_why why meaning setup old table octets m reply new new_table is in
+    let keys = with_keys (keys_in old.phase) meaning.plain_of old.role octets m.payloads repeats.plain repeats.opened in
+    subst (λ (x : Option Ledger). KeepsReply x m.header.id reply) (sym (keyed old keys.0 keys.1)) repeats.kept
+
+sealed_keys : (p : Phase) (number exchange : ℕ) → MayWait p number exchange → (exchange == IKE_SA_INIT) ≡ false → (k : KeyRecord) × (keys_in p ≡ Some k)
+sealed_keys (phase.InitSent sent) number exchange may other = absurd (yes_no (exchange == IKE_SA_INIT) (ap (λ (e : ℕ). e == IKE_SA_INIT) may.1) other)
+sealed_keys (phase.AuthSent sent) number exchange may other = (sent.keys, refl)
+sealed_keys (phase.HalfOpen opened) number exchange may other = absurd may
+sealed_keys (phase.Established keys) number exchange may other = (keys, refl)
+sealed_keys (phase.Closed keys at) number exchange may other = absurd may
+
+pub waiting_again : (a : Association) (number : ℕ) (request : Request) → IsSoundlyHeld a → map.get a.outgoing.outstanding number ≡ Some request → (request.exchange == IKE_SA_INIT) ≡ false
+    → WaitsWith (ledger a) number request.octets
+waiting_again a number request held there other =
+    let keys = sealed_keys a.phase number request.exchange (held.waits number request there) other in
+    subst (λ (x : Option Ledger). WaitsWith x number request.octets) (sym (keyed a keys.0 keys.1)) (ap (option_map (λ (x : Request). x.octets)) there)
 
 -- ---- how many there are
 

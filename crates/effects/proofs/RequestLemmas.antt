@@ -8,7 +8,7 @@ use Rattle.std.specs.Prelude.{if◌then◌else◌}
 use Rattle.std.proofs.Math.Nat.{le-max_right}
 use Rattle.std.proofs.lemmas.Bool.Decides.{eqb_tells}
 use Rattle.base.specs.Octets.{Octets}
-use Rattle.wire.specs.Numbers.{CREATE_CHILD_SA, INFORMATIONAL}
+use Rattle.wire.specs.Numbers.{CREATE_CHILD_SA, IKE_AUTH, IKE_SA_INIT, INFORMATIONAL}
 use Rattle.wire.specs.declared.message.Message.{Message}
 use Rattle.suite.specs.declared.fresh.Fresh.{Fresh}
 use Rattle.suite.specs.declared.key_record.KeyRecord.{KeyRecord}
@@ -21,6 +21,7 @@ use Rattle.requests.specs.Incoming.{no_requests, HasSameRequests, IsFreshRequest
 use Rattle.requests.specs.Numbers.{HasNumber, LacksNumber, NumberSet}
 use Rattle.requests.specs.declared.incoming.Judgement.{Judgement}
 use Rattle.requests.specs.declared.incoming.Judgement.TheVariants as judged
+use Rattle.requests.specs.Outgoing.{none_issued, number_0_answered, CountsAnswer, OwnRequests, ReplacesRequest}
 use Rattle.sadb.specs.Database.{Database}
 use Rattle.sa_init.specs.Judging.{OfferView}
 use Rattle.association.specs.Closing.{Closes}
@@ -35,10 +36,13 @@ use Rattle.association.specs.declared.phase.HalfOpen.{HalfOpen}
 use Rattle.association.specs.declared.phase.InitSent.{InitSent}
 use Rattle.association.specs.declared.phase.Phase.{Phase}
 use Rattle.association.specs.declared.phase.Phase.TheVariants as phase
+use Rattle.association.specs.declared.phase.Request.{Request}
 use Rattle.initial.specs.Answering.{outcome_of, AnswersAuth}
 use Rattle.initial.specs.Beginning.{begun, Admits, Begins}
 use Rattle.initial.specs.Concluding.{established, widened, with_incoming, with_outgoing, ConcludesBy}
 use Rattle.initial.specs.Configs.{Setup}
+use Rattle.initial.specs.Issuing.{new_request, IssuesNext}
+use Rattle.initial.specs.Reading.{IsInitSent}
 use Rattle.initial.specs.declared.answering.Answered.{Answered}
 use Rattle.initial.specs.declared.beginning.Admitted.{Admitted}
 use Rattle.initial.specs.declared.beginning.Beginning.{Beginning}
@@ -51,6 +55,7 @@ use Rattle.informational.specs.Probing.{Probes}
 use Rattle.effects.specs.Keeping.{HasKeys}
 use Rattle.effects.specs.Requests.{is_concluded, takes_requests, IsPassing, IsSoundlyHeld, KeepsWindow, PutsIntoEffect, StaysConcluded}
 use Rattle.effects.specs.Taking.{prover_of, Does, DoesFurther, DoesRequest, DoesResponse, IsPassedOver, Meaning, TakesMessage}
+use Rattle.effects.specs.Waiting.{MayWait, TookNone, WaitFor}
 use Rattle.effects.specs.declared.taking.Effect.{Effect}
 use Rattle.effects.specs.declared.taking.Effect.TheVariants as effect
 use Rattle.effects.proofs.KeepingLemmas.{established_keys}
@@ -67,7 +72,7 @@ pub record FollowLaws : Type 0 where
 some_none : {T : Type 0} (x : T) → None ≡ Some x → ⊥
 some_none x is = cc
 
-yes_no : (b : Bool) → b ≡ true → b ≡ false → ⊥
+pub yes_no : (b : Bool) → b ≡ true → b ≡ false → ⊥
 yes_no b one other = cc
 
 -- ---- what holds of the replies that are kept
@@ -155,6 +160,18 @@ record Concludes (a new : Association) : Type 0 where
   keys : keys_in new.phase ≡ keys_in a.phase
   role : new.role ≡ a.role
   spi_r : new.spi_r ≡ a.spi_r
+  waits : WaitFor (established_of a.phase) a.outgoing.outstanding → WaitFor new.phase new.outgoing.outstanding
+
+-- who is known stays so
+concluded_stays : (p : Phase) → is_concluded p ≡ true → established_of p ≡ p
+concluded_stays (phase.InitSent sent) is = absurd cc
+concluded_stays (phase.AuthSent sent) is = absurd cc
+concluded_stays (phase.HalfOpen opened) is = absurd cc
+concluded_stays (phase.Established keys) is = refl
+concluded_stays (phase.Closed keys at) is = refl
+
+none_outstanding : (number : ℕ) (request : Request) → map.get {R = nat_cmp} (map.empty {X = Request}) number ≡ Some request → ⊥
+none_outstanding number request there = some_none request (sym (map.get-empty {X = Request} nat_cmp number) ∙ there)
 
 concludes_as : (a b new : Association) → new ≡ b → Concludes a b → Concludes a new
 concludes_as a b new same is = subst (λ (x : Association). Concludes a x) (sym same) is
@@ -162,7 +179,17 @@ concludes_as a b new same is = subst (λ (x : Association). Concludes a x) (sym 
 over_concludes : (laws : FollowLaws) (a : Association) (table : Database) (moment : ℕ) (new : Association) (new_table : Database) → Closes a table moment new new_table → Concludes a new
 over_concludes laws a table moment new new_table is =
     concludes_as a (record a { outgoing = new.outgoing; phase = phase.Closed (keys_in a.phase) moment }) new is.content
-    (record { follows = laws.reflexive a.incoming; in_effect = refl; kept = refl; well = λ w. w; concluded = refl; keys = refl; role = refl; spi_r = refl })
+    (record {
+      follows = laws.reflexive a.incoming;
+      in_effect = refl;
+      kept = refl;
+      well = λ w. w;
+      concluded = refl;
+      keys = refl;
+      role = refl;
+      spi_r = refl;
+      waits = λ before number request there. none_outstanding number request (sym (ap (λ (r : OwnRequests Request). map.get r.outstanding number) is.requests.content) ∙ there);
+    })
 
 auth_concludes : (laws : FollowLaws) (setup : Setup) (a : Association) (table : Database) (o : Outcome) (child : Option ℕ) (new : Association) (new_table : Database) (keys : KeyRecord)
     → established_of a.phase ≡ phase.Established keys → ConcludesBy setup a table o child new new_table → Concludes a new
@@ -179,6 +206,7 @@ auth_concludes laws setup a table (outcome.Establishes pair window) child new ne
       keys = established_keys a.phase;
       role = refl;
       spi_r = refl;
+      waits = λ before. before;
     })
 
 closing_concludes : (laws : FollowLaws) (ending : Bool) (a : Association) (table : Database) (moment : ℕ) (new : Association) (new_table : Database) → is_concluded a.phase ≡ true
@@ -186,7 +214,17 @@ closing_concludes : (laws : FollowLaws) (ending : Bool) (a : Association) (table
 closing_concludes laws true a table moment new new_table concluded is = over_concludes laws a table moment new new_table is
 closing_concludes laws false a table moment new new_table concluded is =
     concludes_as a a new is.0
-    (record { follows = laws.reflexive a.incoming; in_effect = refl; kept = refl; well = λ w. w; concluded = concluded; keys = refl; role = refl; spi_r = refl })
+    (record {
+      follows = laws.reflexive a.incoming;
+      in_effect = refl;
+      kept = refl;
+      well = λ w. w;
+      concluded = concluded;
+      keys = refl;
+      role = refl;
+      spi_r = refl;
+      waits = subst (λ (p : Phase). WaitFor p a.outgoing.outstanding) (concluded_stays a.phase concluded);
+    })
 
 -- the window is widened where the association is established
 auth_window : (setup : Setup) (a : Association) (table : Database) (o : Outcome) (child : Option ℕ) (new : Association) (new_table : Database) (keys : KeyRecord)
@@ -202,8 +240,12 @@ auth_window setup a table (outcome.Establishes pair window) child new new_table 
 concluded_opens : (p : Phase) (opened : HalfOpen) → is_concluded p ≡ true → p ≡ phase.HalfOpen opened → ⊥
 concluded_opens p opened is opens = yes_no (is_concluded p) is (ap is_concluded opens)
 
-sound_by : (old a new : Association) → a.phase ≡ old.phase → a.role ≡ old.role → a.spi_r ≡ old.spi_r → Concludes a new → KeptWell a.incoming → IsSoundlyHeld old → IsSoundlyHeld new
-sound_by old a new same_phase same_role same_spi done well held =
+concluded_waits : (p : Phase) → is_concluded p ≡ true → IsInitSent p → ⊥
+concluded_waits p concluded is = yes_no (is_concluded p) concluded (ap is_concluded is.is)
+
+sound_by : (old a new : Association) → a.phase ≡ old.phase → a.role ≡ old.role → a.spi_r ≡ old.spi_r → Concludes a new → KeptWell a.incoming
+    → WaitFor (established_of a.phase) a.outgoing.outstanding → IsSoundlyHeld old → IsSoundlyHeld new
+sound_by old a new same_phase same_role same_spi done well waits held =
     let after = done.well well in
     record {
       in_effect = after.in_effect;
@@ -211,6 +253,8 @@ sound_by old a new same_phase same_role same_spi done well held =
       concluded = λ number reply kept. done.concluded;
       named = λ keyed initiator zero. held.named (record { keys = keyed.keys; are = sym (done.keys ∙ ap keys_in same_phase) ∙ keyed.are })
           (sym (done.role ∙ same_role) ∙ initiator) (sym (done.spi_r ∙ same_spi) ∙ zero);
+      waits = done.waits waits;
+      took_none = λ is. absurd (concluded_waits new.phase done.concluded is);
     }
 
 well_ready : (old ready : PeerRequests) → HasSameRequests old ready → KeptWell old → KeptWell ready
@@ -225,26 +269,28 @@ window_from own old a new same_phase same (inr widened) =
 -- a request took effect
 taken_leaves : (laws : FollowLaws) (own : ℕ) (old : Association) (ready incoming : PeerRequests) (number : ℕ) (reply : Octets) (new : Association)
     → HasSameRequests old.incoming ready → TakesRequest ready number reply incoming → Concludes (with_incoming old incoming) new
-    → (is_concluded old.phase ≡ true → new.incoming.size ≡ incoming.size) → KeepsWindow own (with_incoming old incoming) new → Leaves own old new
-taken_leaves laws own old ready incoming number reply new prepared taken done size window = record {
+    → (is_concluded old.phase ≡ true → new.incoming.size ≡ incoming.size) → KeepsWindow own (with_incoming old incoming) new
+    → (WaitFor old.phase old.outgoing.outstanding → WaitFor (established_of old.phase) old.outgoing.outstanding) → Leaves own old new
+taken_leaves laws own old ready incoming number reply new prepared taken done size window waits = record {
   window = window_from own old (with_incoming old incoming) new refl (taken.size ∙ ap (λ (r : PeerRequests). r.size) prepared.content) window;
   follows = laws.transitive old.incoming incoming new.incoming
       (laws.transitive old.incoming ready incoming (laws.preparing old.incoming ready prepared) (laws.taking ready incoming number reply taken)) done.follows;
   concluded = λ is. record { concluded = done.concluded; size = size is ∙ taken.size ∙ ap (λ (r : PeerRequests). r.size) prepared.content };
   half_open = λ opened opens. absurd (concluded_opens new.phase opened done.concluded opens);
   sound = λ held. sound_by old (with_incoming old incoming) new refl refl refl done
-      (well_taken ready incoming number reply (well_ready old.incoming ready prepared (kept_well old held)) taken) held;
+      (well_taken ready incoming number reply (well_ready old.incoming ready prepared (kept_well old held)) taken) (waits held.waits) held;
 }
 
 -- a response was counted
 counted_leaves : (laws : FollowLaws) (own : ℕ) (old a new : Association) → a.incoming ≡ old.incoming → a.phase ≡ old.phase → a.role ≡ old.role → a.spi_r ≡ old.spi_r
-    → Concludes a new → (is_concluded old.phase ≡ true → new.incoming.size ≡ old.incoming.size) → KeepsWindow own a new → Leaves own old new
-counted_leaves laws own old a new same same_phase same_role same_spi done size window = record {
+    → Concludes a new → (is_concluded old.phase ≡ true → new.incoming.size ≡ old.incoming.size) → KeepsWindow own a new
+    → (WaitFor old.phase old.outgoing.outstanding → WaitFor (established_of a.phase) a.outgoing.outstanding) → Leaves own old new
+counted_leaves laws own old a new same same_phase same_role same_spi done size window waits = record {
   window = window_from own old a new same_phase (ap (λ (r : PeerRequests). r.size) same) window;
   follows = subst (λ (r : PeerRequests). FollowsIncoming r new.incoming) same done.follows;
   concluded = λ is. record { concluded = done.concluded; size = size is };
   half_open = λ opened opens. absurd (concluded_opens new.phase opened done.concluded opens);
-  sound = λ held. sound_by old a new same_phase same_role same_spi done (well_as old.incoming a.incoming same (kept_well old held)) held;
+  sound = λ held. sound_by old a new same_phase same_role same_spi done (well_as old.incoming a.incoming same (kept_well old held)) (waits held.waits) held;
 }
 
 -- the window stays as wide where nothing but a closing can be
@@ -265,8 +311,9 @@ auth_opens sent opened is = cc
 -- it waits for a response still, and no reply is kept yet
 early_leaves : (laws : FollowLaws) (own : ℕ) (old new : Association) (p : Phase) → new.incoming ≡ old.incoming → old.phase ≡ p → is_concluded p ≡ false
     → ((opened : HalfOpen) → new.phase ≡ phase.HalfOpen opened → old.phase ≡ phase.HalfOpen opened)
-    → (HasKeys new.phase → new.role ≡ Initiator → new.spi_r ≢ 0) → Leaves own old new
-early_leaves laws own old new p same was open_yet opens named = record {
+    → (HasKeys new.phase → new.role ≡ Initiator → new.spi_r ≢ 0) → (WaitFor p old.outgoing.outstanding → WaitFor new.phase new.outgoing.outstanding)
+    → (IsInitSent new.phase → IsInitSent p) → new.role ≡ old.role → Leaves own old new
+early_leaves laws own old new p same was open_yet opens named waits begins role = record {
   window = inl (ap (λ (r : PeerRequests). r.size) same);
   follows = subst (λ (r : PeerRequests). FollowsIncoming old.incoming r) (sym same) (laws.reflexive old.incoming);
   concluded = λ is. absurd (yes_no (is_concluded p) (sym (ap is_concluded was) ∙ is) open_yet);
@@ -279,8 +326,68 @@ early_leaves laws own old new p same was open_yet opens named = record {
         concluded = λ number reply kept.
             absurd (yes_no (is_concluded p) (sym (ap is_concluded was) ∙ held.concluded number reply (ap (λ (r : PeerRequests). map.get r.kept number) (sym same) ∙ kept)) open_yet);
         named = named;
+        waits = waits (subst (λ (q : Phase). WaitFor q old.outgoing.outstanding) was held.waits);
+        took_none = λ is.
+            let none = held.took_none (subst (λ (q : Phase). IsInitSent q) (sym was) (begins is)) in
+            record { role = role ∙ none.role; incoming = subst (λ (r : PeerRequests). r ≡ record no_requests { room = r.room }) (sym same) none.incoming };
       };
 }
+
+-- ---- what waits for an answer
+
+-- one more waits, or another in its place
+inserted_waits : (outstanding : map.FinMap nat_cmp Request) (p : Phase) (n : ℕ) (request : Request) → WaitFor p outstanding → MayWait p n request.exchange → WaitFor p (map.insert outstanding n request)
+inserted_waits outstanding p n request before may number found there = elim (eqb_tells number n) [
+  | inl (one, same) ↦ (let is : Some request ≡ Some found = sym (map.get-insert nat_cmp_total outstanding n request number ∙ ap (λ b. cond b (Some request) (map.get outstanding number)) (unsigned_tied number n ∙ one)) ∙ there in
+      let its : request ≡ found = cc in
+      subst (λ (k : ℕ). MayWait p k found.exchange) (sym same) (subst (λ (r : Request). MayWait p n r.exchange) its may))
+  | inr (none, apart) ↦ before number found (sym (map.get-insert nat_cmp_total outstanding n request number ∙ ap (λ b. cond b (Some request) (map.get outstanding number)) (unsigned_tied number n ∙ none)) ∙ there)
+]
+
+-- one that waited does no more
+record StillWaits (outstanding : map.FinMap nat_cmp Request) (n number : ℕ) (request : Request) : Type 0 where
+  other : number ≢ n
+  there : map.get outstanding number ≡ Some request
+
+removed_waits : (outstanding : map.FinMap nat_cmp Request) (n number : ℕ) (request : Request) → map.get (map.remove outstanding n) number ≡ Some request → StillWaits outstanding n number request
+removed_waits outstanding n number request there = elim (eqb_tells number n) [
+  | inl (one, same) ↦ absurd (some_none request (sym (map.get-remove nat_cmp_total outstanding n number ∙ ap (λ b. cond b None (map.get outstanding number)) (unsigned_tied number n ∙ one)) ∙ there))
+  | inr (none, apart) ↦ record {
+    other = apart;
+    there = sym (map.get-remove nat_cmp_total outstanding n number ∙ ap (λ b. cond b None (map.get outstanding number)) (unsigned_tied number n ∙ none)) ∙ there;
+  }
+]
+
+counted_out : (old : OwnRequests Request) (number : ℕ) (request : Request) (new : OwnRequests Request) (n : ℕ) (found : Request) → CountsAnswer old number request new → map.get new.outstanding n ≡ Some found → StillWaits old.outstanding number n found
+counted_out old number request new n found is there = removed_waits old.outstanding number n found (sym (ap (λ (r : OwnRequests Request). map.get r.outstanding n) is.content) ∙ there)
+
+fewer_wait : (keys : KeyRecord) (old : OwnRequests Request) (number : ℕ) (request : Request) (new : OwnRequests Request) → CountsAnswer old number request new
+    → WaitFor (phase.Established keys) old.outstanding → WaitFor (phase.Established keys) new.outstanding
+fewer_wait keys old number request new is before n found there = before n found (counted_out old number request new n found is there).there
+
+-- IKE_AUTH alone was asked
+asked_once : (sent : AuthSent) (old : OwnRequests Request) (number : ℕ) (request : Request) (new : OwnRequests Request) → CountsAnswer old number request new
+    → WaitFor (phase.AuthSent sent) old.outstanding → WaitFor (phase.Established sent.keys) new.outstanding
+asked_once sent old number request new is before n found there =
+    let still = counted_out old number request new n found is there in
+    absurd (still.other ((before n found still.there).0 ∙ sym (before number request is.there).0))
+
+replaced_waits : (old new : Association) (sent : InitSent) (number : ℕ) (was request : Request) → request.exchange ≡ IKE_SA_INIT → ReplacesRequest old.outgoing number was request new.outgoing
+    → (later : InitSent) → new.phase ≡ phase.InitSent later → WaitFor (phase.InitSent sent) old.outgoing.outstanding → WaitFor new.phase new.outgoing.outstanding
+replaced_waits old new sent number was request exchange is later comes before =
+    subst (λ (p : Phase). WaitFor p new.outgoing.outstanding) (sym comes)
+    (subst (λ (r : OwnRequests Request). WaitFor (phase.InitSent later) r.outstanding) (sym is.content)
+    (inserted_waits old.outgoing.outstanding (phase.InitSent later) number request before ((before number was is.there).0, exchange)))
+
+issued_waits : (new : Association) (p : Phase) (old : OwnRequests Request) (request : Request) → new.phase ≡ p → IssuesNext old request new.outgoing → WaitFor p old.outstanding → MayWait p old.next request.exchange
+    → WaitFor new.phase new.outgoing.outstanding
+issued_waits new p old request same is before may =
+    subst (λ (q : Phase). WaitFor q new.outgoing.outstanding) (sym same)
+    (subst (λ (r : OwnRequests Request). WaitFor p r.outstanding) (sym is.issued.content)
+    (inserted_waits is.ready.outstanding p old.next request (subst (λ (r : OwnRequests Request). WaitFor p r.outstanding) (sym is.prepared.content) before) may))
+
+auth_begins : (new : Association) (sent : AuthSent) → new.phase ≡ phase.AuthSent sent → IsInitSent new.phase → ⊥
+auth_begins new sent same waits = let is : phase.AuthSent sent ≡ phase.InitSent waits.sent = sym same ∙ waits.is in cc
 
 way_leaves : (laws : FollowLaws) (meaning : Meaning) (setup : Setup) (old : Association) (table : Database) (octets : Octets) (m : Message) (e : Effect) (new : Association) (new_table : Database)
     → Way meaning setup old table octets m e new new_table → Leaves setup.config.window old new
@@ -292,28 +399,39 @@ way_leaves laws meaning setup old table octets m (effect.Replied answered) new n
     (auth_concludes laws setup (with_incoming old d.incoming) d.between (outcome_of d.decision) answered.child new new_table d.opened.keys (ap established_of d.was) d.concluded)
     (not_yet old.phase (phase.HalfOpen d.opened) new.incoming.size d.incoming.size d.was refl)
     (auth_window setup (with_incoming old d.incoming) d.between (outcome_of d.decision) answered.child new new_table d.opened.keys (ap is_concluded d.was) (ap established_of d.was) d.concluded)
+    (subst (λ (p : Phase). WaitFor p old.outgoing.outstanding → WaitFor (established_of p) old.outgoing.outstanding) (sym d.was) (λ waits number request there. absurd (waits number request there)))
 way_leaves laws meaning setup old table octets m (effect.Replied answered) new new_table (inr is) =
     let d = is.done in
     taken_leaves laws setup.config.window old d.ready d.incoming m.header.id answered.octets new d.prepared d.taken
     (closing_concludes laws (is_ending (verdict_on d.payloads)) (with_incoming old d.incoming) table setup.moment new new_table (ap is_concluded d.established) d.concluded)
     (λ concluded. size_if (is_ending (verdict_on d.payloads)) (with_incoming old d.incoming) table setup.moment new new_table d.concluded)
     (inl (size_if (is_ending (verdict_on d.payloads)) (with_incoming old d.incoming) table setup.moment new new_table d.concluded))
+    (subst (λ (p : Phase). WaitFor p old.outgoing.outstanding → WaitFor (established_of p) old.outgoing.outstanding) (sym d.established) (λ waits. waits))
 way_leaves laws meaning setup old table octets m (effect.Counted ended) new new_table (inl is) =
     let d = is.done in
     counted_leaves laws setup.config.window old (with_outgoing old d.outgoing) new refl refl refl refl
     (auth_concludes laws setup (with_outgoing old d.outgoing) table d.verdict ended.child new new_table d.sent.keys (ap established_of d.was) d.concluded)
     (not_yet old.phase (phase.AuthSent d.sent) new.incoming.size old.incoming.size d.was refl)
     (auth_window setup (with_outgoing old d.outgoing) table d.verdict ended.child new new_table d.sent.keys (ap is_concluded d.was) (ap established_of d.was) d.concluded)
+    (subst (λ (p : Phase). WaitFor p old.outgoing.outstanding → WaitFor (established_of p) d.outgoing.outstanding) (sym d.was) (asked_once d.sent old.outgoing m.header.id d.request d.outgoing d.counted))
 way_leaves laws meaning setup old table octets m (effect.Counted ended) new new_table (inr is) =
     let d = is.done in
     counted_leaves laws setup.config.window old (with_outgoing old d.outgoing) new refl refl refl refl
     (closing_concludes laws (is_rejected d.payloads) (with_outgoing old d.outgoing) table setup.moment new new_table (ap is_concluded is.was) d.concluded)
     (λ concluded. size_if (is_rejected d.payloads) (with_outgoing old d.outgoing) table setup.moment new new_table d.concluded)
     (inl (size_if (is_rejected d.payloads) (with_outgoing old d.outgoing) table setup.moment new new_table d.concluded))
+    (subst (λ (p : Phase). WaitFor p old.outgoing.outstanding → WaitFor (established_of p) d.outgoing.outstanding) (sym is.was) (fewer_wait is.keys old.outgoing m.header.id d.request d.outgoing d.counted))
 way_leaves laws meaning setup old table octets m (effect.Again next) new new_table is = early_leaves laws setup.config.window old new (phase.InitSent is.sent) (ap (λ (x : Association). x.incoming) is.done.content) is.was refl (λ opened opens. absurd (init_opens _ opened (sym (ap (λ (x : Association). x.phase) is.done.content) ∙ opens)))
     (λ keyed initiator zero. some_none keyed.keys (sym (ap (λ (x : Association). keys_in x.phase) is.done.content) ∙ keyed.are))
+    (replaced_waits old new is.sent m.header.id is.done.was (new_request next IKE_SA_INIT setup.moment) refl is.done.replaced _ (ap (λ (x : Association). x.phase) is.done.content))
+    (λ waits. record { sent = is.sent; is = refl })
+    (ap (λ (x : Association). x.role) is.done.content)
 way_leaves laws meaning setup old table octets m (effect.Identified next) new new_table is = early_leaves laws setup.config.window old new (phase.InitSent is.sent) (ap (λ (x : Association). x.incoming) is.done.content) is.was refl (λ opened opens. absurd (auth_opens _ opened (sym (ap (λ (x : Association). x.phase) is.done.content) ∙ opens)))
     (λ keyed initiator zero. is.named (sym (ap (λ (x : Association). x.spi_r) is.done.content) ∙ zero))
+    (λ before. issued_waits new _ number_0_answered (new_request next IKE_AUTH setup.moment) (ap (λ (x : Association). x.phase) is.done.content) is.done.issued
+    (λ number request there. absurd (none_outstanding number request there)) (refl, refl))
+    (λ waits. absurd (auth_begins new _ (ap (λ (x : Association). x.phase) is.done.content) waits))
+    (ap (λ (x : Association). x.role) is.done.content)
 
 leaves : (laws : FollowLaws) (meaning : Meaning) (setup : Setup) (old : Association) (table : Database) (octets : Octets) (m : Message) (e : Effect) (new : Association) (new_table : Database)
     → TakesMessage meaning setup old table octets m e new new_table → Leaves setup.config.window old new
@@ -352,10 +470,16 @@ begun_sound cipher group public_value fresh moment serial beginning child is = r
   near = λ number reply kept. absurd (none_kept number reply kept);
   concluded = λ number reply kept. absurd (none_kept number reply kept);
   named = λ keyed initiator. absurd (some_none keyed.keys keyed.are);
+  waits = issued_waits (begun serial beginning child) (begun serial beginning child).phase none_issued (new_request beginning.octets IKE_SA_INIT moment) refl is.issued
+      (λ number request there. absurd (none_outstanding number request there)) (refl, refl);
+  took_none = λ waits. record { role = refl; incoming = refl };
 }
 
 other_role : Responder ≡ Initiator → ⊥
 other_role is = cc
+
+half_begins : (opened : HalfOpen) → IsInitSent (phase.HalfOpen opened) → ⊥
+half_begins opened waits = let is = waits.is in cc
 
 pub admitted_sound : (cipher : Cipher) (group : ℕ) (public_value : Octets → Octets) (shared_secret : Octets → Octets → Option Octets) (fresh : Fresh) (moment serial : ℕ) (offer : OfferView) (spi_i : ℕ) (request : Octets) (admitted : Admitted)
     → Admits cipher group public_value shared_secret fresh moment serial offer spi_i request admitted → IsSoundlyHeld admitted.association
@@ -366,13 +490,26 @@ admitted_sound cipher group public_value shared_secret fresh moment serial offer
       near = λ number reply kept. absurd (none_kept number reply kept);
       concluded = λ number reply kept. absurd (none_kept number reply kept);
       named = λ keyed initiator. absurd (other_role initiator);
+      waits = λ number request there. none_outstanding number request there;
+      took_none = λ waits. absurd (half_begins _ waits);
     })
+
+established_begins : (a : Association) (keys : KeyRecord) → a.phase ≡ phase.Established keys → IsInitSent a.phase → ⊥
+established_begins a keys same waits = let is : phase.Established keys ≡ phase.InitSent waits.sent = sym same ∙ waits.is in cc
 
 pub probed_sound : (body_of : Keys → Octets → Octets → Octets → Octets) (setup : Setup) (old : Association) (octets : Octets) (new : Association)
     → IsSoundlyHeld old → Probes body_of setup old octets new → IsSoundlyHeld new
 probed_sound body_of setup old octets new held is =
     subst (λ (a : Association). IsSoundlyHeld a) (sym is.content)
-    (record { in_effect = held.in_effect; near = held.near; concluded = held.concluded; named = held.named })
+    (record {
+      in_effect = held.in_effect;
+      near = held.near;
+      concluded = held.concluded;
+      named = held.named;
+      waits = issued_waits (with_outgoing old is.outgoing) (phase.Established is.keys) old.outgoing (new_request octets INFORMATIONAL setup.moment) is.established is.issued
+          (subst (λ (p : Phase). WaitFor p old.outgoing.outstanding) is.established held.waits) refl;
+      took_none = λ waits. absurd (established_begins old is.keys is.established waits);
+    })
 
 -- ---- which number comes into effect
 

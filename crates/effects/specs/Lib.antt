@@ -5,6 +5,7 @@ pub mod Keeping
 pub mod Children
 pub mod Offers
 pub mod Lengths
+pub mod Waiting
 pub mod Requests
 pub mod Moves
 pub mod Openings

@@ -7,8 +7,10 @@ use Rattle.std.specs.Ordering.{nat_cmp}
 use Rattle.base.specs.Octets.{Octets}
 use Rattle.suite.specs.declared.key_record.KeyRecord.{KeyRecord}
 use Rattle.exchange.specs.declared.headers.Role.{Role}
+use Rattle.exchange.specs.declared.headers.Role.TheVariants.{Initiator, Responder}
+use Rattle.requests.specs.Incoming.{after_number_0, no_requests, PeerRequests}
 use Rattle.requests.specs.Numbers.{IsGap, LacksNumber, NumberSet}
-use Rattle.requests.specs.Outgoing.{OwnRequests}
+use Rattle.requests.specs.Outgoing.{none_issued, number_0_answered, OwnRequests}
 use Rattle.association.specs.Phases.{keys_in}
 use Rattle.association.specs.Receiving.{is_closed}
 use Rattle.association.specs.declared.phase.Association.{Association}
@@ -46,19 +48,22 @@ pub record Ledger : Type 0 where
 abbrev pub octets_out : OwnRequests Request → ℕ → Option Octets
 octets_out r number = option_map (λ (x : Request). x.octets) (map.get r.outstanding number)
 
-abbrev pub ledger_of : Association → KeyRecord → Ledger
-ledger_of a keys = record {
+abbrev pub ledger_with : KeyRecord → Role → Bool → PeerRequests → OwnRequests Request → Ledger
+ledger_with keys role closed incoming outgoing = record {
   keys = keys;
-  role = a.role;
-  is_closed = is_closed a.phase;
-  in_effect = a.incoming.in_effect;
-  size = a.incoming.size;
-  kept = a.incoming.kept;
-  next = a.outgoing.next;
-  answered = a.outgoing.answered;
-  window = a.outgoing.window;
-  outstanding = octets_out a.outgoing;
+  role = role;
+  is_closed = closed;
+  in_effect = incoming.in_effect;
+  size = incoming.size;
+  kept = incoming.kept;
+  next = outgoing.next;
+  answered = outgoing.answered;
+  window = outgoing.window;
+  outstanding = octets_out outgoing;
 }
+
+abbrev pub ledger_of : Association → KeyRecord → Ledger
+ledger_of a keys = ledger_with keys a.role (is_closed a.phase) a.incoming a.outgoing
 
 -- none before this end has come to keys
 abbrev pub ledger : Association → Option Ledger
@@ -67,10 +72,15 @@ ledger a = option_map (ledger_of a) (keys_in a.phase)
 abbrev pub put : (ℕ → Option Octets) → ℕ → Option Octets → ℕ → Option Octets
 put outstanding number value other = if other == number then value else outstanding other
 
--- The association has keys from now on, and is open. With which numbers it begins, moves do not say yet.
+-- As an association comes to keys, it is open, and IKE_SA_INIT is all that was: its request, of number 0, was answered to the initiator,
+-- and took effect at the responder.
+abbrev pub first_ledger : KeyRecord → Role → Ledger
+first_ledger keys Initiator = ledger_with keys Initiator false no_requests number_0_answered
+first_ledger keys Responder = ledger_with keys Responder false after_number_0 none_issued
+
 pub record Makes (keys : KeyRecord) (new : Ledger) : Type 0 where
-  pub keyed : new.keys ≡ keys
-  pub is_open : new.is_closed ≡ false
+  pub role : Role
+  pub content : new ≡ first_ledger keys role
 
 -- An open association issues the least number never issued, which lies in the peer's window and has 32 bits.
 pub record Issues (number : ℕ) (octets : Octets) (old new : Ledger) : Type 0 where
@@ -104,7 +114,12 @@ pub record TakesEffectOnce (number : ℕ) (reply : Octets) (old new : Ledger) : 
 
 -- it waits for no answer, and takes no request, from now on
 pub record ClosesLedger (old new : Ledger) : Type 0 where
+  pub is_open : old.is_closed ≡ false
   pub content : new ≡ record old { is_closed = true; outstanding = λ number. None }
+
+-- it is held no longer, and waits for no answer
+pub record RemovesLedger (old : Ledger) : Type 0 where
+  pub waits : (number : ℕ) → old.outstanding number ≡ None
 
 abbrev pub Moves : Move → Option Ledger → Option Ledger → Type 0
 Moves (Make keys) None (Some new) = Makes keys new
@@ -112,7 +127,7 @@ Moves (Issue number octets) (Some old) (Some new) = Issues number octets old new
 Moves (Count number) (Some old) (Some new) = Counts number old new
 Moves (TakeEffect number reply) (Some old) (Some new) = TakesEffectOnce number reply old new
 Moves Close (Some old) (Some new) = ClosesLedger old new
-Moves Remove (Some old) None = Unit {0}
+Moves Remove (Some old) None = RemovesLedger old
 Moves move old new = ⊥
 
 -- one after the other
@@ -136,3 +151,13 @@ moves_of number keys (effect.Again octets) = []
 moves_of number keys (effect.Identified octets) = makes_and_issues keys octets
 moves_of number keys (effect.Replied answered) = and_closes (TakeEffect number answered.octets) answered.closed
 moves_of number keys (effect.Counted ended) = and_closes (Count number) ended.closed
+
+-- a reply that is kept of the request of this number
+abbrev pub KeepsReply : Option Ledger → ℕ → Octets → Type 0
+KeepsReply None number reply = ⊥
+KeepsReply (Some l) number reply = map.get l.kept number ≡ Some reply
+
+-- a request of this number that waits for its answer
+abbrev pub WaitsWith : Option Ledger → ℕ → Octets → Type 0
+WaitsWith None number request = ⊥
+WaitsWith (Some l) number request = l.outstanding number ≡ Some request

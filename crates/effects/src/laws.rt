@@ -1,7 +1,8 @@
 //! What follows from the definitions alone. No function here does anything.
-ghost use Rattle.std.specs.Prelude.{◌≡◌, ◌≢◌, ◌⊎◌, ◌+◌, ◌<◌, ◌≤◌, ◌∷◌, ℕ, List, [], Option, Some, None, true, false, length};
+ghost use Rattle.std.specs.Prelude.{◌≡◌, ◌≢◌, ◌==◌, ◌⊎◌, ◌+◌, ◌<◌, ◌≤◌, ◌∷◌, ℕ, List, [], Option, Some, None, true, false, length};
 ghost use Rattle.base.specs.Octets.{Octets, AreOctets};
 ghost use Rattle.wire.specs.Messages.{Spells};
+ghost use Rattle.wire.specs.Numbers.{IKE_SA_INIT};
 ghost use Rattle.wire.specs.declared.message.Message.{Message};
 ghost use Rattle.wire.specs.declared.payload.Payload.{Payload};
 ghost use Rattle.suite.specs.declared.fresh.Fresh.{Fresh};
@@ -21,11 +22,12 @@ ghost use Rattle.association.specs.declared.phase.HalfOpen.{HalfOpen};
 ghost use Rattle.requests.specs.Following.{FollowsIncoming};
 ghost use Rattle.requests.specs.Incoming.{IsFreshRequest};
 ghost use Rattle.requests.specs.Numbers.{HasNumber, LacksNumber};
-ghost use Rattle.requests.specs.Outgoing.{GivesUpRequests};
+ghost use Rattle.requests.specs.Outgoing.{none_issued};
 ghost use Rattle.std.specs.FinMap as map;
 ghost use Rattle.sadb.specs.Contents.{table_content};
 ghost use Rattle.association.specs.Contents.{association_content};
 ghost use Rattle.association.specs.declared.phase.Association.{Association};
+ghost use Rattle.association.specs.declared.phase.Request.{Request};
 ghost use Rattle.suite.specs.declared.key_record.KeyRecord.{KeyRecord};
 ghost use Rattle.suite.specs.declared.keys.Keys.{Keys};
 ghost use Rattle.sa_init.specs.Judging.{OfferView};
@@ -40,12 +42,13 @@ ghost use Rattle.initial.specs.Beginning.{begun, Admits, Begins};
 ghost use Rattle.effects.specs.Children.{AsksForChild, IsAsking, MakesChild};
 ghost use Rattle.initial.specs.Configs.{Setup};
 ghost use Rattle.informational.specs.Probing.{Probes};
-ghost use Rattle.moments.specs.Due.{SendsAgain};
-ghost use Rattle.moments.specs.Held.{IsInTime};
-ghost use Rattle.effects.specs.Moves.{ledger, moves_of, Close, Issue, Lead, Make, Remove};
+ghost use Rattle.moments.specs.Due.{is_over, SendsAgain};
+ghost use Rattle.moments.specs.Held.{IsClosedAt, IsInTime};
+ghost use Rattle.effects.specs.Moves.{ledger, moves_of, Close, Issue, KeepsReply, Lead, Make, Remove, WaitsWith};
 ghost use Rattle.initial.specs.Ending.{EndsAuth};
 ghost use Rattle.effects.specs.Keeping.{child_in, sent_by, IsShort, KeepsShort, KeyedBy};
 ghost use Rattle.effects.specs.Requests.{is_concluded, takes_requests, IsPassing, IsSoundlyHeld, KeepsWindow, PutsIntoEffect, StaysConcluded};
+ghost use Rattle.effects.specs.Waiting.{asked_by, WaitOn};
 ghost use Rattle.effects.specs.Offers.{AnswersAuthSa, AnswersInitialSa};
 ghost use Rattle.effects.specs.Openings.{OpensAsMessage, OpensWhatItSeals};
 ghost use Rattle.effects.specs.Lengths.{HoldsWholeKeys, TellsLengths};
@@ -74,7 +77,7 @@ use exchange::laws::{
     ciphers_tell_lengths, ends_agree, sealed_messages_are_determined, what_counts_fits,
 };
 use exchange::sealed_messages_open;
-use moments::laws::nothing_is_due_afterwards;
+use moments::laws::{nothing_is_due_afterwards, who_is_gone_was_asked};
 use requests::laws::{
     later_incoming_are_determined, later_incoming_follow, later_outgoing_are_determined,
 };
@@ -402,7 +405,7 @@ pub fn requests_are_remembered()
 /// (RFC 7296, sections 2.1 to 2.4).
 pub fn messages_make_moves()
     ensures message { (meaning : Meaning) (setup : Setup) (old : Association) (table : Database) (octets : Octets) (m : Message)
-        (effect : Effect) (new : Association) (new_table : Database)
+        (effect : Effect) (new : Association) (new_table : Database) → IsSoundlyHeld old
         → TakesMessage meaning setup old table octets m effect new new_table
         → Lead (moves_of m.header.id (keys_in new.phase) effect) (ledger old) (ledger new) }
     ensures probe { (body_of : Keys → Octets → Octets → Octets → Octets) (setup : Setup) (old : Association) (octets : Octets)
@@ -414,14 +417,28 @@ pub fn messages_make_moves()
         → Admits cipher group public_value shared_secret fresh moment serial offer spi_i request admitted
         → (keys : KeyRecord) × Lead (Make keys ∷ []) None (ledger admitted.association) }
     ensures sending { (now : ℕ) (old new : Association) → SendsAgain now old new → Lead [] (ledger old) (ledger new) }
-    ensures closing { (old new : Association) (keys : KeyRecord) (moment : ℕ) → keys_in old.phase ≡ Some keys
-        → GivesUpRequests old.outgoing new.outgoing
-        → new ≡ record old { outgoing = new.outgoing; phase = phase.Closed (keys_in old.phase) moment }
-        → Lead (Close ∷ []) (ledger old) (ledger new) }
-    ensures removal { (old : Association) (keys : KeyRecord) → keys_in old.phase ≡ Some keys
-        → Lead (Remove ∷ []) (ledger old) None }
+    ensures closing { (now : ℕ) (old new : Association) (keys : KeyRecord) → IsSoundlyHeld old
+        → keys_in old.phase ≡ Some keys → IsClosedAt now old new → Lead (Close ∷ []) (ledger old) (ledger new) }
+    ensures removal { (now : ℕ) (old : Association) (keys : KeyRecord) → IsSoundlyHeld old → keys_in old.phase ≡ Some keys
+        → is_over now old.phase ≡ true → Lead (Remove ∷ []) (ledger old) None }
     ensures few { (number : ℕ) (keys : Option KeyRecord) (effect : Effect) → length (moves_of number keys effect) ≤ 2 }
-{}
+{
+    who_is_gone_was_asked();
+}
+
+/// What goes out again under an association's keys is what moves speak of: the reply that is kept of the request that comes again, and a
+/// request that waits for its answer, of any exchange but IKE_SA_INIT, which goes in clear (RFC 7296, section 2.1).
+pub fn what_goes_out_again_is_kept()
+    ensures reply { (meaning : Meaning) (setup : Setup) (old : Association) (table : Database) (octets : Octets) (m : Message)
+        (reply : Octets) (new : Association) (new_table : Database)
+        → TakesMessage meaning setup old table octets m (Repeated reply) new new_table
+        → KeepsReply (ledger old) m.header.id reply }
+    ensures request { (a : Association) (number : ℕ) (request : Request) → IsSoundlyHeld a
+        → map.get a.outgoing.outstanding number ≡ Some request → (request.exchange == IKE_SA_INIT) ≡ false
+        → WaitsWith (ledger a) number request.octets }
+{
+    repeats_say_why();
+}
 
 /// What goes out under an association's keys opens as what it is, where the cipher opens what it seals: a reply as the response to its
 /// request, the request of IKE_AUTH as that of number 1, and one that asks the peer as that of the next number. What puts a request into
@@ -480,6 +497,21 @@ pub fn nothing_comes_due()
 {
     nothing_is_due_afterwards();
 }
+
+/// Whatever comes, and whatever is asked, a request that waits for its answer afterwards waited before, since the same moment and as often
+/// sent; or it goes out now, and waits from now on: for the first time, or anew with a cookie (RFC 7296, sections 2.1 and 2.6).
+pub fn requests_wait_on()
+    ensures taken { (meaning : Meaning) (setup : Setup) (old : Association) (table : Database) (octets : Octets) (m : Message)
+        (effect : Effect) (new : Association) (new_table : Database)
+        → TakesMessage meaning setup old table octets m effect new new_table
+        → WaitOn setup.moment (asked_by effect) old.outgoing new.outgoing }
+    ensures begun { (cipher : Cipher) (group : ℕ) (public_value : Octets → Octets) (fresh : Fresh) (moment serial : ℕ)
+        (beginning : Beginning) (child : FirstChildView) → Begins cipher group public_value fresh moment beginning
+        → WaitOn moment (Some beginning.octets) none_issued (begun serial beginning child).outgoing }
+    ensures probed { (body_of : Keys → Octets → Octets → Octets → Octets) (setup : Setup) (old : Association) (octets : Octets)
+        (new : Association) → Probes body_of setup old octets new
+        → WaitOn setup.moment (Some octets) old.outgoing new.outgoing }
+{}
 
 /// A request that took effect before is answered by the reply that is kept of it, if it opens; where none is kept any more it is refused as
 /// forgotten (E30). Nothing else is answered by a reply that is kept.

@@ -141,7 +141,7 @@ ike_way : {C : Type 0} (meaning : Meaning) (view : ike.InputView) (old : State C
 ike_way {C} meaning view old s trace new (inl is) = answered (record { view = view; is = refl; stepped = is.stepped; steps = is.steps; output = is.output })
 ike_way {C} meaning view old s trace new (inr is) = refused (record { view = view; is = refl; fault = is.fault; refuses = is.refuses; output = is.output; same = is.machine })
 
-does_way : {C : Type 0} (meaning : Meaning) (given : Input) (old : State C) (s : Said) (trace : Trace) (new : State C)
+pub does_way : {C : Type 0} (meaning : Meaning) (given : Input) (old : State C) (s : Said) (trace : Trace) (new : State C)
     → DoesInput meaning old.entries given old.machine old.table s trace new.machine new.table → IkeWay meaning (for_ike given) old s new
 does_way {C} meaning (input.Ike from octets fresh) old s trace new is = ike_way meaning (ike.Message from octets fresh) old s trace new is
 does_way {C} meaning (input.Start serial entry fresh) old s trace new is = ike_way meaning (ike.Start serial entry fresh) old s trace new is

@@ -1,5 +1,5 @@
 -- What is due comes with the first moment that reaches it, over a run.
-use Rattle.std.proofs.Common.{◌≡◌, ℕ, ◌∷◌, [], Bool, true, false, List, Option, Some, None, max, ap, refl, subst, sym, ◌∙◌}
+use Rattle.std.proofs.Common.{◌≡◌, ◌⊎◌, inl, inr, ℕ, ◌∷◌, [], Bool, true, false, List, Option, Some, None, max, ap, refl, subst, sym, ◌∙◌}
 use Rattle.std.specs.List.{slice_get}
 use Rattle.policy.specs.declared.entry.Entry.{Entry}
 use Rattle.sadb.specs.Database.{Database}
@@ -7,7 +7,8 @@ use Rattle.effects.specs.Taking.{Meaning}
 use Rattle.ike.specs.Faults as faults
 use Rattle.ike.specs.Machines.{Machine}
 use Rattle.ike.specs.Moments as moments
-use Rattle.ike.specs.Moments.{ComesTo, IsTimely, StaysAt}
+use Rattle.ike.specs.Moments.{ComesTo, IsTimely, StaysAt, WaitsAt}
+use Rattle.ike.specs.Soundness.{IsSoundMachine}
 use Rattle.ike.specs.Steps as ike
 use Rattle.ike.specs.declared.fault.IkeFault.{IkeFault}
 use Rattle.ike.specs.declared.output.IkeOutput.{IkeOutput}
@@ -32,7 +33,7 @@ pub record MomentFacts : Type 0 where
   pub unrefused : (meaning : Meaning) (entries : List Entry) (moment : ℕ) (machine : Machine) (table : Database) (reason : IkeFault)
       → ike.Refuses meaning entries (ike.Tick moment) machine table reason → faults.is_want_of_memory reason ≡ true
   pub stays : (meaning : Meaning) (entries : List Entry) (view : ike.InputView) (old : Machine) (table : Database) (stepped : Stepped) (new : Machine) (new_table : Database) → ike.is_tick view ≡ false
-      → ike.Steps meaning entries view old table stepped new new_table → StaysAt old stepped new
+      → IsSoundMachine old table → ike.Steps meaning entries view old table stepped new new_table → StaysAt old stepped new
 
 ticks_in : Option ike.InputView → Bool
 ticks_in None = false
@@ -103,12 +104,27 @@ module _ {C : Type 0} (facts : MomentFacts) (meaning_of : C → Meaning) where
       absurd (yes_no (faults.is_want_of_memory r.fault) wants (sym (ap wants_memory r.output) ∙ had))
   come_to moment p given had (elsewhere e) = absurd (no_view (ike.Tick moment) (sym e.is ∙ given))
 
-  none_come : (p : Passage C) → is_moment p.given ≡ false → IkeWay (meaning_of p.before.caller) (for_ike p.given) p.before p.said p.after → BringsNone p
-  none_come p none (answered s) =
-      let stays = facts.stays (meaning_of p.before.caller) p.before.entries s.view p.before.machine p.before.table s.stepped p.after.machine p.after.table (no_tick p.given s.view none s.is) s.steps in
-      record { said = ap tells_moment s.output ∙ told_by s.stepped.output ∙ stays.said; moment = stays.moment }
-  none_come p none (refused r) = record { said = ap tells_moment r.output; moment = ap (λ (m : Machine). m.moment) r.same }
-  none_come p none (elsewhere e) = record { said = told_of_packet p.said e.said; moment = ap (λ (m : Machine). m.moment) e.same }
+  none_come : (p : Passage C) → is_moment p.given ≡ false → IsSoundMachine p.before.machine p.before.table → IkeWay (meaning_of p.before.caller) (for_ike p.given) p.before p.said p.after → BringsNone p
+  none_come p none sound (answered s) =
+      let stays = facts.stays (meaning_of p.before.caller) p.before.entries s.view p.before.machine p.before.table s.stepped p.after.machine p.after.table (no_tick p.given s.view none s.is) sound s.steps in
+      record {
+        said = ap tells_moment s.output ∙ told_by s.stepped.output ∙ stays.said;
+        moment = stays.moment;
+        waits = λ serial number request waits. elim (stays.waits serial number request waits) [
+          | inl before ↦ inl before
+          | inr now ↦ inr (record { said = s.output ∙ ap said_by_ike now.said; timer = now.timer })
+        ];
+      }
+  none_come p none sound (refused r) = record {
+    said = ap tells_moment r.output;
+    moment = ap (λ (m : Machine). m.moment) r.same;
+    waits = λ serial number request waits. inl (subst (λ (m : Machine). WaitsAt m.held serial number request) r.same waits);
+  }
+  none_come p none sound (elsewhere e) = record {
+    said = told_of_packet p.said e.said;
+    moment = ap (λ (m : Machine). m.moment) e.same;
+    waits = λ serial number request waits. inl (subst (λ (m : Machine). WaitsAt m.held serial number request) e.same waits);
+  }
 
   -- nothing is due after a step
   done_after : (p : Passage C) → IsTimely p.before.machine → IkeWay (meaning_of p.before.caller) (for_ike p.given) p.before p.said p.after → IsTimely p.after.machine
@@ -123,5 +139,5 @@ module _ {C : Type 0} (facts : MomentFacts) (meaning_of : C → Meaning) where
         (passage.sound.timely, done_after p passage.sound.timely (passage_way meaning_of p passage));
     comes = λ place moment p there given had.
         come_to moment p (ap for_ike given) had (passage_way meaning_of p (at_place meaning_of old new ps place p trail there).passage);
-    otherwise = λ place p there none. none_come p none (passage_way meaning_of p (at_place meaning_of old new ps place p trail there).passage);
+    otherwise = λ place p there none. none_come p none (at_place meaning_of old new ps place p trail there).passage.sound.machine (passage_way meaning_of p (at_place meaning_of old new ps place p trail there).passage);
   }

@@ -1,6 +1,6 @@
 -- What a step's trace tells is stored.
-use Rattle.std.proofs.Common.{◌≡◌, ℕ, List, Option, Some, None, IsSome, inl, inr, refl, sym, ap, ◌∙◌, subst}
-use Rattle.std.specs.Prelude.{option_and_then}
+use Rattle.std.proofs.Common.{◌≡◌, ℕ, Bool, true, false, List, Contains, Option, Some, None, IsSome, inl, inr, refl, sym, ap, ◌∙◌, subst}
+use Rattle.std.specs.Prelude.{option_and_then, if◌then◌else◌}
 use Rattle.policy.specs.declared.entry.Entry.{Entry}
 use Rattle.suite.specs.declared.key_record.KeyRecord.{KeyRecord}
 use Rattle.sadb.specs.Database.{pair_at, Database, IsSoundTable}
@@ -8,22 +8,30 @@ use Rattle.sadb.specs.declared.pair.Pair.{Pair}
 use Rattle.association.specs.Phases.{keys_in}
 use Rattle.association.specs.declared.phase.Association.{Association}
 use Rattle.effects.specs.Taking.{Meaning}
+use Rattle.moments.specs.declared.resent.Resent.{Resent}
+use Rattle.moments.specs.declared.ticking.Ticked as ticking
 use Rattle.ike.specs.Machines.{keys_of_serial, Held, Machine}
 use Rattle.ike.specs.Outputs.{no_trace}
 use Rattle.ike.specs.Soundness.{IsSoundMachine}
 use Rattle.ike.specs.Steps as ike
 use Rattle.ike.specs.Tracing.{HoldsKeys, IsTraced}
+use Rattle.ike.specs.declared.output.IkeOutput.{IkeOutput}
+use Rattle.ike.specs.declared.output.IkeOutput.TheVariants as made
 use Rattle.ike.specs.declared.output.MadeChild.{MadeChild}
 use Rattle.ike.specs.declared.output.Mark.{Mark}
 use Rattle.ike.specs.declared.output.Stepped.{Stepped}
 use Rattle.ike.specs.declared.output.Trace.{Trace}
-use Rattle.gateway.specs.Outputs.{Said}
+use Rattle.gateway.specs.Outputs.{said_by_ike, Refused, Said, Ticked}
+use Rattle.gateway.specs.Requests.{for_ike}
 use Rattle.gateway.specs.States.{State}
 use Rattle.gateway.specs.Steps.{DoesInput, StepsIke, Traces}
-use Rattle.gateway.specs.Worlds.{child_by, child_with, ike_mark, keyed_by, keyed_with, mark_under, IsMarked}
+use Rattle.gateway.specs.Worlds.{child_by, child_with, ike_mark, keyed_by, keyed_with, mark_again, mark_under, IsMarked}
+use Rattle.gateway.specs.declared.fault.Reason.{Reason}
+use Rattle.gateway.specs.declared.fault.Reason.TheVariants as reason
 use Rattle.gateway.specs.declared.input.Input.{Input}
 use Rattle.gateway.specs.declared.input.Input.TheVariants as input
 use Rattle.gateway.specs.declared.world.stored.End.{End}
+use Rattle.gateway.proofs.HistoryLemmas.{answered, does_way, elsewhere, refused, IkeWay, IsOfPacket}
 
 -- what the machine of IKE says of its traces
 pub record TraceLaw : Type 0 where
@@ -114,3 +122,49 @@ child_stored {C} law meaning given s trace end made old new st sm is e =
     let held = tells.child made e in
     subst (λ (o : Option MadeChild). IsSome (child_by end o new)) (sym e)
     (child_some end made (keys_of_serial made.ike new.machine.held.associations) held.keys (pair_at new.table.pairs made.serial) (keys_found new.machine.held made.ike held) (tells.pair made e))
+
+-- ---- what goes out again
+
+-- what the machine of IKE says of it
+abbrev pub AgainLaw : Type 0
+AgainLaw = (meaning : Meaning) (entries : List Entry) (given : ike.InputView) (old : Machine) (table : Database) (stepped : Stepped) (new : Machine) (new_table : Database) (ticked : ticking.Ticked) (r : Resent)
+    → IsSoundTable table → IsSoundMachine old table → ike.Steps meaning entries given old table stepped new new_table → stepped.output ≡ made.Ticked ticked → Contains ticked.requests r → r.encrypted ≡ true → HoldsKeys new.held r.ike
+
+record SaysTicked (o : IkeOutput) (requests : List Resent) : Type 0 where
+  ticked : ticking.Ticked
+  is : o ≡ made.Ticked ticked
+  requests_are : ticked.requests ≡ requests
+
+ticked_by : (o : IkeOutput) (requests : List Resent) (closed : List ℕ) → said_by_ike o ≡ Ticked requests closed → SaysTicked o requests
+ticked_by (made.Reply octets ended) requests closed is = absurd cc
+ticked_by (made.Repeat octets) requests closed is = absurd cc
+ticked_by (made.Request serial octets) requests closed is = absurd cc
+ticked_by (made.Counted serial child ended) requests closed is = absurd cc
+ticked_by (made.Ticked ticked) requests closed is = record { ticked = ticked; is = refl; requests_are = cc }
+ticked_by made.Done requests closed is = absurd cc
+ticked_by (made.Dropped fault) requests closed is = absurd cc
+
+refused_ticks : (why : Reason) (requests : List Resent) (closed : List ℕ) → Refused why ≡ Ticked requests closed → ⊥
+refused_ticks why requests closed is = cc
+
+again_held : {C : Type 0} → AgainLaw → (meaning : Meaning) (given : Option ike.InputView) (s : Said) (requests : List Resent) (closed : List ℕ) (r : Resent) (old new : State C)
+    → IsSoundTable old.table → IsSoundMachine old.machine old.table → IkeWay meaning given old s new → s ≡ Ticked requests closed → Contains requests r → r.encrypted ≡ true → HoldsKeys new.machine.held r.ike
+again_held {C} law meaning given s requests closed r old new st sm (answered a) said there sealed =
+    let t = ticked_by a.stepped.output requests closed (sym a.output ∙ said) in
+    law meaning old.entries a.view old.machine old.table a.stepped new.machine new.table t.ticked r st sm a.steps t.is (subst (λ (xs : List Resent). Contains xs r) (sym t.requests_are) there) sealed
+again_held {C} law meaning given s requests closed r old new st sm (refused a) said there sealed = absurd (refused_ticks (reason.Ike a.fault) requests closed (sym a.output ∙ said))
+again_held {C} law meaning given s requests closed r old new st sm (elsewhere e) said there sealed = absurd (subst (λ (x : Said). IsOfPacket x) said e.said)
+
+marked_again : (r : Resent) → r.encrypted ≡ true → mark_again r ≡ Some (record { ike = r.ike; response = false; number = r.number })
+marked_again r sealed = ap (λ (b : Bool). if b then Some (record { ike = r.ike; response = false; number = r.number }) else None) sealed
+
+pub again_stored : {C : Type 0} → AgainLaw → (meaning : Meaning) (given : Input) (s : Said) (trace : Trace) (requests : List Resent) (closed : List ℕ) (r : Resent) (old new : State C)
+    → IsSoundTable old.table → IsSoundMachine old.machine old.table → Traces meaning given old s trace new → s ≡ Ticked requests closed → Contains requests r → r.encrypted ≡ true
+    → IsMarked (record { ike = r.ike; response = false; number = r.number }) (ike_mark new.machine (mark_again r))
+again_stored {C} law meaning given s trace requests closed r old new st sm is said there sealed =
+    let held = again_held law meaning (for_ike given) s requests closed r old new st sm (does_way meaning given old s trace new is.does) said there sealed in
+    let mark : Mark = record { ike = r.ike; response = false; number = r.number } in
+    record {
+      keys = held.keys;
+      is = ap (λ (o : Option Mark). ike_mark new.machine o) (marked_again r sealed) ∙ ap (λ (k : Option KeyRecord). mark_under mark k) (keys_found new.machine.held r.ike held);
+    }

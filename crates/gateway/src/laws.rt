@@ -1,5 +1,5 @@
 //! What follows from the definitions alone. No function here does anything.
-ghost use Rattle.std.specs.Prelude.{◌≡◌, ℕ, IsSome, List, Some, true, false, map};
+ghost use Rattle.std.specs.Prelude.{◌≡◌, ℕ, Contains, IsSome, List, Some, true, false, map};
 ghost use Rattle.std.specs.List.{AllByRecursion};
 ghost use Rattle.base.specs.Octets.{Octets};
 ghost use Rattle.policy.specs.declared.entry.Action.{Action};
@@ -13,19 +13,20 @@ ghost use Rattle.traffic.specs.Receiving.{TakesOneNumber};
 ghost use Rattle.traffic.specs.Sending.{IsDecided};
 ghost use Rattle.ike.specs.Lengths.{HoldWholeKeys};
 ghost use Rattle.ike.specs.declared.output.MadeChild.{MadeChild};
+ghost use Rattle.moments.specs.declared.resent.Resent.{Resent};
 ghost use Rattle.ike.specs.declared.output.Mark as ike;
 ghost use Rattle.ike.specs.declared.output.Trace.{Trace};
 ghost use Rattle.gateway.specs.Contents.{state_content};
 ghost use Rattle.gateway.specs.Faults.{is_after_judging_packet};
 ghost use Rattle.ike.specs.Soundness.{IsSoundMachine};
-ghost use Rattle.gateway.specs.Outputs.{Clear, Dropped, FewAgain, FitsChild, FitsDatagram, IsQuiet, Refused, Said, wants_memory, said};
+ghost use Rattle.gateway.specs.Outputs.{Clear, Dropped, FewAgain, FitsChild, FitsDatagram, IsQuiet, Refused, Said, Ticked, wants_memory, said};
 ghost use Rattle.gateway.specs.Promises.{KeepsPromises};
 ghost use Rattle.gateway.specs.Runs.{Runs, StepsAs};
 ghost use Rattle.gateway.specs.States.{State};
 ghost use Rattle.gateway.specs.Storing.{again_by};
 ghost use Rattle.gateway.specs.Steps.{GoesSealed, Steps, Traces};
 ghost use Rattle.gateway.specs.WorldRuns.{inputs_at, outputs_at, HappensAs, IsLater};
-ghost use Rattle.gateway.specs.Worlds.{child_by, gateway_at, ike_mark, keyed_by, IsMarked, WorldState};
+ghost use Rattle.gateway.specs.Worlds.{child_by, gateway_at, ike_mark, keyed_by, mark_again, IsMarked, WorldState};
 ghost use Rattle.gateway.specs.declared.output.Output.{Output};
 ghost use Rattle.gateway.specs.declared.world.stored.End.{End};
 ghost use Rattle.gateway.specs.declared.world.stored.Event.{Event};
@@ -118,7 +119,7 @@ pub fn what_is_made_fits<C>()
 }
 
 /// What a step's trace tells is stored: a message under SK with a key record, as the response or request that it is, and the key record
-/// and the child that were made.
+/// and the child that were made. So is a request that goes out again with a moment, but for one of IKE_SA_INIT.
 pub fn what_is_told_is_stored<C>()
     ensures message { (meaning : Meaning) (given : Input) (said : Said) (trace : Trace) (mark : ike.Mark) (old new : State C)
         → IsSoundTable old.table → IsSoundMachine old.machine old.table → Traces meaning given old said trace new
@@ -129,6 +130,11 @@ pub fn what_is_told_is_stored<C>()
     ensures child { (meaning : Meaning) (given : Input) (said : Said) (trace : Trace) (end : End) (made : MadeChild)
         (old new : State C) → IsSoundTable old.table → IsSoundMachine old.machine old.table
         → Traces meaning given old said trace new → trace.child ≡ Some made → IsSome (child_by end trace.child new) }
+    ensures again { (meaning : Meaning) (given : Input) (said : Said) (trace : Trace) (requests : List Resent) (closed : List ℕ)
+        (request : Resent) (old new : State C) → IsSoundTable old.table → IsSoundMachine old.machine old.table
+        → Traces meaning given old said trace new → said ≡ Ticked requests closed → Contains requests request
+        → request.encrypted ≡ true
+        → IsMarked (record { ike = request.ike; response = false; number = request.number }) (ike_mark new.machine (mark_again request)) }
 {
     traces_name_what_is_held();
 }

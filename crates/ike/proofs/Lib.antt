@@ -26,4 +26,7 @@ mod InitialLemmas
 mod OutputLemmas
 mod WantLemmas
 mod MomentLemmas
+mod TellingLemmas
 mod MoveLemmas
+mod WaitLemmas
+mod AgainLemmas

@@ -28,6 +28,7 @@ use Rattle.effects.specs.declared.taking.Effect.{Effect}
 use Rattle.effects.specs.declared.taking.Effect.TheVariants as effect
 use Rattle.ike.specs.Machines.{setup_at, Held, Machine}
 use Rattle.ike.specs.Moments.{tells_moment, ComesTo, IsTimely, StaysAt}
+use Rattle.ike.specs.Soundness.{IsSoundMachine}
 use Rattle.ike.specs.Outputs.{stepped_of}
 use Rattle.ike.specs.Receiving.{with_next}
 use Rattle.ike.specs.Starting.{child_by}
@@ -37,6 +38,7 @@ use Rattle.ike.specs.Ticking.{TakesMoment}
 use Rattle.ike.specs.declared.output.IkeOutput.{IkeOutput}
 use Rattle.ike.specs.declared.output.IkeOutput.TheVariants as output
 use Rattle.ike.specs.declared.output.Stepped.{Stepped}
+use Rattle.ike.proofs.WaitLemmas.{step_waits_on, WaitLaws}
 use Rattle.ike.proofs.WayLemmas.{admitted, datagram_way, probed, rested, started, step_way, took, GoesOut, SomeWay, Way}
 
 pub record TimelyLaws : Type 0 where
@@ -195,13 +197,14 @@ step_moment meaning entries (steps.Tick moment) old table stepped new new_table 
 clash : (b : Bool) → b ≡ true → b ≡ false → ⊥
 clash b one other = cc
 
-pub step_stays : (meaning : Meaning) (entries : List Entry) (input : InputView) (old : Machine) (table : Database) (stepped : Stepped) (new : Machine) (new_table : Database) → is_tick input ≡ false
-    → Steps meaning entries input old table stepped new new_table → StaysAt old stepped new
-step_stays meaning entries input old table stepped new new_table none is =
+pub step_stays : WaitLaws → (meaning : Meaning) (entries : List Entry) (input : InputView) (old : Machine) (table : Database) (stepped : Stepped) (new : Machine) (new_table : Database) → is_tick input ≡ false
+    → IsSoundMachine old table → Steps meaning entries input old table stepped new new_table → StaysAt old stepped new
+step_stays laws meaning entries input old table stepped new new_table none sound is =
     record {
       moment = step_moment meaning entries input old table stepped new new_table none is;
       said = elim (step_way meaning entries input old table stepped new new_table is) [
         | inl some ↦ way_tells meaning some.setup some.octets old.held table stepped new.held new_table some.way
         | inr ticked ↦ absurd (clash (is_tick input) ticked.ticks none)
       ];
+      waits = λ serial number request waits. step_waits_on laws meaning entries input old table stepped new new_table serial number request none sound is waits;
     }

@@ -12,7 +12,6 @@ use Rattle.suite.specs.declared.key_record.KeyRecord.{KeyRecord}
 use Rattle.suite.specs.declared.keys.Keys.{Keys}
 use Rattle.suite.specs.declared.sealer.Cipher.{Cipher}
 use Rattle.exchange.specs.Headers.{other_role}
-use Rattle.requests.specs.Outgoing.{GivesUpRequests}
 use Rattle.sadb.specs.Database.{Database}
 use Rattle.sa_init.specs.Judging.{OfferView}
 use Rattle.association.specs.Finding.{is_meant}
@@ -26,19 +25,21 @@ use Rattle.initial.specs.declared.answering.Answered.{Answered}
 use Rattle.initial.specs.declared.beginning.Admitted.{Admitted}
 use Rattle.initial.specs.declared.ending.Ended.{Ended}
 use Rattle.informational.specs.Probing.{Probes}
-use Rattle.moments.specs.Due.{held_of, is_over, SendsAgain}
+use Rattle.moments.specs.Due.{has_failed, held_of, is_over, SendsAgain}
 use Rattle.moments.specs.Held as moments
 use Rattle.moments.specs.Ticking.{Ticks}
 use Rattle.moments.specs.declared.ticking.Ticked.{Ticked}
+use Rattle.effects.specs.Keeping.{KeyedBy}
 use Rattle.effects.specs.Lengths.{HoldsWholeKeys}
-use Rattle.effects.specs.Moves.{and_closes, ledger, makes_and_issues, moves_of, Close, Count, Issue, Lead, Make, Move, Remove, TakeEffect}
+use Rattle.effects.specs.Moves.{and_closes, ledger, makes_and_issues, moves_of, Close, Count, Issue, KeepsReply, Lead, Make, Move, Remove, TakeEffect}
 use Rattle.effects.specs.Openings.{OpensAsMessage, OpensWhatItSeals}
+use Rattle.effects.specs.Requests.{IsSoundlyHeld}
 use Rattle.effects.specs.Taking.{Meaning, StaysItself, TakesMessage}
 use Rattle.effects.specs.declared.taking.Effect.{Effect}
 use Rattle.effects.specs.declared.taking.Effect.TheVariants as effect
 use Rattle.ike.specs.Machines.{association_of, has_serial, setup_at, Held, Machine}
-use Rattle.ike.specs.Moves.{ledger_at, IssuesOpenly, MoveComes, MoveOpens, MovesAt, OpensFresh, Tells, TellsClosed}
-use Rattle.ike.specs.Outputs.{request_mark, stepped_of}
+use Rattle.ike.specs.Moves.{ledger_at, IssuesOpenly, MoveComes, MoveOpens, MovesAt, OpensFresh, SaysNoMore, Tells, TellsClosed}
+use Rattle.ike.specs.Outputs.{asking_step, half_open_step, plain_step, request_mark, stepped_of}
 use Rattle.ike.specs.Receiving.{with_next}
 use Rattle.ike.specs.Soundness.{AreSound, At, IsSoundMachine}
 use Rattle.ike.specs.Steps as steps
@@ -47,8 +48,9 @@ use Rattle.ike.specs.declared.output.IkeOutput.TheVariants as output
 use Rattle.ike.specs.declared.output.Stepped.{Stepped}
 use Rattle.ike.proofs.OutputLemmas.{still_held, TicksLeave}
 use Rattle.ike.proofs.ProbeLemmas.{changed_itself, probed_serial}
-use Rattle.ike.proofs.RequestLemmas.{found_first, some_none, yes_no}
+use Rattle.ike.proofs.RequestLemmas.{found_first, held_soundly, some_none, yes_no}
 use Rattle.ike.proofs.SerialLemmas.{grown_found, grown_stands, none_next, replaced_found, replaced_stands, same_one, sound_found}
+use Rattle.ike.proofs.TellingLemmas.{asking_says, asking_silent, closes_now, effect_says, effect_silent, half_open_says, half_open_silent, request_silent, said_silent, silent_tells, tick_says, ClosesNow, IsEffectOf, IsSilent, TickFacts}
 use Rattle.ike.proofs.TickLemmas.{found_at}
 use Rattle.ike.proofs.WayLemmas.{admitted, datagram_way, probed, rested, started, took, ProbesOne, StartsOne, Way}
 
@@ -57,15 +59,14 @@ pub record MoveLaws : Type 0 where
   pub itself : (meaning : Meaning) (setup : Setup) (old : Association) (table : Database) (octets : Octets) (m : Message) (e : Effect) (new : Association) (new_table : Database)
       → TakesMessage meaning setup old table octets m e new new_table → StaysItself old new
   pub message : (meaning : Meaning) (setup : Setup) (old : Association) (table : Database) (octets : Octets) (m : Message) (e : Effect) (new : Association) (new_table : Database)
-      → TakesMessage meaning setup old table octets m e new new_table → Lead (moves_of m.header.id (keys_in new.phase) e) (ledger old) (ledger new)
+      → IsSoundlyHeld old → TakesMessage meaning setup old table octets m e new new_table → Lead (moves_of m.header.id (keys_in new.phase) e) (ledger old) (ledger new)
   pub probe : (body_of : Keys → Octets → Octets → Octets → Octets) (setup : Setup) (old : Association) (octets : Octets) (new : Association)
       → Probes body_of setup old octets new → Lead (Issue old.outgoing.next octets ∷ []) (ledger old) (ledger new)
   pub admits : (cipher : Cipher) (group : ℕ) (public_value : Octets → Octets) (shared_secret : Octets → Octets → Option Octets) (fresh : Fresh) (moment serial : ℕ) (offer : OfferView) (spi_i : ℕ) (request : Octets) (admitted : Admitted)
       → Admits cipher group public_value shared_secret fresh moment serial offer spi_i request admitted → (keys : KeyRecord) × Lead (Make keys ∷ []) None (ledger admitted.association)
   pub sending : (now : ℕ) (old new : Association) → SendsAgain now old new → Lead [] (ledger old) (ledger new)
-  pub closing : (old new : Association) (keys : KeyRecord) (moment : ℕ) → keys_in old.phase ≡ Some keys → GivesUpRequests old.outgoing new.outgoing
-      → new ≡ record old { outgoing = new.outgoing; phase = phase.Closed (keys_in old.phase) moment } → Lead (Close ∷ []) (ledger old) (ledger new)
-  pub removal : (old : Association) (keys : KeyRecord) → keys_in old.phase ≡ Some keys → Lead (Remove ∷ []) (ledger old) None
+  pub closing : (now : ℕ) (old new : Association) (keys : KeyRecord) → IsSoundlyHeld old → keys_in old.phase ≡ Some keys → moments.IsClosedAt now old new → Lead (Close ∷ []) (ledger old) (ledger new)
+  pub removal : (now : ℕ) (old : Association) (keys : KeyRecord) → IsSoundlyHeld old → keys_in old.phase ≡ Some keys → is_over now old.phase ≡ true → Lead (Remove ∷ []) (ledger old) None
   pub few : (number : ℕ) (keys : Option KeyRecord) (e : Effect) → length (moves_of number keys e) ≤ 2
   pub reply : (meaning : Meaning) (setup : Setup) (old : Association) (table : Database) (octets : Octets) (m : Message) (answered : Answered) (new : Association) (new_table : Database)
       → OpensWhatItSeals meaning.body_of meaning.plain_of setup.fresh.seal → HoldsWholeKeys old.phase → TakesMessage meaning setup old table octets m (effect.Replied answered) new new_table
@@ -84,6 +85,11 @@ pub record MoveLaws : Type 0 where
       → OpensAsMessage meaning.plain_of old (other_role old.role) true m.header.id octets
   pub whole : (meaning : Meaning) (setup : Setup) (old : Association) (table : Database) (octets : Octets) (m : Message) (e : Effect) (new : Association) (new_table : Database)
       → HoldsWholeKeys old.phase → TakesMessage meaning setup old table octets m e new new_table → HoldsWholeKeys new.phase
+  pub keyed : (meaning : Meaning) (setup : Setup) (old : Association) (table : Database) (octets : Octets) (m : Message) (e : Effect) (new : Association) (new_table : Database)
+      → TakesMessage meaning setup old table octets m e new new_table → KeyedBy e new.phase
+  pub kept : (meaning : Meaning) (setup : Setup) (old : Association) (table : Database) (octets : Octets) (m : Message) (reply : Octets) (new : Association) (new_table : Database)
+      → TakesMessage meaning setup old table octets m (effect.Repeated reply) new new_table → KeepsReply (ledger old) m.header.id reply
+  pub ticks : TickFacts
 
 -- ---- what stands under a serial
 
@@ -96,13 +102,20 @@ leads_by old new serial o p moves before after leads =
     subst (λ (x : Option Association). looked x (association_of serial new.associations) moves) (sym before) (subst (λ (x : Option Association). looked o x moves) (sym after) leads)
 
 -- it stays as it was
-rests_at : (meaning : Meaning) (input : InputView) (old : Held) (stepped : Stepped) (new : Held) (serial : ℕ) → association_of serial new.associations ≡ association_of serial old.associations → MovesAt meaning input old stepped new serial
-rests_at meaning input old stepped new serial same = record { moves = []; few = omega arith; lead = ap (option_and_then ledger) same; told = tt; came = tt; opened = λ opens whole. tt }
+rests_at : (meaning : Meaning) (input : InputView) (old : Held) (stepped : Stepped) (new : Held) (serial : ℕ) → association_of serial new.associations ≡ association_of serial old.associations
+    → SaysNoMore (ledger_at old serial) stepped serial [] → MovesAt meaning input old stepped new serial
+rests_at meaning input old stepped new serial same says =
+    record { moves = []; few = omega arith; lead = ap (option_and_then ledger) same; told = tt; no_more = says; came = tt; opened = λ opens whole. tt }
+
+silent_at : (meaning : Meaning) (input : InputView) (old : Held) (stepped : Stepped) (new : Held) (serial : ℕ) → association_of serial new.associations ≡ association_of serial old.associations → IsSilent stepped serial
+    → MovesAt meaning input old stepped new serial
+silent_at meaning input old stepped new serial same silent = rests_at meaning input old stepped new serial same (silent_tells (ledger_at old serial) stepped serial [] silent)
 
 -- where one association is changed: it is this one, or this one stays
-at_changed : (old : Held) (table : Database) (place : ℕ) (a b : Association) (new : Held) (serial : ℕ) → AreSound old table → At old place a → b.serial ≡ a.serial
+pub at_changed : (old : Held) (table : Database) (place : ℕ) (a b : Association) (new : Held) (serial : ℕ) → AreSound old table → At old place a → b.serial ≡ a.serial
     → new ≡ record old { associations = slice_set old.associations place b }
-    → ((serial ≡ a.serial) × (association_of serial old.associations ≡ Some a) × (association_of serial new.associations ≡ Some b)) ⊎ (association_of serial new.associations ≡ association_of serial old.associations)
+    → ((serial ≡ a.serial) × (association_of serial old.associations ≡ Some a) × (association_of serial new.associations ≡ Some b))
+    ⊎ ((serial ≢ a.serial) × (association_of serial new.associations ≡ association_of serial old.associations))
 at_changed old table place a b new serial sound there same content = elim (eqb_tells serial a.serial) [
   | inl (one, here) ↦ inl (
     here,
@@ -110,12 +123,13 @@ at_changed old table place a b new serial sound there same content = elim (eqb_t
     ap (λ (h : Held). association_of serial h.associations) content
         ∙ subst (λ n. association_of n (slice_set old.associations place b) ≡ Some b) (sym here) (replaced_stands old table place a b sound there same),
   )
-  | inr (none, apart) ↦ inr (ap (λ (h : Held). association_of serial h.associations) content ∙ replaced_found old.associations place a b serial there apart same)
+  | inr (none, apart) ↦ inr (apart, ap (λ (h : Held). association_of serial h.associations) content ∙ replaced_found old.associations place a b serial there apart same)
 ]
 
 -- where one comes: it is this one, or this one stays
-at_grown : (old : Held) (table : Database) (b : Association) (new : Held) (serial : ℕ) → AreSound old table → b.serial ≡ old.next → new ≡ with_next old b
-    → ((serial ≡ b.serial) × (association_of serial old.associations ≡ None) × (association_of serial new.associations ≡ Some b)) ⊎ (association_of serial new.associations ≡ association_of serial old.associations)
+pub at_grown : (old : Held) (table : Database) (b : Association) (new : Held) (serial : ℕ) → AreSound old table → b.serial ≡ old.next → new ≡ with_next old b
+    → ((serial ≡ b.serial) × (association_of serial old.associations ≡ None) × (association_of serial new.associations ≡ Some b))
+    ⊎ ((serial ≢ b.serial) × (association_of serial new.associations ≡ association_of serial old.associations))
 at_grown old table b new serial sound next content = elim (eqb_tells serial b.serial) [
   | inl (one, here) ↦ inl (
     here,
@@ -123,7 +137,7 @@ at_grown old table b new serial sound next content = elim (eqb_tells serial b.se
     ap (λ (h : Held). association_of serial h.associations) content
         ∙ subst (λ n. association_of n (old.associations ++ b ∷ []) ≡ Some b) (sym here) (grown_stands old table b sound next),
   )
-  | inr (none, apart) ↦ inr (ap (λ (h : Held). association_of serial h.associations) content ∙ grown_found old.associations b serial apart)
+  | inr (none, apart) ↦ inr (apart, ap (λ (h : Held). association_of serial h.associations) content ∙ grown_found old.associations b serial apart)
 ]
 
 -- ---- what is told
@@ -210,9 +224,18 @@ opened_effect laws meaning setup octets old new table new_table serial a b m (ef
 started_moves : (input : InputView) (meaning : Meaning) (setup : Setup) (old : Held) (table : Database) (stepped : Stepped) (new : Held) (new_table : Database) (serial : ℕ)
     → AreSound old table → StartsOne meaning setup old table stepped new new_table → MovesAt meaning input old stepped new serial
 started_moves input meaning setup old table stepped new new_table serial sound is =
+    let silent : IsSilent stepped serial = subst (λ (s : Stepped). IsSilent s serial) (sym is.starts.done.said) (request_silent old.next is.starts.beginning.octets serial) in
     elim (at_grown old table _ new serial sound refl is.starts.done.content) [
-      | inl (here, before, after) ↦ record { moves = []; few = omega arith; lead = ap (option_and_then ledger) after ∙ sym (ap (option_and_then ledger) before); told = tt; came = tt; opened = λ opens whole. tt }
-      | inr same ↦ rests_at meaning input old stepped new serial same
+      | inl (here, before, after) ↦ record {
+        moves = [];
+        few = omega arith;
+        lead = ap (option_and_then ledger) after ∙ sym (ap (option_and_then ledger) before);
+        told = tt;
+        no_more = silent_tells (ledger_at old serial) stepped serial [] silent;
+        came = tt;
+        opened = λ opens whole. tt;
+      }
+      | inr (apart, same) ↦ silent_at meaning input old stepped new serial same silent
     ]
 
 probed_moves : (laws : MoveLaws) (input : InputView) (meaning : Meaning) (setup : Setup) (old : Held) (table : Database) (stepped : Stepped) (new : Held) (new_table : Database) (serial : ℕ)
@@ -221,6 +244,7 @@ probed_moves laws input meaning setup old table stepped new new_table serial sea
     let p = is.probes in
     let stays = changed_itself meaning.body_of setup is.ike old stepped new p in
     let moves = Issue p.association.outgoing.next p.octets ∷ [] in
+    let named : p.association.serial ≡ is.ike = probed_serial meaning.body_of setup is.ike old stepped new p in
     elim (at_changed old table p.place p.association p.changed new serial sound p.there stays.serial p.content) [
       | inl (here, before, after) ↦ record {
         moves = moves;
@@ -233,20 +257,35 @@ probed_moves laws input meaning setup old table stepped new new_table serial sea
           ),
           tt,
         );
+        no_more = subst (λ (s : Stepped). SaysNoMore (ledger_at old serial) s serial moves) (sym p.said)
+            (subst (λ (n : ℕ). SaysNoMore (ledger_at old serial) (asking_step n p.association.outgoing.next p.octets) serial moves) (here ∙ named) (asking_says (ledger_at old serial) serial p.association.outgoing.next p.octets));
         came = (tt, tt);
         opened = λ opens whole. (
           record { association = p.changed; there = after; opens = laws.probed meaning.body_of meaning.plain_of setup p.association p.octets p.changed (sealed opens) (whole p.place p.association p.there) p.probes },
           tt,
         );
       }
-      | inr same ↦ rests_at meaning input old stepped new serial same
+      | inr (apart, same) ↦ silent_at meaning input old stepped new serial same
+          (subst (λ (s : Stepped). IsSilent s serial) (sym p.said) (asking_silent is.ike p.association.outgoing.next p.octets serial (λ here. apart (here ∙ sym named))))
     ]
 
 -- ---- a datagram
 
+effect_of : (laws : MoveLaws) (meaning : Meaning) (setup : Setup) (octets : Octets) (a : Association) (table : Database) (m : Message) (e : Effect) (b : Association) (new_table : Database)
+    → TakesMessage meaning setup a table octets m e b new_table → IsEffectOf (ledger a) m.header.id (keys_in b.phase) e
+effect_of laws meaning setup octets a table m e b new_table takes =
+    record {
+      kept = λ reply is. laws.kept meaning setup a table octets m reply b new_table (subst (λ (x : Effect). TakesMessage meaning setup a table octets m x b new_table) is takes);
+      keyed = λ next is.
+          let has = laws.keyed meaning setup a table octets m (effect.Identified next) b new_table (subst (λ (x : Effect). TakesMessage meaning setup a table octets m x b new_table) is takes) in
+          (has.keys, has.are);
+    }
+
 way_moves : (laws : MoveLaws) (meaning : Meaning) (setup : Setup) (from octets : Octets) (old : Held) (table : Database) (stepped : Stepped) (new : Held) (new_table : Database) (serial : ℕ)
     → AreSound old table → Way meaning setup octets old table stepped new new_table → MovesAt meaning (steps.Message from octets setup.fresh) old stepped new serial
-way_moves laws meaning setup from octets old table stepped new new_table serial sound (rested is) = rests_at meaning (steps.Message from octets setup.fresh) old stepped new serial (ap (λ (h : Held). association_of serial h.associations) is.same)
+way_moves laws meaning setup from octets old table stepped new new_table serial sound (rested is) =
+    silent_at meaning (steps.Message from octets setup.fresh) old stepped new serial (ap (λ (h : Held). association_of serial h.associations) is.same)
+    (subst (λ (s : Stepped). IsSilent s serial) (sym is.is) (said_silent old is.said serial is.goes))
 way_moves laws meaning setup from octets old table stepped new new_table serial sound (took is) =
     let input : InputView = steps.Message from octets setup.fresh in
     let t = is.takes in
@@ -258,28 +297,37 @@ way_moves laws meaning setup from octets old table stepped new new_table serial 
       | inl (here, before, after) ↦ record {
         moves = moves;
         few = laws.few number (keys_in t.changed.phase) t.effect;
-        lead = leads_by old new serial (Some a) (Some t.changed) moves before after (laws.message meaning setup a table octets is.message t.effect t.changed new_table t.takes);
+        lead = leads_by old new serial (Some a) (Some t.changed) moves before after (laws.message meaning setup a table octets is.message t.effect t.changed new_table (sound.each is.place a t.there).soundly t.takes);
         told = subst (λ (s : Stepped). AllByRecursion (Tells input s serial) moves) (sym t.said)
             (subst (λ (n : ℕ). AllByRecursion (Tells input (stepped_of n number t.effect) serial) moves) here (told_effect input serial number (keys_in t.changed.phase) t.effect refl));
+        no_more = subst (λ (s : Stepped). SaysNoMore (ledger_at old serial) s serial moves) (sym t.said)
+            (subst (λ (n : ℕ). SaysNoMore (ledger_at old serial) (stepped_of n number t.effect) serial moves) here
+            (subst (λ (x : Option Association). SaysNoMore (option_and_then ledger x) (stepped_of serial number t.effect) serial moves) (sym before)
+            (effect_says (ledger a) serial number (keys_in t.changed.phase) t.effect (effect_of laws meaning setup octets a table is.message t.effect t.changed new_table t.takes))));
         came = came_effect laws meaning setup from octets old table new_table serial a t.changed is.message t.effect is.spelled (found_first is.message.header old.associations is.place a is.found_there t.there).passes before t.takes;
         opened = λ opens whole. opened_effect laws meaning setup octets old new table new_table serial a t.changed is.message t.effect opens (whole is.place a t.there) before after t.takes;
       }
-      | inr same ↦ rests_at meaning input old stepped new serial same
+      | inr (apart, same) ↦ silent_at meaning input old stepped new serial same (subst (λ (s : Stepped). IsSilent s serial) (sym t.said) (effect_silent a.serial number t.effect serial apart))
     ]
 way_moves laws meaning setup from octets old table stepped new new_table serial sound (admitted is) =
     let input : InputView = steps.Message from octets setup.fresh in
     let b = is.admits.admitted.association in
     let made = laws.admits meaning.cipher meaning.group meaning.public_value meaning.shared_secret setup.fresh setup.moment old.next is.offer is.spi_i octets is.admits.admitted is.admits.admits in
-    elim (at_grown old table b new serial sound (ap (λ (x : Association). x.serial) is.admits.admits.content) is.admits.content) [
+    let next : b.serial ≡ old.next = ap (λ (x : Association). x.serial) is.admits.admits.content in
+    elim (at_grown old table b new serial sound next is.admits.content) [
       | inl (here, before, after) ↦ record {
         moves = Make made.0 ∷ [];
         few = omega arith;
         lead = leads_by old new serial None (Some b) (Make made.0 ∷ []) before after made.1;
-        told = ((ap (λ (s : Stepped). s.trace.keyed) is.admits.said ∙ ap Some (sym (here ∙ ap (λ (x : Association). x.serial) is.admits.admits.content)), refl), tt);
+        told = ((ap (λ (s : Stepped). s.trace.keyed) is.admits.said ∙ ap Some (sym (here ∙ next)), refl), tt);
+        no_more = subst (λ (s : Stepped). SaysNoMore (ledger_at old serial) s serial (Make made.0 ∷ [])) (sym is.admits.said)
+            (subst (λ (n : ℕ). SaysNoMore (ledger_at old serial) (half_open_step n is.admits.admitted.octets) serial (Make made.0 ∷ [])) (here ∙ next)
+            (half_open_says (ledger_at old serial) serial is.admits.admitted.octets made.0));
         came = (tt, tt);
         opened = λ opens whole. (tt, tt);
       }
-      | inr same ↦ rests_at meaning input old stepped new serial same
+      | inr (apart, same) ↦ silent_at meaning input old stepped new serial same
+          (subst (λ (s : Stepped). IsSilent s serial) (sym is.admits.said) (half_open_silent old.next is.admits.admitted.octets serial (λ here. apart (here ∙ sym next))))
     ]
 way_moves laws meaning setup from octets old table stepped new new_table serial sound (started is) = started_moves (steps.Message from octets setup.fresh) meaning setup old table stepped new new_table serial sound is
 way_moves laws meaning setup from octets old table stepped new new_table serial sound (probed is) =
@@ -366,47 +414,92 @@ record Ends (input : InputView) (stepped : Stepped) (serial : ℕ) (a : Associat
   few : length moves ≤ 2
   lead : looked (Some a) o moves
   told : AllByRecursion (Tells input stepped serial) moves
+  closes : TellsClosed serial stepped.output → (ledger a ≡ None) ⊎ Contains moves Close
   came : (meaning : Meaning) (old : Held) → AllByRecursion (MoveComes meaning input old serial) moves
   opened : (meaning : Meaning) (old new : Held) → AllByRecursion (MoveOpens meaning old new serial) moves
 
 without_keys : (a : Association) → keys_in a.phase ≡ None → ledger a ≡ None
 without_keys a none = cc
 
-gone_moves : (laws : MoveLaws) (input : InputView) (stepped : Stepped) (serial : ℕ) (a : Association) (keys : Option KeyRecord) → keys_in a.phase ≡ keys → is_tick input ≡ true → Ends input stepped serial a None
-gone_moves laws input stepped serial a None are ticks = record { moves = []; few = omega arith; lead = sym (without_keys a are); told = tt; came = λ meaning old. tt; opened = λ meaning old new. tt }
-gone_moves laws input stepped serial a (Some keys) are ticks = record { moves = Remove ∷ []; few = omega arith; lead = laws.removal a keys are; told = (ticks, tt); came = λ meaning old. (tt, tt); opened = λ meaning old new. (tt, tt) }
+gone_moves : (laws : MoveLaws) (input : InputView) (stepped : Stepped) (serial now : ℕ) (a : Association) (keys : Option KeyRecord) → IsSoundlyHeld a → keys_in a.phase ≡ keys → is_over now a.phase ≡ true → is_tick input ≡ true
+    → (TellsClosed serial stepped.output → ClosesNow now a) → Ends input stepped serial a None
+gone_moves laws input stepped serial now a None held are over ticks closes =
+    record { moves = []; few = omega arith; lead = sym (without_keys a are); told = tt; closes = λ told. inl (without_keys a are); came = λ meaning old. tt; opened = λ meaning old new. tt }
+gone_moves laws input stepped serial now a (Some keys) held are over ticks closes =
+    record {
+      moves = Remove ∷ [];
+      few = omega arith;
+      lead = laws.removal now a keys held are over;
+      told = (ticks, tt);
+      closes = λ told. absurd (yes_no (is_over now a.phase) over (closes told).alive);
+      came = λ meaning old. (tt, tt);
+      opened = λ meaning old new. (tt, tt);
+    }
 
-closed_moves : (laws : MoveLaws) (input : InputView) (stepped : Stepped) (ticked : Ticked) (serial now : ℕ) (a b : Association) (keys : Option KeyRecord) → keys_in a.phase ≡ keys → stepped.output ≡ output.Ticked ticked
+closed_moves : (laws : MoveLaws) (input : InputView) (stepped : Stepped) (ticked : Ticked) (serial now : ℕ) (a b : Association) (keys : Option KeyRecord) → IsSoundlyHeld a → keys_in a.phase ≡ keys → stepped.output ≡ output.Ticked ticked
     → Contains ticked.closed serial → moments.IsClosedAt now a b → Ends input stepped serial a (Some b)
-closed_moves laws input stepped ticked serial now a b None are said told is =
+closed_moves laws input stepped ticked serial now a b None held are said told is =
     record {
       moves = [];
       few = omega arith;
       lead = without_keys b (ap (λ (x : Association). keys_in x.phase) is.content ∙ are) ∙ sym (without_keys a are);
       told = tt;
+      closes = λ closed. inl (without_keys a are);
       came = λ meaning old. tt;
       opened = λ meaning old new. tt;
     }
-closed_moves laws input stepped ticked serial now a b (Some keys) are said told is =
+closed_moves laws input stepped ticked serial now a b (Some keys) held are said told is =
     record {
       moves = Close ∷ [];
       few = omega arith;
-      lead = laws.closing a b keys now are is.requests is.content;
+      lead = laws.closing now a b keys held are is;
       told = (subst (λ o. TellsClosed serial o) (sym said) told, tt);
+      closes = λ closed. inr (0, omega arith, refl);
       came = λ meaning old. (tt, tt);
       opened = λ meaning old new. (tt, tt);
     }
 
-on_moves : (laws : MoveLaws) (input : InputView) (stepped : Stepped) (ticked : Ticked) (serial now : ℕ) (a b : Association) → a.serial ≡ serial → stepped.output ≡ output.Ticked ticked
-    → moments.StaysItself now ticked.closed a b → Ends input stepped serial a (Some b)
-on_moves laws input stepped ticked serial now a b named said is = elim is.stays [
-  | inl sends ↦ record { moves = []; few = omega arith; lead = laws.sending now a b sends.1; told = tt; came = λ meaning old. tt; opened = λ meaning old new. tt }
-  | inr closes ↦ closed_moves laws input stepped ticked serial now a b (keys_in a.phase) refl said (subst (λ n. Contains ticked.closed n) named closes.1) closes.0
+on_moves : (laws : MoveLaws) (input : InputView) (stepped : Stepped) (ticked : Ticked) (serial now : ℕ) (a b : Association) → IsSoundlyHeld a → a.serial ≡ serial → stepped.output ≡ output.Ticked ticked
+    → (TellsClosed serial stepped.output → ClosesNow now a) → moments.StaysItself now ticked.closed a b → Ends input stepped serial a (Some b)
+on_moves laws input stepped ticked serial now a b held named said closes is = elim is.stays [
+  | inl sends ↦ record {
+    moves = [];
+    few = omega arith;
+    lead = laws.sending now a b sends.1;
+    told = tt;
+    closes = λ told. absurd (yes_no (has_failed now a) (closes told).failed sends.0);
+    came = λ meaning old. tt;
+    opened = λ meaning old new. tt;
+  }
+  | inr closed ↦ closed_moves laws input stepped ticked serial now a b (keys_in a.phase) held refl said (subst (λ n. Contains ticked.closed n) named closed.1) closed.0
 ]
 
-ended_at : (meaning : Meaning) (input : InputView) (old : Held) (stepped : Stepped) (new : Held) (serial : ℕ) (a : Association) (o : Option Association) → association_of serial old.associations ≡ Some a → association_of serial new.associations ≡ o
-    → Ends input stepped serial a o → MovesAt meaning input old stepped new serial
-ended_at meaning input old stepped new serial a o before after ends = record { moves = ends.moves; few = ends.few; lead = leads_by old new serial (Some a) o ends.moves before after ends.lead; told = ends.told; came = ends.came meaning old; opened = λ opens whole. ends.opened meaning old new }
+-- a moment at one association
+record TickAt (input : InputView) (old : Held) (table : Database) (stepped : Stepped) (ticked : Ticked) (now : ℕ) (new : Held) (new_table : Database) : Type 0 where
+  sound : AreSound old table
+  is_moment : is_tick input ≡ true
+  said : stepped ≡ plain_step (output.Ticked ticked)
+  ticks : Ticks now old.associations table ticked new.associations new_table
+  zip : AllZip (moments.StaysItself now ticked.closed) (held_of now old.associations) new.associations
+
+ended_at : (laws : MoveLaws) (meaning : Meaning) (input : InputView) (old : Held) (table : Database) (stepped : Stepped) (ticked : Ticked) (now : ℕ) (new : Held) (new_table : Database) (serial : ℕ) (a : Association) (o : Option Association)
+    → TickAt input old table stepped ticked now new new_table → association_of serial old.associations ≡ Some a → association_of serial new.associations ≡ o → Ends input stepped serial a o → MovesAt meaning input old stepped new serial
+ended_at laws meaning input old table stepped ticked now new new_table serial a o at before after ends =
+    record {
+      moves = ends.moves;
+      few = ends.few;
+      lead = leads_by old new serial (Some a) o ends.moves before after ends.lead;
+      told = ends.told;
+      no_more = tick_says laws.ticks now old new.associations table new_table stepped ticked serial ends.moves at.sound at.ticks at.said
+          (subst (λ (x : Option Association). TellsClosed serial stepped.output → (option_and_then ledger x ≡ None) ⊎ Contains ends.moves Close) (sym before) ends.closes);
+      came = ends.came meaning old;
+      opened = λ opens whole. ends.opened meaning old new;
+    }
+
+told_closes : (laws : MoveLaws) (input : InputView) (old : Held) (table : Database) (stepped : Stepped) (ticked : Ticked) (now : ℕ) (new : Held) (new_table : Database) (serial : ℕ) (a : Association)
+    → TickAt input old table stepped ticked now new new_table → association_of serial old.associations ≡ Some a → TellsClosed serial stepped.output → ClosesNow now a
+told_closes laws input old table stepped ticked now new new_table serial a at stands told =
+    closes_now laws.ticks now old new.associations table new_table ticked serial a at.sound at.ticks stands (subst (λ (s : Stepped). TellsClosed serial s.output) at.said told)
 
 -- who was not held before is not held on
 none_alive : (now serial : ℕ) (old : Held) (table : Database) (o : Option Association) → AreSound old table → association_of serial old.associations ≡ None → association_of serial (held_of now old.associations) ≡ o → o ≡ None
@@ -416,24 +509,27 @@ none_alive now serial old table (Some x) sound none found =
     let there : association_of serial old.associations ≡ Some x = subst (λ n. association_of n old.associations ≡ Some x) (named_is serial x f.named) (sound_found old table f.place x sound f.there) in
     absurd (some_none x (sym none ∙ there))
 
-held_moves : (laws : MoveLaws) (meaning : Meaning) (input : InputView) (stepped : Stepped) (ticked : Ticked) (serial now : ℕ) (old new : Held) (table : Database) (a : Association) (over : Bool) → AreSound old table
-    → association_of serial old.associations ≡ Some a → is_over now a.phase ≡ over → is_tick input ≡ true → stepped.output ≡ output.Ticked ticked
-    → AllZip (moments.StaysItself now ticked.closed) (held_of now old.associations) new.associations → MovesAt meaning input old stepped new serial
-held_moves laws meaning input stepped ticked serial now old new table a true sound stands over ticks said zip =
-    let gone = none_zips now serial ticked.closed (held_of now old.associations) new.associations zip (over_gone now serial old table a (association_of serial (held_of now old.associations)) sound stands over refl) in
-    ended_at meaning input old stepped new serial a None stands gone (gone_moves laws input stepped serial a (keys_in a.phase) refl ticks)
-held_moves laws meaning input stepped ticked serial now old new table a false sound stands over ticks said zip =
-    let z = zipped now serial ticked.closed (held_of now old.associations) new.associations a zip (still_held now serial old.associations a over stands) in
-    ended_at meaning input old stepped new serial a (Some z.held) stands z.there (on_moves laws input stepped ticked serial now a z.held (found_at old.associations serial a stands).serial_is said z.stays)
+held_moves : (laws : MoveLaws) (meaning : Meaning) (input : InputView) (old : Held) (table : Database) (stepped : Stepped) (ticked : Ticked) (now : ℕ) (new : Held) (new_table : Database) (serial : ℕ) (a : Association) (over : Bool)
+    → TickAt input old table stepped ticked now new new_table → association_of serial old.associations ≡ Some a → is_over now a.phase ≡ over → MovesAt meaning input old stepped new serial
+held_moves laws meaning input old table stepped ticked now new new_table serial a true at stands over =
+    let gone = none_zips now serial ticked.closed (held_of now old.associations) new.associations at.zip (over_gone now serial old table a (association_of serial (held_of now old.associations)) at.sound stands over refl) in
+    ended_at laws meaning input old table stepped ticked now new new_table serial a None at stands gone
+    (gone_moves laws input stepped serial now a (keys_in a.phase) (held_soundly old table serial a at.sound stands) refl over at.is_moment
+    (told_closes laws input old table stepped ticked now new new_table serial a at stands))
+held_moves laws meaning input old table stepped ticked now new new_table serial a false at stands over =
+    let z = zipped now serial ticked.closed (held_of now old.associations) new.associations a at.zip (still_held now serial old.associations a over stands) in
+    ended_at laws meaning input old table stepped ticked now new new_table serial a (Some z.held) at stands z.there
+    (on_moves laws input stepped ticked serial now a z.held (held_soundly old table serial a at.sound stands) (found_at old.associations serial a stands).serial_is (ap (λ (s : Stepped). s.output) at.said)
+    (told_closes laws input old table stepped ticked now new new_table serial a at stands) z.stays)
 
-tick_moves : (laws : MoveLaws) (meaning : Meaning) (input : InputView) (stepped : Stepped) (ticked : Ticked) (serial now : ℕ) (old new : Held) (table : Database) (o : Option Association) → AreSound old table
-    → association_of serial old.associations ≡ o → is_tick input ≡ true → stepped.output ≡ output.Ticked ticked
-    → AllZip (moments.StaysItself now ticked.closed) (held_of now old.associations) new.associations → MovesAt meaning input old stepped new serial
-tick_moves laws meaning input stepped ticked serial now old new table None sound stands ticks said zip =
-    let gone = none_zips now serial ticked.closed (held_of now old.associations) new.associations zip (none_alive now serial old table (association_of serial (held_of now old.associations)) sound stands refl) in
+tick_moves : (laws : MoveLaws) (meaning : Meaning) (input : InputView) (old : Held) (table : Database) (stepped : Stepped) (ticked : Ticked) (now : ℕ) (new : Held) (new_table : Database) (serial : ℕ) (o : Option Association)
+    → TickAt input old table stepped ticked now new new_table → association_of serial old.associations ≡ o → MovesAt meaning input old stepped new serial
+tick_moves laws meaning input old table stepped ticked now new new_table serial None at stands =
+    let gone = none_zips now serial ticked.closed (held_of now old.associations) new.associations at.zip (none_alive now serial old table (association_of serial (held_of now old.associations)) at.sound stands refl) in
     rests_at meaning input old stepped new serial (gone ∙ sym stands)
-tick_moves laws meaning input stepped ticked serial now old new table (Some a) sound stands ticks said zip =
-    held_moves laws meaning input stepped ticked serial now old new table a (is_over now a.phase) sound stands refl ticks said zip
+    (tick_says laws.ticks now old new.associations table new_table stepped ticked serial [] at.sound at.ticks at.said (λ told. inl (ap (option_and_then ledger) stands)))
+tick_moves laws meaning input old table stepped ticked now new new_table serial (Some a) at stands =
+    held_moves laws meaning input old table stepped ticked now new new_table serial a (is_over now a.phase) at stands refl
 
 pub step_moves : MoveLaws → TicksLeave → (meaning : Meaning) (entries : List Entry) (input : InputView) (old : Machine) (table : Database) (stepped : Stepped) (new : Machine) (new_table : Database) (serial : ℕ)
     → IsSoundMachine old table → Steps meaning entries input old table stepped new new_table → MovesAt meaning input old.held stepped new.held serial
@@ -445,9 +541,10 @@ step_moves laws leave meaning entries (steps.Start ike place fresh) old table st
 step_moves laws leave meaning entries (steps.Probe ike fresh) old table stepped new new_table serial sound is =
     probed_moves laws (steps.Probe ike fresh) meaning (setup_at old entries fresh) old.held table stepped new.held new_table serial (λ opens. opens) sound (record { ike = ike; probes = is.1; pairs = is.2 })
 step_moves laws leave meaning entries (steps.Secret secret) old table stepped new new_table serial sound is =
-    rests_at meaning (steps.Secret secret) old.held stepped new.held serial (ap (λ (m : Machine). association_of serial m.held.associations) is.content)
+    silent_at meaning (steps.Secret secret) old.held stepped new.held serial (ap (λ (m : Machine). association_of serial m.held.associations) is.content)
+    (subst (λ (s : Stepped). IsSilent s serial) (sym is.said) (said_silent old.held output.Done serial tt))
 step_moves laws leave meaning entries (steps.Tick moment) old table stepped new new_table serial sound is =
     let t = is.takes in
     let now = max old.moment moment in
-    tick_moves laws meaning (steps.Tick moment) stepped t.ticked serial now old.held new.held table (association_of serial old.held.associations) sound refl refl (ap (λ (s : Stepped). s.output) t.said)
-    (leave now old.held.associations new.held.associations table new_table t.ticked t.ticks)
+    tick_moves laws meaning (steps.Tick moment) old.held table stepped t.ticked now new.held new_table serial (association_of serial old.held.associations)
+    (record { sound = sound; is_moment = refl; said = t.said; ticks = t.ticks; zip = leave now old.held.associations new.held.associations table new_table t.ticked t.ticks }) refl

@@ -130,7 +130,7 @@ passed_so held now old table new new_table stepped ike a keys sound is stands es
       stood = before.stood;
       established = elim before.on.phase [
         | inl stays ↦ sym stays.1 ∙ established
-        | inr closes ↦ absurd (closed_stands (keys_in before.was.phase) now keys (sym closes ∙ established))
+        | inr closes ↦ absurd (closed_stands (keys_in before.was.phase) now keys (sym (ap (λ (x : Association). x.phase) closes.content) ∙ established))
       ];
     }
 

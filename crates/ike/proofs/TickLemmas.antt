@@ -3,10 +3,12 @@ use Rattle.std.proofs.Common.{◌≡◌, ◌⊎◌, inl, inr, ℕ, zero, suc, �
 use Rattle.std.specs.FinMap as map
 use Rattle.std.proofs.lemmas.Bool.Decides.{eqb_tells}
 use Rattle.std.specs.List.{slice_get}
+use Rattle.std.specs.Ordering.{nat_cmp}
 use Rattle.std.specs.Prelude.{◌==◌}
 use Rattle.exchange.specs.declared.headers.Role.{Role}
-use Rattle.requests.specs.Incoming.{IsLeftBehind, PeerRequests}
+use Rattle.requests.specs.Incoming.{no_requests, IsLeftBehind, PeerRequests}
 use Rattle.requests.specs.Numbers.{HasNumber}
+use Rattle.requests.specs.Outgoing.{OwnRequests}
 use Rattle.sadb.specs.Database.{Database, IsReserved}
 use Rattle.association.specs.Closing.{HoldsSpi}
 use Rattle.association.specs.Phases.{keys_in, spi_in}
@@ -14,13 +16,16 @@ use Rattle.association.specs.declared.phase.Association.{Association}
 use Rattle.association.specs.declared.phase.HalfOpen.{HalfOpen}
 use Rattle.association.specs.declared.phase.Phase.{Phase}
 use Rattle.association.specs.declared.phase.Phase.TheVariants as phase
+use Rattle.association.specs.declared.phase.Request.{Request}
 use Rattle.suite.specs.declared.key_record.KeyRecord.{KeyRecord}
 use Rattle.initial.specs.Answering.{IsHalfOpen}
 use Rattle.initial.specs.Ending.{IsAuthSent}
 use Rattle.initial.specs.Reading.{IsInitSent}
 use Rattle.effects.specs.Keeping.{kept_reply, IsShort, KeepsShort}
 use Rattle.effects.specs.Requests.{is_concluded, IsSoundlyHeld}
+use Rattle.effects.specs.Waiting.{MayWait}
 use Rattle.moments.specs.Due.{has_failed}
+use Rattle.moments.specs.Held.{IsClosedAt}
 use Rattle.moments.specs.Holding.{HoldSome, HoldsNone, HoldsOn}
 use Rattle.moments.specs.Ticking.{HoldTheirSpis, Ticks}
 use Rattle.moments.specs.declared.ticking.Ticked.{Ticked}
@@ -101,11 +106,14 @@ same_own r a b was is i j =
 on_own : (now : ℕ) (a b : Association) → HoldsOn now a b → own_spi b ≡ own_spi a
 on_own now a b on = same_own a.role a b refl on.role on.spi_i on.spi_r
 
+closed_phase : (now : ℕ) (a b : Association) → IsClosedAt now a b → b.phase ≡ phase.Closed (keys_in a.phase) now
+closed_phase now a b is = ap (λ (x : Association). x.phase) is.content
+
 -- what holds of a phase that stays, and of none that is closed
 on_phase : (P : Phase → Type 0) (now : ℕ) (a b : Association) → HoldsOn now a b → ((keys : Option KeyRecord) (at : ℕ) → P (phase.Closed keys at) → ⊥) → P b.phase → P a.phase
 on_phase P now a b on never is = elim on.phase [
   | inl stays ↦ subst (λ p. P p) stays.1 is
-  | inr closes ↦ absurd (never (keys_in a.phase) now (subst (λ p. P p) closes is))
+  | inr closes ↦ absurd (never (keys_in a.phase) now (subst (λ p. P p) (closed_phase now a b closes) is))
 ]
 
 closed_waits : (keys : Option KeyRecord) (at : ℕ) → IsInitSent (phase.Closed keys at) → ⊥
@@ -135,14 +143,14 @@ none_some spi e = cc
 on_holds : (now : ℕ) (a b : Association) (spi : ℕ) → HoldsOn now a b → held_by b ≡ Some spi → Held_on now a spi
 on_holds now a b spi on holds = elim on.phase [
   | inl stays ↦ record { alive = stays.0; held = ap spi_in (sym stays.1) ∙ holds }
-  | inr closes ↦ absurd (none_some spi (sym (ap spi_in closes) ∙ holds))
+  | inr closes ↦ absurd (none_some spi (sym (ap spi_in (closed_phase now a b closes)) ∙ holds))
 ]
 
 -- its keys stay
 pub on_keys : (now : ℕ) (a b : Association) → HoldsOn now a b → keys_in b.phase ≡ keys_in a.phase
 on_keys now a b on = elim on.phase [
   | inl stays ↦ ap keys_in stays.1
-  | inr closes ↦ ap keys_in closes
+  | inr closes ↦ ap keys_in (closed_phase now a b closes)
 ]
 
 some_reply : (reply : List ℕ) → None ≡ Some reply → ⊥
@@ -157,7 +165,7 @@ on_short now a b on short =
           subst (λ o. IsShort o) (sym was.octets) (short.requests number was.was was.there);
       first = λ reply kept. elim on.phase [
         | inl stays ↦ short.first reply (ap kept_reply (sym stays.1) ∙ kept)
-        | inr closes ↦ absurd (some_reply reply (sym (ap kept_reply closes) ∙ kept))
+        | inr closes ↦ absurd (some_reply reply (sym (ap kept_reply (closed_phase now a b closes)) ∙ kept))
       ];
     }
 
@@ -171,8 +179,11 @@ on_half_open now a b on opened is = on_phase (λ p. p ≡ phase.HalfOpen opened)
 pub on_concluded : (now : ℕ) (a b : Association) → HoldsOn now a b → is_concluded a.phase ≡ true → is_concluded b.phase ≡ true
 on_concluded now a b on is = elim on.phase [
   | inl stays ↦ ap is_concluded stays.1 ∙ is
-  | inr closes ↦ ap is_concluded closes
+  | inr closes ↦ ap is_concluded (closed_phase now a b closes)
 ]
+
+none_waits : (number : ℕ) (request : Request) → map.get {R = nat_cmp} (map.empty {X = Request}) number ≡ Some request → ⊥
+none_waits number request there = let none : map.get {R = nat_cmp} (map.empty {X = Request}) number ≡ None = map.get-empty nat_cmp number in cc
 
 pub on_soundly : (now : ℕ) (a b : Association) → HoldsOn now a b → IsSoundlyHeld a → IsSoundlyHeld b
 on_soundly now a b on held = record {
@@ -183,6 +194,16 @@ on_soundly now a b on held = record {
   concluded = λ number reply kept. on_concluded now a b on (held.concluded number reply (ap (λ (r : PeerRequests). map.get r.kept number) (sym on.incoming) ∙ kept));
   named = λ keyed initiator zero.
       held.named (record { keys = keyed.keys; are = sym (on_keys now a b on) ∙ keyed.are }) (sym on.role ∙ initiator) (sym on.spi_r ∙ zero);
+  waits = elim on.phase [
+    | inl stays ↦ (λ number request there.
+        let was = on.requests number request there in
+        subst (λ (p : Phase). MayWait p number request.exchange) (sym stays.1)
+        (subst (λ (e : ℕ). MayWait a.phase number e) (sym was.exchange) (held.waits number was.was was.there)))
+    | inr closes ↦ (λ number request there. absurd (none_waits number request (sym (ap (λ (r : OwnRequests Request). map.get r.outstanding number) closes.requests.content) ∙ there)))
+  ];
+  took_none = λ is.
+      let none = held.took_none (on_phase IsInitSent now a b on closed_waits is) in
+      record { role = on.role ∙ none.role; incoming = subst (λ (r : PeerRequests). r ≡ record no_requests { room = r.room }) (sym on.incoming) none.incoming };
 }
 
 -- ---- all of them

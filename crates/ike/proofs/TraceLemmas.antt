@@ -91,7 +91,8 @@ short_one : (said octets : Octets) → IsShort said → Some said ≡ Some octet
 short_one said octets short e = subst (λ (o : Octets). IsShort o) (same_out said octets e) short
 
 rests_short : (old : Held) (table : Database) (said : IkeOutput) → AreSound old table → GoesOut old said → IsShortOutput (plain_step said)
-rests_short old table (output.Reply octets closed) sound goes = λ o e. short_one octets o goes e
+rests_short old table (output.Reply octets None) sound goes = λ o e. short_one octets o goes e
+rests_short old table (output.Reply octets (Some closed)) sound goes = absurd goes
 rests_short old table (output.Repeat octets) sound goes = λ o e. short_one octets o ((sound.each goes.place goes.association goes.there).short.first octets goes.kept) e
 rests_short old table (output.Request ike octets) sound goes = absurd goes
 rests_short old table (output.Counted ike child closed) sound goes = λ o e. absurd (none_out o e)
@@ -178,7 +179,7 @@ reply_ticked octets closed ticked e = cc
 request_ticked : (ike : ℕ) (octets : Octets) (ticked : Ticked) → output.Request ike octets ≡ output.Ticked ticked → ⊥
 request_ticked ike octets ticked e = cc
 
-way_not_ticked : (meaning : Meaning) (setup : Setup) (octets : Octets) (old : Held) (table : Database) (stepped : Stepped) (new : Held) (new_table : Database) (ticked : Ticked)
+pub way_not_ticked : (meaning : Meaning) (setup : Setup) (octets : Octets) (old : Held) (table : Database) (stepped : Stepped) (new : Held) (new_table : Database) (ticked : Ticked)
     → Way meaning setup octets old table stepped new new_table → stepped.output ≡ output.Ticked ticked → ⊥
 way_not_ticked meaning setup octets old table stepped new new_table ticked (rested is) said = still_output old is.said ticked is.goes (sym (ap (λ (s : Stepped). s.output) is.is) ∙ said)
 way_not_ticked meaning setup octets old table stepped new new_table ticked (took is) said =
@@ -796,7 +797,7 @@ step_waits facts held meaning entries input old table stepped new new_table ike 
         stood = before.stood;
         waited = elim before.on.phase [
           | inl stays ↦ sym stays.1 ∙ waits
-          | inr closes ↦ absurd (closed_waits (keys_in before.was.phase) passes.now sent (sym closes ∙ waits))
+          | inr closes ↦ absurd (closed_waits (keys_in before.was.phase) passes.now sent (sym (ap (λ (x : Association). x.phase) closes.content) ∙ waits))
         ];
       })
 ]

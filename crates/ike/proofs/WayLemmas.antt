@@ -37,10 +37,11 @@ pub record IsKept (old : Held) (octets : Octets) : Type 0 where
 
 -- what goes out where nothing changes: a notice, a reply that is kept, or nothing
 abbrev pub GoesOut : Held → IkeOutput → Type 0
-GoesOut old (output.Reply octets closed) = IsShort octets
+GoesOut old (output.Reply octets None) = IsShort octets
+GoesOut old (output.Reply octets (Some closed)) = ⊥
 GoesOut old (output.Repeat octets) = IsKept old octets
 GoesOut old (output.Request ike octets) = ⊥
-GoesOut old (output.Counted ike child closed) = Unit {0}
+GoesOut old (output.Counted ike child closed) = ⊥
 GoesOut old (output.Ticked ticked) = ⊥
 GoesOut old output.Done = Unit {0}
 GoesOut old (output.Dropped f) = Unit {0}

@@ -1,11 +1,14 @@
 -- Moments at the machine: what comes with one, and that nothing is left that it has reached (RFC 7296 sections 2.1 and 2.4).
-use Rattle.std.specs.Prelude.{◌≡◌, ℕ, Bool, true, false, All}
+use Rattle.std.specs.Prelude.{◌≡◌, ◌⊎◌, ℕ, Bool, true, false, Some, All}
+use Rattle.std.specs.FinMap as map
 use Rattle.std.specs.List.{flat_map, AllZip}
+use Rattle.association.specs.declared.phase.Association.{Association}
+use Rattle.association.specs.declared.phase.Request.{Request}
 use Rattle.moments.specs.Due.{closed_of, held_of, sent_of}
 use Rattle.sadb.specs.Database.{Database}
 use Rattle.moments.specs.Held.{IsInTime, LeavesPairsBut, StaysItself}
 use Rattle.moments.specs.declared.ticking.Ticked.{Ticked}
-use Rattle.ike.specs.Machines.{Held, Machine}
+use Rattle.ike.specs.Machines.{association_of, Held, Machine}
 use Rattle.ike.specs.declared.output.IkeOutput.{IkeOutput}
 use Rattle.ike.specs.declared.output.IkeOutput.TheVariants as output
 use Rattle.ike.specs.declared.output.Stepped.{Stepped}
@@ -35,7 +38,19 @@ abbrev pub tells_moment : IkeOutput → Bool
 tells_moment (output.Ticked ticked) = true
 tells_moment _ = false
 
--- a step at which the time stands still
+-- a request of this number waits for its answer, at the association with this serial
+pub record WaitsAt (held : Held) (serial number : ℕ) (request : Request) : Type 0 where
+  pub association : Association
+  pub there : association_of serial held.associations ≡ Some association
+  pub waits : map.get association.outgoing.outstanding number ≡ Some request
+
+-- it goes out by this step, and waits from this moment on
+pub record StartsToWait (moment : ℕ) (stepped : Stepped) (serial : ℕ) (request : Request) : Type 0 where
+  pub said : stepped.output ≡ output.Request serial request.octets
+  pub timer : request.timer ≡ record { sent = moment; repeats = 0 }
+
+-- A step at which the time stands still: what waits for its answer waited before, since the same moment and as often sent, or goes out now.
 pub record StaysAt (old : Machine) (stepped : Stepped) (new : Machine) : Type 0 where
   pub moment : new.moment ≡ old.moment
   pub said : tells_moment stepped.output ≡ false
+  pub waits : (serial number : ℕ) (request : Request) → WaitsAt new.held serial number request → WaitsAt old.held serial number request ⊎ StartsToWait old.moment stepped serial request

@@ -1,19 +1,23 @@
 -- What a step does to each association that has keys, as moves, what it says of them, and what their octets open as (RFC 7296 sections 2.1
 -- to 2.4, 3.1 and 3.14).
-use Rattle.std.specs.Prelude.{◌≡◌, ◌≤◌, ◌∷◌, ℕ, Bool, true, false, Option, Some, None, List, [], Contains, length, option_and_then}
+use Rattle.std.specs.Prelude.{◌≡◌, ◌≤◌, ◌⊎◌, ◌∷◌, ℕ, Bool, true, false, Option, Some, None, List, [], Contains, length, option_and_then}
 use Rattle.std.specs.List.{AllByRecursion}
 use Rattle.base.specs.Octets.{Octets}
+use Rattle.suite.specs.declared.key_record.KeyRecord.{KeyRecord}
 use Rattle.exchange.specs.Headers.{other_role}
 use Rattle.association.specs.declared.phase.Association.{Association}
-use Rattle.effects.specs.Moves.{ledger, Close, Count, Issue, Lead, Ledger, Make, Move, Remove, TakeEffect}
+use Rattle.moments.specs.declared.resent.Resent.{Resent}
+use Rattle.moments.specs.declared.ticking.Ticked.{Ticked}
+use Rattle.effects.specs.Moves.{ledger, Close, Count, Issue, KeepsReply, Lead, Ledger, Make, Move, Remove, TakeEffect, WaitsWith}
 use Rattle.effects.specs.Openings.{OpensAsMessage, OpensWhatItSeals}
 use Rattle.effects.specs.Taking.{Meaning}
 use Rattle.ike.specs.Lengths.{HoldWholeKeys}
 use Rattle.ike.specs.Machines.{association_of, Held}
-use Rattle.ike.specs.Outputs.{reply_mark, request_mark}
+use Rattle.ike.specs.Outputs.{octets_in, reply_mark, request_mark}
 use Rattle.ike.specs.Steps.{is_tick, InputView, Message, Probe, Secret, Start, Tick}
 use Rattle.ike.specs.declared.output.IkeOutput.{IkeOutput}
 use Rattle.ike.specs.declared.output.IkeOutput.TheVariants as output
+use Rattle.ike.specs.declared.output.Mark.{Mark}
 use Rattle.ike.specs.declared.output.Stepped.{Stepped}
 
 -- what moves speak of, by the serial of the association: none where none with it is held, or it has no keys
@@ -37,6 +41,22 @@ Tells input stepped serial (TakeEffect number reply) =
     (closed : Option ℕ) × (stepped.output ≡ output.Reply reply closed) × (stepped.trace.sent ≡ reply_mark serial number)
 Tells input stepped serial Close = TellsClosed serial stepped.output
 Tells input stepped serial Remove = is_tick input ≡ true
+
+-- What goes out under this mark is a request that is issued, a reply by which a request takes effect, or a reply that is kept of one that
+-- took effect before.
+abbrev pub IsSentBy : List Move → Option Ledger → Mark → Octets → Type 0
+IsSentBy moves old mark octets =
+    ((mark.response ≡ false) × Contains moves (Issue mark.number octets))
+    ⊎ ((mark.response ≡ true) × (Contains moves (TakeEffect mark.number octets) ⊎ KeepsReply old mark.number octets))
+
+-- Nothing that a step says of an association is missing among these moves: what is sent under its keys, or goes out again under them with a
+-- moment, the keys that come, a response that is counted, and its end, but for one that never had keys.
+pub record SaysNoMore (old : Option Ledger) (stepped : Stepped) (serial : ℕ) (moves : List Move) : Type 0 where
+  pub sent : (mark : Mark) (octets : Octets) → stepped.trace.sent ≡ Some mark → mark.ike ≡ serial → octets_in stepped.output ≡ Some octets → IsSentBy moves old mark octets
+  pub again : (ticked : Ticked) (r : Resent) → stepped.output ≡ output.Ticked ticked → Contains ticked.requests r → r.ike ≡ serial → r.encrypted ≡ true → WaitsWith old r.number r.octets
+  pub keyed : stepped.trace.keyed ≡ Some serial → (keys : KeyRecord) × Contains moves (Make keys)
+  pub counted : (child closed : Option ℕ) → stepped.output ≡ output.Counted serial child closed → (number : ℕ) × Contains moves (Count number)
+  pub closed : TellsClosed serial stepped.output → (old ≡ None) ⊎ Contains moves Close
 
 -- What is asked of a cipher: it opens what it seals with the octets that are fresh, as its law says of 16 of them.
 abbrev pub OpensFresh : Meaning → InputView → Type 0
@@ -81,12 +101,13 @@ MoveOpens meaning old new serial (TakeEffect number reply) = RepliesOpenly meani
 MoveOpens meaning old new serial move = Unit {0}
 
 -- The moves of one step at the association with this serial: two at most, which lead from what they speak of before to what they speak of
--- after. Each is told, and what it takes of the peer's comes as that. Where the cipher opens what it seals, and keys are whole, as they
+-- after. Each is told, and nothing else is; what it takes of the peer's comes as that. Where the cipher opens what it seals, and keys are whole, as they
 -- stay, what goes out opens as what it is.
 pub record MovesAt (meaning : Meaning) (input : InputView) (old : Held) (stepped : Stepped) (new : Held) (serial : ℕ) : Type 0 where
   pub moves : List Move
   pub few : length moves ≤ 2
   pub lead : Lead moves (ledger_at old serial) (ledger_at new serial)
   pub told : AllByRecursion (Tells input stepped serial) moves
+  pub no_more : SaysNoMore (ledger_at old serial) stepped serial moves
   pub came : AllByRecursion (MoveComes meaning input old serial) moves
   pub opened : OpensFresh meaning input → HoldWholeKeys old → AllByRecursion (MoveOpens meaning old new serial) moves

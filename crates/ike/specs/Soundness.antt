@@ -22,7 +22,8 @@ At held place a = slice_get held.associations place ≡ Some a
 
 -- what holds of each association: its serial was given, the SPI of this end is not zero, who waits for the response to IKE_SA_INIT or to
 -- IKE_AUTH is the initiator, who waits for IKE_AUTH is the responder, an SPI that is held for a first child is reserved, all that can go
--- out again has at most 3000 octets, what is kept of the peer's requests is sound, and a half-open one was asked for by IKE_SA_INIT
+-- out again has at most 3000 octets, what is kept of the peer's requests is sound and what waits for an answer belongs to the phase, and a
+-- half-open one was asked for by IKE_SA_INIT
 pub record IsSound (a : Association) (next : ℕ) (table : Database) : Type 0 where
   pub serial_least : 1 ≤ a.serial
   pub serial_given : a.serial < next

@@ -1,5 +1,5 @@
 //! What follows from the definitions alone. No function here does anything.
-ghost use Rattle.std.specs.Prelude.{◌≡◌, ◌<◌, ◌≤◌, All, List, Option, Some, None, ℕ, length, max, true, false, ◌⊎◌};
+ghost use Rattle.std.specs.Prelude.{◌≡◌, ◌<◌, ◌≤◌, All, Contains, List, Option, Some, None, ℕ, length, max, true, false, ◌⊎◌};
 ghost use Rattle.policy.specs.declared.entry.Entry.{Entry};
 ghost use Rattle.sadb.specs.Database.{pair_at, Database, IsReserved, IsSoundTable};
 ghost use Rattle.sadb.specs.Contents.{table_content};
@@ -39,7 +39,7 @@ ghost use Rattle.ike.specs.Requests.{ComesIntoEffect, HoldsInEffect, IsAdmitted,
 ghost use Rattle.ike.specs.declared.fault.IkeFault.TheVariants as fault;
 ghost use Rattle.ike.specs.Soundness.{IsSoundMachine};
 ghost use Rattle.ike.specs.Steps.{is_tick, InputView, Message, Steps, Refuses, Tick};
-ghost use Rattle.ike.specs.Tracing.{IsTraced};
+ghost use Rattle.ike.specs.Tracing.{HoldsKeys, IsTraced};
 ghost use Rattle.ike.specs.declared.output.IkeOutput.TheVariants as output;
 ghost use Rattle.ike.specs.declared.output.IkeOutput.TheVariants.{Request};
 ghost use Rattle.moments.specs.Due.{outstanding_count};
@@ -57,9 +57,9 @@ use children::laws::children_mirror;
 use effects::laws::{
     associations_stay_themselves, beginnings_are_determined, children_are_made_of_their_messages,
     effects_are_determined, keys_stay, messages_make_moves, messages_open, no_spi_comes,
-    nothing_comes_due, pairs_that_come_are_told, probes_are_short_and_determined,
-    spis_stay_reserved, what_is_kept_is_short, what_is_passed_over_changes_nothing,
-    what_others_hold_stays,
+    nothing_comes_due, pairs_that_come_are_told, probes_are_short_and_determined, requests_wait_on,
+    spis_stay_reserved, what_goes_out_again_is_kept, what_is_kept_is_short,
+    what_is_passed_over_changes_nothing, what_others_hold_stays,
 };
 use moments::laws::{
     no_more_go_out_than_wait, nothing_is_due_afterwards, pairs_go_with_their_associations,
@@ -121,7 +121,8 @@ pub fn few_go_out_again()
 
 /// What the trace of a step names is held by the machine from then on: an association under whose keys something was sent, or whose keys
 /// were made, which had none before, with its keys, and a child that was made, with its pair. And it names all that came: keys that an
-/// association did not have, and a pair that was not in the table. An association that had keys before has them as long as it is held.
+/// association did not have, and a pair that was not in the table. An association that had keys before has them as long as it is held, and
+/// what goes out again with a moment, but for a request of IKE_SA_INIT, is of one that has keys.
 pub fn traces_name_what_is_held()
     ensures traced { (meaning : Meaning) (entries : List Entry) (input : InputView) (old : Machine) (table : Database)
         (stepped : Stepped) (new : Machine) (new_table : Database) → IsSoundTable table → IsSoundMachine old table
@@ -131,6 +132,11 @@ pub fn traces_name_what_is_held()
         → IsSoundTable table → IsSoundMachine old table → Steps meaning entries input old table stepped new new_table
         → keys_of_serial serial old.held.associations ≡ Some keys → association_of serial new.held.associations ≡ Some a
         → keys_in a.phase ≡ Some keys }
+    ensures again { (meaning : Meaning) (entries : List Entry) (input : InputView) (old : Machine) (table : Database)
+        (stepped : Stepped) (new : Machine) (new_table : Database) (ticked : Ticked) (request : Resent) → IsSoundTable table
+        → IsSoundMachine old table → Steps meaning entries input old table stepped new new_table
+        → stepped.output ≡ output.Ticked ticked → Contains ticked.requests request → request.encrypted ≡ true
+        → HoldsKeys new.held request.ike }
 {
     soundness_stays();
     associations_stay_themselves();
@@ -138,6 +144,9 @@ pub fn traces_name_what_is_held()
     children_are_made_of_their_messages();
     pairs_that_come_are_told();
     some_are_held_on();
+    what_comes_is_due();
+    what_goes_out_again_is_kept();
+    what_goes_out_again_is_outstanding();
 }
 
 /// A step changes one association at most, and pairs of no other, but for what a moment brings.
@@ -385,25 +394,30 @@ pub fn requests_are_remembered()
 /// What a step does to each association that has keys is two moves at most, each of which it tells: keys come, a request goes out for the
 /// first time, a response is counted, a request of the peer takes effect, the association is closed, or is held no longer. They lead from
 /// what moves speak of before the step (keys, role, numbers, and octets that wait or are kept) to what they speak of after, so
-/// nothing else that they speak of changes. What takes effect came as that request of the peer, and what is counted as that response; where
-/// the cipher opens what it seals, and keys are whole, as they stay ([`keys_stay_whole`]), a request and a reply that go out open as this
-/// end's of that number (RFC 7296, sections 2.1 to 2.4 and 3.14).
+/// nothing else that they speak of changes; and nothing more is told: what is sent under its keys is sent by a move, or is a reply that is
+/// kept, and what goes out again with a moment waits for its answer. What takes effect came as that request of the peer, and what is
+/// counted as that response; where the cipher opens what it seals, and keys are whole, as they stay ([`keys_stay_whole`]), a request and a
+/// reply that go out open as this end's of that number (RFC 7296, sections 2.1 to 2.4 and 3.14).
 pub fn steps_are_moves()
     ensures { (meaning : Meaning) (entries : List Entry) (input : InputView) (old : Machine) (table : Database)
         (stepped : Stepped) (new : Machine) (new_table : Database) (serial : ℕ) → IsSoundMachine old table
         → Steps meaning entries input old table stepped new new_table → MovesAt meaning input old.held stepped new.held serial }
 {
     associations_stay_themselves();
+    keys_stay();
     effects::laws::keys_stay_whole();
     messages_make_moves();
     messages_open();
+    what_comes_is_due();
+    what_goes_out_again_is_kept();
+    what_goes_out_again_is_outstanding();
     what_is_held_was_held();
 }
 
 /// What is due comes with a moment that has reached it. A machine with no association has nothing due that its moment has reached
 /// (`first`), and a step leaves nothing due where nothing was (`timely`); with a moment all comes that is due then (`comes`), and it is
-/// refused for want of memory alone (`unrefused`); where no moment is given, none is told and the time stands still (`stays`) (RFC 7296,
-/// sections 2.1 and 2.4).
+/// refused for want of memory alone (`unrefused`); where no moment is given, none is told and the time stands still, and what waits for its
+/// answer waited before since the same moment, or goes out now (`stays`) (RFC 7296, sections 2.1 and 2.4).
 pub fn what_is_due_comes_in_time()
     ensures first { (config : Config) → IsTimely (new_machine config) }
     ensures timely { (meaning : Meaning) (entries : List Entry) (input : InputView) (old : Machine) (table : Database)
@@ -415,9 +429,11 @@ pub fn what_is_due_comes_in_time()
     ensures unrefused { (meaning : Meaning) (entries : List Entry) (moment : ℕ) (machine : Machine) (table : Database)
         (reason : IkeFault) → Refuses meaning entries (Tick moment) machine table reason → is_want_of_memory reason ≡ true }
     ensures stays { (meaning : Meaning) (entries : List Entry) (input : InputView) (old : Machine) (table : Database)
-        (stepped : Stepped) (new : Machine) (new_table : Database) → is_tick input ≡ false
+        (stepped : Stepped) (new : Machine) (new_table : Database) → is_tick input ≡ false → IsSoundMachine old table
         → Steps meaning entries input old table stepped new new_table → StaysAt old stepped new }
 {
+    associations_stay_themselves();
+    requests_wait_on();
     nothing_comes_due();
     nothing_is_due_afterwards();
     pairs_go_with_their_associations();

@@ -129,6 +129,23 @@ module _ {X : Type 0} where
       ap (λ b. b || list_any (λ e. p e.1) es) (fails e.0 e.1 (found_here e.0 e es refl))
       ∙ found_none p es (in_order_after e es order) (λ n x is. fails n x (found_later e es n x order is))
 
+  pub record Passing (p : X → Bool) (es : List (ℕ × X)) : Type 0 where
+    pub number : ℕ
+    pub value : X
+    pub there : find number es ≡ Some value
+    pub passes : p value ≡ true
+
+  found_by : (p : X → Bool) (e : ℕ × X) (es : List (ℕ × X)) (b : Bool) → IsInOrder (e ∷ es) → p e.1 ≡ b → (list_any (λ x. p x.1) es ≡ true → Passing p es)
+      → (b || list_any (λ x. p x.1) es) ≡ true → Passing p (e ∷ es)
+  found_by p e es true order passes more is = record { number = e.0; value = e.1; there = found_here e.0 e es refl; passes = passes }
+  found_by p e es false order fails more is =
+      let rest = more is in
+      record { number = rest.number; value = rest.value; there = found_later e es rest.number rest.value order rest.there; passes = rest.passes }
+
+  pub any_found : (p : X → Bool) (es : List (ℕ × X)) → IsInOrder es → list_any (λ x. p x.1) es ≡ true → Passing p es
+  any_found p [] order is = absurd cc
+  any_found p (e ∷ es) order is = found_by p e es (p e.1) order refl (any_found p es (in_order_after e es order)) is
+
   -- ---- those above a number
   abbrev pub above : Option ℕ → List (ℕ × X) → List (ℕ × X)
   above low es = filter (λ e. is_above low e.0) es

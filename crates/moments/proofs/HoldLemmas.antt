@@ -27,11 +27,20 @@ same_octets : (now : ℕ) (due : Bool) (r : Request) → (if due then record r {
 same_octets now true r = refl
 same_octets now false r = refl
 
+same_exchange : (now : ℕ) (due : Bool) (r : Request) → (if due then record r { timer = record { sent = now; repeats = r.timer.repeats + 1 } } else r).exchange ≡ r.exchange
+same_exchange now true r = refl
+same_exchange now false r = refl
+
 sent_was : (now number : ℕ) (a : Association) (request : Request) (o : Option Request) → map.get a.outgoing.outstanding number ≡ o → option_map (after_sending now) o ≡ Some request → WasOutstanding a number request
 sent_was now number a request None there e = absurd cc
 sent_was now number a request (Some was) there e =
     let is : after_sending now was ≡ request = cc in
-    record { was = was; there = there; octets = ap (λ (r : Request). r.octets) (sym is) ∙ same_octets now (is_due now was) was }
+    record {
+      was = was;
+      there = there;
+      octets = ap (λ (r : Request). r.octets) (sym is) ∙ same_octets now (is_due now was) was;
+      exchange = ap (λ (r : Request). r.exchange) (sym is) ∙ same_exchange now (is_due now was) was;
+    }
 
 sends_on : (now : ℕ) (a b : Association) → has_failed now a ≡ false → SendsAgain now a b → HoldsOn now a b
 sends_on now a b alive is =
@@ -48,8 +57,8 @@ sends_on now a b alive is =
 none_there : (number : ℕ) (request : Request) → map.get {R = nat_cmp} (map.empty {X = Request}) number ≡ Some request → ⊥
 none_there number request there = let none : map.get {R = nat_cmp} (map.empty {X = Request}) number ≡ None = map.get-empty nat_cmp number in cc
 
-closes_on : (now : ℕ) (a b : Association) (table new_table : Database) → Closes a table now b new_table → HoldsOn now a b
-closes_on now a b table new_table is =
+closes_on : (now : ℕ) (a b : Association) (table new_table : Database) → has_failed now a ≡ true → Closes a table now b new_table → HoldsOn now a b
+closes_on now a b table new_table failed is =
     record {
       serial = ap (λ (x : Association). x.serial) is.content;
       role = ap (λ (x : Association). x.role) is.content;
@@ -57,7 +66,7 @@ closes_on now a b table new_table is =
       spi_r = ap (λ (x : Association). x.spi_r) is.content;
       incoming = ap (λ (x : Association). x.incoming) is.content;
       requests = λ number request there. absurd (none_there number request (sym (ap (λ o. map.get o number) (ap (λ r. r.outstanding) is.requests.content)) ∙ there));
-      phase = inr (ap (λ (x : Association). x.phase) is.content);
+      phase = inr (record { failed = failed; requests = is.requests; content = is.content });
     }
 
 -- what becomes of the first, before others that are held
@@ -66,7 +75,7 @@ first_held : (over failed : Bool) (now : ℕ) (a : Association) (rest : List Ass
 first_held true failed now a rest table sent closed held others between is passes some =
     inl (subst (λ xs. HoldSome now rest (xs ++ others)) (sym passes.2) some)
 first_held false true now a rest table sent closed held others between is passes some =
-    subst (λ xs. HoldSome now (a ∷ rest) (xs ++ others)) (sym passes.4) (inr (closes_on now a passes.0 table between passes.1, some))
+    subst (λ xs. HoldSome now (a ∷ rest) (xs ++ others)) (sym passes.4) (inr (closes_on now a passes.0 table between is passes.1, some))
 first_held false false now a rest table sent closed held others between is passes some =
     subst (λ xs. HoldSome now (a ∷ rest) (xs ++ others)) (sym passes.4) (inr (sends_on now a passes.0 is passes.1, some))
 

@@ -7,6 +7,7 @@ use Rattle.std.specs.FinMap as numbers
 use Rattle.std.specs.List.{flat_map, list_any, AllByRecursion}
 use Rattle.std.specs.Option.{option_map}
 use Rattle.std.specs.Ordering.{nat_cmp}
+use Rattle.requests.specs.Outgoing.{SomeOutstanding}
 use Rattle.requests.specs.Timers.{due_from, last_wait, waits}
 use Rattle.sadb.specs.Database.{pair_at, Database, RemovesAllOf}
 use Rattle.association.specs.Closing.{Closes, GivesUpSpi}
@@ -18,7 +19,7 @@ use Rattle.moments.specs.Held.{began, HasBegun, HasNothingDue, IsInTime, LeavesP
 use Rattle.moments.specs.Ticking.{PassAll, PassesBy, Ticks}
 use Rattle.moments.specs.declared.resent.Resent.{Resent}
 use Rattle.moments.specs.declared.ticking.Ticked.{Ticked}
-use Rattle.moments.proofs.EntryLemmas.{find, found_any}
+use Rattle.moments.proofs.EntryLemmas.{any_found, find, found_any}
 use Rattle.moments.proofs.PassingLemmas.{closed_now}
 
 -- ---- all that is due comes
@@ -190,3 +191,9 @@ all_go now (a ∷ rest) table sent closed new after is =
 
 pub pairs_go : (now : ℕ) (old : List Association) (table : Database) (ticked : Ticked) (new : List Association) (new_table : Database) → Ticks now old table ticked new new_table → LeavesPairsBut ticked.closed table new_table
 pairs_go now old table ticked new new_table is = all_go now old table ticked.requests ticked.closed new new_table is
+
+-- who is gone was asked
+pub gone_was_asked : (now : ℕ) (a : Association) → has_failed now a ≡ true → SomeOutstanding a.outgoing.outstanding (λ (r : Request) (b : Bool). is_unanswered now r ≡ b)
+gone_was_asked now a is =
+    let found = any_found (is_unanswered now) (outstanding_of a) (numbers.entries_sorted a.outgoing.outstanding) is in
+    record { number = found.number; request = found.value; there = numbers.get-entries a.outgoing.outstanding found.number ∙ found.there; passes = found.passes }

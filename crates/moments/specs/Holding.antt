@@ -3,21 +3,22 @@ use Rattle.std.specs.Prelude.{◌≡◌, ◌⊎◌, ◌∷◌, ℕ, false, Some,
 use Rattle.std.specs.FinMap as map
 use Rattle.sadb.specs.Database.{pair_at, Database}
 use Rattle.sadb.specs.declared.pair.Pair.{Pair}
-use Rattle.association.specs.Phases.{keys_in, spi_in}
+use Rattle.association.specs.Phases.{spi_in}
 use Rattle.association.specs.declared.phase.Association.{Association}
-use Rattle.association.specs.declared.phase.Phase.TheVariants.{Closed}
 use Rattle.association.specs.declared.phase.Request.{Request}
 use Rattle.moments.specs.Due.{has_failed}
+use Rattle.moments.specs.Held.{IsClosedAt}
 
--- a request of these octets was outstanding under this number
+-- a request of these octets and this exchange was outstanding under this number
 pub record WasOutstanding (a : Association) (number : ℕ) (request : Request) : Type 0 where
   pub was : Request
   pub there : map.get a.outgoing.outstanding number ≡ Some was
   pub octets : request.octets ≡ was.octets
+  pub exchange : request.exchange ≡ was.exchange
 
--- it stays in its phase, or is closed at this moment and has its keys still
+-- it stays in its phase, or is closed at this moment
 abbrev pub StaysOrCloses : ℕ → Association → Association → Type 0
-StaysOrCloses now a b = ((has_failed now a ≡ false) × (b.phase ≡ a.phase)) ⊎ (b.phase ≡ Closed (keys_in a.phase) now)
+StaysOrCloses now a b = ((has_failed now a ≡ false) × (b.phase ≡ a.phase)) ⊎ IsClosedAt now a b
 
 -- the association is held on: it stays itself, keeps its replies, and no request comes
 pub record HoldsOn (now : ℕ) (a b : Association) : Type 0 where

@@ -1,12 +1,14 @@
 //! What follows from the definitions alone. No function here does anything.
-ghost use Rattle.std.specs.Prelude.{◌≡◌, ◌≤◌, ℕ, List, [], All, length, map};
+ghost use Rattle.std.specs.Prelude.{◌≡◌, ◌≤◌, ℕ, Bool, true, List, [], All, length, map};
 ghost use Rattle.std.specs.List.{flat_map, AllZip};
+ghost use Rattle.requests.specs.Outgoing.{SomeOutstanding};
 ghost use Rattle.sadb.specs.Contents.{table_content};
 ghost use Rattle.sadb.specs.Database.{Database, IsReserved};
 ghost use Rattle.association.specs.Closing.{Closes};
 ghost use Rattle.association.specs.Contents.{association_content};
 ghost use Rattle.association.specs.declared.phase.Association.{Association};
-ghost use Rattle.moments.specs.Due.{closed_of, held_of, outstanding_count, sent_of};
+ghost use Rattle.association.specs.declared.phase.Request.{Request};
+ghost use Rattle.moments.specs.Due.{closed_of, has_failed, held_of, is_unanswered, outstanding_count, sent_of};
 ghost use Rattle.moments.specs.Held.{HasBegun, HasNothingDue, IsInTime, IsOutstandingOf, LeavesPairsBut, StaysItself};
 ghost use Rattle.moments.specs.Holding.{HoldSome, HoldsNone, LeavesFewer};
 ghost use Rattle.moments.specs.Ticking.{Ticks};
@@ -68,6 +70,12 @@ pub fn nothing_comes_before_its_time()
     ensures { (now : ℕ) (old new : List Association) (table new_table : Database) (ticked : Ticked)
         → All (HasNothingDue now) old → Ticks now old table ticked new new_table
         → (ticked ≡ record { requests = []; closed = [] }) × (new ≡ old) × (new_table ≡ table) }
+{}
+
+/// Where the peer is taken to be gone a request waits for an answer, which was sent for the last time.
+pub fn who_is_gone_was_asked()
+    ensures { (now : ℕ) (a : Association) → has_failed now a ≡ true
+        → SomeOutstanding a.outgoing.outstanding (λ (r : Request) (b : Bool). is_unanswered now r ≡ b) }
 {}
 
 /// No more requests go out again than wait for an answer.

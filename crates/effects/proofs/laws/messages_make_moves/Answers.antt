@@ -8,7 +8,7 @@ returns c =
       probe = probe_moves;
       admitted = admitted_moves;
       sending = sending_moves;
-      closing = closing_moves;
+      closing = closing_moves c.who_is_gone_was_asked.ensures;
       removal = removal_moves;
       few = few_moves;
     }

@@ -18,5 +18,12 @@ returns c =
       taken = c.messages_open.ensures.taken;
       counted = c.messages_open.ensures.counted;
       whole = c.keys_stay_whole.ensures.taken;
+      keyed = c.keys_stay.ensures.keyed;
+      kept = c.what_goes_out_again_is_kept.ensures.reply;
+      ticks = record {
+        again = c.what_goes_out_again_is_outstanding.ensures;
+        closed = λ now old table ticked new new_table is. (c.what_comes_is_due.ensures now old table ticked new new_table is).1;
+        waits = c.what_goes_out_again_is_kept.ensures.request;
+      };
     } in
     step_moves laws c.what_is_held_was_held.ensures

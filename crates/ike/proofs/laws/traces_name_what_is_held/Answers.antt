@@ -1,3 +1,4 @@
+use Rattle.ike.proofs.AgainLemmas.{step_again_keyed}
 use Rattle.ike.proofs.TraceLemmas.{step_keys, step_traced}
 use Rattle.ike.proofs.laws.traces_name_what_is_held.Goals as goal
 
@@ -29,3 +30,11 @@ returns-clause-keys c =
       waits = c.children_are_made_of_their_messages.ensures.waits;
       sound = c.soundness_stays.ensures;
     }) c.some_are_held_on.ensures.held
+
+pub returns-clause-again : goal.returns-clause-again
+returns-clause-again c =
+    step_again_keyed (record {
+      again = c.what_goes_out_again_is_outstanding.ensures;
+      closed = λ now old table ticked new new_table is. (c.what_comes_is_due.ensures now old table ticked new new_table is).1;
+      waits = c.what_goes_out_again_is_kept.ensures.request;
+    }) c.soundness_stays.ensures

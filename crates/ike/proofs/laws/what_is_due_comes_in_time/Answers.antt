@@ -2,6 +2,7 @@ use Rattle.std.proofs.lemmas.List.Elements.{All-nil}
 use Rattle.moments.specs.Held.{IsInTime}
 use Rattle.ike.proofs.OrderLemmas.{moment_refused}
 use Rattle.ike.proofs.MomentLemmas.{step_comes, step_stays, step_timely, TimelyLaws}
+use Rattle.ike.proofs.WaitLemmas.{WaitLaws}
 use Rattle.ike.proofs.laws.what_is_due_comes_in_time.Goals as goal
 
 pub returns : goal.returns
@@ -16,4 +17,10 @@ returns c =
       comes = c.what_comes_is_due.ensures;
       held_on = c.what_is_held_was_held.ensures;
     } in
-    record { first = λ config. All-nil (IsInTime 0); timely = step_timely laws; comes = step_comes laws; unrefused = λ meaning entries moment machine table reason is. moment_refused reason is; stays = step_stays }
+    let waits : WaitLaws = record {
+      itself = c.associations_stay_themselves.ensures;
+      taken = c.requests_wait_on.ensures.taken;
+      begun = c.requests_wait_on.ensures.begun;
+      probed = c.requests_wait_on.ensures.probed;
+    } in
+    record { first = λ config. All-nil (IsInTime 0); timely = step_timely laws; comes = step_comes laws; unrefused = λ meaning entries moment machine table reason is. moment_refused reason is; stays = step_stays waits }
