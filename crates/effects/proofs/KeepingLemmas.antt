@@ -340,6 +340,10 @@ pub none_before : (meaning : Meaning) (setup : Setup) (old : Association) (table
     → TakesMessage meaning setup old table octets m (effect.Identified next) new new_table → keys_in old.phase ≡ None
 none_before meaning setup old table octets m next new new_table is = ap keys_in (way_of meaning setup old table octets m (effect.Identified next) new new_table is).was
 
+pub none_again : (meaning : Meaning) (setup : Setup) (old : Association) (table : Database) (octets : Octets) (m : Message) (next : Octets) (new : Association) (new_table : Database)
+    → TakesMessage meaning setup old table octets m (effect.Again next) new new_table → keys_in new.phase ≡ None
+none_again meaning setup old table octets m next new new_table is = ap (λ (x : Association). keys_in x.phase) (way_of meaning setup old table octets m (effect.Again next) new new_table is).done.content
+
 pub begun_short : (cipher : Cipher) (group : ℕ) (public_value : Octets → Octets) (fresh : Fresh) (moment serial : ℕ) (beginning : Beginning) (child : FirstChildView)
     → Begins cipher group public_value fresh moment beginning → KeepsShort (begun serial beginning child) × IsShort beginning.octets
 begun_short cipher group public_value fresh moment serial beginning child is = (

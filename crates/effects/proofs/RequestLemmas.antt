@@ -1,5 +1,5 @@
 -- What a message does to the peer's requests of one association.
-use Rattle.std.proofs.Common.{◌≡◌, ◌≢◌, ◌==◌, ◌||◌, ◌⊎◌, inl, inr, ℕ, ◌≤◌, Bool, true, false, cond, max, Option, Some, None, ap, refl, subst, sym, ◌∙◌, arith}
+use Rattle.std.proofs.Common.{◌≡◌, ◌≢◌, ◌==◌, ◌||◌, ◌⊎◌, inl, inr, ℕ, ◌+◌, ◌<◌, ◌≤◌, Bool, true, false, cond, max, Option, Some, None, ap, refl, subst, sym, ◌∙◌, arith}
 use Rattle.std.specs.Cmp.{nat_cmp_total, unsigned_tied}
 use Rattle.std.specs.FinMap as map
 use Rattle.std.specs.FinSet as set
@@ -55,7 +55,7 @@ use Rattle.informational.specs.Probing.{Probes}
 use Rattle.effects.specs.Keeping.{HasKeys}
 use Rattle.effects.specs.Requests.{is_concluded, takes_requests, IsPassing, IsSoundlyHeld, KeepsWindow, PutsIntoEffect, StaysConcluded}
 use Rattle.effects.specs.Taking.{prover_of, Does, DoesFurther, DoesRequest, DoesResponse, IsPassedOver, Meaning, TakesMessage}
-use Rattle.effects.specs.Waiting.{MayWait, TookNone, WaitFor}
+use Rattle.effects.specs.Waiting.{AreIssued, MayWait, TookNone, WaitFor}
 use Rattle.effects.specs.declared.taking.Effect.{Effect}
 use Rattle.effects.specs.declared.taking.Effect.TheVariants as effect
 use Rattle.effects.proofs.KeepingLemmas.{established_keys}
@@ -161,6 +161,7 @@ record Concludes (a new : Association) : Type 0 where
   role : new.role ≡ a.role
   spi_r : new.spi_r ≡ a.spi_r
   waits : WaitFor (established_of a.phase) a.outgoing.outstanding → WaitFor new.phase new.outgoing.outstanding
+  issued : AreIssued a.outgoing → AreIssued new.outgoing
 
 -- who is known stays so
 concluded_stays : (p : Phase) → is_concluded p ≡ true → established_of p ≡ p
@@ -169,6 +170,9 @@ concluded_stays (phase.AuthSent sent) is = absurd cc
 concluded_stays (phase.HalfOpen opened) is = absurd cc
 concluded_stays (phase.Established keys) is = refl
 concluded_stays (phase.Closed keys at) is = refl
+
+same_request : (one other : Request) → Some one ≡ Some other → one ≡ other
+same_request one other is = cc
 
 none_outstanding : (number : ℕ) (request : Request) → map.get {R = nat_cmp} (map.empty {X = Request}) number ≡ Some request → ⊥
 none_outstanding number request there = some_none request (sym (map.get-empty {X = Request} nat_cmp number) ∙ there)
@@ -188,7 +192,8 @@ over_concludes laws a table moment new new_table is =
       keys = refl;
       role = refl;
       spi_r = refl;
-      waits = λ before number request there. none_outstanding number request (sym (ap (λ (r : OwnRequests Request). map.get r.outstanding number) is.requests.content) ∙ there);
+      waits = λ before number request there. absurd (none_outstanding number request (sym (ap (λ (r : OwnRequests Request). map.get r.outstanding number) is.requests.content) ∙ there));
+      issued = λ before number request there. absurd (none_outstanding number request (sym (ap (λ (r : OwnRequests Request). map.get r.outstanding number) is.requests.content) ∙ there));
     })
 
 auth_concludes : (laws : FollowLaws) (setup : Setup) (a : Association) (table : Database) (o : Outcome) (child : Option ℕ) (new : Association) (new_table : Database) (keys : KeyRecord)
@@ -207,6 +212,7 @@ auth_concludes laws setup a table (outcome.Establishes pair window) child new ne
       role = refl;
       spi_r = refl;
       waits = λ before. before;
+      issued = λ before. before;
     })
 
 closing_concludes : (laws : FollowLaws) (ending : Bool) (a : Association) (table : Database) (moment : ℕ) (new : Association) (new_table : Database) → is_concluded a.phase ≡ true
@@ -224,6 +230,7 @@ closing_concludes laws false a table moment new new_table concluded is =
       role = refl;
       spi_r = refl;
       waits = subst (λ (p : Phase). WaitFor p a.outgoing.outstanding) (concluded_stays a.phase concluded);
+      issued = λ before. before;
     })
 
 -- the window is widened where the association is established
@@ -244,8 +251,8 @@ concluded_waits : (p : Phase) → is_concluded p ≡ true → IsInitSent p → �
 concluded_waits p concluded is = yes_no (is_concluded p) concluded (ap is_concluded is.is)
 
 sound_by : (old a new : Association) → a.phase ≡ old.phase → a.role ≡ old.role → a.spi_r ≡ old.spi_r → Concludes a new → KeptWell a.incoming
-    → WaitFor (established_of a.phase) a.outgoing.outstanding → IsSoundlyHeld old → IsSoundlyHeld new
-sound_by old a new same_phase same_role same_spi done well waits held =
+    → WaitFor (established_of a.phase) a.outgoing.outstanding → AreIssued a.outgoing → IsSoundlyHeld old → IsSoundlyHeld new
+sound_by old a new same_phase same_role same_spi done well waits issued held =
     let after = done.well well in
     record {
       in_effect = after.in_effect;
@@ -254,6 +261,7 @@ sound_by old a new same_phase same_role same_spi done well waits held =
       named = λ keyed initiator zero. held.named (record { keys = keyed.keys; are = sym (done.keys ∙ ap keys_in same_phase) ∙ keyed.are })
           (sym (done.role ∙ same_role) ∙ initiator) (sym (done.spi_r ∙ same_spi) ∙ zero);
       waits = done.waits waits;
+      issued = done.issued issued;
       took_none = λ is. absurd (concluded_waits new.phase done.concluded is);
     }
 
@@ -278,19 +286,19 @@ taken_leaves laws own old ready incoming number reply new prepared taken done si
   concluded = λ is. record { concluded = done.concluded; size = size is ∙ taken.size ∙ ap (λ (r : PeerRequests). r.size) prepared.content };
   half_open = λ opened opens. absurd (concluded_opens new.phase opened done.concluded opens);
   sound = λ held. sound_by old (with_incoming old incoming) new refl refl refl done
-      (well_taken ready incoming number reply (well_ready old.incoming ready prepared (kept_well old held)) taken) (waits held.waits) held;
+      (well_taken ready incoming number reply (well_ready old.incoming ready prepared (kept_well old held)) taken) (waits held.waits) held.issued held;
 }
 
 -- a response was counted
 counted_leaves : (laws : FollowLaws) (own : ℕ) (old a new : Association) → a.incoming ≡ old.incoming → a.phase ≡ old.phase → a.role ≡ old.role → a.spi_r ≡ old.spi_r
     → Concludes a new → (is_concluded old.phase ≡ true → new.incoming.size ≡ old.incoming.size) → KeepsWindow own a new
-    → (WaitFor old.phase old.outgoing.outstanding → WaitFor (established_of a.phase) a.outgoing.outstanding) → Leaves own old new
-counted_leaves laws own old a new same same_phase same_role same_spi done size window waits = record {
+    → (WaitFor old.phase old.outgoing.outstanding → WaitFor (established_of a.phase) a.outgoing.outstanding) → (AreIssued old.outgoing → AreIssued a.outgoing) → Leaves own old new
+counted_leaves laws own old a new same same_phase same_role same_spi done size window waits issued = record {
   window = window_from own old a new same_phase (ap (λ (r : PeerRequests). r.size) same) window;
   follows = subst (λ (r : PeerRequests). FollowsIncoming r new.incoming) same done.follows;
   concluded = λ is. record { concluded = done.concluded; size = size is };
   half_open = λ opened opens. absurd (concluded_opens new.phase opened done.concluded opens);
-  sound = λ held. sound_by old a new same_phase same_role same_spi done (well_as old.incoming a.incoming same (kept_well old held)) (waits held.waits) held;
+  sound = λ held. sound_by old a new same_phase same_role same_spi done (well_as old.incoming a.incoming same (kept_well old held)) (waits held.waits) (issued held.issued) held;
 }
 
 -- the window stays as wide where nothing but a closing can be
@@ -312,8 +320,8 @@ auth_opens sent opened is = cc
 early_leaves : (laws : FollowLaws) (own : ℕ) (old new : Association) (p : Phase) → new.incoming ≡ old.incoming → old.phase ≡ p → is_concluded p ≡ false
     → ((opened : HalfOpen) → new.phase ≡ phase.HalfOpen opened → old.phase ≡ phase.HalfOpen opened)
     → (HasKeys new.phase → new.role ≡ Initiator → new.spi_r ≢ 0) → (WaitFor p old.outgoing.outstanding → WaitFor new.phase new.outgoing.outstanding)
-    → (IsInitSent new.phase → IsInitSent p) → new.role ≡ old.role → Leaves own old new
-early_leaves laws own old new p same was open_yet opens named waits begins role = record {
+    → (IsInitSent new.phase → IsInitSent p) → new.role ≡ old.role → (AreIssued old.outgoing → AreIssued new.outgoing) → Leaves own old new
+early_leaves laws own old new p same was open_yet opens named waits begins role issued = record {
   window = inl (ap (λ (r : PeerRequests). r.size) same);
   follows = subst (λ (r : PeerRequests). FollowsIncoming old.incoming r) (sym same) (laws.reflexive old.incoming);
   concluded = λ is. absurd (yes_no (is_concluded p) (sym (ap is_concluded was) ∙ is) open_yet);
@@ -327,6 +335,7 @@ early_leaves laws own old new p same was open_yet opens named waits begins role 
             absurd (yes_no (is_concluded p) (sym (ap is_concluded was) ∙ held.concluded number reply (ap (λ (r : PeerRequests). map.get r.kept number) (sym same) ∙ kept)) open_yet);
         named = named;
         waits = waits (subst (λ (q : Phase). WaitFor q old.outgoing.outstanding) was held.waits);
+        issued = issued held.issued;
         took_none = λ is.
             let none = held.took_none (subst (λ (q : Phase). IsInitSent q) (sym was) (begins is)) in
             record { role = role ∙ none.role; incoming = subst (λ (r : PeerRequests). r ≡ record no_requests { room = r.room }) (sym same) none.incoming };
@@ -344,6 +353,24 @@ inserted_waits outstanding p n request before may number found there = elim (eqb
   | inr (none, apart) ↦ before number found (sym (map.get-insert nat_cmp_total outstanding n request number ∙ ap (λ b. cond b (Some request) (map.get outstanding number)) (unsigned_tied number n ∙ none)) ∙ there)
 ]
 
+-- what stands where one was put: it, or what stood there before
+pub put_at : (outstanding : map.FinMap nat_cmp Request) (k : ℕ) (request : Request) (number : ℕ) (found : Request) → map.get (map.insert outstanding k request) number ≡ Some found
+    → (map.get outstanding number ≡ Some found) ⊎ ((number ≡ k) × (request ≡ found))
+put_at outstanding k request number found there = elim (eqb_tells number k) [
+  | inl (one, same) ↦ (let is : Some request ≡ Some found = sym (map.get-insert nat_cmp_total outstanding k request number ∙ ap (λ b. cond b (Some request) (map.get outstanding number)) (unsigned_tied number k ∙ one)) ∙ there in
+      inr (same, same_request request found is))
+  | inr (none, apart) ↦ inl (sym (map.get-insert nat_cmp_total outstanding k request number ∙ ap (λ b. cond b (Some request) (map.get outstanding number)) (unsigned_tied number k ∙ none)) ∙ there)
+]
+
+-- all that waits was issued
+next_issued : (old : OwnRequests Request) (request : Request) (new : OwnRequests Request) → IssuesNext old request new → AreIssued old → AreIssued new
+next_issued old request new is before number found there =
+    let next : new.next ≡ old.next + 1 = ap (λ (r : OwnRequests Request). r.next) is.issued.content ∙ ap (λ (r : OwnRequests Request). r.next + 1) is.prepared.content in
+    elim (put_at is.ready.outstanding old.next request number found (sym (ap (λ (r : OwnRequests Request). map.get r.outstanding number) is.issued.content) ∙ there)) [
+      | inl was ↦ (let less = before number found (sym (ap (λ (r : OwnRequests Request). map.get r.outstanding number) is.prepared.content) ∙ was) in omega (arith, next, less))
+      | inr (here, now) ↦ omega (arith, next, here)
+    ]
+
 -- one that waited does no more
 record StillWaits (outstanding : map.FinMap nat_cmp Request) (n number : ℕ) (request : Request) : Type 0 where
   other : number ≢ n
@@ -360,6 +387,20 @@ removed_waits outstanding n number request there = elim (eqb_tells number n) [
 
 counted_out : (old : OwnRequests Request) (number : ℕ) (request : Request) (new : OwnRequests Request) (n : ℕ) (found : Request) → CountsAnswer old number request new → map.get new.outstanding n ≡ Some found → StillWaits old.outstanding number n found
 counted_out old number request new n found is there = removed_waits old.outstanding number n found (sym (ap (λ (r : OwnRequests Request). map.get r.outstanding n) is.content) ∙ there)
+
+fewer_issued : (old : OwnRequests Request) (number : ℕ) (request : Request) (new : OwnRequests Request) → CountsAnswer old number request new → AreIssued old → AreIssued new
+fewer_issued old number request new is before n found there =
+    let next : new.next ≡ old.next = ap (λ (r : OwnRequests Request). r.next) is.content in
+    let less = before n found (counted_out old number request new n found is there).there in
+    omega (arith, next, less)
+
+replaced_issued : (old : OwnRequests Request) (number : ℕ) (was request : Request) (new : OwnRequests Request) → ReplacesRequest old number was request new → AreIssued old → AreIssued new
+replaced_issued old number was request new is before n found there =
+    let next : new.next ≡ old.next = ap (λ (r : OwnRequests Request). r.next) is.content in
+    elim (put_at old.outstanding number request n found (sym (ap (λ (r : OwnRequests Request). map.get r.outstanding n) is.content) ∙ there)) [
+      | inl stood ↦ (let less = before n found stood in omega (arith, next, less))
+      | inr (here, now) ↦ (let less = before number was is.there in omega (arith, next, less, here))
+    ]
 
 fewer_wait : (keys : KeyRecord) (old : OwnRequests Request) (number : ℕ) (request : Request) (new : OwnRequests Request) → CountsAnswer old number request new
     → WaitFor (phase.Established keys) old.outstanding → WaitFor (phase.Established keys) new.outstanding
@@ -414,6 +455,7 @@ way_leaves laws meaning setup old table octets m (effect.Counted ended) new new_
     (not_yet old.phase (phase.AuthSent d.sent) new.incoming.size old.incoming.size d.was refl)
     (auth_window setup (with_outgoing old d.outgoing) table d.verdict ended.child new new_table d.sent.keys (ap is_concluded d.was) (ap established_of d.was) d.concluded)
     (subst (λ (p : Phase). WaitFor p old.outgoing.outstanding → WaitFor (established_of p) d.outgoing.outstanding) (sym d.was) (asked_once d.sent old.outgoing m.header.id d.request d.outgoing d.counted))
+    (fewer_issued old.outgoing m.header.id d.request d.outgoing d.counted)
 way_leaves laws meaning setup old table octets m (effect.Counted ended) new new_table (inr is) =
     let d = is.done in
     counted_leaves laws setup.config.window old (with_outgoing old d.outgoing) new refl refl refl refl
@@ -421,17 +463,20 @@ way_leaves laws meaning setup old table octets m (effect.Counted ended) new new_
     (λ concluded. size_if (is_rejected d.payloads) (with_outgoing old d.outgoing) table setup.moment new new_table d.concluded)
     (inl (size_if (is_rejected d.payloads) (with_outgoing old d.outgoing) table setup.moment new new_table d.concluded))
     (subst (λ (p : Phase). WaitFor p old.outgoing.outstanding → WaitFor (established_of p) d.outgoing.outstanding) (sym is.was) (fewer_wait is.keys old.outgoing m.header.id d.request d.outgoing d.counted))
+    (fewer_issued old.outgoing m.header.id d.request d.outgoing d.counted)
 way_leaves laws meaning setup old table octets m (effect.Again next) new new_table is = early_leaves laws setup.config.window old new (phase.InitSent is.sent) (ap (λ (x : Association). x.incoming) is.done.content) is.was refl (λ opened opens. absurd (init_opens _ opened (sym (ap (λ (x : Association). x.phase) is.done.content) ∙ opens)))
     (λ keyed initiator zero. some_none keyed.keys (sym (ap (λ (x : Association). keys_in x.phase) is.done.content) ∙ keyed.are))
     (replaced_waits old new is.sent m.header.id is.done.was (new_request next IKE_SA_INIT setup.moment) refl is.done.replaced _ (ap (λ (x : Association). x.phase) is.done.content))
     (λ waits. record { sent = is.sent; is = refl })
     (ap (λ (x : Association). x.role) is.done.content)
+    (replaced_issued old.outgoing m.header.id is.done.was (new_request next IKE_SA_INIT setup.moment) new.outgoing is.done.replaced)
 way_leaves laws meaning setup old table octets m (effect.Identified next) new new_table is = early_leaves laws setup.config.window old new (phase.InitSent is.sent) (ap (λ (x : Association). x.incoming) is.done.content) is.was refl (λ opened opens. absurd (auth_opens _ opened (sym (ap (λ (x : Association). x.phase) is.done.content) ∙ opens)))
     (λ keyed initiator zero. is.named (sym (ap (λ (x : Association). x.spi_r) is.done.content) ∙ zero))
     (λ before. issued_waits new _ number_0_answered (new_request next IKE_AUTH setup.moment) (ap (λ (x : Association). x.phase) is.done.content) is.done.issued
     (λ number request there. absurd (none_outstanding number request there)) (refl, refl))
     (λ waits. absurd (auth_begins new _ (ap (λ (x : Association). x.phase) is.done.content) waits))
     (ap (λ (x : Association). x.role) is.done.content)
+    (λ before. next_issued number_0_answered (new_request next IKE_AUTH setup.moment) new.outgoing is.done.issued (λ number request there. absurd (none_outstanding number request there)))
 
 leaves : (laws : FollowLaws) (meaning : Meaning) (setup : Setup) (old : Association) (table : Database) (octets : Octets) (m : Message) (e : Effect) (new : Association) (new_table : Database)
     → TakesMessage meaning setup old table octets m e new new_table → Leaves setup.config.window old new
@@ -472,6 +517,7 @@ begun_sound cipher group public_value fresh moment serial beginning child is = r
   named = λ keyed initiator. absurd (some_none keyed.keys keyed.are);
   waits = issued_waits (begun serial beginning child) (begun serial beginning child).phase none_issued (new_request beginning.octets IKE_SA_INIT moment) refl is.issued
       (λ number request there. absurd (none_outstanding number request there)) (refl, refl);
+  issued = next_issued none_issued (new_request beginning.octets IKE_SA_INIT moment) beginning.outgoing is.issued (λ number request there. absurd (none_outstanding number request there));
   took_none = λ waits. record { role = refl; incoming = refl };
 }
 
@@ -490,7 +536,8 @@ admitted_sound cipher group public_value shared_secret fresh moment serial offer
       near = λ number reply kept. absurd (none_kept number reply kept);
       concluded = λ number reply kept. absurd (none_kept number reply kept);
       named = λ keyed initiator. absurd (other_role initiator);
-      waits = λ number request there. none_outstanding number request there;
+      waits = λ number request there. absurd (none_outstanding number request there);
+      issued = λ number request there. absurd (none_outstanding number request there);
       took_none = λ waits. absurd (half_begins _ waits);
     })
 
@@ -508,6 +555,7 @@ probed_sound body_of setup old octets new held is =
       named = held.named;
       waits = issued_waits (with_outgoing old is.outgoing) (phase.Established is.keys) old.outgoing (new_request octets INFORMATIONAL setup.moment) is.established is.issued
           (subst (λ (p : Phase). WaitFor p old.outgoing.outstanding) is.established held.waits) refl;
+      issued = next_issued old.outgoing (new_request octets INFORMATIONAL setup.moment) is.outgoing is.issued held.issued;
       took_none = λ waits. absurd (established_begins old is.keys is.established waits);
     })
 

@@ -18,7 +18,7 @@ use Rattle.association.specs.declared.phase.Phase.TheVariants.{HalfOpen, Establi
 use Rattle.initial.specs.Reading.{IsInitSent}
 use Rattle.initial.specs.declared.answering.Answered.{Answered}
 use Rattle.effects.specs.Keeping.{HasKeys}
-use Rattle.effects.specs.Waiting.{TookNone, WaitFor}
+use Rattle.effects.specs.Waiting.{AreIssued, TookNone, WaitFor}
 use Rattle.effects.specs.declared.taking.Effect.{Effect}
 use Rattle.effects.specs.declared.taking.Effect.TheVariants as effect
 
@@ -76,14 +76,15 @@ is_concluded (Closed keys at) = true
 is_concluded _ = false
 
 -- What holds of an association, always: replies are kept of numbers in effect that are not left behind, and of none before IKE_AUTH is
--- done; an initiator that has keys knows the responder's SPI; what waits for an answer belongs to the phase; and who waits for the response
--- to IKE_SA_INIT took no request yet.
+-- done; an initiator that has keys knows the responder's SPI; what waits for an answer belongs to the phase, and was issued; and who waits
+-- for the response to IKE_SA_INIT took no request yet.
 pub record IsSoundlyHeld (a : Association) : Type 0 where
   pub in_effect : (number : ℕ) (reply : Octets) → map.get a.incoming.kept number ≡ Some reply → HasNumber a.incoming.in_effect number
   pub near : (number : ℕ) (reply : Octets) → map.get a.incoming.kept number ≡ Some reply → ¬ IsLeftBehind a.incoming number
   pub concluded : (number : ℕ) (reply : Octets) → map.get a.incoming.kept number ≡ Some reply → is_concluded a.phase ≡ true
   pub named : HasKeys a.phase → a.role ≡ Initiator → a.spi_r ≢ 0
   pub waits : WaitFor a.phase a.outgoing.outstanding
+  pub issued : AreIssued a.outgoing
   pub took_none : IsInitSent a.phase → TookNone a
 
 -- what a message leaves of the peer's requests, once IKE_AUTH is done: their window stays as wide

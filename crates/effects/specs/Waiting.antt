@@ -1,5 +1,5 @@
 -- What an end waits for in each phase, and what it took of the peer's requests before it has keys (RFC 7296 sections 1.2, 1.4 and 2.2).
-use Rattle.std.specs.Prelude.{◌≡◌, ◌⊎◌, ℕ, Option, Some, None}
+use Rattle.std.specs.Prelude.{◌≡◌, ◌⊎◌, ◌<◌, ◌+◌, ℕ, true, Option, Some, None}
 use Rattle.std.specs.FinMap as map
 use Rattle.std.specs.Ordering.{nat_cmp}
 use Rattle.base.specs.Octets.{Octets}
@@ -8,6 +8,7 @@ use Rattle.exchange.specs.declared.headers.Role.TheVariants.{Initiator}
 use Rattle.requests.specs.Incoming.{no_requests}
 use Rattle.requests.specs.Outgoing.{OwnRequests}
 use Rattle.association.specs.declared.phase.Association.{Association}
+use Rattle.association.specs.declared.phase.InitSent as phase
 use Rattle.association.specs.declared.phase.Phase.{Phase}
 use Rattle.association.specs.declared.phase.Phase.TheVariants.{InitSent, AuthSent, HalfOpen, Established, Closed}
 use Rattle.association.specs.declared.phase.Request.{Request}
@@ -37,12 +38,45 @@ asked_by (effect.Again octets) = Some octets
 asked_by (effect.Identified octets) = Some octets
 asked_by _ = None
 
--- it goes out at this moment, and waits from then on
-pub record GoesOut (moment : ℕ) (sent : Option Octets) (request : Request) : Type 0 where
+-- what waits was issued
+abbrev pub AreIssued : OwnRequests Request → Type 0
+AreIssued r = (number : ℕ) (request : Request) → map.get r.outstanding number ≡ Some request → number < r.next
+
+-- this end takes one more cookie for its request of IKE_SA_INIT (section 2.6)
+pub record TakesCookie (old new : Association) : Type 0 where
+  pub before : phase.InitSent
+  pub was : old.phase ≡ InitSent before
+  pub after : phase.InitSent
+  pub is : new.phase ≡ InitSent after
+  pub taken : after.cookies_taken ≡ before.cookies_taken + 1
+
+-- It goes out at this moment, and waits from then on: for the first time, or anew with a cookie.
+pub record GoesOut (moment : ℕ) (sent : Option Octets) (old new : Association) (number : ℕ) (request : Request) : Type 0 where
   pub said : sent ≡ Some request.octets
   pub timer : request.timer ≡ record { sent = moment; repeats = 0 }
+  pub fresh : (map.get old.outgoing.outstanding number ≡ None) ⊎ TakesCookie old new
 
 -- What waits for its answer waited before, since the same moment and as often sent; or it goes out now.
-abbrev pub WaitOn : ℕ → Option Octets → OwnRequests Request → OwnRequests Request → Type 0
+abbrev pub WaitOn : ℕ → Option Octets → Association → Association → Type 0
 WaitOn moment sent old new =
-    (number : ℕ) (request : Request) → map.get new.outstanding number ≡ Some request → (map.get old.outstanding number ≡ Some request) ⊎ GoesOut moment sent request
+    (number : ℕ) (request : Request) → map.get new.outgoing.outstanding number ≡ Some request → (map.get old.outgoing.outstanding number ≡ Some request) ⊎ GoesOut moment sent old new number request
+
+-- the association ends by this
+abbrev pub Ends : Effect → Type 0
+Ends (effect.Replied answered) = answered.closed ≡ true
+Ends (effect.Counted ended) = ended.closed ≡ true
+Ends _ = ⊥
+
+-- A request of this number waits no more by a message of that one: it is answered, or the association ends; or it is the request of
+-- IKE_SA_INIT, which goes out anew with a cookie, or whose answer brought the keys.
+abbrev pub StopsWaiting : ℕ → Effect → ℕ → Type 0
+StopsWaiting id (effect.Refused fault) number = ⊥
+StopsWaiting id (effect.Repeated octets) number = ⊥
+StopsWaiting id (effect.Replied answered) number = answered.closed ≡ true
+StopsWaiting id (effect.Again octets) number = number ≡ 0
+StopsWaiting id (effect.Identified octets) number = number ≡ 0
+StopsWaiting id (effect.Counted ended) number = (number ≡ id) ⊎ (ended.closed ≡ true)
+
+-- what waited waits on, unless it stops so
+abbrev pub WaitUntil : ℕ → Effect → OwnRequests Request → OwnRequests Request → Type 0
+WaitUntil id e old new = (number : ℕ) (request : Request) → map.get old.outstanding number ≡ Some request → (map.get new.outstanding number ≡ Some request) ⊎ StopsWaiting id e number

@@ -22,7 +22,6 @@ ghost use Rattle.association.specs.declared.phase.HalfOpen.{HalfOpen};
 ghost use Rattle.requests.specs.Following.{FollowsIncoming};
 ghost use Rattle.requests.specs.Incoming.{IsFreshRequest};
 ghost use Rattle.requests.specs.Numbers.{HasNumber, LacksNumber};
-ghost use Rattle.requests.specs.Outgoing.{none_issued};
 ghost use Rattle.std.specs.FinMap as map;
 ghost use Rattle.sadb.specs.Contents.{table_content};
 ghost use Rattle.association.specs.Contents.{association_content};
@@ -48,7 +47,7 @@ ghost use Rattle.effects.specs.Moves.{ledger, moves_of, Close, Issue, KeepsReply
 ghost use Rattle.initial.specs.Ending.{EndsAuth};
 ghost use Rattle.effects.specs.Keeping.{child_in, sent_by, IsShort, KeepsShort, KeyedBy};
 ghost use Rattle.effects.specs.Requests.{is_concluded, takes_requests, IsPassing, IsSoundlyHeld, KeepsWindow, PutsIntoEffect, StaysConcluded};
-ghost use Rattle.effects.specs.Waiting.{asked_by, WaitOn};
+ghost use Rattle.effects.specs.Waiting.{asked_by, Ends, WaitOn, WaitUntil};
 ghost use Rattle.effects.specs.Offers.{AnswersAuthSa, AnswersInitialSa};
 ghost use Rattle.effects.specs.Openings.{OpensAsMessage, OpensWhatItSeals};
 ghost use Rattle.effects.specs.Lengths.{HoldsWholeKeys, TellsLengths};
@@ -61,7 +60,7 @@ ghost use Rattle.effects.specs.Pairs.{LeavesPairs};
 ghost use Rattle.effects.specs.Taking.{Meaning, StaysItself, TakesMessage};
 ghost use Rattle.association.specs.declared.fault.MessageFault.{MessageFault};
 ghost use Rattle.effects.specs.declared.taking.Effect.{Effect};
-ghost use Rattle.effects.specs.declared.taking.Effect.TheVariants.{Counted, Identified, Refused, Repeated, Replied};
+ghost use Rattle.effects.specs.declared.taking.Effect.TheVariants.{Again, Counted, Identified, Refused, Repeated, Replied};
 
 use association::Request;
 use association::laws::{
@@ -169,7 +168,8 @@ pub fn what_is_kept_is_short()
 }
 
 /// A message leaves an association its keys; what goes out under keys goes out of an association that has them; and keys come by the
-/// response to IKE_SA_INIT alone, to an initiator that had none and asks for its child now.
+/// response to IKE_SA_INIT alone, to an initiator that had none and asks for its child now. One whose request goes out again with a cookie
+/// has none.
 pub fn keys_stay()
     ensures stay { (meaning : Meaning) (setup : Setup) (old : Association) (table : Database) (octets : Octets) (m : Message)
         (effect : Effect) (new : Association) (new_table : Database) (keys : KeyRecord) → keys_in old.phase ≡ Some keys
@@ -184,6 +184,9 @@ pub fn keys_stay()
     ensures none { (meaning : Meaning) (setup : Setup) (old : Association) (table : Database) (octets : Octets) (m : Message)
         (next : Octets) (new : Association) (new_table : Database)
         → TakesMessage meaning setup old table octets m (Identified next) new new_table → keys_in old.phase ≡ None }
+    ensures again { (meaning : Meaning) (setup : Setup) (old : Association) (table : Database) (octets : Octets) (m : Message)
+        (next : Octets) (new : Association) (new_table : Database)
+        → TakesMessage meaning setup old table octets m (Again next) new new_table → keys_in new.phase ≡ None }
 {
     repeats_say_why();
 }
@@ -499,18 +502,33 @@ pub fn nothing_comes_due()
 }
 
 /// Whatever comes, and whatever is asked, a request that waits for its answer afterwards waited before, since the same moment and as often
-/// sent; or it goes out now, and waits from now on: for the first time, or anew with a cookie (RFC 7296, sections 2.1 and 2.6).
+/// sent; or it goes out now, and waits from now on: for the first time, or anew with a cookie. And what waited waits on, unless it is
+/// answered, goes out anew, or the association ends (RFC 7296, sections 2.1 and 2.6). An association that is closed afterwards was closed
+/// before, since the same moment, or ends now.
 pub fn requests_wait_on()
     ensures taken { (meaning : Meaning) (setup : Setup) (old : Association) (table : Database) (octets : Octets) (m : Message)
-        (effect : Effect) (new : Association) (new_table : Database)
+        (effect : Effect) (new : Association) (new_table : Database) → IsSoundlyHeld old
         → TakesMessage meaning setup old table octets m effect new new_table
-        → WaitOn setup.moment (asked_by effect) old.outgoing new.outgoing }
+        → WaitOn setup.moment (asked_by effect) old new }
+    ensures until { (meaning : Meaning) (setup : Setup) (old : Association) (table : Database) (octets : Octets) (m : Message)
+        (effect : Effect) (new : Association) (new_table : Database) → IsSoundlyHeld old
+        → TakesMessage meaning setup old table octets m effect new new_table
+        → WaitUntil m.header.id effect old.outgoing new.outgoing }
+    ensures closed { (meaning : Meaning) (setup : Setup) (old : Association) (table : Database) (octets : Octets) (m : Message)
+        (effect : Effect) (new : Association) (new_table : Database) (keys : Option KeyRecord) (at : ℕ)
+        → TakesMessage meaning setup old table octets m effect new new_table → new.phase ≡ phase.Closed keys at
+        → (old.phase ≡ phase.Closed keys at) ⊎ ((at ≡ setup.moment) × Ends effect) }
     ensures begun { (cipher : Cipher) (group : ℕ) (public_value : Octets → Octets) (fresh : Fresh) (moment serial : ℕ)
-        (beginning : Beginning) (child : FirstChildView) → Begins cipher group public_value fresh moment beginning
-        → WaitOn moment (Some beginning.octets) none_issued (begun serial beginning child).outgoing }
+        (beginning : Beginning) (child : FirstChildView) (number : ℕ) (request : Request)
+        → Begins cipher group public_value fresh moment beginning
+        → map.get (begun serial beginning child).outgoing.outstanding number ≡ Some request
+        → (beginning.octets ≡ request.octets) × (request.timer ≡ record { sent = moment; repeats = 0 }) }
     ensures probed { (body_of : Keys → Octets → Octets → Octets → Octets) (setup : Setup) (old : Association) (octets : Octets)
-        (new : Association) → Probes body_of setup old octets new
-        → WaitOn setup.moment (Some octets) old.outgoing new.outgoing }
+        (new : Association) → IsSoundlyHeld old → Probes body_of setup old octets new
+        → WaitOn setup.moment (Some octets) old new }
+    ensures asked { (body_of : Keys → Octets → Octets → Octets → Octets) (setup : Setup) (old : Association) (octets : Octets)
+        (new : Association) (number : ℕ) (request : Request) → IsSoundlyHeld old → Probes body_of setup old octets new
+        → map.get old.outgoing.outstanding number ≡ Some request → map.get new.outgoing.outstanding number ≡ Some request }
 {}
 
 /// A request that took effect before is answered by the reply that is kept of it, if it opens; where none is kept any more it is refused as

@@ -7,7 +7,7 @@ use Rattle.effects.specs.Taking.{Meaning}
 use Rattle.ike.specs.Faults as faults
 use Rattle.ike.specs.Machines.{Machine}
 use Rattle.ike.specs.Moments as moments
-use Rattle.ike.specs.Moments.{ComesTo, IsTimely, StaysAt, WaitsAt}
+use Rattle.ike.specs.Moments.{ComesTo, IsTimely, StaysAt}
 use Rattle.ike.specs.Soundness.{IsSoundMachine}
 use Rattle.ike.specs.Steps as ike
 use Rattle.ike.specs.declared.fault.IkeFault.{IkeFault}
@@ -110,20 +110,17 @@ module _ {C : Type 0} (facts : MomentFacts) (meaning_of : C → Meaning) where
       record {
         said = ap tells_moment s.output ∙ told_by s.stepped.output ∙ stays.said;
         moment = stays.moment;
-        waits = λ serial number request waits. elim (stays.waits serial number request waits) [
-          | inl before ↦ inl before
-          | inr now ↦ inr (record { said = s.output ∙ ap said_by_ike now.said; timer = now.timer })
-        ];
+        stays = inr (record { stepped = s.stepped; said = s.output; stays = stays });
       }
   none_come p none sound (refused r) = record {
     said = ap tells_moment r.output;
     moment = ap (λ (m : Machine). m.moment) r.same;
-    waits = λ serial number request waits. inl (subst (λ (m : Machine). WaitsAt m.held serial number request) r.same waits);
+    stays = inl r.same;
   }
   none_come p none sound (elsewhere e) = record {
     said = told_of_packet p.said e.said;
     moment = ap (λ (m : Machine). m.moment) e.same;
-    waits = λ serial number request waits. inl (subst (λ (m : Machine). WaitsAt m.held serial number request) e.same waits);
+    stays = inl e.same;
   }
 
   -- nothing is due after a step

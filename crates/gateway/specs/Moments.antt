@@ -1,11 +1,11 @@
 -- Moments over a run: what is due comes with the first moment that reaches it, and with nothing else (RFC 7296 sections 2.1 and 2.4).
 use Rattle.std.specs.Prelude.{◌≡◌, ◌⊎◌, ℕ, Bool, true, false, Some, List, max, slice_get}
-use Rattle.association.specs.declared.phase.Request.{Request}
-use Rattle.ike.specs.Moments.{BringsDue, IsTimely, WaitsAt}
+use Rattle.ike.specs.Moments.{BringsDue, IsTimely, StaysAt}
+use Rattle.ike.specs.declared.output.Stepped.{Stepped}
 use Rattle.moments.specs.declared.ticking.Ticked.{Ticked}
 use Rattle.gateway.specs.Histories.{Passage}
 use Rattle.gateway.specs.Outputs as output
-use Rattle.gateway.specs.Outputs.{wants_memory, Said}
+use Rattle.gateway.specs.Outputs.{said_by_ike, wants_memory, Said}
 use Rattle.gateway.specs.declared.input.Input.{Input}
 use Rattle.gateway.specs.declared.input.Input.TheVariants as input
 
@@ -24,18 +24,18 @@ pub record Brings {C : Type 0} (now : ℕ) (p : Passage C) : Type 0 where
   pub brings : BringsDue now p.before.machine.held p.before.table ticked p.after.machine.held p.after.table
   pub moment : p.after.machine.moment ≡ now
 
--- a request goes out by this step, and waits from this moment on
-pub record StartsToWait (moment : ℕ) (s : Said) (serial : ℕ) (request : Request) : Type 0 where
-  pub said : s ≡ output.Request serial request.octets
-  pub timer : request.timer ≡ record { sent = moment; repeats = 0 }
+-- the step is one of the machine at which the time stands still
+pub record StandsStill {C : Type 0} (p : Passage C) : Type 0 where
+  pub stepped : Stepped
+  pub said : p.said ≡ said_by_ike stepped.output
+  pub stays : StaysAt p.before.machine stepped p.after.machine
 
--- This step brings nothing of the kind, and the time stands still: what waits for its answer waited before, since the same moment and as
--- often sent, or goes out now.
+-- This step brings nothing of the kind, and the time stands still; so do the timers of what waits and of what is held for a time, or the
+-- machine is as it was.
 pub record BringsNone {C : Type 0} (p : Passage C) : Type 0 where
   pub said : tells_moment p.said ≡ false
   pub moment : p.after.machine.moment ≡ p.before.machine.moment
-  pub waits : (serial number : ℕ) (request : Request) → WaitsAt p.after.machine.held serial number request
-      → WaitsAt p.before.machine.held serial number request ⊎ StartsToWait p.before.machine.moment p.said serial request
+  pub stays : (p.after.machine ≡ p.before.machine) ⊎ StandsStill p
 
 -- What goes out again, is closed since its peer is gone, or is held no longer comes with the first moment that has reached it, by the
 -- timers as they stand: before each step and after it nothing is due that the greatest moment so far has reached, and nothing waits from a

@@ -30,3 +30,4 @@ mod TellingLemmas
 mod MoveLemmas
 mod WaitLemmas
 mod AgainLemmas
+mod ClearLemmas

@@ -38,7 +38,7 @@ use Rattle.ike.specs.Ticking.{TakesMoment}
 use Rattle.ike.specs.declared.output.IkeOutput.{IkeOutput}
 use Rattle.ike.specs.declared.output.IkeOutput.TheVariants as output
 use Rattle.ike.specs.declared.output.Stepped.{Stepped}
-use Rattle.ike.proofs.WaitLemmas.{step_waits_on, WaitLaws}
+use Rattle.ike.proofs.WaitLemmas.{step_times, WaitLaws}
 use Rattle.ike.proofs.WayLemmas.{admitted, datagram_way, probed, rested, started, step_way, took, GoesOut, SomeWay, Way}
 
 pub record TimelyLaws : Type 0 where
@@ -206,5 +206,8 @@ step_stays laws meaning entries input old table stepped new new_table none sound
         | inl some ↦ way_tells meaning some.setup some.octets old.held table stepped new.held new_table some.way
         | inr ticked ↦ absurd (clash (is_tick input) ticked.ticks none)
       ];
-      waits = λ serial number request waits. step_waits_on laws meaning entries input old table stepped new new_table serial number request none sound is waits;
+      waits = λ serial. (step_times laws meaning entries input old table stepped new new_table serial none sound is).waits;
+      waited = λ serial. (step_times laws meaning entries input old table stepped new new_table serial none sound is).waited;
+      closed = λ serial. (step_times laws meaning entries input old table stepped new new_table serial none sound is).closed;
+      half_open = λ serial. (step_times laws meaning entries input old table stepped new new_table serial none sound is).half_open;
     }

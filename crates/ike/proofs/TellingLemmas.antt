@@ -23,11 +23,12 @@ use Rattle.effects.specs.Requests.{IsSoundlyHeld}
 use Rattle.effects.specs.declared.taking.Effect.{Effect}
 use Rattle.effects.specs.declared.taking.Effect.TheVariants as effect
 use Rattle.ike.specs.Machines.{association_of, Held}
-use Rattle.ike.specs.Moves.{ledger_at, IsSentBy, SaysNoMore, TellsClosed}
-use Rattle.ike.specs.Outputs.{asking_step, closed_of as closed_if, half_open_step, octets_in, plain_step, reply_mark, request_mark, stepped_of}
+use Rattle.ike.specs.Moves.{ledger_at, IsMadeBy, IsSentBy, SaysNoMore, TellsClosed}
+use Rattle.ike.specs.Outputs.{asking_step, child_of, closed_of as closed_if, half_open_step, octets_in, plain_step, reply_mark, request_mark, stepped_of}
 use Rattle.ike.specs.Soundness.{AreSound, At}
 use Rattle.ike.specs.declared.output.IkeOutput.{IkeOutput}
 use Rattle.ike.specs.declared.output.IkeOutput.TheVariants as output
+use Rattle.ike.specs.declared.output.MadeChild.{MadeChild}
 use Rattle.ike.specs.declared.output.Mark.{Mark}
 use Rattle.ike.specs.declared.output.Stepped.{Stepped}
 use Rattle.ike.proofs.SerialLemmas.{same_one, sound_found}
@@ -41,6 +42,7 @@ pub record IsSilent (stepped : Stepped) (serial : ℕ) : Type 0 where
   pub keyed : stepped.trace.keyed ≡ Some serial → ⊥
   pub counted : (child closed : Option ℕ) → stepped.output ≡ output.Counted serial child closed → ⊥
   pub closed : TellsClosed serial stepped.output → ⊥
+  pub child : (made : MadeChild) → stepped.trace.child ≡ Some made → made.ike ≡ serial → ⊥
 
 pub silent_tells : (old : Option Ledger) (stepped : Stepped) (serial : ℕ) (moves : List Move) → IsSilent stepped serial → SaysNoMore old stepped serial moves
 silent_tells old stepped serial moves is = record {
@@ -49,6 +51,7 @@ silent_tells old stepped serial moves is = record {
   keyed = λ keyed. absurd (is.keyed keyed);
   counted = λ child closed said. absurd (is.counted child closed said);
   closed = λ told. absurd (is.closed told);
+  child = λ made named here. absurd (is.child made named here);
 }
 
 none_marked : {T : Type 0} (x : T) → None ≡ Some x → ⊥
@@ -63,24 +66,27 @@ same_octets one other is = cc
 same_mark : (one other : Mark) → Some one ≡ Some other → one ≡ other
 same_mark one other is = cc
 
+same_child : (one other : MadeChild) → Some one ≡ Some other → one ≡ other
+same_child one other is = cc
+
 -- one whose output is of none
 pub said_silent : (old : Held) (said : IkeOutput) (serial : ℕ) → GoesOut old said → IsSilent (plain_step said) serial
 said_silent old (output.Reply octets None) serial goes =
-    record { sent = λ mark is here. none_marked mark is; again = λ ticked is. cc; keyed = λ is. none_marked serial is; counted = λ child closed is. cc; closed = λ told. told }
+    record { sent = λ mark is here. none_marked mark is; again = λ ticked is. cc; keyed = λ is. none_marked serial is; counted = λ child closed is. cc; closed = λ told. told; child = λ made named here. none_marked made named }
 said_silent old (output.Reply octets (Some closed)) serial goes = absurd goes
 said_silent old (output.Repeat octets) serial goes =
-    record { sent = λ mark is here. none_marked mark is; again = λ ticked is. cc; keyed = λ is. none_marked serial is; counted = λ child closed is. cc; closed = λ told. told }
+    record { sent = λ mark is here. none_marked mark is; again = λ ticked is. cc; keyed = λ is. none_marked serial is; counted = λ child closed is. cc; closed = λ told. told; child = λ made named here. none_marked made named }
 said_silent old (output.Request ike octets) serial goes = absurd goes
 said_silent old (output.Counted ike child closed) serial goes = absurd goes
 said_silent old (output.Ticked ticked) serial goes = absurd goes
 said_silent old output.Done serial goes =
-    record { sent = λ mark is here. none_marked mark is; again = λ ticked is. cc; keyed = λ is. none_marked serial is; counted = λ child closed is. cc; closed = λ told. told }
+    record { sent = λ mark is here. none_marked mark is; again = λ ticked is. cc; keyed = λ is. none_marked serial is; counted = λ child closed is. cc; closed = λ told. told; child = λ made named here. none_marked made named }
 said_silent old (output.Dropped f) serial goes =
-    record { sent = λ mark is here. none_marked mark is; again = λ ticked is. cc; keyed = λ is. none_marked serial is; counted = λ child closed is. cc; closed = λ told. told }
+    record { sent = λ mark is here. none_marked mark is; again = λ ticked is. cc; keyed = λ is. none_marked serial is; counted = λ child closed is. cc; closed = λ told. told; child = λ made named here. none_marked made named }
 
 pub request_silent : (ike : ℕ) (octets : Octets) (serial : ℕ) → IsSilent (plain_step (output.Request ike octets)) serial
 request_silent ike octets serial =
-    record { sent = λ mark is here. none_marked mark is; again = λ ticked is. cc; keyed = λ is. none_marked serial is; counted = λ child closed is. cc; closed = λ told. told }
+    record { sent = λ mark is here. none_marked mark is; again = λ ticked is. cc; keyed = λ is. none_marked serial is; counted = λ child closed is. cc; closed = λ told. told; child = λ made named here. none_marked made named }
 
 -- one of another association
 other_sent : (ike number serial : ℕ) (response : Bool) (mark : Mark) → serial ≢ ike → Some (record { ike = ike; response = response; number = number }) ≡ Some mark → mark.ike ≡ serial → ⊥
@@ -88,11 +94,11 @@ other_sent ike number serial response mark apart is here = apart (sym here ∙ s
 
 pub asking_silent : (ike number : ℕ) (octets : Octets) (serial : ℕ) → serial ≢ ike → IsSilent (asking_step ike number octets) serial
 asking_silent ike number octets serial apart =
-    record { sent = λ mark is here. other_sent ike number serial false mark apart is here; again = λ ticked is. cc; keyed = λ is. none_marked serial is; counted = λ child closed is. cc; closed = λ told. told }
+    record { sent = λ mark is here. other_sent ike number serial false mark apart is here; again = λ ticked is. cc; keyed = λ is. none_marked serial is; counted = λ child closed is. cc; closed = λ told. told; child = λ made named here. none_marked made named }
 
 pub half_open_silent : (ike : ℕ) (octets : Octets) (serial : ℕ) → serial ≢ ike → IsSilent (half_open_step ike octets) serial
 half_open_silent ike octets serial apart =
-    record { sent = λ mark is here. none_marked mark is; again = λ ticked is. cc; keyed = λ is. apart (sym (same_serial ike serial is)); counted = λ child closed is. cc; closed = λ told. told }
+    record { sent = λ mark is here. none_marked mark is; again = λ ticked is. cc; keyed = λ is. apart (sym (same_serial ike serial is)); counted = λ child closed is. cc; closed = λ told. told; child = λ made named here. none_marked made named }
 
 other_closed : (ike serial : ℕ) (octets : Octets) (closed : Bool) → serial ≢ ike → TellsClosed serial (output.Reply octets (closed_if ike closed)) → ⊥
 other_closed ike serial octets true apart told = apart (sym told)
@@ -105,11 +111,15 @@ other_ended ike serial child false apart told = told
 other_counted : (ike serial : ℕ) (child closed one other : Option ℕ) → serial ≢ ike → output.Counted ike child closed ≡ output.Counted serial one other → ⊥
 other_counted ike serial child closed one other apart is = let same : ike ≡ serial = cc in apart (sym same)
 
+other_child : (ike number serial : ℕ) (asked : Bool) (child : Option ℕ) (made : MadeChild) → serial ≢ ike → child_of ike number asked child ≡ Some made → made.ike ≡ serial → ⊥
+other_child ike number serial asked None made apart named here = none_marked made named
+other_child ike number serial asked (Some child) made apart named here = apart (sym here ∙ sym (ap (λ (m : MadeChild). m.ike) (same_child (record { serial = child; ike = ike; number = number; asked = asked }) made named)))
+
 pub effect_silent : (ike number : ℕ) (e : Effect) (serial : ℕ) → serial ≢ ike → IsSilent (stepped_of ike number e) serial
 effect_silent ike number (effect.Refused f) serial apart =
-    record { sent = λ mark is here. none_marked mark is; again = λ ticked is. cc; keyed = λ is. none_marked serial is; counted = λ child closed is. cc; closed = λ told. told }
+    record { sent = λ mark is here. none_marked mark is; again = λ ticked is. cc; keyed = λ is. none_marked serial is; counted = λ child closed is. cc; closed = λ told. told; child = λ made named here. none_marked made named }
 effect_silent ike number (effect.Repeated octets) serial apart =
-    record { sent = λ mark is here. other_sent ike number serial true mark apart is here; again = λ ticked is. cc; keyed = λ is. none_marked serial is; counted = λ child closed is. cc; closed = λ told. told }
+    record { sent = λ mark is here. other_sent ike number serial true mark apart is here; again = λ ticked is. cc; keyed = λ is. none_marked serial is; counted = λ child closed is. cc; closed = λ told. told; child = λ made named here. none_marked made named }
 effect_silent ike number (effect.Replied answered) serial apart =
     record {
       sent = λ mark is here. other_sent ike number serial true mark apart is here;
@@ -117,6 +127,7 @@ effect_silent ike number (effect.Replied answered) serial apart =
       keyed = λ is. none_marked serial is;
       counted = λ child closed is. cc;
       closed = λ told. other_closed ike serial answered.octets answered.closed apart told;
+      child = λ made named here. other_child ike number serial false answered.child made apart named here;
     }
 effect_silent ike number (effect.Again octets) serial apart = request_silent ike octets serial
 effect_silent ike number (effect.Identified octets) serial apart =
@@ -126,6 +137,7 @@ effect_silent ike number (effect.Identified octets) serial apart =
       keyed = λ is. apart (sym (same_serial ike serial is));
       counted = λ child closed is. cc;
       closed = λ told. told;
+      child = λ made named here. none_marked made named;
     }
 effect_silent ike number (effect.Counted ended) serial apart =
     record {
@@ -134,6 +146,7 @@ effect_silent ike number (effect.Counted ended) serial apart =
       keyed = λ is. none_marked serial is;
       counted = λ child closed is. other_counted ike serial ended.child (closed_if ike ended.closed) child closed apart is;
       closed = λ told. other_ended ike serial ended.child ended.closed apart told;
+      child = λ made named here. other_child ike number serial true ended.child made apart named here;
     }
 
 -- ---- what it says of the one that it is about
@@ -157,6 +170,22 @@ sent_by_mark moves old ike number response said mark octets is out sent =
     subst (λ (m : Mark). IsSentBy moves old m octets) (same_mark (record { ike = ike; response = response; number = number }) mark is)
     (subst (λ (o : Octets). IsSentBy moves old (record { ike = ike; response = response; number = number }) o) (same_octets said octets out) sent)
 
+-- a child is made by the move beside it
+made_so : (moves : List Move) (one other : MadeChild) → one ≡ other → IsMadeBy moves one → IsMadeBy moves other
+made_so moves one other same is = subst (λ (m : MadeChild). IsMadeBy moves m) same is
+
+replied_child : (serial number : ℕ) (reply : Octets) (closed : Bool) (child : Option ℕ) (made : MadeChild) → child_of serial number false child ≡ Some made → IsMadeBy (and_closes (TakeEffect number reply) closed) made
+replied_child serial number reply closed None made named = absurd (none_marked made named)
+replied_child serial number reply closed (Some child) made named =
+    let one : MadeChild = record { serial = child; ike = serial; number = number; asked = false } in
+    made_so (and_closes (TakeEffect number reply) closed) one made (same_child one made named) (inr (refl, (reply, first_of (TakeEffect number reply) closed)))
+
+counted_child : (serial number : ℕ) (closed : Bool) (child : Option ℕ) (made : MadeChild) → child_of serial number true child ≡ Some made → IsMadeBy (and_closes (Count number) closed) made
+counted_child serial number closed None made named = absurd (none_marked made named)
+counted_child serial number closed (Some child) made named =
+    let one : MadeChild = record { serial = child; ike = serial; number = number; asked = true } in
+    made_so (and_closes (Count number) closed) one made (same_child one made named) (inl (refl, first_of (Count number) closed))
+
 identified_says : (old : Option Ledger) (serial number : ℕ) (next : Octets) (keys : Option KeyRecord) (k : KeyRecord) → keys ≡ Some k
     → SaysNoMore old (stepped_of serial number (effect.Identified next)) serial (makes_and_issues keys next)
 identified_says old serial number next None k are = absurd (none_marked k are)
@@ -167,6 +196,7 @@ identified_says old serial number next (Some keys) k are =
       keyed = λ is. (keys, (0, omega arith, refl));
       counted = λ child closed is. cc;
       closed = λ told. absurd told;
+      child = λ made named here. absurd (none_marked made named);
     }
 
 -- what is known of an effect: a reply that goes out again is kept, and who tells its identity has keys
@@ -177,7 +207,7 @@ pub record IsEffectOf (old : Option Ledger) (number : ℕ) (keys : Option KeyRec
 pub effect_says : (old : Option Ledger) (serial number : ℕ) (keys : Option KeyRecord) (e : Effect) → IsEffectOf old number keys e → SaysNoMore old (stepped_of serial number e) serial (moves_of number keys e)
 effect_says old serial number keys (effect.Refused f) is =
     silent_tells old (stepped_of serial number (effect.Refused f)) serial []
-    (record { sent = λ mark sent here. none_marked mark sent; again = λ ticked said. cc; keyed = λ named. none_marked serial named; counted = λ child closed said. cc; closed = λ told. told })
+    (record { sent = λ mark sent here. none_marked mark sent; again = λ ticked said. cc; keyed = λ named. none_marked serial named; counted = λ child closed said. cc; closed = λ told. told; child = λ made named here. none_marked made named })
 effect_says old serial number keys (effect.Repeated reply) is =
     record {
       sent = λ mark octets sent here out. sent_by_mark [] old serial number true reply mark octets sent out (inr (refl, inr (is.kept reply refl)));
@@ -185,6 +215,7 @@ effect_says old serial number keys (effect.Repeated reply) is =
       keyed = λ named. absurd (none_marked serial named);
       counted = λ child closed said. cc;
       closed = λ told. absurd told;
+      child = λ made named here. absurd (none_marked made named);
     }
 effect_says old serial number keys (effect.Replied answered) is =
     let move = TakeEffect number answered.octets in
@@ -194,6 +225,7 @@ effect_says old serial number keys (effect.Replied answered) is =
       keyed = λ named. absurd (none_marked serial named);
       counted = λ child closed said. cc;
       closed = λ told. inr (closed_said serial move answered.octets answered.closed told);
+      child = λ made named here. replied_child serial number answered.octets answered.closed answered.child made named;
     }
 effect_says old serial number keys (effect.Again octets) is = silent_tells old (plain_step (output.Request serial octets)) serial [] (request_silent serial octets serial)
 effect_says old serial number keys (effect.Identified next) is = let has = is.keyed next refl in identified_says old serial number next keys has.0 has.1
@@ -205,6 +237,7 @@ effect_says old serial number keys (effect.Counted ended) is =
       keyed = λ named. absurd (none_marked serial named);
       counted = λ child closed said. (number, first_of move ended.closed);
       closed = λ told. inr (ended_said serial move ended.child ended.closed told);
+      child = λ made named here. counted_child serial number ended.closed ended.child made named;
     }
 
 pub asking_says : (old : Option Ledger) (serial number : ℕ) (octets : Octets) → SaysNoMore old (asking_step serial number octets) serial (Issue number octets ∷ [])
@@ -215,6 +248,7 @@ asking_says old serial number octets =
       keyed = λ named. absurd (none_marked serial named);
       counted = λ child closed said. cc;
       closed = λ told. absurd told;
+      child = λ made named here. absurd (none_marked made named);
     }
 
 pub half_open_says : (old : Option Ledger) (serial : ℕ) (octets : Octets) (keys : KeyRecord) → SaysNoMore old (half_open_step serial octets) serial (Make keys ∷ [])
@@ -225,6 +259,7 @@ half_open_says old serial octets keys =
       keyed = λ named. (keys, (0, omega arith, refl));
       counted = λ child closed said. cc;
       closed = λ told. absurd told;
+      child = λ made named here. absurd (none_marked made named);
     }
 
 -- ---- a moment
@@ -316,4 +351,5 @@ tick_says facts now old new table new_table stepped ticked serial moves sound ti
       keyed = λ named. absurd (none_marked serial (sym (ap (λ (s : Stepped). s.trace.keyed) said) ∙ named));
       counted = λ child closed is. (let clash : output.Ticked ticked ≡ output.Counted serial child closed = sym (ap (λ (s : Stepped). s.output) said) ∙ is in cc);
       closed = closes;
+      child = λ made named here. absurd (none_marked made (sym (ap (λ (s : Stepped). s.trace.child) said) ∙ named));
     }

@@ -201,6 +201,9 @@ on_soundly now a b on held = record {
         (subst (λ (e : ℕ). MayWait a.phase number e) (sym was.exchange) (held.waits number was.was was.there)))
     | inr closes ↦ (λ number request there. absurd (none_waits number request (sym (ap (λ (r : OwnRequests Request). map.get r.outstanding number) closes.requests.content) ∙ there)))
   ];
+  issued = λ number request there.
+      let was = on.requests number request there in
+      subst (λ (n : ℕ). number < n) (sym on.next) (held.issued number was.was was.there);
   took_none = λ is.
       let none = held.took_none (on_phase IsInitSent now a b on closed_waits is) in
       record { role = on.role ∙ none.role; incoming = subst (λ (r : PeerRequests). r ≡ record no_requests { room = r.room }) (sym on.incoming) none.incoming };

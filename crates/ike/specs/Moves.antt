@@ -17,6 +17,7 @@ use Rattle.ike.specs.Outputs.{octets_in, reply_mark, request_mark}
 use Rattle.ike.specs.Steps.{is_tick, InputView, Message, Probe, Secret, Start, Tick}
 use Rattle.ike.specs.declared.output.IkeOutput.{IkeOutput}
 use Rattle.ike.specs.declared.output.IkeOutput.TheVariants as output
+use Rattle.ike.specs.declared.output.MadeChild.{MadeChild}
 use Rattle.ike.specs.declared.output.Mark.{Mark}
 use Rattle.ike.specs.declared.output.Stepped.{Stepped}
 
@@ -49,14 +50,20 @@ IsSentBy moves old mark octets =
     ((mark.response ≡ false) × Contains moves (Issue mark.number octets))
     ⊎ ((mark.response ≡ true) × (Contains moves (TakeEffect mark.number octets) ⊎ KeepsReply old mark.number octets))
 
+-- this end asked for the child, and counts the answer; or the peer did, and its request takes effect
+abbrev pub IsMadeBy : List Move → MadeChild → Type 0
+IsMadeBy moves made = ((made.asked ≡ true) × Contains moves (Count made.number)) ⊎ ((made.asked ≡ false) × ((reply : Octets) × Contains moves (TakeEffect made.number reply)))
+
 -- Nothing that a step says of an association is missing among these moves: what is sent under its keys, or goes out again under them with a
--- moment, the keys that come, a response that is counted, and its end, but for one that never had keys.
+-- moment, the keys that come, a response that is counted, the child that is made, and its end, but for one that never had keys.
 pub record SaysNoMore (old : Option Ledger) (stepped : Stepped) (serial : ℕ) (moves : List Move) : Type 0 where
   pub sent : (mark : Mark) (octets : Octets) → stepped.trace.sent ≡ Some mark → mark.ike ≡ serial → octets_in stepped.output ≡ Some octets → IsSentBy moves old mark octets
   pub again : (ticked : Ticked) (r : Resent) → stepped.output ≡ output.Ticked ticked → Contains ticked.requests r → r.ike ≡ serial → r.encrypted ≡ true → WaitsWith old r.number r.octets
   pub keyed : stepped.trace.keyed ≡ Some serial → (keys : KeyRecord) × Contains moves (Make keys)
   pub counted : (child closed : Option ℕ) → stepped.output ≡ output.Counted serial child closed → (number : ℕ) × Contains moves (Count number)
   pub closed : TellsClosed serial stepped.output → (old ≡ None) ⊎ Contains moves Close
+  -- a child is made with the answer that is counted, or with the request that takes effect
+  pub child : (made : MadeChild) → stepped.trace.child ≡ Some made → made.ike ≡ serial → IsMadeBy moves made
 
 -- What is asked of a cipher: it opens what it seals with the octets that are fresh, as its law says of 16 of them.
 abbrev pub OpensFresh : Meaning → InputView → Type 0

@@ -1,13 +1,17 @@
 -- What the trace of a step names (RFC 7296 section 2.14, RFC 4301 section 4.4.2).
-use Rattle.std.specs.Prelude.{◌≡◌, ◌⊎◌, ℕ, Some, None, IsSome}
+use Rattle.std.specs.Prelude.{◌≡◌, ◌⊎◌, ℕ, Option, Some, None, IsSome, slice_get}
+use Rattle.base.specs.Octets.{Octets}
 use Rattle.suite.specs.declared.key_record.KeyRecord.{KeyRecord}
 use Rattle.sadb.specs.Database.{pair_at, Database}
 use Rattle.sadb.specs.declared.pair.Pair.{Pair}
 use Rattle.association.specs.Phases.{keys_in}
 use Rattle.association.specs.declared.phase.Association.{Association}
 use Rattle.effects.specs.Pairs.{IsUnused}
+use Rattle.effects.specs.Keeping.{kept_reply}
 use Rattle.ike.specs.Machines.{association_of, keys_of_serial, Held}
 use Rattle.ike.specs.Outputs.{octets_in}
+use Rattle.ike.specs.declared.output.IkeOutput.{IkeOutput}
+use Rattle.ike.specs.declared.output.IkeOutput.TheVariants.{Reply, Repeat, Request}
 use Rattle.ike.specs.declared.output.MadeChild.{MadeChild}
 use Rattle.ike.specs.declared.output.Mark.{Mark}
 use Rattle.ike.specs.declared.output.Stepped.{Stepped}
@@ -48,3 +52,18 @@ pub record IsTraced (old : Held) (table : Database) (stepped : Stepped) (new : H
   pub child : (made : MadeChild) → stepped.trace.child ≡ Some made → HoldsChild table made new new_table
   pub keys : (serial : ℕ) (keys : KeyRecord) → keys_of_serial serial new.associations ≡ Some keys → (keys_of_serial serial old.associations ≡ Some keys) ⊎ (stepped.trace.keyed ≡ Some serial)
   pub pairs : (serial : ℕ) (pair : Pair) → pair_at new_table.pairs serial ≡ Some pair → (pair_at table.pairs serial ≡ Some pair) ⊎ NamesChild stepped serial
+
+-- a half-open association keeps this reply
+pub record KeepsFirstReply (held : Held) (octets : Octets) : Type 0 where
+  pub place : ℕ
+  pub association : Association
+  pub there : slice_get held.associations place ≡ Some association
+  pub kept : kept_reply association.phase ≡ Some octets
+
+-- What goes out in clear: a request of an association that has no keys yet, the reply that a half-open one keeps, or an answer to
+-- IKE_SA_INIT, by which keys come or nothing changes (RFC 7296 sections 1.2 and 2.6).
+abbrev pub IsInClear : Held → Option ℕ → Held → IkeOutput → Type 0
+IsInClear old keyed new (Reply octets closed) = (closed ≡ None) × ((new ≡ old) ⊎ IsSome keyed)
+IsInClear old keyed new (Repeat octets) = KeepsFirstReply old octets
+IsInClear old keyed new (Request ike octets) = keys_of_serial ike new.associations ≡ None
+IsInClear old keyed new o = ⊥

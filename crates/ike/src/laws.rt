@@ -39,7 +39,7 @@ ghost use Rattle.ike.specs.Requests.{ComesIntoEffect, HoldsInEffect, IsAdmitted,
 ghost use Rattle.ike.specs.declared.fault.IkeFault.TheVariants as fault;
 ghost use Rattle.ike.specs.Soundness.{IsSoundMachine};
 ghost use Rattle.ike.specs.Steps.{is_tick, InputView, Message, Steps, Refuses, Tick};
-ghost use Rattle.ike.specs.Tracing.{HoldsKeys, IsTraced};
+ghost use Rattle.ike.specs.Tracing.{HoldsKeys, IsInClear, IsTraced};
 ghost use Rattle.ike.specs.declared.output.IkeOutput.TheVariants as output;
 ghost use Rattle.ike.specs.declared.output.IkeOutput.TheVariants.{Request};
 ghost use Rattle.moments.specs.Due.{outstanding_count};
@@ -122,7 +122,8 @@ pub fn few_go_out_again()
 /// What the trace of a step names is held by the machine from then on: an association under whose keys something was sent, or whose keys
 /// were made, which had none before, with its keys, and a child that was made, with its pair. And it names all that came: keys that an
 /// association did not have, and a pair that was not in the table. An association that had keys before has them as long as it is held, and
-/// what goes out again with a moment, but for a request of IKE_SA_INIT, is of one that has keys.
+/// what goes out again with a moment, but for a request of IKE_SA_INIT, is of one that has keys. What is sent at no moment and not named is in
+/// clear: a request of an association without keys, the reply that a half-open one keeps, or an answer to IKE_SA_INIT.
 pub fn traces_name_what_is_held()
     ensures traced { (meaning : Meaning) (entries : List Entry) (input : InputView) (old : Machine) (table : Database)
         (stepped : Stepped) (new : Machine) (new_table : Database) → IsSoundTable table → IsSoundMachine old table
@@ -137,6 +138,10 @@ pub fn traces_name_what_is_held()
         → IsSoundMachine old table → Steps meaning entries input old table stepped new new_table
         → stepped.output ≡ output.Ticked ticked → Contains ticked.requests request → request.encrypted ≡ true
         → HoldsKeys new.held request.ike }
+    ensures clear { (meaning : Meaning) (entries : List Entry) (input : InputView) (old : Machine) (table : Database)
+        (stepped : Stepped) (new : Machine) (new_table : Database) (octets : Octets) → IsSoundMachine old table
+        → Steps meaning entries input old table stepped new new_table → stepped.trace.sent ≡ None
+        → octets_in stepped.output ≡ Some octets → IsInClear old.held stepped.trace.keyed new.held stepped.output }
 {
     soundness_stays();
     associations_stay_themselves();
@@ -416,8 +421,10 @@ pub fn steps_are_moves()
 
 /// What is due comes with a moment that has reached it. A machine with no association has nothing due that its moment has reached
 /// (`first`), and a step leaves nothing due where nothing was (`timely`); with a moment all comes that is due then (`comes`), and it is
-/// refused for want of memory alone (`unrefused`); where no moment is given, none is told and the time stands still, and what waits for its
-/// answer waited before since the same moment, or goes out now (`stays`) (RFC 7296, sections 2.1 and 2.4).
+/// refused for want of memory alone (`unrefused`); where no moment is given, none is told and the time stands still: what waits for its
+/// answer waited before since the same moment, or goes out now, and what waited waits on, unless it is answered, goes out anew or its
+/// association ends; and a time of an association that is closed or half open begins now or began before (`stays`) (RFC 7296, sections 2.1
+/// and 2.4).
 pub fn what_is_due_comes_in_time()
     ensures first { (config : Config) → IsTimely (new_machine config) }
     ensures timely { (meaning : Meaning) (entries : List Entry) (input : InputView) (old : Machine) (table : Database)
@@ -433,6 +440,7 @@ pub fn what_is_due_comes_in_time()
         → Steps meaning entries input old table stepped new new_table → StaysAt old stepped new }
 {
     associations_stay_themselves();
+    effects::laws::requests_are_remembered();
     requests_wait_on();
     nothing_comes_due();
     nothing_is_due_afterwards();

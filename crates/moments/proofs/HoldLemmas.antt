@@ -50,6 +50,7 @@ sends_on now a b alive is =
       spi_i = ap (λ (x : Association). x.spi_i) is.content;
       spi_r = ap (λ (x : Association). x.spi_r) is.content;
       incoming = ap (λ (x : Association). x.incoming) is.content;
+      next = ap (λ (x : Association). x.outgoing.next) is.content;
       requests = λ number request there. sent_was now number a request (map.get a.outgoing.outstanding number) refl (sym (is.each number) ∙ there);
       phase = inl (alive, ap (λ (x : Association). x.phase) is.content);
     }
@@ -65,6 +66,7 @@ closes_on now a b table new_table failed is =
       spi_i = ap (λ (x : Association). x.spi_i) is.content;
       spi_r = ap (λ (x : Association). x.spi_r) is.content;
       incoming = ap (λ (x : Association). x.incoming) is.content;
+      next = ap (λ r. r.next) is.requests.content;
       requests = λ number request there. absurd (none_there number request (sym (ap (λ o. map.get o number) (ap (λ r. r.outstanding) is.requests.content)) ∙ there));
       phase = inr (record { failed = failed; requests = is.requests; content = is.content });
     }

@@ -27,6 +27,7 @@ pub record HoldsOn (now : ℕ) (a b : Association) : Type 0 where
   pub spi_i : b.spi_i ≡ a.spi_i
   pub spi_r : b.spi_r ≡ a.spi_r
   pub incoming : b.incoming ≡ a.incoming
+  pub next : b.outgoing.next ≡ a.outgoing.next
   pub requests : (number : ℕ) (request : Request) → map.get b.outgoing.outstanding number ≡ Some request → WasOutstanding a number request
   pub phase : StaysOrCloses now a b
 

@@ -1,4 +1,4 @@
-use Rattle.effects.proofs.KeepingLemmas.{keys_come, keys_remain, keys_there, none_before}
+use Rattle.effects.proofs.KeepingLemmas.{keys_come, keys_remain, keys_there, none_again, none_before}
 use Rattle.effects.proofs.laws.keys_stay.Goals as goal
 
 pub returns-clause-stay : goal.returns-clause-stay
@@ -12,3 +12,6 @@ returns-clause-come c = keys_come (record { why = c.repeats_say_why.ensures })
 
 pub returns-clause-none : goal.returns-clause-none
 returns-clause-none c = none_before
+
+pub returns-clause-again : goal.returns-clause-again
+returns-clause-again c = none_again

@@ -1,4 +1,5 @@
 use Rattle.ike.proofs.AgainLemmas.{step_again_keyed}
+use Rattle.ike.proofs.ClearLemmas.{step_clear}
 use Rattle.ike.proofs.TraceLemmas.{step_keys, step_traced}
 use Rattle.ike.proofs.laws.traces_name_what_is_held.Goals as goal
 
@@ -38,3 +39,6 @@ returns-clause-again c =
       closed = λ now old table ticked new new_table is. (c.what_comes_is_due.ensures now old table ticked new new_table is).1;
       waits = c.what_goes_out_again_is_kept.ensures.request;
     }) c.soundness_stays.ensures
+
+pub returns-clause-clear : goal.returns-clause-clear
+returns-clause-clear c = step_clear (record { itself = c.associations_stay_themselves.ensures; again = c.keys_stay.ensures.again })

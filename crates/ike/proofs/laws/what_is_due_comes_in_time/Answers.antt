@@ -20,7 +20,11 @@ returns c =
     let waits : WaitLaws = record {
       itself = c.associations_stay_themselves.ensures;
       taken = c.requests_wait_on.ensures.taken;
+      until = c.requests_wait_on.ensures.until;
+      closed = c.requests_wait_on.ensures.closed;
+      opened = c.requests_are_remembered.ensures.half_open;
       begun = c.requests_wait_on.ensures.begun;
       probed = c.requests_wait_on.ensures.probed;
+      asked = c.requests_wait_on.ensures.asked;
     } in
     record { first = λ config. All-nil (IsInTime 0); timely = step_timely laws; comes = step_comes laws; unrefused = λ meaning entries moment machine table reason is. moment_refused reason is; stays = step_stays waits }
