@@ -1,0 +1,9 @@
+mod EntryLemmas
+mod SenderLemmas
+mod RemovingLemmas
+mod LeftLemmas
+mod NamingLemmas
+mod LimitLemmas
+mod OrderLemmas
+mod RoomLemmas
+mod MirrorLemmas

@@ -1,0 +1,28 @@
+//! The request for a further child.
+ghost use Rattle.std.specs.Prelude.{◌≡◌, IfOk};
+ghost use Rattle.auth.specs.Fitting.{FitWithin};
+ghost use Rattle.children.specs.Asking.{child_request};
+ghost use Rattle.policy.specs.Narrowing.{IsSendableSelector};
+ghost use Rattle.further.specs.Payloads.{further_payloads};
+
+use crate::payloads::further_payloads;
+use base::Items;
+use children::Asked;
+use children::laws::payloads_fit;
+use std::alloc::{AllocError, Global};
+use wire::Payload;
+
+/// The payloads of a request for a further child (RFC 7296, section 1.3.1): SA, Nonce, TSi, TSr, with what [`children::ask`] asks for, and
+/// this end's nonce of 32 octets, which [`conclude_response`](crate::conclude_response) is to be given again (section 2.17). They can be
+/// sealed.
+///
+/// The caller gives selectors that a message can carry. An error is for want of memory alone.
+pub fn ask(alloc: Global, asked: &Asked, nonce: &[u8; 32]) -> Result<Items<Payload>, AllocError>
+    requires local { IsSendableSelector asked.now.local }
+    requires remote { IsSendableSelector asked.now.remote }
+    ensures payloads { IfOk result (λ payloads. payloads ≡ further_payloads (child_request asked.now) nonce.now) }
+    ensures fits { IfOk result (FitWithin 2840) }
+{
+    payloads_fit();
+    further_payloads(alloc, children::ask(alloc, asked)?, nonce)
+}

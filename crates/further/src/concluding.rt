@@ -1,0 +1,95 @@
+//! What an initiator makes of the answer to its request for a further child.
+ghost use Rattle.std.specs.Prelude.{◌≡◌, Some, IfOk};
+ghost use Rattle.replay.specs.Window.{IsBlockCount};
+ghost use Rattle.further.specs.Concluding.{Concludes, IsConclusion, KeepsTo};
+
+use crate::deciding::further_setting;
+use children::laws::what_is_accepted_was_asked;
+use children::{Asked, ChildFault, accept};
+use exchange::{Plain, has_invalid_syntax, only_nonce};
+use initial::read_chain;
+use sadb::Pair;
+use std::alloc::Global;
+use suite::KeyRecord;
+use wire::Payload;
+
+/// What comes of an answer.
+#[derive(Drop)]
+pub enum Conclusion {
+    /// The responder told INVALID_SYNTAX, by which the IKE association is over at both ends. The SPI that was reserved goes back to the
+    /// table.
+    Closes,
+    /// The child is made, and this is the initiator's pair.
+    Made(Pair),
+    /// No child is made here, and the association stands. The SPI that was reserved goes back to the table. Nothing is told to the
+    /// responder, which has its pair where it took the child for made.
+    NoChild,
+}
+
+/// What an initiator makes of the answer to what it asked by [`ask`](crate::ask) with its nonce (RFC 7296, section 1.3.1), by the payloads
+/// that the answer opened to, under the association of this serial and these keys. The first that applies, in this order:
+///
+/// 1. The payloads are not in the grammar: [`Conclusion::NoChild`], a rule of this implementation.
+/// 2. A notice INVALID_SYNTAX is there, also beside a complete child: [`Conclusion::Closes`] (section 2.21.3).
+/// 3. There is not exactly one Nonce, or [`children::accept`] doesn't accept the answer: [`Conclusion::NoChild`].
+/// 4. [`Conclusion::Made`], under the keys that come of this end's nonce and of the answer's (section 2.17), with a replay window of so
+///    many blocks, a count that [`replay::is_block_count`] allows. The pair receives under the SPI that was asked with.
+///
+/// By rules of this implementation any other notice is passed over, and so is a critical payload that is not known, against section 2.5. An
+/// error is for want of memory alone.
+pub fn conclude_response(
+    alloc: Global,
+    plain: &Plain,
+    asked: &Asked,
+    own_nonce: &[u8; 32],
+    ike: u32,
+    keys: &KeyRecord,
+    blocks: u32,
+) -> Result<Conclusion, ChildFault>
+    requires { IsBlockCount blocks }
+    ensures concluded { IfOk result (Concludes blocks ike keys.now asked.now own_nonce.now plain.now) }
+    ensures keeps { IfOk result (KeepsTo asked.now) }
+{
+    match read_chain(alloc, plain)? {
+        None => Ok(Conclusion::NoChild),
+        Some(answer) => {
+            conclude_on(
+                alloc,
+                answer.as_slice(),
+                asked,
+                own_nonce,
+                ike,
+                keys,
+                blocks,
+            )
+        }
+    }
+}
+
+// What is made of these payloads.
+fn conclude_on(
+    alloc: Global,
+    answer: &[Payload],
+    asked: &Asked,
+    own_nonce: &[u8; 32],
+    ike: u32,
+    keys: &KeyRecord,
+    blocks: u32,
+) -> Result<Conclusion, ChildFault>
+    requires { IsBlockCount blocks }
+    ensures concluded { IfOk result (IsConclusion blocks ike keys.now asked.now own_nonce.now (Some answer.now)) }
+    ensures keeps { IfOk result (KeepsTo asked.now) }
+{
+    what_is_accepted_was_asked();
+    if has_invalid_syntax(answer) {
+        return Ok(Conclusion::Closes);
+    }
+    let Some(nonce) = only_nonce(answer) else {
+        return Ok(Conclusion::NoChild);
+    };
+    let setting = further_setting(blocks, ike, keys, own_nonce, nonce);
+    match accept(alloc, answer, asked, &setting)? {
+        Some(pair) => Ok(Conclusion::Made(pair)),
+        None => Ok(Conclusion::NoChild),
+    }
+}
