@@ -33,7 +33,7 @@ use Rattle.initial.specs.Issuing.{new_request, IssuesNext}
 use Rattle.informational.specs.Answering.{is_ending, verdict_on}
 use Rattle.informational.specs.Counting.{is_rejected}
 use Rattle.informational.specs.Orders.{ClosesIf}
-use Rattle.effects.specs.Keeping.{kept_reply, sent_by, HasKeys, IsShort, KeepsShort, KeyedBy}
+use Rattle.effects.specs.Keeping.{kept_reply, octets_of_effect, HasKeys, IsShort, KeepsShort, KeyedBy}
 use Rattle.effects.specs.Taking.{Meaning, TakesMessage}
 use Rattle.initial.specs.declared.answering.Answered.{Answered}
 use Rattle.initial.specs.declared.beginning.Admitted.{Admitted}
@@ -139,7 +139,7 @@ closed_if_done false a table moment new new_table keys was is =
 
 record Leaves (e : Effect) (old new : Association) : Type 0 where
   short : KeepsShort old → KeepsShort new
-  sent : KeepsShort old → (octets : Octets) → sent_by e ≡ Some octets → IsShort octets
+  sent : KeepsShort old → (octets : Octets) → octets_of_effect e ≡ Some octets → IsShort octets
   keys : (keys : KeyRecord) → keys_in old.phase ≡ Some keys → keys_in new.phase ≡ Some keys
   come : (keys : KeyRecord) → keys_in new.phase ≡ Some keys → (keys_in old.phase ≡ Some keys) ⊎ IsAsking e
   keyed : KeyedBy e new.phase
@@ -321,7 +321,7 @@ pub short_stays : RepeatFacts → (meaning : Meaning) (setup : Setup) (old : Ass
 short_stays facts meaning setup old table octets m e new new_table short is = (leaves facts meaning setup old table octets m e new new_table is).short short
 
 pub sent_is_short : RepeatFacts → (meaning : Meaning) (setup : Setup) (old : Association) (table : Database) (octets : Octets) (m : Message) (e : Effect) (new : Association) (new_table : Database) (said : Octets)
-    → KeepsShort old → TakesMessage meaning setup old table octets m e new new_table → sent_by e ≡ Some said → IsShort said
+    → KeepsShort old → TakesMessage meaning setup old table octets m e new new_table → octets_of_effect e ≡ Some said → IsShort said
 sent_is_short facts meaning setup old table octets m e new new_table said short is named = (leaves facts meaning setup old table octets m e new new_table is).sent short said named
 
 pub keys_remain : RepeatFacts → (meaning : Meaning) (setup : Setup) (old : Association) (table : Database) (octets : Octets) (m : Message) (e : Effect) (new : Association) (new_table : Database) (keys : KeyRecord)

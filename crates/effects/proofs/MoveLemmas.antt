@@ -47,7 +47,7 @@ use Rattle.suite.specs.declared.keys.Keys.{Keys}
 use Rattle.effects.specs.Moves.{and_closes, ledger, ledger_of, ledger_with, makes_and_issues, moves_of, octets_out, put, ClosesLedger, Close, Count, Counts, Issue, Issues, KeepsReply, Lead, Ledger, Make, Makes, Move, Moves, Remove, TakeEffect, TakesEffectOnce, WaitsWith}
 use Rattle.effects.specs.Requests.{IsSoundlyHeld}
 use Rattle.effects.specs.Taking.{Meaning, TakesMessage}
-use Rattle.effects.specs.Waiting.{MayWait}
+use Rattle.effects.specs.Waiting.{MayBeOutstanding}
 use Rattle.effects.specs.declared.taking.Effect.{Effect}
 use Rattle.effects.specs.declared.taking.Effect.TheVariants as effect
 use Rattle.effects.proofs.KeepingLemmas.{established_keys}
@@ -319,14 +319,14 @@ probe_moves body_of setup old octets new is =
     (Some (with_own l is.outgoing), issued_moves l old.outgoing (new_request octets INFORMATIONAL setup.moment) is.outgoing (ap is_closed is.established) is.issued, after)
 
 -- what waits belongs to a phase that is open, and in which nothing is over
-waiting_open : (p : Phase) (number exchange : ℕ) → MayWait p number exchange → is_closed p ≡ false
+waiting_open : (p : Phase) (number exchange : ℕ) → MayBeOutstanding p number exchange → is_closed p ≡ false
 waiting_open (phase.InitSent sent) number exchange may = refl
 waiting_open (phase.AuthSent sent) number exchange may = refl
 waiting_open (phase.HalfOpen opened) number exchange may = absurd may
 waiting_open (phase.Established keys) number exchange may = refl
 waiting_open (phase.Closed keys at) number exchange may = absurd may
 
-over_waits : (now : ℕ) (p : Phase) (number exchange : ℕ) → is_over now p ≡ true → MayWait p number exchange → ⊥
+over_waits : (now : ℕ) (p : Phase) (number exchange : ℕ) → is_over now p ≡ true → MayBeOutstanding p number exchange → ⊥
 over_waits now (phase.InitSent sent) number exchange over may = cc
 over_waits now (phase.AuthSent sent) number exchange over may = cc
 over_waits now (phase.HalfOpen opened) number exchange over may = may
@@ -391,7 +391,7 @@ kept_again why meaning setup old table octets m reply new new_table is =
     let keys = with_keys (keys_in old.phase) meaning.plain_of old.role octets m.payloads repeats.plain repeats.opened in
     subst (λ (x : Option Ledger). KeepsReply x m.header.id reply) (sym (keyed old keys.0 keys.1)) repeats.kept
 
-sealed_keys : (p : Phase) (number exchange : ℕ) → MayWait p number exchange → (exchange == IKE_SA_INIT) ≡ false → (k : KeyRecord) × (keys_in p ≡ Some k)
+sealed_keys : (p : Phase) (number exchange : ℕ) → MayBeOutstanding p number exchange → (exchange == IKE_SA_INIT) ≡ false → (k : KeyRecord) × (keys_in p ≡ Some k)
 sealed_keys (phase.InitSent sent) number exchange may other = absurd (yes_no (exchange == IKE_SA_INIT) (ap (λ (e : ℕ). e == IKE_SA_INIT) may.1) other)
 sealed_keys (phase.AuthSent sent) number exchange may other = (sent.keys, refl)
 sealed_keys (phase.HalfOpen opened) number exchange may other = absurd may

@@ -55,7 +55,7 @@ use Rattle.informational.specs.Probing.{Probes}
 use Rattle.effects.specs.Keeping.{HasKeys}
 use Rattle.effects.specs.Requests.{is_concluded, takes_requests, IsPassing, IsSoundlyHeld, KeepsWindow, PutsIntoEffect, StaysConcluded}
 use Rattle.effects.specs.Taking.{prover_of, Does, DoesFurther, DoesRequest, DoesResponse, IsPassedOver, Meaning, TakesMessage}
-use Rattle.effects.specs.Waiting.{AreIssued, MayWait, TookNone, WaitFor}
+use Rattle.effects.specs.Waiting.{AreIssued, MayBeOutstanding, TookNoRequest, SuitPhase}
 use Rattle.effects.specs.declared.taking.Effect.{Effect}
 use Rattle.effects.specs.declared.taking.Effect.TheVariants as effect
 use Rattle.effects.proofs.KeepingLemmas.{established_keys}
@@ -160,7 +160,7 @@ record Concludes (a new : Association) : Type 0 where
   keys : keys_in new.phase ≡ keys_in a.phase
   role : new.role ≡ a.role
   spi_r : new.spi_r ≡ a.spi_r
-  waits : WaitFor (established_of a.phase) a.outgoing.outstanding → WaitFor new.phase new.outgoing.outstanding
+  waits : SuitPhase (established_of a.phase) a.outgoing.outstanding → SuitPhase new.phase new.outgoing.outstanding
   issued : AreIssued a.outgoing → AreIssued new.outgoing
 
 -- who is known stays so
@@ -229,7 +229,7 @@ closing_concludes laws false a table moment new new_table concluded is =
       keys = refl;
       role = refl;
       spi_r = refl;
-      waits = subst (λ (p : Phase). WaitFor p a.outgoing.outstanding) (concluded_stays a.phase concluded);
+      waits = subst (λ (p : Phase). SuitPhase p a.outgoing.outstanding) (concluded_stays a.phase concluded);
       issued = λ before. before;
     })
 
@@ -251,7 +251,7 @@ concluded_waits : (p : Phase) → is_concluded p ≡ true → IsInitSent p → �
 concluded_waits p concluded is = yes_no (is_concluded p) concluded (ap is_concluded is.is)
 
 sound_by : (old a new : Association) → a.phase ≡ old.phase → a.role ≡ old.role → a.spi_r ≡ old.spi_r → Concludes a new → KeptWell a.incoming
-    → WaitFor (established_of a.phase) a.outgoing.outstanding → AreIssued a.outgoing → IsSoundlyHeld old → IsSoundlyHeld new
+    → SuitPhase (established_of a.phase) a.outgoing.outstanding → AreIssued a.outgoing → IsSoundlyHeld old → IsSoundlyHeld new
 sound_by old a new same_phase same_role same_spi done well waits issued held =
     let after = done.well well in
     record {
@@ -278,7 +278,7 @@ window_from own old a new same_phase same (inr widened) =
 taken_leaves : (laws : FollowLaws) (own : ℕ) (old : Association) (ready incoming : PeerRequests) (number : ℕ) (reply : Octets) (new : Association)
     → HasSameRequests old.incoming ready → TakesRequest ready number reply incoming → Concludes (with_incoming old incoming) new
     → (is_concluded old.phase ≡ true → new.incoming.size ≡ incoming.size) → KeepsWindow own (with_incoming old incoming) new
-    → (WaitFor old.phase old.outgoing.outstanding → WaitFor (established_of old.phase) old.outgoing.outstanding) → Leaves own old new
+    → (SuitPhase old.phase old.outgoing.outstanding → SuitPhase (established_of old.phase) old.outgoing.outstanding) → Leaves own old new
 taken_leaves laws own old ready incoming number reply new prepared taken done size window waits = record {
   window = window_from own old (with_incoming old incoming) new refl (taken.size ∙ ap (λ (r : PeerRequests). r.size) prepared.content) window;
   follows = laws.transitive old.incoming incoming new.incoming
@@ -292,7 +292,7 @@ taken_leaves laws own old ready incoming number reply new prepared taken done si
 -- a response was counted
 counted_leaves : (laws : FollowLaws) (own : ℕ) (old a new : Association) → a.incoming ≡ old.incoming → a.phase ≡ old.phase → a.role ≡ old.role → a.spi_r ≡ old.spi_r
     → Concludes a new → (is_concluded old.phase ≡ true → new.incoming.size ≡ old.incoming.size) → KeepsWindow own a new
-    → (WaitFor old.phase old.outgoing.outstanding → WaitFor (established_of a.phase) a.outgoing.outstanding) → (AreIssued old.outgoing → AreIssued a.outgoing) → Leaves own old new
+    → (SuitPhase old.phase old.outgoing.outstanding → SuitPhase (established_of a.phase) a.outgoing.outstanding) → (AreIssued old.outgoing → AreIssued a.outgoing) → Leaves own old new
 counted_leaves laws own old a new same same_phase same_role same_spi done size window waits issued = record {
   window = window_from own old a new same_phase (ap (λ (r : PeerRequests). r.size) same) window;
   follows = subst (λ (r : PeerRequests). FollowsIncoming r new.incoming) same done.follows;
@@ -319,7 +319,7 @@ auth_opens sent opened is = cc
 -- it waits for a response still, and no reply is kept yet
 early_leaves : (laws : FollowLaws) (own : ℕ) (old new : Association) (p : Phase) → new.incoming ≡ old.incoming → old.phase ≡ p → is_concluded p ≡ false
     → ((opened : HalfOpen) → new.phase ≡ phase.HalfOpen opened → old.phase ≡ phase.HalfOpen opened)
-    → (HasKeys new.phase → new.role ≡ Initiator → new.spi_r ≢ 0) → (WaitFor p old.outgoing.outstanding → WaitFor new.phase new.outgoing.outstanding)
+    → (HasKeys new.phase → new.role ≡ Initiator → new.spi_r ≢ 0) → (SuitPhase p old.outgoing.outstanding → SuitPhase new.phase new.outgoing.outstanding)
     → (IsInitSent new.phase → IsInitSent p) → new.role ≡ old.role → (AreIssued old.outgoing → AreIssued new.outgoing) → Leaves own old new
 early_leaves laws own old new p same was open_yet opens named waits begins role issued = record {
   window = inl (ap (λ (r : PeerRequests). r.size) same);
@@ -334,7 +334,7 @@ early_leaves laws own old new p same was open_yet opens named waits begins role 
         concluded = λ number reply kept.
             absurd (yes_no (is_concluded p) (sym (ap is_concluded was) ∙ held.concluded number reply (ap (λ (r : PeerRequests). map.get r.kept number) (sym same) ∙ kept)) open_yet);
         named = named;
-        waits = waits (subst (λ (q : Phase). WaitFor q old.outgoing.outstanding) was held.waits);
+        waits = waits (subst (λ (q : Phase). SuitPhase q old.outgoing.outstanding) was held.waits);
         issued = issued held.issued;
         took_none = λ is.
             let none = held.took_none (subst (λ (q : Phase). IsInitSent q) (sym was) (begins is)) in
@@ -345,11 +345,11 @@ early_leaves laws own old new p same was open_yet opens named waits begins role 
 -- ---- what waits for an answer
 
 -- one more waits, or another in its place
-inserted_waits : (outstanding : map.FinMap nat_cmp Request) (p : Phase) (n : ℕ) (request : Request) → WaitFor p outstanding → MayWait p n request.exchange → WaitFor p (map.insert outstanding n request)
+inserted_waits : (outstanding : map.FinMap nat_cmp Request) (p : Phase) (n : ℕ) (request : Request) → SuitPhase p outstanding → MayBeOutstanding p n request.exchange → SuitPhase p (map.insert outstanding n request)
 inserted_waits outstanding p n request before may number found there = elim (eqb_tells number n) [
   | inl (one, same) ↦ (let is : Some request ≡ Some found = sym (map.get-insert nat_cmp_total outstanding n request number ∙ ap (λ b. cond b (Some request) (map.get outstanding number)) (unsigned_tied number n ∙ one)) ∙ there in
       let its : request ≡ found = cc in
-      subst (λ (k : ℕ). MayWait p k found.exchange) (sym same) (subst (λ (r : Request). MayWait p n r.exchange) its may))
+      subst (λ (k : ℕ). MayBeOutstanding p k found.exchange) (sym same) (subst (λ (r : Request). MayBeOutstanding p n r.exchange) its may))
   | inr (none, apart) ↦ before number found (sym (map.get-insert nat_cmp_total outstanding n request number ∙ ap (λ b. cond b (Some request) (map.get outstanding number)) (unsigned_tied number n ∙ none)) ∙ there)
 ]
 
@@ -403,29 +403,29 @@ replaced_issued old number was request new is before n found there =
     ]
 
 fewer_wait : (keys : KeyRecord) (old : OwnRequests Request) (number : ℕ) (request : Request) (new : OwnRequests Request) → CountsAnswer old number request new
-    → WaitFor (phase.Established keys) old.outstanding → WaitFor (phase.Established keys) new.outstanding
+    → SuitPhase (phase.Established keys) old.outstanding → SuitPhase (phase.Established keys) new.outstanding
 fewer_wait keys old number request new is before n found there = before n found (counted_out old number request new n found is there).there
 
 -- IKE_AUTH alone was asked
 asked_once : (sent : AuthSent) (old : OwnRequests Request) (number : ℕ) (request : Request) (new : OwnRequests Request) → CountsAnswer old number request new
-    → WaitFor (phase.AuthSent sent) old.outstanding → WaitFor (phase.Established sent.keys) new.outstanding
+    → SuitPhase (phase.AuthSent sent) old.outstanding → SuitPhase (phase.Established sent.keys) new.outstanding
 asked_once sent old number request new is before n found there =
     let still = counted_out old number request new n found is there in
     absurd (still.other ((before n found still.there).0 ∙ sym (before number request is.there).0))
 
 replaced_waits : (old new : Association) (sent : InitSent) (number : ℕ) (was request : Request) → request.exchange ≡ IKE_SA_INIT → ReplacesRequest old.outgoing number was request new.outgoing
-    → (later : InitSent) → new.phase ≡ phase.InitSent later → WaitFor (phase.InitSent sent) old.outgoing.outstanding → WaitFor new.phase new.outgoing.outstanding
+    → (later : InitSent) → new.phase ≡ phase.InitSent later → SuitPhase (phase.InitSent sent) old.outgoing.outstanding → SuitPhase new.phase new.outgoing.outstanding
 replaced_waits old new sent number was request exchange is later comes before =
-    subst (λ (p : Phase). WaitFor p new.outgoing.outstanding) (sym comes)
-    (subst (λ (r : OwnRequests Request). WaitFor (phase.InitSent later) r.outstanding) (sym is.content)
+    subst (λ (p : Phase). SuitPhase p new.outgoing.outstanding) (sym comes)
+    (subst (λ (r : OwnRequests Request). SuitPhase (phase.InitSent later) r.outstanding) (sym is.content)
     (inserted_waits old.outgoing.outstanding (phase.InitSent later) number request before ((before number was is.there).0, exchange)))
 
-issued_waits : (new : Association) (p : Phase) (old : OwnRequests Request) (request : Request) → new.phase ≡ p → IssuesNext old request new.outgoing → WaitFor p old.outstanding → MayWait p old.next request.exchange
-    → WaitFor new.phase new.outgoing.outstanding
+issued_waits : (new : Association) (p : Phase) (old : OwnRequests Request) (request : Request) → new.phase ≡ p → IssuesNext old request new.outgoing → SuitPhase p old.outstanding → MayBeOutstanding p old.next request.exchange
+    → SuitPhase new.phase new.outgoing.outstanding
 issued_waits new p old request same is before may =
-    subst (λ (q : Phase). WaitFor q new.outgoing.outstanding) (sym same)
-    (subst (λ (r : OwnRequests Request). WaitFor p r.outstanding) (sym is.issued.content)
-    (inserted_waits is.ready.outstanding p old.next request (subst (λ (r : OwnRequests Request). WaitFor p r.outstanding) (sym is.prepared.content) before) may))
+    subst (λ (q : Phase). SuitPhase q new.outgoing.outstanding) (sym same)
+    (subst (λ (r : OwnRequests Request). SuitPhase p r.outstanding) (sym is.issued.content)
+    (inserted_waits is.ready.outstanding p old.next request (subst (λ (r : OwnRequests Request). SuitPhase p r.outstanding) (sym is.prepared.content) before) may))
 
 auth_begins : (new : Association) (sent : AuthSent) → new.phase ≡ phase.AuthSent sent → IsInitSent new.phase → ⊥
 auth_begins new sent same waits = let is : phase.AuthSent sent ≡ phase.InitSent waits.sent = sym same ∙ waits.is in cc
@@ -440,21 +440,21 @@ way_leaves laws meaning setup old table octets m (effect.Replied answered) new n
     (auth_concludes laws setup (with_incoming old d.incoming) d.between (outcome_of d.decision) answered.child new new_table d.opened.keys (ap established_of d.was) d.concluded)
     (not_yet old.phase (phase.HalfOpen d.opened) new.incoming.size d.incoming.size d.was refl)
     (auth_window setup (with_incoming old d.incoming) d.between (outcome_of d.decision) answered.child new new_table d.opened.keys (ap is_concluded d.was) (ap established_of d.was) d.concluded)
-    (subst (λ (p : Phase). WaitFor p old.outgoing.outstanding → WaitFor (established_of p) old.outgoing.outstanding) (sym d.was) (λ waits number request there. absurd (waits number request there)))
+    (subst (λ (p : Phase). SuitPhase p old.outgoing.outstanding → SuitPhase (established_of p) old.outgoing.outstanding) (sym d.was) (λ waits number request there. absurd (waits number request there)))
 way_leaves laws meaning setup old table octets m (effect.Replied answered) new new_table (inr is) =
     let d = is.done in
     taken_leaves laws setup.config.window old d.ready d.incoming m.header.id answered.octets new d.prepared d.taken
     (closing_concludes laws (is_ending (verdict_on d.payloads)) (with_incoming old d.incoming) table setup.moment new new_table (ap is_concluded d.established) d.concluded)
     (λ concluded. size_if (is_ending (verdict_on d.payloads)) (with_incoming old d.incoming) table setup.moment new new_table d.concluded)
     (inl (size_if (is_ending (verdict_on d.payloads)) (with_incoming old d.incoming) table setup.moment new new_table d.concluded))
-    (subst (λ (p : Phase). WaitFor p old.outgoing.outstanding → WaitFor (established_of p) old.outgoing.outstanding) (sym d.established) (λ waits. waits))
+    (subst (λ (p : Phase). SuitPhase p old.outgoing.outstanding → SuitPhase (established_of p) old.outgoing.outstanding) (sym d.established) (λ waits. waits))
 way_leaves laws meaning setup old table octets m (effect.Counted ended) new new_table (inl is) =
     let d = is.done in
     counted_leaves laws setup.config.window old (with_outgoing old d.outgoing) new refl refl refl refl
     (auth_concludes laws setup (with_outgoing old d.outgoing) table d.verdict ended.child new new_table d.sent.keys (ap established_of d.was) d.concluded)
     (not_yet old.phase (phase.AuthSent d.sent) new.incoming.size old.incoming.size d.was refl)
     (auth_window setup (with_outgoing old d.outgoing) table d.verdict ended.child new new_table d.sent.keys (ap is_concluded d.was) (ap established_of d.was) d.concluded)
-    (subst (λ (p : Phase). WaitFor p old.outgoing.outstanding → WaitFor (established_of p) d.outgoing.outstanding) (sym d.was) (asked_once d.sent old.outgoing m.header.id d.request d.outgoing d.counted))
+    (subst (λ (p : Phase). SuitPhase p old.outgoing.outstanding → SuitPhase (established_of p) d.outgoing.outstanding) (sym d.was) (asked_once d.sent old.outgoing m.header.id d.request d.outgoing d.counted))
     (fewer_issued old.outgoing m.header.id d.request d.outgoing d.counted)
 way_leaves laws meaning setup old table octets m (effect.Counted ended) new new_table (inr is) =
     let d = is.done in
@@ -462,7 +462,7 @@ way_leaves laws meaning setup old table octets m (effect.Counted ended) new new_
     (closing_concludes laws (is_rejected d.payloads) (with_outgoing old d.outgoing) table setup.moment new new_table (ap is_concluded is.was) d.concluded)
     (λ concluded. size_if (is_rejected d.payloads) (with_outgoing old d.outgoing) table setup.moment new new_table d.concluded)
     (inl (size_if (is_rejected d.payloads) (with_outgoing old d.outgoing) table setup.moment new new_table d.concluded))
-    (subst (λ (p : Phase). WaitFor p old.outgoing.outstanding → WaitFor (established_of p) d.outgoing.outstanding) (sym is.was) (fewer_wait is.keys old.outgoing m.header.id d.request d.outgoing d.counted))
+    (subst (λ (p : Phase). SuitPhase p old.outgoing.outstanding → SuitPhase (established_of p) d.outgoing.outstanding) (sym is.was) (fewer_wait is.keys old.outgoing m.header.id d.request d.outgoing d.counted))
     (fewer_issued old.outgoing m.header.id d.request d.outgoing d.counted)
 way_leaves laws meaning setup old table octets m (effect.Again next) new new_table is = early_leaves laws setup.config.window old new (phase.InitSent is.sent) (ap (λ (x : Association). x.incoming) is.done.content) is.was refl (λ opened opens. absurd (init_opens _ opened (sym (ap (λ (x : Association). x.phase) is.done.content) ∙ opens)))
     (λ keyed initiator zero. some_none keyed.keys (sym (ap (λ (x : Association). keys_in x.phase) is.done.content) ∙ keyed.are))
@@ -554,7 +554,7 @@ probed_sound body_of setup old octets new held is =
       concluded = held.concluded;
       named = held.named;
       waits = issued_waits (with_outgoing old is.outgoing) (phase.Established is.keys) old.outgoing (new_request octets INFORMATIONAL setup.moment) is.established is.issued
-          (subst (λ (p : Phase). WaitFor p old.outgoing.outstanding) is.established held.waits) refl;
+          (subst (λ (p : Phase). SuitPhase p old.outgoing.outstanding) is.established held.waits) refl;
       issued = next_issued old.outgoing (new_request octets INFORMATIONAL setup.moment) is.outgoing is.issued held.issued;
       took_none = λ waits. absurd (established_begins old is.keys is.established waits);
     })

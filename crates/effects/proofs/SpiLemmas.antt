@@ -25,7 +25,7 @@ use Rattle.initial.specs.Reading.{IsInitSent}
 use Rattle.informational.specs.Answering.{is_ending, verdict_on, AnswersInformational}
 use Rattle.informational.specs.Counting.{is_rejected}
 use Rattle.informational.specs.Orders.{ClosesIf}
-use Rattle.effects.specs.Taking.{prover_of, IsPassedOver, Meaning, StaysItself, TakesMessage}
+use Rattle.effects.specs.Taking.{prover_of, IsPassedOver, Meaning, KeepsIdentity, TakesMessage}
 use Rattle.initial.specs.declared.answering.Answered.{Answered}
 use Rattle.initial.specs.declared.concluding.Outcome.{Outcome}
 use Rattle.initial.specs.declared.concluding.Outcome.TheVariants as outcome
@@ -78,13 +78,13 @@ idle_by (effect.Counted ended) old new table new_table same = tt
 record Leaves (e : Effect) (old : Association) (table : Database) (new : Association) (new_table : Database) : Type 0 where
   idle : Idle e old table new new_table
   spi : (held_by new ≡ None) ⊎ ((held_by new ≡ held_by old) × (new_table ≡ table))
-  itself : StaysItself old new
+  itself : KeepsIdentity old new
   pairs : LeavesPairs table old.serial new_table
 
-itself_by : (old is new : Association) → new ≡ is → StaysItself old is → StaysItself old new
-itself_by old is new same itself = subst (λ (a : Association). StaysItself old a) (sym same) itself
+itself_by : (old is new : Association) → new ≡ is → KeepsIdentity old is → KeepsIdentity old new
+itself_by old is new same itself = subst (λ (a : Association). KeepsIdentity old a) (sym same) itself
 
-all_itself : (old : Association) → StaysItself old old
+all_itself : (old : Association) → KeepsIdentity old old
 all_itself old = record { serial = refl; role = refl; spi_i = refl; spi_r = inl refl; waiting = λ w. w; asking = λ s. inr s; half_open = λ h. h }
 
 unchanged_leaves : (table : Database) (ike : ℕ) (new_table : Database) → new_table ≡ table → LeavesPairs table ike new_table
@@ -118,7 +118,7 @@ waiting_opens : (sent : InitSent) (opened : HalfOpen) → phase.InitSent sent �
 waiting_opens sent opened is = cc
 
 -- when it is over
-over_itself : (old : Association) (table : Database) (moment : ℕ) (new : Association) (new_table : Database) → Closes old table moment new new_table → StaysItself old new
+over_itself : (old : Association) (table : Database) (moment : ℕ) (new : Association) (new_table : Database) → Closes old table moment new new_table → KeepsIdentity old new
 over_itself old table moment new new_table is =
     itself_by old (record old { outgoing = new.outgoing; phase = phase.Closed (keys_in old.phase) moment }) new is.content
     (record {
@@ -131,13 +131,13 @@ over_itself old table moment new new_table is =
       half_open = λ h. absurd (closed_opens (keys_in old.phase) moment h.opened h.is);
     })
 
-closed_if_itself : (ending : Bool) (old : Association) (table : Database) (moment : ℕ) (new : Association) (new_table : Database) → ClosesIf ending old table moment new new_table → StaysItself old new
+closed_if_itself : (ending : Bool) (old : Association) (table : Database) (moment : ℕ) (new : Association) (new_table : Database) → ClosesIf ending old table moment new new_table → KeepsIdentity old new
 closed_if_itself true old table moment new new_table is = over_itself old table moment new new_table is
 closed_if_itself false old table moment new new_table is = itself_by old old new is.0 (all_itself old)
 
 -- when IKE_AUTH is done
 concluded_itself : (setup : Setup) (old : Association) (table : Database) (o : Outcome) (child : Option ℕ) (new : Association) (new_table : Database) (keys : KeyRecord)
-    → established_of old.phase ≡ phase.Established keys → ConcludesBy setup old table o child new new_table → StaysItself old new
+    → established_of old.phase ≡ phase.Established keys → ConcludesBy setup old table o child new new_table → KeepsIdentity old new
 concluded_itself setup old table outcome.Closes child new new_table keys was c = over_itself old table setup.moment new new_table c.over
 concluded_itself setup old table (outcome.Establishes pair window) child new new_table keys was c =
     itself_by old (widened setup.config.window window (established old)) new c.content
@@ -153,7 +153,7 @@ concluded_itself setup old table (outcome.Establishes pair window) child new new
 
 -- what has the same names and phase
 like : (is old new : Association) → is.serial ≡ old.serial → is.role ≡ old.role → is.spi_i ≡ old.spi_i → is.spi_r ≡ old.spi_r → is.phase ≡ old.phase
-    → StaysItself is new → StaysItself old new
+    → KeepsIdentity is new → KeepsIdentity old new
 like is old new serial role spi_i spi_r phase_is stays =
     record {
       serial = stays.serial ∙ serial;
@@ -292,7 +292,7 @@ none_comes meaning setup old table octets m e new new_table spi held is =
     some_held old new table new_table spi held (leaves meaning setup old table octets m e new new_table is).spi
 
 pub stays_itself : (meaning : Meaning) (setup : Setup) (old : Association) (table : Database) (octets : Octets) (m : Message) (e : Effect) (new : Association) (new_table : Database)
-    → TakesMessage meaning setup old table octets m e new new_table → StaysItself old new
+    → TakesMessage meaning setup old table octets m e new new_table → KeepsIdentity old new
 stays_itself meaning setup old table octets m e new new_table is = (leaves meaning setup old table octets m e new new_table is).itself
 
 pub passed_over : (meaning : Meaning) (setup : Setup) (old : Association) (table : Database) (octets : Octets) (m : Message) (fault : MessageFault) (new : Association) (new_table : Database)

@@ -35,7 +35,7 @@ use Rattle.informational.specs.Orders.{ClosesIf}
 use Rattle.informational.specs.Probing.{Probes}
 use Rattle.effects.specs.Taking.{Meaning, TakesMessage}
 use Rattle.effects.specs.Requests.{IsSoundlyHeld}
-use Rattle.effects.specs.Waiting.{asked_by, Ends, GoesOut, StopsWaiting, TakesCookie, WaitFor, WaitOn, WaitUntil}
+use Rattle.effects.specs.Waiting.{asked_by, Ends, StartsWaiting, WaitsNoMore, TakesCookie, SuitPhase, KeepTimers, WaitUntil}
 use Rattle.effects.specs.declared.taking.Effect.{Effect}
 use Rattle.effects.specs.declared.taking.Effect.TheVariants as effect
 use Rattle.effects.proofs.MapLemmas.{some_none}
@@ -49,7 +49,7 @@ Fewer old new = (number : ℕ) (request : Request) → map.get new.outstanding n
 abbrev Keeps : OwnRequests Request → OwnRequests Request → Type 0
 Keeps old new = (number : ℕ) (request : Request) → map.get old.outstanding number ≡ Some request → map.get new.outstanding number ≡ Some request
 
-fewer_wait : (moment : ℕ) (sent : Option Octets) (old new : Association) → Fewer old.outgoing new.outgoing → WaitOn moment sent old new
+fewer_wait : (moment : ℕ) (sent : Option Octets) (old new : Association) → Fewer old.outgoing new.outgoing → KeepTimers moment sent old new
 fewer_wait moment sent old new fewer number request there = inl (fewer number request there)
 
 counted_fewer : (old : OwnRequests Request) (number : ℕ) (request : Request) (new : OwnRequests Request) → CountsAnswer old number request new → Fewer old new
@@ -92,8 +92,8 @@ closed_keeps true a table moment new new_table is = inr refl
 closed_keeps false a table moment new new_table is = inl (λ number request there. ap (λ (x : Association). map.get x.outgoing.outstanding number) is.0 ∙ there)
 
 goes_out : (octets : Octets) (exchange moment : ℕ) (old new : Association) (number : ℕ) (found : Request) → (map.get old.outgoing.outstanding number ≡ None) ⊎ TakesCookie old new → new_request octets exchange moment ≡ found
-    → GoesOut moment (Some octets) old new number found
-goes_out octets exchange moment old new number found fresh is = subst (λ (r : Request). GoesOut moment (Some octets) old new number r) is (record { said = refl; timer = refl; fresh = fresh })
+    → StartsWaiting moment (Some octets) old new number found
+goes_out octets exchange moment old new number found fresh is = subst (λ (r : Request). StartsWaiting moment (Some octets) old new number r) is (record { said = refl; timer = refl; fresh = fresh })
 
 none_by : (o : Option Request) → ((request : Request) → o ≡ Some request → ⊥) → o ≡ None
 none_by None never = refl
@@ -113,10 +113,10 @@ none_first number request there = some_none request (sym (map.get-empty {X = Req
 
 -- number 0 alone waits for the response to IKE_SA_INIT
 init_number : (old : Association) (sent : InitSent) (number : ℕ) (request : Request) → IsSoundlyHeld old → old.phase ≡ phase.InitSent sent → map.get old.outgoing.outstanding number ≡ Some request → number ≡ 0
-init_number old sent number request held was there = (subst (λ (p : Phase). WaitFor p old.outgoing.outstanding) was held.waits number request there).0
+init_number old sent number request held was there = (subst (λ (p : Phase). SuitPhase p old.outgoing.outstanding) was held.waits number request there).0
 
 way_waits : (meaning : Meaning) (setup : Setup) (old : Association) (table : Database) (octets : Octets) (m : Message) (e : Effect) (new : Association) (new_table : Database)
-    → IsSoundlyHeld old → Way meaning setup old table octets m e new new_table → WaitOn setup.moment (asked_by e) old new
+    → IsSoundlyHeld old → Way meaning setup old table octets m e new new_table → KeepTimers setup.moment (asked_by e) old new
 way_waits meaning setup old table octets m (effect.Refused fault) new new_table held is = λ number request there. inl (sym (ap (λ (x : Association). map.get x.outgoing.outstanding number) is.association) ∙ there)
 way_waits meaning setup old table octets m (effect.Repeated reply) new new_table held is = λ number request there. inl (sym (ap (λ (x : Association). map.get x.outgoing.outstanding number) is.same.association) ∙ there)
 way_waits meaning setup old table octets m (effect.Replied answered) new new_table held (inl is) =
@@ -150,7 +150,7 @@ way_waits meaning setup old table octets m (effect.Identified next) new new_tabl
     ]
 
 pub message_waits : (meaning : Meaning) (setup : Setup) (old : Association) (table : Database) (octets : Octets) (m : Message) (e : Effect) (new : Association) (new_table : Database)
-    → IsSoundlyHeld old → TakesMessage meaning setup old table octets m e new new_table → WaitOn setup.moment (asked_by e) old new
+    → IsSoundlyHeld old → TakesMessage meaning setup old table octets m e new new_table → KeepTimers setup.moment (asked_by e) old new
 message_waits meaning setup old table octets m e new new_table held is = way_waits meaning setup old table octets m e new new_table held (way_of meaning setup old table octets m e new new_table is)
 
 -- ---- and what waited
@@ -254,7 +254,7 @@ message_closes meaning setup old table octets m e new new_table keys at is = way
 -- ---- as an association asks, and begins
 
 pub probe_waits : (body_of : Keys → Octets → Octets → Octets → Octets) (setup : Setup) (old : Association) (octets : Octets) (new : Association) → IsSoundlyHeld old → Probes body_of setup old octets new
-    → WaitOn setup.moment (Some octets) old new
+    → KeepTimers setup.moment (Some octets) old new
 probe_waits body_of setup old octets new held is number found there =
     elim (issued_put old.outgoing (new_request octets INFORMATIONAL setup.moment) is.outgoing number found is.issued (sym (ap (λ (x : Association). map.get x.outgoing.outstanding number) is.content) ∙ there)) [
       | inl before ↦ inl before

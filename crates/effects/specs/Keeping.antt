@@ -28,13 +28,13 @@ pub record KeepsShort (a : Association) : Type 0 where
   pub first : (reply : Octets) → kept_reply a.phase ≡ Some reply → IsShort reply
 
 -- what goes out by an effect
-abbrev pub sent_by : Effect → Option Octets
-sent_by (effect.Refused fault) = None
-sent_by (effect.Repeated octets) = Some octets
-sent_by (effect.Replied answered) = Some answered.octets
-sent_by (effect.Again octets) = Some octets
-sent_by (effect.Identified octets) = Some octets
-sent_by (effect.Counted ended) = None
+abbrev pub octets_of_effect : Effect → Option Octets
+octets_of_effect (effect.Refused fault) = None
+octets_of_effect (effect.Repeated octets) = Some octets
+octets_of_effect (effect.Replied answered) = Some answered.octets
+octets_of_effect (effect.Again octets) = Some octets
+octets_of_effect (effect.Identified octets) = Some octets
+octets_of_effect (effect.Counted ended) = None
 
 -- the serial of the child that was made
 abbrev pub child_in : Effect → Option ℕ

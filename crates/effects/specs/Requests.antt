@@ -18,7 +18,7 @@ use Rattle.association.specs.declared.phase.Phase.TheVariants.{HalfOpen, Establi
 use Rattle.initial.specs.Reading.{IsInitSent}
 use Rattle.initial.specs.declared.answering.Answered.{Answered}
 use Rattle.effects.specs.Keeping.{HasKeys}
-use Rattle.effects.specs.Waiting.{AreIssued, TookNone, WaitFor}
+use Rattle.effects.specs.Waiting.{AreIssued, TookNoRequest, SuitPhase}
 use Rattle.effects.specs.declared.taking.Effect.{Effect}
 use Rattle.effects.specs.declared.taking.Effect.TheVariants as effect
 
@@ -83,9 +83,9 @@ pub record IsSoundlyHeld (a : Association) : Type 0 where
   pub near : (number : ℕ) (reply : Octets) → map.get a.incoming.kept number ≡ Some reply → ¬ IsLeftBehind a.incoming number
   pub concluded : (number : ℕ) (reply : Octets) → map.get a.incoming.kept number ≡ Some reply → is_concluded a.phase ≡ true
   pub named : HasKeys a.phase → a.role ≡ Initiator → a.spi_r ≢ 0
-  pub waits : WaitFor a.phase a.outgoing.outstanding
+  pub waits : SuitPhase a.phase a.outgoing.outstanding
   pub issued : AreIssued a.outgoing
-  pub took_none : IsInitSent a.phase → TookNone a
+  pub took_none : IsInitSent a.phase → TookNoRequest a
 
 -- what a message leaves of the peer's requests, once IKE_AUTH is done: their window stays as wide
 pub record StaysConcluded (old new : Association) : Type 0 where

@@ -136,7 +136,7 @@ reception_of taken.InitialResponse = AnswersInitial
 -- A message leaves an association its serial, its role and its SPIs, but that an initiator learns the responder's from the response to
 -- IKE_SA_INIT; none comes back to a phase in which an association begins, and who waits for the response to IKE_AUTH waited for that
 -- one or for the response to IKE_SA_INIT before.
-pub record StaysItself (old new : Association) : Type 0 where
+pub record KeepsIdentity (old new : Association) : Type 0 where
   pub serial : new.serial ≡ old.serial
   pub role : new.role ≡ old.role
   pub spi_i : new.spi_i ≡ old.spi_i

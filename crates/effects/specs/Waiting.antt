@@ -16,19 +16,19 @@ use Rattle.effects.specs.declared.taking.Effect.{Effect}
 use Rattle.effects.specs.declared.taking.Effect.TheVariants as effect
 
 -- a request of this number and exchange may wait for its answer in the phase
-abbrev pub MayWait : Phase → ℕ → ℕ → Type 0
-MayWait (InitSent sent) number exchange = (number ≡ 0) × (exchange ≡ IKE_SA_INIT)
-MayWait (AuthSent sent) number exchange = (number ≡ 1) × (exchange ≡ IKE_AUTH)
-MayWait (HalfOpen opened) number exchange = ⊥
-MayWait (Established keys) number exchange = exchange ≡ INFORMATIONAL
-MayWait (Closed keys at) number exchange = ⊥
+abbrev pub MayBeOutstanding : Phase → ℕ → ℕ → Type 0
+MayBeOutstanding (InitSent sent) number exchange = (number ≡ 0) × (exchange ≡ IKE_SA_INIT)
+MayBeOutstanding (AuthSent sent) number exchange = (number ≡ 1) × (exchange ≡ IKE_AUTH)
+MayBeOutstanding (HalfOpen opened) number exchange = ⊥
+MayBeOutstanding (Established keys) number exchange = exchange ≡ INFORMATIONAL
+MayBeOutstanding (Closed keys at) number exchange = ⊥
 
 -- no other waits
-abbrev pub WaitFor : Phase → map.FinMap nat_cmp Request → Type 0
-WaitFor p outstanding = (number : ℕ) (request : Request) → map.get outstanding number ≡ Some request → MayWait p number request.exchange
+abbrev pub SuitPhase : Phase → map.FinMap nat_cmp Request → Type 0
+SuitPhase p outstanding = (number : ℕ) (request : Request) → map.get outstanding number ≡ Some request → MayBeOutstanding p number request.exchange
 
 -- this end began the association, and took no request under it yet
-pub record TookNone (a : Association) : Type 0 where
+pub record TookNoRequest (a : Association) : Type 0 where
   pub role : a.role ≡ Initiator
   pub incoming : a.incoming ≡ record no_requests { room = a.incoming.room }
 
@@ -51,15 +51,15 @@ pub record TakesCookie (old new : Association) : Type 0 where
   pub taken : after.cookies_taken ≡ before.cookies_taken + 1
 
 -- It goes out at this moment, and waits from then on: for the first time, or anew with a cookie.
-pub record GoesOut (moment : ℕ) (sent : Option Octets) (old new : Association) (number : ℕ) (request : Request) : Type 0 where
+pub record StartsWaiting (moment : ℕ) (sent : Option Octets) (old new : Association) (number : ℕ) (request : Request) : Type 0 where
   pub said : sent ≡ Some request.octets
   pub timer : request.timer ≡ record { sent = moment; repeats = 0 }
   pub fresh : (map.get old.outgoing.outstanding number ≡ None) ⊎ TakesCookie old new
 
 -- What waits for its answer waited before, since the same moment and as often sent; or it goes out now.
-abbrev pub WaitOn : ℕ → Option Octets → Association → Association → Type 0
-WaitOn moment sent old new =
-    (number : ℕ) (request : Request) → map.get new.outgoing.outstanding number ≡ Some request → (map.get old.outgoing.outstanding number ≡ Some request) ⊎ GoesOut moment sent old new number request
+abbrev pub KeepTimers : ℕ → Option Octets → Association → Association → Type 0
+KeepTimers moment sent old new =
+    (number : ℕ) (request : Request) → map.get new.outgoing.outstanding number ≡ Some request → (map.get old.outgoing.outstanding number ≡ Some request) ⊎ StartsWaiting moment sent old new number request
 
 -- the association ends by this
 abbrev pub Ends : Effect → Type 0
@@ -69,14 +69,14 @@ Ends _ = ⊥
 
 -- A request of this number waits no more by a message of that one: it is answered, or the association ends; or it is the request of
 -- IKE_SA_INIT, which goes out anew with a cookie, or whose answer brought the keys.
-abbrev pub StopsWaiting : ℕ → Effect → ℕ → Type 0
-StopsWaiting id (effect.Refused fault) number = ⊥
-StopsWaiting id (effect.Repeated octets) number = ⊥
-StopsWaiting id (effect.Replied answered) number = answered.closed ≡ true
-StopsWaiting id (effect.Again octets) number = number ≡ 0
-StopsWaiting id (effect.Identified octets) number = number ≡ 0
-StopsWaiting id (effect.Counted ended) number = (number ≡ id) ⊎ (ended.closed ≡ true)
+abbrev pub WaitsNoMore : ℕ → Effect → ℕ → Type 0
+WaitsNoMore id (effect.Refused fault) number = ⊥
+WaitsNoMore id (effect.Repeated octets) number = ⊥
+WaitsNoMore id (effect.Replied answered) number = answered.closed ≡ true
+WaitsNoMore id (effect.Again octets) number = number ≡ 0
+WaitsNoMore id (effect.Identified octets) number = number ≡ 0
+WaitsNoMore id (effect.Counted ended) number = (number ≡ id) ⊎ (ended.closed ≡ true)
 
 -- what waited waits on, unless it stops so
 abbrev pub WaitUntil : ℕ → Effect → OwnRequests Request → OwnRequests Request → Type 0
-WaitUntil id e old new = (number : ℕ) (request : Request) → map.get old.outstanding number ≡ Some request → (map.get new.outstanding number ≡ Some request) ⊎ StopsWaiting id e number
+WaitUntil id e old new = (number : ℕ) (request : Request) → map.get old.outstanding number ≡ Some request → (map.get new.outstanding number ≡ Some request) ⊎ WaitsNoMore id e number

@@ -45,9 +45,9 @@ ghost use Rattle.moments.specs.Due.{is_over, SendsAgain};
 ghost use Rattle.moments.specs.Held.{IsClosedAt, IsInTime};
 ghost use Rattle.effects.specs.Moves.{ledger, moves_of, Close, Issue, KeepsReply, Lead, Make, Remove, WaitsWith};
 ghost use Rattle.initial.specs.Ending.{EndsAuth};
-ghost use Rattle.effects.specs.Keeping.{child_in, sent_by, IsShort, KeepsShort, KeyedBy};
+ghost use Rattle.effects.specs.Keeping.{child_in, octets_of_effect, IsShort, KeepsShort, KeyedBy};
 ghost use Rattle.effects.specs.Requests.{is_concluded, takes_requests, IsPassing, IsSoundlyHeld, KeepsWindow, PutsIntoEffect, StaysConcluded};
-ghost use Rattle.effects.specs.Waiting.{asked_by, Ends, WaitOn, WaitUntil};
+ghost use Rattle.effects.specs.Waiting.{asked_by, Ends, KeepTimers, WaitUntil};
 ghost use Rattle.effects.specs.Offers.{AnswersAuthSa, AnswersInitialSa};
 ghost use Rattle.effects.specs.Openings.{OpensAsMessage, OpensWhatItSeals};
 ghost use Rattle.effects.specs.Lengths.{HoldsWholeKeys, TellsLengths};
@@ -57,7 +57,7 @@ ghost use Rattle.initial.specs.declared.beginning.Admitted.{Admitted};
 ghost use Rattle.initial.specs.declared.beginning.Beginning.{Beginning};
 ghost use Rattle.initial.specs.declared.ending.Ended.{Ended};
 ghost use Rattle.effects.specs.Pairs.{LeavesPairs};
-ghost use Rattle.effects.specs.Taking.{Meaning, StaysItself, TakesMessage};
+ghost use Rattle.effects.specs.Taking.{Meaning, KeepsIdentity, TakesMessage};
 ghost use Rattle.association.specs.declared.fault.MessageFault.{MessageFault};
 ghost use Rattle.effects.specs.declared.taking.Effect.{Effect};
 ghost use Rattle.effects.specs.declared.taking.Effect.TheVariants.{Again, Counted, Identified, Refused, Repeated, Replied};
@@ -99,7 +99,7 @@ pub fn spis_stay_reserved()
 pub fn associations_stay_themselves()
     ensures { (meaning : Meaning) (setup : Setup) (old : Association) (table : Database) (octets : Octets) (m : Message)
         (effect : Effect) (new : Association) (new_table : Database)
-        → TakesMessage meaning setup old table octets m effect new new_table → StaysItself old new }
+        → TakesMessage meaning setup old table octets m effect new new_table → KeepsIdentity old new }
 {}
 
 /// Each pair in the table is as it was, or came by this message for its association, under the next serial and with no number sent or
@@ -154,7 +154,7 @@ pub fn what_is_kept_is_short()
         → TakesMessage meaning setup old table octets m effect new new_table → KeepsShort new }
     ensures sent { (meaning : Meaning) (setup : Setup) (old : Association) (table : Database) (octets : Octets) (m : Message)
         (effect : Effect) (new : Association) (new_table : Database) (said : Octets) → KeepsShort old
-        → TakesMessage meaning setup old table octets m effect new new_table → sent_by effect ≡ Some said → IsShort said }
+        → TakesMessage meaning setup old table octets m effect new new_table → octets_of_effect effect ≡ Some said → IsShort said }
     ensures begun { (cipher : Cipher) (group : ℕ) (public_value : Octets → Octets) (fresh : Fresh) (moment serial : ℕ)
         (beginning : Beginning) (child : FirstChildView) → Begins cipher group public_value fresh moment beginning
         → KeepsShort (begun serial beginning child) × IsShort beginning.octets }
@@ -509,7 +509,7 @@ pub fn requests_wait_on()
     ensures taken { (meaning : Meaning) (setup : Setup) (old : Association) (table : Database) (octets : Octets) (m : Message)
         (effect : Effect) (new : Association) (new_table : Database) → IsSoundlyHeld old
         → TakesMessage meaning setup old table octets m effect new new_table
-        → WaitOn setup.moment (asked_by effect) old new }
+        → KeepTimers setup.moment (asked_by effect) old new }
     ensures until { (meaning : Meaning) (setup : Setup) (old : Association) (table : Database) (octets : Octets) (m : Message)
         (effect : Effect) (new : Association) (new_table : Database) → IsSoundlyHeld old
         → TakesMessage meaning setup old table octets m effect new new_table
@@ -525,7 +525,7 @@ pub fn requests_wait_on()
         → (beginning.octets ≡ request.octets) × (request.timer ≡ record { sent = moment; repeats = 0 }) }
     ensures probed { (body_of : Keys → Octets → Octets → Octets → Octets) (setup : Setup) (old : Association) (octets : Octets)
         (new : Association) → IsSoundlyHeld old → Probes body_of setup old octets new
-        → WaitOn setup.moment (Some octets) old new }
+        → KeepTimers setup.moment (Some octets) old new }
     ensures asked { (body_of : Keys → Octets → Octets → Octets → Octets) (setup : Setup) (old : Association) (octets : Octets)
         (new : Association) (number : ℕ) (request : Request) → IsSoundlyHeld old → Probes body_of setup old octets new
         → map.get old.outgoing.outstanding number ≡ Some request → map.get new.outgoing.outstanding number ≡ Some request }

@@ -8,7 +8,7 @@ use Rattle.association.specs.declared.phase.Association.{Association}
 use Rattle.initial.specs.Beginning.{begun}
 use Rattle.initial.specs.Configs.{Setup}
 use Rattle.effects.specs.Pairs.{LeavesPairs}
-use Rattle.effects.specs.Taking.{Meaning, StaysItself, TakesMessage}
+use Rattle.effects.specs.Taking.{Meaning, KeepsIdentity, TakesMessage}
 use Rattle.effects.specs.declared.taking.Effect.{Effect}
 use Rattle.ike.specs.Machines.{association_of, others_than, Held, Machine}
 use Rattle.ike.specs.Pairs.{ChangesOne}
@@ -23,7 +23,7 @@ use Rattle.ike.proofs.WayLemmas.{admitted, probed, rested, started, step_way, to
 -- what is known of a message's effect
 pub record ChangeFacts : Type 0 where
   pub itself : (meaning : Meaning) (setup : Setup) (old : Association) (table : Database) (octets : Octets) (m : Message) (effect : Effect) (new : Association) (new_table : Database)
-      → TakesMessage meaning setup old table octets m effect new new_table → StaysItself old new
+      → TakesMessage meaning setup old table octets m effect new new_table → KeepsIdentity old new
   pub leaves : (meaning : Meaning) (setup : Setup) (old : Association) (table : Database) (octets : Octets) (m : Message) (effect : Effect) (new : Association) (new_table : Database)
       → TakesMessage meaning setup old table octets m effect new new_table → LeavesPairs table old.serial new_table
 
@@ -52,7 +52,7 @@ took_changes : (facts : ChangeFacts) (meaning : Meaning) (setup : Setup) (octets
     → Takes meaning setup octets old table stepped new new_table → ChangesOne old new table new_table
 took_changes facts meaning setup octets old table stepped new new_table is =
     let t = is.takes in
-    let stays : StaysItself t.association t.changed = facts.itself meaning setup t.association table octets is.message t.effect t.changed new_table t.takes in
+    let stays : KeepsIdentity t.association t.changed = facts.itself meaning setup t.association table octets is.message t.effect t.changed new_table t.takes in
     record {
       serial = t.association.serial;
       others = ap (λ (h : Held). others_than t.association.serial h.associations) t.content

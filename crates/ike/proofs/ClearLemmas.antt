@@ -8,7 +8,7 @@ use Rattle.sadb.specs.Database.{Database}
 use Rattle.association.specs.Phases.{keys_in}
 use Rattle.association.specs.declared.phase.Association.{Association}
 use Rattle.initial.specs.Configs.{Setup}
-use Rattle.effects.specs.Taking.{Meaning, StaysItself, TakesMessage}
+use Rattle.effects.specs.Taking.{Meaning, KeepsIdentity, TakesMessage}
 use Rattle.effects.specs.declared.taking.Effect.{Effect}
 use Rattle.effects.specs.declared.taking.Effect.TheVariants as effect
 use Rattle.ike.specs.Machines.{association_of, keys_of_serial, Held, Machine}
@@ -25,7 +25,7 @@ use Rattle.ike.proofs.WayLemmas.{admitted, probed, rested, started, step_way, to
 
 pub record ClearLaws : Type 0 where
   pub itself : (meaning : Meaning) (setup : Setup) (old : Association) (table : Database) (octets : Octets) (m : Message) (e : Effect) (new : Association) (new_table : Database)
-      → TakesMessage meaning setup old table octets m e new new_table → StaysItself old new
+      → TakesMessage meaning setup old table octets m e new new_table → KeepsIdentity old new
   pub again : (meaning : Meaning) (setup : Setup) (old : Association) (table : Database) (octets : Octets) (m : Message) (next : Octets) (new : Association) (new_table : Database)
       → TakesMessage meaning setup old table octets m (effect.Again next) new new_table → keys_in new.phase ≡ None
 

@@ -34,7 +34,7 @@ use Rattle.effects.specs.Lengths.{HoldsWholeKeys}
 use Rattle.effects.specs.Moves.{and_closes, ledger, makes_and_issues, moves_of, Close, Count, Issue, KeepsReply, Lead, Make, Move, Remove, TakeEffect}
 use Rattle.effects.specs.Openings.{OpensAsMessage, OpensWhatItSeals}
 use Rattle.effects.specs.Requests.{IsSoundlyHeld}
-use Rattle.effects.specs.Taking.{Meaning, StaysItself, TakesMessage}
+use Rattle.effects.specs.Taking.{Meaning, KeepsIdentity, TakesMessage}
 use Rattle.effects.specs.declared.taking.Effect.{Effect}
 use Rattle.effects.specs.declared.taking.Effect.TheVariants as effect
 use Rattle.ike.specs.Machines.{association_of, has_serial, setup_at, Held, Machine}
@@ -57,7 +57,7 @@ use Rattle.ike.proofs.WayLemmas.{admitted, datagram_way, probed, rested, started
 -- what is known of moves at one association
 pub record MoveLaws : Type 0 where
   pub itself : (meaning : Meaning) (setup : Setup) (old : Association) (table : Database) (octets : Octets) (m : Message) (e : Effect) (new : Association) (new_table : Database)
-      → TakesMessage meaning setup old table octets m e new new_table → StaysItself old new
+      → TakesMessage meaning setup old table octets m e new new_table → KeepsIdentity old new
   pub message : (meaning : Meaning) (setup : Setup) (old : Association) (table : Database) (octets : Octets) (m : Message) (e : Effect) (new : Association) (new_table : Database)
       → IsSoundlyHeld old → TakesMessage meaning setup old table octets m e new new_table → Lead (moves_of m.header.id (keys_in new.phase) e) (ledger old) (ledger new)
   pub probe : (body_of : Keys → Octets → Octets → Octets → Octets) (setup : Setup) (old : Association) (octets : Octets) (new : Association)

@@ -18,7 +18,7 @@ use Rattle.initial.specs.Concluding.{with_outgoing}
 use Rattle.initial.specs.Configs.{Setup}
 use Rattle.informational.specs.Probing.{Probes}
 use Rattle.informational.specs.declared.fault.OrderFault.{OrderFault}
-use Rattle.effects.specs.Taking.{StaysItself}
+use Rattle.effects.specs.Taking.{KeepsIdentity}
 use Rattle.ike.specs.Machines.{association_of, has_serial, Held}
 use Rattle.ike.specs.Probing.{fault_of_order, ProbesAt, RefusesOrderAt, RefusesProbe, RefusesThere}
 use Rattle.ike.specs.declared.fault.IkeFault.{IkeFault}
@@ -27,12 +27,12 @@ use Rattle.ike.specs.Soundness.{AreSound}
 use Rattle.ike.specs.declared.output.Stepped.{Stepped}
 use Rattle.ike.proofs.SerialLemmas.{replaced_found, replaced_stands, same_one, sound_found}
 
-itself : (a : Association) (outgoing : OwnRequests Request) → StaysItself a (with_outgoing a outgoing)
+itself : (a : Association) (outgoing : OwnRequests Request) → KeepsIdentity a (with_outgoing a outgoing)
 itself a outgoing = record { serial = refl; role = refl; spi_i = refl; spi_r = inl refl; waiting = λ w. w; asking = λ s. inr s; half_open = λ h. h }
 
 module _ (body_of : Keys → Octets → Octets → Octets → Octets) (setup : Setup) (a : Association) (octets : Octets) (b : Association) (is : Probes body_of setup a octets b) where
-  pub probed_itself : StaysItself a b
-  probed_itself = subst (λ x. StaysItself a x) (sym is.content) (itself a is.outgoing)
+  pub probed_itself : KeepsIdentity a b
+  probed_itself = subst (λ x. KeepsIdentity a x) (sym is.content) (itself a is.outgoing)
 
   pub probed_phase : b.phase ≡ a.phase
   probed_phase = ap (λ (x : Association). x.phase) is.content
@@ -69,7 +69,7 @@ module _ (body_of : Keys → Octets → Octets → Octets → Octets) (setup : S
       (ap (has_serial ike) (sym (same_one (slice_index_or old.associations is.place is.association) is.association first_one))
       ∙ (position-Some (has_serial ike) old.associations is.place is.association is.first).1)
 
-  pub changed_itself : StaysItself is.association is.changed
+  pub changed_itself : KeepsIdentity is.association is.changed
   changed_itself = probed_itself body_of setup is.association is.octets is.changed is.probes
 
   pub changed_phase : is.changed.phase ≡ is.association.phase

@@ -14,7 +14,7 @@ use Rattle.association.specs.declared.phase.Phase.TheVariants as phase
 use Rattle.initial.specs.Beginning.{begun}
 use Rattle.initial.specs.Configs.{Setup}
 use Rattle.effects.specs.Proving.{ProvesByMessage}
-use Rattle.effects.specs.Taking.{Meaning, StaysItself, TakesMessage}
+use Rattle.effects.specs.Taking.{Meaning, KeepsIdentity, TakesMessage}
 use Rattle.effects.specs.declared.taking.Effect.{Effect}
 use Rattle.ike.specs.Machines.{association_of, setup_at, Held, Machine}
 use Rattle.ike.specs.Probing.{ProbesAt}
@@ -34,7 +34,7 @@ use Rattle.ike.proofs.WayLemmas.{admitted, datagram_way, probed, rested, started
 -- what is known of a message's effect
 pub record ProvingFacts : Type 0 where
   pub itself : (meaning : Meaning) (setup : Setup) (old : Association) (table : Database) (octets : Octets) (m : Message) (effect : Effect) (new : Association) (new_table : Database)
-      → TakesMessage meaning setup old table octets m effect new new_table → StaysItself old new
+      → TakesMessage meaning setup old table octets m effect new new_table → KeepsIdentity old new
   pub proves : (meaning : Meaning) (setup : Setup) (old : Association) (table : Database) (octets : Octets) (m : Message) (effect : Effect) (new : Association) (new_table : Database) (keys : KeyRecord)
       → TakesMessage meaning setup old table octets m effect new new_table → new.phase ≡ phase.Established keys → (old.phase ≡ phase.Established keys) ⊎ ProvesByMessage meaning setup old octets m
 
@@ -89,7 +89,7 @@ took_known : (facts : ProvingFacts) (meaning : Meaning) (setup : Setup) (octets 
     → StoodKnown meaning setup octets ike keys old
 took_known facts meaning setup octets old table stepped new new_table ike a keys sound is stands established =
     let t = is.takes in
-    let stays : StaysItself t.association t.changed = facts.itself meaning setup t.association table octets is.message t.effect t.changed new_table t.takes in
+    let stays : KeepsIdentity t.association t.changed = facts.itself meaning setup t.association table octets is.message t.effect t.changed new_table t.takes in
     elim (eqb_tells ike t.association.serial) [
       | inl (one, same) ↦
           let stood : association_of ike old.associations ≡ Some t.association = subst (λ n. association_of n old.associations ≡ Some t.association) (sym same) (sound_found old table is.place t.association sound t.there) in

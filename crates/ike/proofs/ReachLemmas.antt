@@ -16,7 +16,7 @@ use Rattle.association.specs.Finding.{found}
 use Rattle.association.specs.declared.fault.MessageFault.{MessageFault}
 use Rattle.association.specs.declared.phase.Association.{Association}
 use Rattle.initial.specs.Configs.{Setup}
-use Rattle.effects.specs.Taking.{Meaning, StaysItself, TakesMessage}
+use Rattle.effects.specs.Taking.{Meaning, KeepsIdentity, TakesMessage}
 use Rattle.effects.specs.declared.taking.Effect.{Effect}
 use Rattle.ike.specs.Machines.{half_open_count, setup_at, Held, Machine}
 use Rattle.ike.specs.Reaching.{WasReached}
@@ -31,7 +31,7 @@ pub record CookieFacts : Type 0 where
   pub cookie : (cipher : Cipher) (group : ℕ) (secrets : CookieSecrets) (sender : Sender) (half_open held : ℕ) (payloads : List Payload) (offer : OfferView)
       → COOKIE_THRESHOLD ≤ half_open → IsJudgement cipher group secrets sender half_open held payloads (Accepted offer) → BringsRightCookie secrets sender payloads offer.nonce
   pub itself : (meaning : Meaning) (setup : Setup) (old : Association) (table : Database) (octets : Octets) (m : Message) (effect : Effect) (new : Association) (new_table : Database)
-      → TakesMessage meaning setup old table octets m effect new new_table → StaysItself old new
+      → TakesMessage meaning setup old table octets m effect new new_table → KeepsIdentity old new
 
 abbrev pub Grows : Held → Held → Type 0
 Grows old new = half_open_count old.associations < half_open_count new.associations

@@ -38,11 +38,11 @@ use Rattle.initial.specs.Configs.{Setup}
 use Rattle.moments.specs.Holding.{HoldsOn}
 use Rattle.effects.specs.Keeping.{HasKeys}
 use Rattle.effects.specs.Requests.{is_concluded, takes_requests, IsNew, IsSoundlyHeld, OpensAs, PutsIntoEffect, StaysConcluded}
-use Rattle.effects.specs.Taking.{Meaning, StaysItself, TakesMessage}
+use Rattle.effects.specs.Taking.{Meaning, KeepsIdentity, TakesMessage}
 use Rattle.effects.specs.declared.taking.Effect.{Effect}
 use Rattle.effects.specs.declared.taking.Effect.TheVariants as effect
 use Rattle.ike.specs.Machines.{association_of, own_spi, setup_at, spi_by_role, Held, Machine}
-use Rattle.ike.specs.Outputs.{closed_of, stepped_of, IsQuiet}
+use Rattle.ike.specs.Outputs.{closed_serial, stepped_of, IsQuiet}
 use Rattle.ike.specs.Receiving.{is_initial_request, with_next, TakesAt, TakesDatagram, TakesFound, TakesRead}
 use Rattle.ike.specs.Requests.{ComesIntoEffect, HoldsInEffect, IsAnswered, IsHeldThrough, IsNewRequest, OnlySays, OpensAsRequest}
 use Rattle.ike.specs.Soundness.{AreSound, At, IsSound, IsSoundMachine}
@@ -63,7 +63,7 @@ use Rattle.ike.proofs.WayLemmas.{admitted, datagram_way, probed, rested, started
 -- what is known of one message's effect on one association
 pub record Laws : Type 0 where
   pub itself : (meaning : Meaning) (setup : Setup) (old : Association) (table : Database) (octets : Octets) (m : Message) (effect : Effect) (new : Association) (new_table : Database)
-      → TakesMessage meaning setup old table octets m effect new new_table → StaysItself old new
+      → TakesMessage meaning setup old table octets m effect new new_table → KeepsIdentity old new
   pub alone : (meaning : Meaning) (setup : Setup) (old : Association) (table : Database) (octets : Octets) (m : Message) (effect : Effect) (new : Association) (new_table : Database) (number : ℕ)
       → TakesMessage meaning setup old table octets m effect new new_table → LacksNumber old.incoming.in_effect number → HasNumber new.incoming.in_effect number
       → PutsIntoEffect meaning.plain_of old octets m effect new number
@@ -428,7 +428,7 @@ change_brings laws meaning setup octets stepped table a b number comes (took_it 
       };
       answered = record {
         reply = put.answered.octets;
-        closed = closed_of a.serial put.answered.closed;
+        closed = closed_serial a.serial put.answered.closed;
         said = ap (λ (s : Stepped). s.output) (t.said ∙ ap (stepped_of a.serial t.message.header.id) put.said);
         kept = put.kept;
       };

@@ -15,7 +15,7 @@ use Rattle.association.specs.declared.phase.HalfOpen.{HalfOpen}
 use Rattle.association.specs.declared.phase.Phase.TheVariants as phase
 use Rattle.initial.specs.Ending.{IsAuthSent}
 use Rattle.initial.specs.Reading.{IsInitSent}
-use Rattle.effects.specs.Taking.{StaysItself}
+use Rattle.effects.specs.Taking.{KeepsIdentity}
 use Rattle.ike.specs.Machines.{half_open_count, own_spi, spi_by_role, Held, SERIAL_END}
 use Rattle.ike.specs.Soundness.{AreApart, AreSound, At, IsSound}
 use Rattle.ike.proofs.ListLemmas.{grown, replaced}
@@ -126,12 +126,12 @@ by_role a b r was is same =
     ap (λ (x : Role). spi_by_role x b.spi_i b.spi_r) is ∙ same ∙ sym (ap (λ (x : Role). spi_by_role x a.spi_i a.spi_r) was)
 
 -- who waits for a response waited for one before
-pub waited_before : (a b : Association) → StaysItself a b → IsInitSent b.phase ⊎ IsAuthSent b.phase → IsInitSent a.phase ⊎ IsAuthSent a.phase
+pub waited_before : (a b : Association) → KeepsIdentity a b → IsInitSent b.phase ⊎ IsAuthSent b.phase → IsInitSent a.phase ⊎ IsAuthSent a.phase
 waited_before a b stays (inl waits) = inl (stays.waiting waits)
 waited_before a b stays (inr asks) = stays.asking asks
 
 -- this end's SPI stays
-pub own_stays : (a b : Association) → (IsInitSent a.phase → a.role ≡ Initiator) → StaysItself a b → own_spi b ≡ own_spi a
+pub own_stays : (a b : Association) → (IsInitSent a.phase → a.role ≡ Initiator) → KeepsIdentity a b → own_spi b ≡ own_spi a
 own_stays a b initiator stays =
     elim stays.spi_r [
       | inl same ↦ by_role a b a.role refl stays.role (ap (λ n. spi_by_role a.role n b.spi_r) stays.spi_i ∙ ap (λ n. spi_by_role a.role a.spi_i n) same)
@@ -142,7 +142,7 @@ own_stays a b initiator stays =
 abbrev pub StaysOpened : Association → Association → Type 0
 StaysOpened a b = (opened : HalfOpen) → b.phase ≡ phase.HalfOpen opened → a.phase ≡ phase.HalfOpen opened
 
-pub apart_before : (a b c : Association) → own_spi b ≡ own_spi a → StaysItself a b → StaysOpened a b → ((spi : ℕ) → held_by b ≡ Some spi → held_by a ≡ Some spi) → AreApart c a → AreApart c b
+pub apart_before : (a b c : Association) → own_spi b ≡ own_spi a → KeepsIdentity a b → StaysOpened a b → ((spi : ℕ) → held_by b ≡ Some spi → held_by a ≡ Some spi) → AreApart c a → AreApart c b
 apart_before a b c own stays opens none was =
     record {
       rising = subst (λ n. c.serial < n) (sym stays.serial) was.rising;
@@ -151,7 +151,7 @@ apart_before a b c own stays opens none was =
       asked = λ one two is also. was.asked one two is (opens two also);
     }
 
-pub apart_after : (a b c : Association) → own_spi b ≡ own_spi a → StaysItself a b → StaysOpened a b → ((spi : ℕ) → held_by b ≡ Some spi → held_by a ≡ Some spi) → AreApart a c → AreApart b c
+pub apart_after : (a b c : Association) → own_spi b ≡ own_spi a → KeepsIdentity a b → StaysOpened a b → ((spi : ℕ) → held_by b ≡ Some spi → held_by a ≡ Some spi) → AreApart a c → AreApart b c
 apart_after a b c own stays opens none was =
     record {
       rising = subst (λ n. n < c.serial) (sym stays.serial) was.rising;

@@ -36,7 +36,7 @@ use Rattle.informational.specs.Probing.{Probes}
 use Rattle.moments.specs.Holding.{HoldSome, HoldsNone}
 use Rattle.moments.specs.Ticking.{Ticks}
 use Rattle.moments.specs.declared.ticking.Ticked.{Ticked}
-use Rattle.effects.specs.Taking.{Meaning, StaysItself, TakesMessage}
+use Rattle.effects.specs.Taking.{Meaning, KeepsIdentity, TakesMessage}
 use Rattle.effects.specs.declared.taking.Effect.{Effect}
 use Rattle.association.specs.Finding.{found}
 use Rattle.initial.specs.Beginning.{begun, half_open as half_open_association, Admits, Begins}
@@ -70,7 +70,7 @@ pub record Laws : Type 0 where
   pub none : (meaning : Meaning) (setup : Setup) (old : Association) (table : Database) (octets : Octets) (m : Message) (effect : Effect) (new : Association) (new_table : Database) (spi : ℕ)
       → spi_in new.phase ≡ Some spi → TakesMessage meaning setup old table octets m effect new new_table → spi_in old.phase ≡ Some spi
   pub itself : (meaning : Meaning) (setup : Setup) (old : Association) (table : Database) (octets : Octets) (m : Message) (effect : Effect) (new : Association) (new_table : Database)
-      → TakesMessage meaning setup old table octets m effect new new_table → StaysItself old new
+      → TakesMessage meaning setup old table octets m effect new new_table → KeepsIdentity old new
   pub short : (meaning : Meaning) (setup : Setup) (old : Association) (table : Database) (octets : Octets) (m : Message) (effect : Effect) (new : Association) (new_table : Database)
       → KeepsShort old → TakesMessage meaning setup old table octets m effect new new_table → KeepsShort new
   pub begins : (cipher : Cipher) (group : ℕ) (public_value : Octets → Octets) (fresh : Fresh) (moment serial : ℕ) (beginning : Beginning) (child : FirstChildView)
@@ -108,7 +108,7 @@ taken_joins : (laws : Laws) (place : ℕ) (meaning : Meaning) (setup : Setup) (o
     → Joins old place is.changed old.next table new_table
 taken_joins laws place meaning setup octets m old table stepped new new_table sound_table sound is =
     let was = sound.each place is.association is.there in
-    let stays : StaysItself is.association is.changed = laws.itself meaning setup is.association table octets m is.effect is.changed new_table is.takes in
+    let stays : KeepsIdentity is.association is.changed = laws.itself meaning setup is.association table octets m is.effect is.changed new_table is.takes in
     let own : own_spi is.changed ≡ own_spi is.association = own_stays is.association is.changed (λ w. was.initiator (inl w)) stays in
     let none : (spi : ℕ) → held_by is.changed ≡ Some spi → held_by is.association ≡ Some spi =
     λ spi e. laws.none meaning setup is.association table octets m is.effect is.changed new_table spi e is.takes in

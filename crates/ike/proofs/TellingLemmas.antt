@@ -24,7 +24,7 @@ use Rattle.effects.specs.declared.taking.Effect.{Effect}
 use Rattle.effects.specs.declared.taking.Effect.TheVariants as effect
 use Rattle.ike.specs.Machines.{association_of, Held}
 use Rattle.ike.specs.Moves.{ledger_at, IsMadeBy, IsSentBy, SaysNoMore, TellsClosed}
-use Rattle.ike.specs.Outputs.{asking_step, child_of, closed_of as closed_if, half_open_step, octets_in, plain_step, reply_mark, request_mark, stepped_of}
+use Rattle.ike.specs.Outputs.{asking_step, child_of, closed_serial as closed_if, half_open_step, octets_in, plain_step, reply_mark, request_mark, stepped_of}
 use Rattle.ike.specs.Soundness.{AreSound, At}
 use Rattle.ike.specs.declared.output.IkeOutput.{IkeOutput}
 use Rattle.ike.specs.declared.output.IkeOutput.TheVariants as output

@@ -23,7 +23,7 @@ use Rattle.initial.specs.Ending.{IsAuthSent}
 use Rattle.initial.specs.Reading.{IsInitSent}
 use Rattle.effects.specs.Keeping.{kept_reply, IsShort, KeepsShort}
 use Rattle.effects.specs.Requests.{is_concluded, IsSoundlyHeld}
-use Rattle.effects.specs.Waiting.{MayWait}
+use Rattle.effects.specs.Waiting.{MayBeOutstanding}
 use Rattle.moments.specs.Due.{has_failed}
 use Rattle.moments.specs.Held.{IsClosedAt}
 use Rattle.moments.specs.Holding.{HoldSome, HoldsNone, HoldsOn}
@@ -197,8 +197,8 @@ on_soundly now a b on held = record {
   waits = elim on.phase [
     | inl stays ↦ (λ number request there.
         let was = on.requests number request there in
-        subst (λ (p : Phase). MayWait p number request.exchange) (sym stays.1)
-        (subst (λ (e : ℕ). MayWait a.phase number e) (sym was.exchange) (held.waits number was.was was.there)))
+        subst (λ (p : Phase). MayBeOutstanding p number request.exchange) (sym stays.1)
+        (subst (λ (e : ℕ). MayBeOutstanding a.phase number e) (sym was.exchange) (held.waits number was.was was.there)))
     | inr closes ↦ (λ number request there. absurd (none_waits number request (sym (ap (λ (r : OwnRequests Request). map.get r.outstanding number) closes.requests.content) ∙ there)))
   ];
   issued = λ number request there.

@@ -26,9 +26,9 @@ use Rattle.association.specs.declared.phase.Phase.TheVariants as phase
 use Rattle.initial.specs.Beginning.{begun, half_open, Admits, Begins}
 use Rattle.effects.specs.Children.{AsksForChild, IsAsking, MakesChild}
 use Rattle.initial.specs.Configs.{Setup}
-use Rattle.effects.specs.Keeping.{child_in, sent_by, HasKeys, IsShort, KeepsShort, KeyedBy}
+use Rattle.effects.specs.Keeping.{child_in, octets_of_effect, HasKeys, IsShort, KeepsShort, KeyedBy}
 use Rattle.effects.specs.Pairs.{IsUnused}
-use Rattle.effects.specs.Taking.{Meaning, StaysItself, TakesMessage}
+use Rattle.effects.specs.Taking.{Meaning, KeepsIdentity, TakesMessage}
 use Rattle.informational.specs.Probing.{Probes}
 use Rattle.moments.specs.Due.{outstanding_count}
 use Rattle.moments.specs.Held.{IsOutstandingOf}
@@ -71,7 +71,7 @@ TicksAgain = (now : ℕ) (old new : List Association) (table new_table : Databas
 pub record ShortFacts : Type 0 where
   pub probed : (body_of : Keys → Octets → Octets → Octets → Octets) (setup : Setup) (old : Association) (octets : Octets) (new : Association) → KeepsShort old → Probes body_of setup old octets new → KeepsShort new × IsShort octets
   pub sent : (meaning : Meaning) (setup : Setup) (old : Association) (table : Database) (octets : Octets) (m : Message) (effect : Effect) (new : Association) (new_table : Database) (said : Octets)
-      → KeepsShort old → TakesMessage meaning setup old table octets m effect new new_table → sent_by effect ≡ Some said → IsShort said
+      → KeepsShort old → TakesMessage meaning setup old table octets m effect new new_table → octets_of_effect effect ≡ Some said → IsShort said
   pub begins : (cipher : Cipher) (group : ℕ) (public_value : Octets → Octets) (fresh : Fresh) (moment serial : ℕ) (beginning : Beginning) (child : FirstChildView)
       → Begins cipher group public_value fresh moment beginning → KeepsShort (begun serial beginning child) × IsShort beginning.octets
   pub admits : (cipher : Cipher) (group : ℕ) (public_value : Octets → Octets) (shared_secret : Octets → Octets → Option Octets) (fresh : Fresh) (moment serial : ℕ) (offer : OfferView) (spi_i : ℕ) (request : Octets) (admitted : Admitted)
@@ -101,7 +101,7 @@ rests_short old table output.Done sound goes = λ o e. absurd (none_out o e)
 rests_short old table (output.Dropped f) sound goes = λ o e. absurd (none_out o e)
 
 -- the octets of an effect are those of what comes of it
-effect_octets : (ike number : ℕ) (e : Effect) → octets_in (stepped_of ike number e).output ≡ sent_by e
+effect_octets : (ike number : ℕ) (e : Effect) → octets_in (stepped_of ike number e).output ≡ octets_of_effect e
 effect_octets ike number (effect.Refused f) = refl
 effect_octets ike number (effect.Repeated octets) = refl
 effect_octets ike number (effect.Replied answered) = refl
@@ -214,7 +214,7 @@ step_few few meaning entries input old table stepped new new_table ticked is sai
 -- what is known of a message's effect, and of soundness
 pub record TraceFacts : Type 0 where
   pub itself : (meaning : Meaning) (setup : Setup) (old : Association) (table : Database) (octets : Octets) (m : Message) (effect : Effect) (new : Association) (new_table : Database)
-      → TakesMessage meaning setup old table octets m effect new new_table → StaysItself old new
+      → TakesMessage meaning setup old table octets m effect new new_table → KeepsIdentity old new
   pub keyed : (meaning : Meaning) (setup : Setup) (old : Association) (table : Database) (octets : Octets) (m : Message) (effect : Effect) (new : Association) (new_table : Database)
       → TakesMessage meaning setup old table octets m effect new new_table → KeyedBy effect new.phase
   pub stay : (meaning : Meaning) (setup : Setup) (old : Association) (table : Database) (octets : Octets) (m : Message) (effect : Effect) (new : Association) (new_table : Database) (keys : KeyRecord)
@@ -235,7 +235,7 @@ took_found : (facts : TraceFacts) (meaning : Meaning) (setup : Setup) (octets : 
     → association_of is.takes.association.serial new.associations ≡ Some is.takes.changed
 took_found facts meaning setup octets old table stepped new new_table sound is =
     let t = is.takes in
-    let stays : StaysItself t.association t.changed = facts.itself meaning setup t.association table octets is.message t.effect t.changed new_table t.takes in
+    let stays : KeepsIdentity t.association t.changed = facts.itself meaning setup t.association table octets is.message t.effect t.changed new_table t.takes in
     let there : At new is.place t.changed = ap (λ (h : Held). slice_get h.associations is.place) t.content ∙ set_there old.associations is.place t.association t.changed t.there in
     subst (λ n. association_of n new.associations ≡ Some t.changed) stays.serial (sound_found new new_table is.place t.changed sound there)
 
@@ -359,7 +359,7 @@ took_come : (facts : ToldFacts) (meaning : Meaning) (setup : Setup) (octets : Oc
     → (keys_of_serial serial old.associations ≡ Some keys) ⊎ ((stepped_of is.takes.association.serial is.message.header.id is.takes.effect).trace.keyed ≡ Some serial)
 took_come facts meaning setup octets old table stepped new new_table serial keys sound now is are =
     let t = is.takes in
-    let stays : StaysItself t.association t.changed = facts.trace.itself meaning setup t.association table octets is.message t.effect t.changed new_table t.takes in
+    let stays : KeepsIdentity t.association t.changed = facts.trace.itself meaning setup t.association table octets is.message t.effect t.changed new_table t.takes in
     elim (eqb_tells serial t.association.serial) [
       | inl (one, same) ↦
           let before : association_of serial old.associations ≡ Some t.association = subst (λ n. association_of n old.associations ≡ Some t.association) (sym same) (sound_found old table is.place t.association sound t.there) in
@@ -573,7 +573,7 @@ took_keys : (facts : TraceFacts) (meaning : Meaning) (setup : Setup) (octets : O
     → AreSound old table → AreSound new new_table → Takes meaning setup octets old table stepped new new_table → keys_of_serial serial old.associations ≡ Some keys → keys_of_serial serial new.associations ≡ Some keys
 took_keys facts meaning setup octets old table stepped new new_table serial keys sound now is are =
     let t = is.takes in
-    let stays : StaysItself t.association t.changed = facts.itself meaning setup t.association table octets is.message t.effect t.changed new_table t.takes in
+    let stays : KeepsIdentity t.association t.changed = facts.itself meaning setup t.association table octets is.message t.effect t.changed new_table t.takes in
     elim (eqb_tells serial t.association.serial) [
       | inl (one, same) ↦
           let before : association_of serial old.associations ≡ Some t.association = subst (λ n. association_of n old.associations ≡ Some t.association) (sym same) (sound_found old table is.place t.association sound t.there) in
@@ -716,7 +716,7 @@ took_waits : (facts : TraceFacts) (meaning : Meaning) (setup : Setup) (octets : 
     → association_of ike new.associations ≡ Some a → a.phase ≡ phase.AuthSent sent → WaitedBefore ike sent old ⊎ AsksNow ike stepped
 took_waits facts meaning setup octets old table stepped new new_table ike a sent sound now is stands waits =
     let t = is.takes in
-    let stays : StaysItself t.association t.changed = facts.itself meaning setup t.association table octets is.message t.effect t.changed new_table t.takes in
+    let stays : KeepsIdentity t.association t.changed = facts.itself meaning setup t.association table octets is.message t.effect t.changed new_table t.takes in
     elim (eqb_tells ike t.association.serial) [
       | inl (one, same) ↦
           let found : association_of ike new.associations ≡ Some t.changed = subst (λ n. association_of n new.associations ≡ Some t.changed) (sym same) (took_found facts meaning setup octets old table stepped new new_table now is) in

@@ -21,16 +21,16 @@ use Rattle.initial.specs.Beginning.{begun, Begins}
 use Rattle.initial.specs.Configs.{Setup}
 use Rattle.initial.specs.declared.beginning.Beginning.{Beginning}
 use Rattle.informational.specs.Probing.{Probes}
-use Rattle.effects.specs.Taking.{Meaning, StaysItself, TakesMessage}
+use Rattle.effects.specs.Taking.{Meaning, KeepsIdentity, TakesMessage}
 use Rattle.effects.specs.Requests.{IsSoundlyHeld}
-use Rattle.effects.specs.Waiting.{asked_by, Ends, GoesOut, WaitOn, WaitUntil}
+use Rattle.effects.specs.Waiting.{asked_by, Ends, StartsWaiting, KeepTimers, WaitUntil}
 use Rattle.effects.specs.Waiting as effects
 use Rattle.effects.specs.declared.taking.Effect.{Effect}
 use Rattle.effects.specs.declared.taking.Effect.TheVariants as effect
 use Rattle.ike.specs.Machines.{association_of, setup_at, Held, Machine}
 use Rattle.ike.specs.Moments.{StandsIn, StartsToWait, StopsWaiting, TakesCookieAt, WaitsAt}
 use Rattle.ike.specs.Moves.{TellsClosed}
-use Rattle.ike.specs.Outputs.{closed_of, stepped_of}
+use Rattle.ike.specs.Outputs.{closed_serial, stepped_of}
 use Rattle.ike.specs.Soundness.{AreSound, IsSoundMachine}
 use Rattle.ike.specs.Starting.{child_by}
 use Rattle.ike.specs.Steps as steps
@@ -46,9 +46,9 @@ use Rattle.ike.proofs.WayLemmas.{admitted, datagram_way, probed, rested, started
 -- what is known of one association
 pub record WaitLaws : Type 0 where
   pub itself : (meaning : Meaning) (setup : Setup) (old : Association) (table : Database) (octets : Octets) (m : Message) (e : Effect) (new : Association) (new_table : Database)
-      → TakesMessage meaning setup old table octets m e new new_table → StaysItself old new
+      → TakesMessage meaning setup old table octets m e new new_table → KeepsIdentity old new
   pub taken : (meaning : Meaning) (setup : Setup) (old : Association) (table : Database) (octets : Octets) (m : Message) (e : Effect) (new : Association) (new_table : Database)
-      → IsSoundlyHeld old → TakesMessage meaning setup old table octets m e new new_table → WaitOn setup.moment (asked_by e) old new
+      → IsSoundlyHeld old → TakesMessage meaning setup old table octets m e new new_table → KeepTimers setup.moment (asked_by e) old new
   pub until : (meaning : Meaning) (setup : Setup) (old : Association) (table : Database) (octets : Octets) (m : Message) (e : Effect) (new : Association) (new_table : Database)
       → IsSoundlyHeld old → TakesMessage meaning setup old table octets m e new new_table → WaitUntil m.header.id e old.outgoing new.outgoing
   pub closed : (meaning : Meaning) (setup : Setup) (old : Association) (table : Database) (octets : Octets) (m : Message) (e : Effect) (new : Association) (new_table : Database) (keys : Option KeyRecord) (at : ℕ)
@@ -59,7 +59,7 @@ pub record WaitLaws : Type 0 where
       → Begins cipher group public_value fresh moment beginning → map.get (begun serial beginning child).outgoing.outstanding number ≡ Some request
       → (beginning.octets ≡ request.octets) × (request.timer ≡ record { sent = moment; repeats = 0 })
   pub probed : (body_of : Keys → Octets → Octets → Octets → Octets) (setup : Setup) (old : Association) (octets : Octets) (new : Association) → IsSoundlyHeld old → Probes body_of setup old octets new
-      → WaitOn setup.moment (Some octets) old new
+      → KeepTimers setup.moment (Some octets) old new
   pub asked : (body_of : Keys → Octets → Octets → Octets → Octets) (setup : Setup) (old : Association) (octets : Octets) (new : Association) (number : ℕ) (request : Request) → IsSoundlyHeld old → Probes body_of setup old octets new
       → map.get old.outgoing.outstanding number ≡ Some request → map.get new.outgoing.outstanding number ≡ Some request
 
@@ -97,7 +97,7 @@ none_waits number request is = cc
 
 -- the one that it is about waits on as it is known
 waits_there : (moment : ℕ) (old : Held) (stepped : Stepped) (new : Held) (serial : ℕ) (a b : Association) (sent : Option Octets) (number : ℕ) (request : Request)
-    → association_of serial old.associations ≡ Some a → association_of serial new.associations ≡ Some b → WaitOn moment sent a b
+    → association_of serial old.associations ≡ Some a → association_of serial new.associations ≡ Some b → KeepTimers moment sent a b
     → ((octets : Octets) → sent ≡ Some octets → stepped.output ≡ output.Request serial octets) → WaitsAt new serial number request
     → WaitsAt old serial number request ⊎ StartsToWait moment old stepped new serial number request
 waits_there moment old stepped new serial a b sent number request before after on said waits = elim (on number request (waits_of new serial number request b after waits)) [
@@ -121,10 +121,10 @@ said_by_effect serial number (effect.Identified next) octets is = ap (λ (o : Oc
 said_by_effect serial number (effect.Counted ended) octets is = cc
 
 -- what stops by an effect stops by what is said of it
-stops_said : (serial id number : ℕ) (e : Effect) → effects.StopsWaiting id e number → StopsWaiting (stepped_of serial id e).output serial number
+stops_said : (serial id number : ℕ) (e : Effect) → effects.WaitsNoMore id e number → StopsWaiting (stepped_of serial id e).output serial number
 stops_said serial id number (effect.Refused f) stops = absurd stops
 stops_said serial id number (effect.Repeated reply) stops = absurd stops
-stops_said serial id number (effect.Replied answered) stops = subst (λ (b : Bool). StopsWaiting (output.Reply answered.octets (closed_of serial b)) serial number) (sym stops) refl
+stops_said serial id number (effect.Replied answered) stops = subst (λ (b : Bool). StopsWaiting (output.Reply answered.octets (closed_serial serial b)) serial number) (sym stops) refl
 stops_said serial id number (effect.Again next) stops = (refl, stops)
 stops_said serial id number (effect.Identified next) stops = (refl, stops)
 stops_said serial id number (effect.Counted ended) stops = refl
@@ -132,10 +132,10 @@ stops_said serial id number (effect.Counted ended) stops = refl
 ends_said : (serial id : ℕ) (e : Effect) → Ends e → TellsClosed serial (stepped_of serial id e).output
 ends_said serial id (effect.Refused f) ends = absurd ends
 ends_said serial id (effect.Repeated reply) ends = absurd ends
-ends_said serial id (effect.Replied answered) ends = subst (λ (b : Bool). TellsClosed serial (output.Reply answered.octets (closed_of serial b))) (sym ends) refl
+ends_said serial id (effect.Replied answered) ends = subst (λ (b : Bool). TellsClosed serial (output.Reply answered.octets (closed_serial serial b))) (sym ends) refl
 ends_said serial id (effect.Again next) ends = absurd ends
 ends_said serial id (effect.Identified next) ends = absurd ends
-ends_said serial id (effect.Counted ended) ends = subst (λ (b : Bool). TellsClosed serial (output.Counted serial ended.child (closed_of serial b))) (sym ends) refl
+ends_said serial id (effect.Counted ended) ends = subst (λ (b : Bool). TellsClosed serial (output.Counted serial ended.child (closed_serial serial b))) (sym ends) refl
 
 init_closed : (sent : InitSent) (keys : Option KeyRecord) (at : ℕ) → phase.InitSent sent ≡ phase.Closed keys at → ⊥
 init_closed sent keys at is = cc

@@ -31,9 +31,9 @@ plain_step output = record { output = output; trace = no_trace }
 abbrev pub passed_over : IkeFault → Stepped
 passed_over f = plain_step (Dropped f)
 
-abbrev pub closed_of : ℕ → Bool → Option ℕ
-closed_of ike true = Some ike
-closed_of ike false = None
+abbrev pub closed_serial : ℕ → Bool → Option ℕ
+closed_serial ike true = Some ike
+closed_serial ike false = None
 
 -- the child that a request of this number asked for, at this end or at the other
 abbrev pub child_of : ℕ → ℕ → Bool → Option ℕ → Option MadeChild
@@ -54,7 +54,7 @@ stepped_of ike number (effect.Repeated octets) = record {
   trace = record { sent = reply_mark ike number; keyed = None; child = None };
 }
 stepped_of ike number (effect.Replied answered) = record {
-  output = Reply answered.octets (closed_of ike answered.closed);
+  output = Reply answered.octets (closed_serial ike answered.closed);
   trace = record { sent = reply_mark ike number; keyed = None; child = child_of ike number false answered.child };
 }
 stepped_of ike number (effect.Again octets) = plain_step (Request ike octets)
@@ -63,7 +63,7 @@ stepped_of ike number (effect.Identified octets) = record {
   trace = record { sent = request_mark ike 1; keyed = Some ike; child = None };
 }
 stepped_of ike number (effect.Counted ended) = record {
-  output = Counted ike ended.child (closed_of ike ended.closed);
+  output = Counted ike ended.child (closed_serial ike ended.closed);
   trace = record { sent = None; keyed = None; child = child_of ike number true ended.child };
 }
 

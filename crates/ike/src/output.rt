@@ -1,6 +1,6 @@
 //! What comes of a step.
 ghost use Rattle.std.specs.Prelude.{◌≡◌};
-ghost use Rattle.ike.specs.Outputs.{child_of, closed_of, passed_over, plain_step, stepped_of};
+ghost use Rattle.ike.specs.Outputs.{child_of, closed_serial, passed_over, plain_step, stepped_of};
 
 use crate::IkeFault;
 use base::Items;
@@ -123,7 +123,7 @@ impl Stepped {
             Effect::Replied(answered) => Stepped {
                 output: IkeOutput::Reply {
                     octets: answered.octets,
-                    closed: closed_of(ike, answered.closed),
+                    closed: closed_serial(ike, answered.closed),
                 },
                 trace: Trace {
                     sent: Some(Mark {
@@ -152,7 +152,7 @@ impl Stepped {
                 output: IkeOutput::Counted {
                     ike,
                     child: ended.child,
-                    closed: closed_of(ike, ended.closed),
+                    closed: closed_serial(ike, ended.closed),
                 },
                 trace: Trace {
                     sent: None,
@@ -164,8 +164,8 @@ impl Stepped {
     }
 }
 
-fn closed_of(ike: u32, closed: bool) -> Option<u32>
-    ensures { result ≡ closed_of ike closed }
+fn closed_serial(ike: u32, closed: bool) -> Option<u32>
+    ensures { result ≡ closed_serial ike closed }
 {
     if closed { Some(ike) } else { None }
 }
