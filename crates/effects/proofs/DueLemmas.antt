@@ -1,8 +1,7 @@
 -- A message leaves nothing of its association due that was not due before: what it makes is of its own moment.
-use Rattle.std.proofs.Common.{◌≡◌, ◌+◌, ◌<◌, ◌≤◌, ℕ, nat_le, length, Bool, true, false, Option, Some, arith, ap, inl, inr, refl, subst, sym, ◌∙◌}
+use Rattle.std.proofs.Common.{◌≡◌, ◌+◌, ◌<◌, ◌≤◌, ℕ, nat_le, length, Bool, true, false, Option, arith, ap, inl, inr, refl, subst, sym, ◌∙◌}
 use Rattle.std.proofs.lemmas.Bool.Decides.{nat_tests}
 use Rattle.std.specs.FinMap as map
-use Rattle.std.specs.Ordering.{nat_cmp}
 use Rattle.base.specs.Octets.{Octets}
 use Rattle.wire.specs.Numbers.{IKE_AUTH, IKE_SA_INIT, INFORMATIONAL}
 use Rattle.wire.specs.declared.message.Message.{Message}

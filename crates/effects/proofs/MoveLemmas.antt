@@ -1,5 +1,6 @@
 -- A message makes the moves that are stated, from what an association was to what it is.
-use Rattle.std.proofs.Common.{◌≡◌, ◌⊎◌, ◌==◌, inl, inr, ◌+◌, ◌<◌, ◌≤◌, ◌^◌, ◌∷◌, [], ℕ, Bool, true, false, cond, List, Option, Some, None, length, arith, ap, refl, subst, sym, max, ◌∙◌, if◌then◌else◌}
+use Rattle.std.proofs.Common.{◌≡◌, ◌≢◌, ◌⊎◌, ◌==◌, inl, inr, ◌+◌, ◌≤◌, ◌^◌, ◌∷◌, [], ℕ, Bool, true, false, cond, List, Option, Some, None, length, arith, ap, refl, subst, sym, max, ◌∙◌, if◌then◌else◌}
+use Rattle.std.proofs.lemmas.Bool.{eqb-true}
 use Rattle.std.proofs.lemmas.Bool.Decides.{leb_tells}
 use Rattle.std.proofs.Math.Nat.{le-max_right}
 use Rattle.std.specs.Cmp.{nat_cmp_total, unsigned_tied}
@@ -15,13 +16,15 @@ use Rattle.suite.specs.declared.key_record.KeyRecord.{KeyRecord}
 use Rattle.exchange.specs.declared.headers.Role.{Role}
 use Rattle.exchange.specs.declared.headers.Role.TheVariants.{Initiator, Responder}
 use Rattle.exchange.specs.declared.sealed.Plain.{Plain}
-use Rattle.requests.specs.Incoming.{no_requests, HasSameRequests, IsFreshRequest, PeerRequests, TakesRequest}
-use Rattle.requests.specs.Numbers.{IsGap}
-use Rattle.requests.specs.Outgoing.{number_0_answered, CountsAnswer, GivesUpRequests, IsBusy, MayIssue, OwnRequests, SomeOutstanding}
+use Rattle.requests.specs.Incoming.{after_number_0, no_requests, HasSameRequests, IsFreshRequest, IsPassed, PeerRequests, TakesRequest}
+use Rattle.requests.specs.Numbers.{HasNumber, LacksNumber}
+use Rattle.requests.specs.Outgoing.{none_issued, number_0_answered, CountsAnswer, GivesUpRequests, MayIssue, OwnRequests, SomeOutstanding}
 use Rattle.sadb.specs.Database.{Database}
 use Rattle.association.specs.Closing.{Closes}
+use Rattle.association.specs.Finding.{is_waiting}
+use Rattle.association.specs.FirstChildren.{FirstChildView}
 use Rattle.association.specs.Phases.{established_of, keys_in}
-use Rattle.association.specs.Receiving.{is_closed, opened_under, IsReceived, IsRepeating, Opening, Repeat}
+use Rattle.association.specs.Receiving.{is_closed, opened_under, Answers, AnswersInitial, IsAnsweringInitial, IsReceived, IsRepeating, Opening, Reception, Refused, Repeat, TakesEffect}
 use Rattle.association.specs.declared.phase.Association.{Association}
 use Rattle.association.specs.declared.phase.Phase.{Phase}
 use Rattle.association.specs.declared.phase.Phase.TheVariants as phase
@@ -29,13 +32,15 @@ use Rattle.association.specs.declared.phase.Request.{Request}
 use Rattle.suite.specs.declared.fresh.Fresh.{Fresh}
 use Rattle.suite.specs.declared.sealer.Cipher.{Cipher}
 use Rattle.sa_init.specs.Judging.{OfferView}
-use Rattle.initial.specs.Answering.{outcome_of}
-use Rattle.initial.specs.Beginning.{Admits}
+use Rattle.auth.specs.Windows.{IsWindow, WIDEST_WINDOW}
+use Rattle.initial.specs.Answering.{outcome_of, IsHalfOpen}
+use Rattle.initial.specs.Beginning.{begun, Admits, Begins}
 use Rattle.initial.specs.declared.beginning.Admitted.{Admitted}
+use Rattle.initial.specs.declared.beginning.Beginning.{Beginning}
 use Rattle.moments.specs.Due.{after_sending, has_failed, is_due, is_over, is_unanswered, SendsAgain}
 use Rattle.moments.specs.Held.{IsClosedAt}
 use Rattle.initial.specs.Concluding.{is_closing, with_incoming, with_outgoing, ConcludesBy}
-use Rattle.initial.specs.Configs.{Setup}
+use Rattle.initial.specs.Configs.{IsConfig, Setup}
 use Rattle.initial.specs.Issuing.{new_request, IssuesNext}
 use Rattle.initial.specs.declared.concluding.Outcome.{Outcome}
 use Rattle.initial.specs.declared.concluding.Outcome.TheVariants as outcome
@@ -44,14 +49,14 @@ use Rattle.informational.specs.Counting.{is_rejected}
 use Rattle.informational.specs.Orders.{ClosesIf}
 use Rattle.informational.specs.Probing.{Probes}
 use Rattle.suite.specs.declared.keys.Keys.{Keys}
-use Rattle.effects.specs.Moves.{and_closes, ledger, ledger_of, ledger_with, makes_and_issues, moves_of, octets_out, put, ClosesLedger, Close, Count, Counts, Issue, Issues, KeepsReply, Lead, Ledger, Make, Makes, Move, Moves, Remove, TakeEffect, TakesEffectOnce, WaitsWith}
+use Rattle.effects.specs.Moves.{and_closes, first_ledger, ledger, ledger_of, ledger_with, makes_and_issues, moves_of, octets_out, put, ClosesLedger, Close, Count, Counts, Issue, Issues, KeepsReply, KeepWindows, Lead, Ledger, Make, Move, Remove, TakeEffect, TakesEffectOnce, WaitsWith}
 use Rattle.effects.specs.Requests.{IsSoundlyHeld}
-use Rattle.effects.specs.Taking.{Meaning, TakesMessage}
-use Rattle.effects.specs.Waiting.{MayBeOutstanding}
+use Rattle.effects.specs.Taking.{Does, DoesFurther, DoesRequest, DoesResponse, Meaning, TakesMessage}
+use Rattle.effects.specs.Waiting.{MayBeOutstanding, TookFirstRequest}
 use Rattle.effects.specs.declared.taking.Effect.{Effect}
 use Rattle.effects.specs.declared.taking.Effect.TheVariants as effect
 use Rattle.effects.proofs.KeepingLemmas.{established_keys}
-use Rattle.effects.proofs.RequestLemmas.{kept_was, repeated_why, yes_no}
+use Rattle.effects.proofs.RequestLemmas.{came, counted_window, decided_window, inserted, judged_window, repeated_why, taken_size, yes_no, TellsWindow, Windows}
 use Rattle.effects.proofs.WayLemmas.{way_of, Way}
 
 -- ---- ledgers
@@ -105,18 +110,31 @@ issued_moves l old request new is_open is =
 
 -- ---- when an exchange is done
 
-record Widens (l m : Ledger) : Type 0 where
-  size : l.size ≤ m.size
-  window : l.window ≤ m.window
+-- the ledger is as it was but for windows
+record Stays (role : Role) (number : ℕ) (l m : Ledger) : Type 0 where
+  windows : KeepWindows role number l m
   content : m ≡ record l { size = m.size; window = m.window }
 
--- the ledger is as it was but for windows, or it is closed
-abbrev Ends : Bool → Ledger → Option Ledger → Type 0
-Ends false l o = (m : Ledger) × (o ≡ Some m) × Widens l m
-Ends true l o = (m : Ledger) × (o ≡ Some m) × ClosesLedger l m
+-- it stays so, or it is closed
+abbrev Ends : Bool → Role → ℕ → Ledger → Option Ledger → Type 0
+Ends false role number l o = (m : Ledger) × (o ≡ Some m) × Stays role number l m
+Ends true role number l o = (m : Ledger) × (o ≡ Some m) × ClosesLedger l m
 
-taken_wider : (number : ℕ) (reply : Octets) (old l : Ledger) (size window : ℕ) → l.size ≤ size → l.window ≤ window → TakesEffectOnce number reply old l → TakesEffectOnce number reply old (record l { size = size; window = window })
-taken_wider number reply old l size window wider peers is =
+-- windows that were kept before
+keep_from : (role : Role) (number : ℕ) (old l m : Ledger) → l.role ≡ old.role → l.size ≡ old.size → l.window ≡ old.window → KeepWindows role number l m → KeepWindows role number old m
+keep_from role number old l m same_role size window (inl kept) = inl (kept.0 ∙ size, kept.1 ∙ window)
+keep_from role number old l m same_role size window (inr w) = inr (record {
+  role_is = sym same_role ∙ w.role_is;
+  number_is = w.number_is;
+  wider = omega (arith, w.wider, size);
+  most = w.most;
+  peers_wider = omega (arith, w.peers_wider, window);
+  peers_most = w.peers_most;
+})
+
+taken_with : (number : ℕ) (reply : Octets) (old l : Ledger) (size window : ℕ) → KeepWindows Responder number old (record l { size = size; window = window }) → TakesEffectOnce number reply old l
+    → TakesEffectOnce number reply old (record l { size = size; window = window })
+taken_with number reply old l size window windows is =
     record {
       is_open = is.is_open;
       not_yet = is.not_yet;
@@ -125,41 +143,46 @@ taken_wider number reply old l size window wider peers is =
       inside = is.inside;
       own_reply = is.own_reply;
       kept = is.kept;
-      wider = omega (arith, is.wider, wider);
-      peers_wider = omega (arith, is.peers_wider, peers);
+      windows = windows;
       content = ap (λ (x : Ledger). record x { size = size; window = window }) is.content;
     }
 
-counted_wider : (number : ℕ) (old l : Ledger) (size window : ℕ) → l.size ≤ size → l.window ≤ window → Counts number old l → Counts number old (record l { size = size; window = window })
-counted_wider number old l size window wider peers is =
+counted_with : (number : ℕ) (old l : Ledger) (size window : ℕ) → KeepWindows Initiator number old (record l { size = size; window = window }) → Counts number old l
+    → Counts number old (record l { size = size; window = window })
+counted_with number old l size window windows is =
     record {
       octets = is.octets;
       there = is.there;
       is_open = is.is_open;
-      wider = omega (arith, is.wider, wider);
-      peers_wider = omega (arith, is.peers_wider, peers);
+      windows = windows;
       content = ap (λ (x : Ledger). record x { size = size; window = window }) is.content;
     }
 
-taken_leads : (closed : Bool) (number : ℕ) (reply : Octets) (old l : Ledger) (o : Option Ledger) → TakesEffectOnce number reply old l → Ends closed l o → Lead (and_closes (TakeEffect number reply) closed) (Some old) o
-taken_leads true number reply old l o takes ends = (Some l, takes, (Some ends.0, ends.2, ends.1))
-taken_leads false number reply old l o takes ends =
+taken_leads : (closed : Bool) (number : ℕ) (reply : Octets) (old l : Ledger) (o : Option Ledger) → TakesEffectOnce number reply old l → l.size ≡ old.size → l.window ≡ old.window → Ends closed Responder number l o
+    → Lead (and_closes (TakeEffect number reply) closed) (Some old) o
+taken_leads true number reply old l o takes size window ends = (Some l, takes, (Some ends.0, ends.2, ends.1))
+taken_leads false number reply old l o takes size window ends =
     let m = ends.0 in
+    let windows : KeepWindows Responder number old m = keep_from Responder number old l m (ap (λ (x : Ledger). x.role) takes.content) size window ends.2.windows in
     let all : TakesEffectOnce number reply old m =
-    subst (λ (x : Ledger). TakesEffectOnce number reply old x) (sym ends.2.content) (taken_wider number reply old l m.size m.window ends.2.size ends.2.window takes) in
+    subst (λ (x : Ledger). TakesEffectOnce number reply old x) (sym ends.2.content)
+    (taken_with number reply old l m.size m.window (subst (λ (x : Ledger). KeepWindows Responder number old x) ends.2.content windows) takes) in
     (Some m, all, ends.1)
 
-counted_leads : (closed : Bool) (number : ℕ) (old l : Ledger) (o : Option Ledger) → Counts number old l → Ends closed l o → Lead (and_closes (Count number) closed) (Some old) o
-counted_leads true number old l o counts ends = (Some l, counts, (Some ends.0, ends.2, ends.1))
-counted_leads false number old l o counts ends =
+counted_leads : (closed : Bool) (number : ℕ) (old l : Ledger) (o : Option Ledger) → Counts number old l → l.size ≡ old.size → l.window ≡ old.window → Ends closed Initiator number l o
+    → Lead (and_closes (Count number) closed) (Some old) o
+counted_leads true number old l o counts size window ends = (Some l, counts, (Some ends.0, ends.2, ends.1))
+counted_leads false number old l o counts size window ends =
     let m = ends.0 in
+    let windows : KeepWindows Initiator number old m = keep_from Initiator number old l m (ap (λ (x : Ledger). x.role) counts.content) size window ends.2.windows in
     let all : Counts number old m =
-    subst (λ (x : Ledger). Counts number old x) (sym ends.2.content) (counted_wider number old l m.size m.window ends.2.size ends.2.window counts) in
+    subst (λ (x : Ledger). Counts number old x) (sym ends.2.content)
+    (counted_with number old l m.size m.window (subst (λ (x : Ledger). KeepWindows Initiator number old x) ends.2.content windows) counts) in
     (Some m, all, ends.1)
 
-closed_ends : (a : Association) (keys : KeyRecord) (moment : ℕ) (new : Association) → keys_in a.phase ≡ Some keys → is_closed a.phase ≡ false → GivesUpRequests a.outgoing new.outgoing
-    → new ≡ record a { outgoing = new.outgoing; phase = phase.Closed (keys_in a.phase) moment } → Ends true (ledger_of a keys) (ledger new)
-closed_ends a keys moment new are is_open gives content =
+closed_ends : (role : Role) (number : ℕ) (a : Association) (keys : KeyRecord) (moment : ℕ) (new : Association) → keys_in a.phase ≡ Some keys → is_closed a.phase ≡ false → GivesUpRequests a.outgoing new.outgoing
+    → new ≡ record a { outgoing = new.outgoing; phase = phase.Closed (keys_in a.phase) moment } → Ends true role number (ledger_of a keys) (ledger new)
+closed_ends role number a keys moment new are is_open gives content =
     let l = ledger_of a keys in
     let closed : Ledger = record l { is_closed = true; outstanding = λ number. None } in (
       closed,
@@ -170,17 +193,17 @@ closed_ends a keys moment new are is_open gives content =
       record { is_open = is_open; content = refl },
     )
 
-over_ends : (a : Association) (keys : KeyRecord) (table : Database) (moment : ℕ) (new : Association) (new_table : Database) → keys_in a.phase ≡ Some keys → is_closed a.phase ≡ false → Closes a table moment new new_table
-    → Ends true (ledger_of a keys) (ledger new)
-over_ends a keys table moment new new_table are is_open is = closed_ends a keys moment new are is_open is.requests is.content
+over_ends : (role : Role) (number : ℕ) (a : Association) (keys : KeyRecord) (table : Database) (moment : ℕ) (new : Association) (new_table : Database) → keys_in a.phase ≡ Some keys → is_closed a.phase ≡ false
+    → Closes a table moment new new_table → Ends true role number (ledger_of a keys) (ledger new)
+over_ends role number a keys table moment new new_table are is_open is = closed_ends role number a keys moment new are is_open is.requests is.content
 
-same_ends : (a : Association) (keys : KeyRecord) (new : Association) → keys_in a.phase ≡ Some keys → new ≡ a → Ends false (ledger_of a keys) (ledger new)
-same_ends a keys new are same = (ledger_of a keys, ap ledger same ∙ keyed a keys are, record { size = omega arith; window = omega arith; content = refl })
+same_ends : (role : Role) (number : ℕ) (a : Association) (keys : KeyRecord) (new : Association) → keys_in a.phase ≡ Some keys → new ≡ a → Ends false role number (ledger_of a keys) (ledger new)
+same_ends role number a keys new are same = (ledger_of a keys, ap ledger same ∙ keyed a keys are, record { windows = inl (refl, refl); content = refl })
 
-closed_if_ends : (ending : Bool) (a : Association) (keys : KeyRecord) (table : Database) (moment : ℕ) (new : Association) (new_table : Database) → keys_in a.phase ≡ Some keys
-    → is_closed a.phase ≡ false → ClosesIf ending a table moment new new_table → Ends ending (ledger_of a keys) (ledger new)
-closed_if_ends true a keys table moment new new_table are is_open is = over_ends a keys table moment new new_table are is_open is
-closed_if_ends false a keys table moment new new_table are is_open is = same_ends a keys new are is.0
+closed_if_ends : (role : Role) (number : ℕ) (ending : Bool) (a : Association) (keys : KeyRecord) (table : Database) (moment : ℕ) (new : Association) (new_table : Database) → keys_in a.phase ≡ Some keys
+    → is_closed a.phase ≡ false → ClosesIf ending a table moment new new_table → Ends ending role number (ledger_of a keys) (ledger new)
+closed_if_ends role number true a keys table moment new new_table are is_open is = over_ends role number a keys table moment new new_table are is_open is
+closed_if_ends role number false a keys table moment new new_table are is_open is = same_ends role number a keys new are is.0
 
 established_open : (p : Phase) → is_closed (established_of p) ≡ is_closed p
 established_open (phase.InitSent sent) = refl
@@ -189,10 +212,19 @@ established_open (phase.HalfOpen opened) = refl
 established_open (phase.Established keys) = refl
 established_open (phase.Closed keys at) = refl
 
-concluded_ends : (setup : Setup) (a : Association) (keys : KeyRecord) (table : Database) (o : Outcome) (child : Option ℕ) (new : Association) (new_table : Database) → keys_in a.phase ≡ Some keys
-    → is_closed a.phase ≡ false → ConcludesBy setup a table o child new new_table → Ends (is_closing o) (ledger_of a keys) (ledger new)
-concluded_ends setup a keys table outcome.Closes child new new_table are is_open is = over_ends a keys table setup.moment new new_table are is_open is.over
-concluded_ends setup a keys table (outcome.Establishes pair window) child new new_table are is_open is =
+-- what is asked of an association so that IKE_AUTH can be done: its windows, and whose request it is
+record AwaitsWindows (setup : Setup) (role : Role) (number : ℕ) (a : Association) (o : Outcome) : Type 0 where
+  role_is : a.role ≡ role
+  number_is : number ≡ 1
+  own : a.incoming.size ≤ WIDEST_WINDOW
+  peers : a.outgoing.window ≤ WIDEST_WINDOW
+  configured : IsWindow setup.config.window
+  tells : TellsWindow o
+
+concluded_ends : (setup : Setup) (role : Role) (number : ℕ) (a : Association) (keys : KeyRecord) (table : Database) (o : Outcome) (child : Option ℕ) (new : Association) (new_table : Database)
+    → AwaitsWindows setup role number a o → keys_in a.phase ≡ Some keys → is_closed a.phase ≡ false → ConcludesBy setup a table o child new new_table → Ends (is_closing o) role number (ledger_of a keys) (ledger new)
+concluded_ends setup role number a keys table outcome.Closes child new new_table windows are is_open is = over_ends role number a keys table setup.moment new new_table are is_open is.over
+concluded_ends setup role number a keys table (outcome.Establishes pair window) child new new_table windows are is_open is =
     let l = ledger_of a keys in
     let size = max setup.config.window a.incoming.size in
     let peers = max window a.outgoing.window in
@@ -201,10 +233,31 @@ concluded_ends setup a keys table (outcome.Establishes pair window) child new ne
       ap ledger is.content
           ∙ ap (option_map (λ (k : KeyRecord). record (ledger_of a k) { is_closed = is_closed (established_of a.phase); size = size; window = peers })) there
           ∙ ap (λ (b : Bool). Some (record l { is_closed = b; size = size; window = peers })) (established_open a.phase),
-      record { size = le-max_right setup.config.window a.incoming.size; window = le-max_right window a.outgoing.window; content = refl },
+      record {
+        windows = inr (record {
+          role_is = windows.role_is;
+          number_is = windows.number_is;
+          wider = le-max_right setup.config.window a.incoming.size;
+          most = omega (arith, windows.own, windows.configured.widest);
+          peers_wider = le-max_right window a.outgoing.window;
+          peers_most = omega (arith, windows.peers, windows.tells.widest);
+        });
+        content = refl;
+      },
     )
 
 -- ---- a request, and a response
+
+-- what is fresh beside the request of IKE_SA_INIT has the number 1
+fresh_first : (room number : ℕ) → IsFreshRequest (record after_number_0 { room = room }) number → number ≡ 1
+fresh_first room number fresh =
+    let has : HasNumber after_number_0.in_effect 0 = inserted set.empty 0 in
+    let none : (n : ℕ) → LacksNumber after_number_0.in_effect n → n ≢ 0 = λ n lacks zero. yes_no (set.contains after_number_0.in_effect 0) has (subst (λ k. LacksNumber after_number_0.in_effect k) zero lacks) in
+    let other : number ≢ 0 = none number fresh.not_in_effect in
+    elim (leb_tells 2 fresh.gap) [
+      | inl (_, above) ↦ (let zero : 1 ≡ 0 = came set.empty 0 1 (set.contains-empty nat_cmp 1) (fresh.is_gap.below 1 (omega (arith, above))) in absurd (omega (arith, zero)))
+      | inr (_, less) ↦ omega (arith, less, other, fresh.inside)
+    ]
 
 taken_moves : (old : Association) (keys : KeyRecord) (ready incoming : PeerRequests) (number : ℕ) (reply : Octets) → is_closed old.phase ≡ false → HasSameRequests old.incoming ready → TakesRequest ready number reply incoming
     → TakesEffectOnce number reply (ledger_of old keys) (ledger_of (with_incoming old incoming) keys)
@@ -212,7 +265,7 @@ taken_moves old keys ready incoming number reply is_open prepared taken =
     let fresh : IsFreshRequest (record old.incoming { room = ready.room }) number = subst (λ (r : PeerRequests). IsFreshRequest r number) prepared.content taken.fresh in
     let kept : ready.kept ≡ old.incoming.kept = ap (λ (r : PeerRequests). r.kept) prepared.content in
     let in_effect : incoming.in_effect ≡ set.insert old.incoming.in_effect number = taken.in_effect ∙ ap (λ (r : PeerRequests). set.insert r.in_effect number) prepared.content in
-    let size : incoming.size ≡ old.incoming.size = taken.size ∙ ap (λ (r : PeerRequests). r.size) prepared.content in
+    let size = taken_size old.incoming ready number reply incoming prepared taken in
     record {
       is_open = is_open;
       not_yet = fresh.not_in_effect;
@@ -220,23 +273,31 @@ taken_moves old keys ready incoming number reply is_open prepared taken =
       is_gap = fresh.is_gap;
       inside = fresh.inside;
       own_reply = taken.own_reply;
-      kept = λ other octets there. kept_was old.incoming.kept number reply other octets
-          (subst (λ (m : map.FinMap nat_cmp Octets). map.get (map.insert m number reply) other ≡ Some octets) kept ((taken.kept other octets).0 there).0);
-      wider = subst (λ (n : ℕ). old.incoming.size ≤ n) (sym size) (omega arith);
-      peers_wider = omega arith;
+      kept = λ other octets. (
+        λ there.
+            let was = (taken.kept other octets).0 there in (
+              subst (λ (m : map.FinMap nat_cmp Octets). map.get (map.insert m number reply) other ≡ Some octets) kept was.0,
+              λ passed. was.1 (subst (λ n. IsPassed incoming.in_effect n other) (sym size) passed),
+            ),
+        λ (was, near).
+            (taken.kept other octets).1 (
+              subst (λ (m : map.FinMap nat_cmp Octets). map.get (map.insert m number reply) other ≡ Some octets) (sym kept) was,
+              λ passed. near (subst (λ n. IsPassed incoming.in_effect n other) size passed),
+            ),
+      );
+      windows = inl (size, refl);
       content = λ i. record (ledger_of (with_incoming old incoming) keys) { in_effect = in_effect i };
     }
 
 counted_moves : (old : Association) (keys : KeyRecord) (number : ℕ) (request : Request) (outgoing : OwnRequests Request) → is_closed old.phase ≡ false → CountsAnswer old.outgoing number request outgoing
     → Counts number (ledger_of old keys) (ledger_of (with_outgoing old outgoing) keys)
 counted_moves old keys number request outgoing is_open is =
-    let window : outgoing.window ≡ old.outgoing.window = ap (λ (r : OwnRequests Request). r.window) is.content in
+    let window = counted_window old.outgoing number request outgoing is in
     record {
       octets = request.octets;
       there = ap (option_map (λ (x : Request). x.octets)) is.there;
       is_open = is_open;
-      wider = omega arith;
-      peers_wider = subst (λ (n : ℕ). old.outgoing.window ≤ n) (sym window) (omega arith);
+      windows = inl (refl, window);
       content = ap (with_own (ledger_of old keys)) is.content
           ∙ (λ i. record (ledger_of old keys) { answered = set.insert old.outgoing.answered number; outstanding = λ n. removed_out old.outgoing.outstanding number n i })
           ∙ (λ i. record (ledger_of old keys) { answered = set.insert old.outgoing.answered number; outstanding = put (octets_out old.outgoing) number None; window = sym window i });
@@ -247,65 +308,89 @@ counted_moves old keys number request outgoing is_open is =
 from_keys : (moves : List Move) (old : Association) (keys : KeyRecord) (o : Option Ledger) → keys_in old.phase ≡ Some keys → Lead moves (Some (ledger_of old keys)) o → Lead moves (ledger old) o
 from_keys moves old keys o are leads = subst (λ (x : Option Ledger). Lead moves x o) (sym (keyed old keys are)) leads
 
-way_moves : (meaning : Meaning) (setup : Setup) (old : Association) (table : Database) (octets : Octets) (m : Message) (e : Effect) (new : Association) (new_table : Database)
-    → IsSoundlyHeld old → Way meaning setup old table octets m e new new_table → Lead (moves_of m.header.id (keys_in new.phase) e) (ledger old) (ledger new)
-way_moves meaning setup old table octets m (effect.Refused fault) new new_table held is = ap ledger is.association
-way_moves meaning setup old table octets m (effect.Repeated reply) new new_table held is = ap ledger is.same.association
-way_moves meaning setup old table octets m (effect.Replied answered) new new_table held (inl is) =
+way_moves : Windows → (meaning : Meaning) (setup : Setup) (old : Association) (table : Database) (octets : Octets) (m : Message) (e : Effect) (new : Association) (new_table : Database)
+    → IsSoundlyHeld old → IsConfig setup.config → Way meaning setup old table octets m e new new_table → Lead (moves_of m.header.id (keys_in new.phase) e) (ledger old) (ledger new)
+way_moves windows meaning setup old table octets m (effect.Refused fault) new new_table held config is = ap ledger is.association
+way_moves windows meaning setup old table octets m (effect.Repeated reply) new new_table held config is = ap ledger is.same.association
+way_moves windows meaning setup old table octets m (effect.Replied answered) new new_table held config (inl is) =
     let d = is.done in
     let keys = d.opened.keys in
     let is_open : is_closed old.phase ≡ false = ap is_closed d.was in
+    let first = held.took_first (record { opened = d.opened; is = d.was }) in
+    let size = taken_size old.incoming d.ready m.header.id answered.octets d.incoming d.prepared d.taken in
+    let one : old.incoming.size ≡ 1 = ap (λ (r : PeerRequests). r.size) first.incoming in
+    let awaits : AwaitsWindows setup Responder m.header.id (with_incoming old d.incoming) (outcome_of d.decision) = record {
+      role_is = first.role;
+      number_is = fresh_first d.ready.room m.header.id
+          (subst (λ (r : PeerRequests). IsFreshRequest r m.header.id) (d.prepared.content ∙ ap (λ (r : PeerRequests). record r { room = d.ready.room }) first.incoming) d.taken.fresh);
+      own = omega (arith, size, one);
+      peers = held.peers;
+      configured = config.window;
+      tells = decided_window windows meaning.accepts setup old.serial d.opened table d.decided.payloads d.decision d.decided.due;
+    } in
     from_keys (and_closes (TakeEffect m.header.id answered.octets) answered.closed) old keys (ledger new) (ap keys_in d.was)
     (taken_leads answered.closed m.header.id answered.octets (ledger_of old keys) (ledger_of (with_incoming old d.incoming) keys) (ledger new)
-    (taken_moves old keys d.ready d.incoming m.header.id answered.octets is_open d.prepared d.taken)
-    (subst (λ (b : Bool). Ends b (ledger_of (with_incoming old d.incoming) keys) (ledger new)) (sym d.closed)
-    (concluded_ends setup (with_incoming old d.incoming) keys d.between (outcome_of d.decision) answered.child new new_table (ap keys_in d.was) is_open d.concluded)))
-way_moves meaning setup old table octets m (effect.Replied answered) new new_table held (inr is) =
+    (taken_moves old keys d.ready d.incoming m.header.id answered.octets is_open d.prepared d.taken) size refl
+    (subst (λ (b : Bool). Ends b Responder m.header.id (ledger_of (with_incoming old d.incoming) keys) (ledger new)) (sym d.closed)
+    (concluded_ends setup Responder m.header.id (with_incoming old d.incoming) keys d.between (outcome_of d.decision) answered.child new new_table awaits (ap keys_in d.was) is_open d.concluded)))
+way_moves windows meaning setup old table octets m (effect.Replied answered) new new_table held config (inr is) =
     let d = is.done in
     let is_open : is_closed old.phase ≡ false = ap is_closed d.established in
     from_keys (and_closes (TakeEffect m.header.id answered.octets) answered.closed) old d.keys (ledger new) (ap keys_in d.established)
     (taken_leads answered.closed m.header.id answered.octets (ledger_of old d.keys) (ledger_of (with_incoming old d.incoming) d.keys) (ledger new)
     (taken_moves old d.keys d.ready d.incoming m.header.id answered.octets is_open d.prepared d.taken)
-    (subst (λ (b : Bool). Ends b (ledger_of (with_incoming old d.incoming) d.keys) (ledger new)) (sym d.closed)
-    (closed_if_ends (is_ending (verdict_on d.payloads)) (with_incoming old d.incoming) d.keys table setup.moment new new_table (ap keys_in d.established) is_open d.concluded)))
-way_moves meaning setup old table octets m (effect.Counted ended) new new_table held (inl is) =
+    (taken_size old.incoming d.ready m.header.id answered.octets d.incoming d.prepared d.taken) refl
+    (subst (λ (b : Bool). Ends b Responder m.header.id (ledger_of (with_incoming old d.incoming) d.keys) (ledger new)) (sym d.closed)
+    (closed_if_ends Responder m.header.id (is_ending (verdict_on d.payloads)) (with_incoming old d.incoming) d.keys table setup.moment new new_table (ap keys_in d.established) is_open d.concluded)))
+way_moves windows meaning setup old table octets m (effect.Counted ended) new new_table held config (inl is) =
     let d = is.done in
     let keys = d.sent.keys in
     let is_open : is_closed old.phase ≡ false = ap is_closed d.was in
+    let none = held.took_none (inr (record { sent = d.sent; is = d.was })) in
+    let window = counted_window old.outgoing m.header.id d.request d.outgoing d.counted in
+    let one : old.incoming.size ≡ 1 = ap (λ (r : PeerRequests). r.size) none.incoming in
+    let awaits : AwaitsWindows setup Initiator m.header.id (with_outgoing old d.outgoing) d.verdict = record {
+      role_is = none.role;
+      number_is = (subst (λ (p : Phase). MayBeOutstanding p m.header.id d.request.exchange) d.was (held.waits m.header.id d.request d.counted.there)).0;
+      own = omega (arith, one);
+      peers = omega (arith, window, held.peers);
+      configured = config.window;
+      tells = judged_window windows meaning.accepts setup old.serial d.sent d.judged.payloads d.verdict d.judged.due;
+    } in
     from_keys (and_closes (Count m.header.id) ended.closed) old keys (ledger new) (ap keys_in d.was)
     (counted_leads ended.closed m.header.id (ledger_of old keys) (ledger_of (with_outgoing old d.outgoing) keys) (ledger new)
-    (counted_moves old keys m.header.id d.request d.outgoing is_open d.counted)
-    (subst (λ (b : Bool). Ends b (ledger_of (with_outgoing old d.outgoing) keys) (ledger new)) (sym d.closed)
-    (concluded_ends setup (with_outgoing old d.outgoing) keys table d.verdict ended.child new new_table (ap keys_in d.was) is_open d.concluded)))
-way_moves meaning setup old table octets m (effect.Counted ended) new new_table held (inr is) =
+    (counted_moves old keys m.header.id d.request d.outgoing is_open d.counted) refl window
+    (subst (λ (b : Bool). Ends b Initiator m.header.id (ledger_of (with_outgoing old d.outgoing) keys) (ledger new)) (sym d.closed)
+    (concluded_ends setup Initiator m.header.id (with_outgoing old d.outgoing) keys table d.verdict ended.child new new_table awaits (ap keys_in d.was) is_open d.concluded)))
+way_moves windows meaning setup old table octets m (effect.Counted ended) new new_table held config (inr is) =
     let d = is.done in
     let is_open : is_closed old.phase ≡ false = ap is_closed is.was in
     from_keys (and_closes (Count m.header.id) ended.closed) old is.keys (ledger new) (ap keys_in is.was)
     (counted_leads ended.closed m.header.id (ledger_of old is.keys) (ledger_of (with_outgoing old d.outgoing) is.keys) (ledger new)
-    (counted_moves old is.keys m.header.id d.request d.outgoing is_open d.counted)
-    (subst (λ (b : Bool). Ends b (ledger_of (with_outgoing old d.outgoing) is.keys) (ledger new)) (sym d.closed)
-    (closed_if_ends (is_rejected d.payloads) (with_outgoing old d.outgoing) is.keys table setup.moment new new_table (ap keys_in is.was) is_open d.concluded)))
-way_moves meaning setup old table octets m (effect.Again next) new new_table held is = ap ledger is.done.content ∙ sym (no_ledger old (ap keys_in is.was))
-way_moves meaning setup old table octets m (effect.Identified next) new new_table held is =
+    (counted_moves old is.keys m.header.id d.request d.outgoing is_open d.counted) refl (counted_window old.outgoing m.header.id d.request d.outgoing d.counted)
+    (subst (λ (b : Bool). Ends b Initiator m.header.id (ledger_of (with_outgoing old d.outgoing) is.keys) (ledger new)) (sym d.closed)
+    (closed_if_ends Initiator m.header.id (is_rejected d.payloads) (with_outgoing old d.outgoing) is.keys table setup.moment new new_table (ap keys_in is.was) is_open d.concluded)))
+way_moves windows meaning setup old table octets m (effect.Again next) new new_table held config is = ap ledger is.done.content ∙ sym (no_ledger old (ap keys_in is.was))
+way_moves windows meaning setup old table octets m (effect.Identified next) new new_table held config is =
     let d = is.done in
     let are : keys_in new.phase ≡ Some is.keys = ap (λ (x : Association). keys_in x.phase) d.content in
     let made : Ledger = with_own (ledger_of new is.keys) number_0_answered in
     let is_open : is_closed new.phase ≡ false = ap (λ (x : Association). is_closed x.phase) d.content in
-    let none = held.took_none (record { sent = is.sent; is = is.was }) in
+    let none = held.took_none (inl (record { sent = is.sent; is = is.was })) in
     let role : new.role ≡ Initiator = ap (λ (x : Association). x.role) d.content ∙ none.role in
     let incoming : new.incoming ≡ record no_requests { room = old.incoming.room } = ap (λ (x : Association). x.incoming) d.content ∙ none.incoming in
     let leads : Lead (makes_and_issues (Some is.keys) next) None (Some (ledger_of new is.keys)) = (
       Some made,
-      record { role = Initiator; content = λ i. ledger_with is.keys (role i) (is_open i) (incoming i) number_0_answered },
+      record { content = (λ i. ledger_with is.keys (role i) (is_open i) (incoming i) number_0_answered) ∙ ap (first_ledger is.keys) (sym role) },
       (Some (ledger_of new is.keys), issued_moves made number_0_answered (new_request next IKE_AUTH setup.moment) new.outgoing is_open d.issued, refl),
     ) in
     subst (λ (k : Option KeyRecord). Lead (makes_and_issues k next) (ledger old) (ledger new)) (sym are)
     (subst (λ (x : Option Ledger). Lead (makes_and_issues (Some is.keys) next) x (ledger new)) (sym (no_ledger old (ap keys_in is.was)))
     (subst (λ (x : Option Ledger). Lead (makes_and_issues (Some is.keys) next) None x) (sym (keyed new is.keys are)) leads))
 
-pub message_moves : (meaning : Meaning) (setup : Setup) (old : Association) (table : Database) (octets : Octets) (m : Message) (e : Effect) (new : Association) (new_table : Database)
-    → IsSoundlyHeld old → TakesMessage meaning setup old table octets m e new new_table → Lead (moves_of m.header.id (keys_in new.phase) e) (ledger old) (ledger new)
-message_moves meaning setup old table octets m e new new_table held is = way_moves meaning setup old table octets m e new new_table held (way_of meaning setup old table octets m e new new_table is)
+pub message_moves : Windows → (meaning : Meaning) (setup : Setup) (old : Association) (table : Database) (octets : Octets) (m : Message) (e : Effect) (new : Association) (new_table : Database)
+    → IsSoundlyHeld old → IsConfig setup.config → TakesMessage meaning setup old table octets m e new new_table → Lead (moves_of m.header.id (keys_in new.phase) e) (ledger old) (ledger new)
+message_moves windows meaning setup old table octets m e new new_table held config is = way_moves windows meaning setup old table octets m e new new_table held config (way_of meaning setup old table octets m e new new_table is)
 
 -- ---- an order, and the end
 
@@ -345,14 +430,41 @@ pub closing_moves : WhoIsGone → (now : ℕ) (old new : Association) (keys : Ke
 closing_moves gone now old new keys held are is =
     let asked = gone now old is.failed in
     let is_open = waiting_open old.phase asked.number asked.request.exchange (held.waits asked.number asked.request asked.there) in
-    let ends = closed_ends old keys now new are is_open is.requests is.content in
+    let ends = closed_ends old.role asked.number old keys now new are is_open is.requests is.content in
     from_keys (Close ∷ []) old keys (ledger new) are (Some ends.0, ends.2, ends.1)
+
+-- one that is over is closed, or half open
+over_phase : (now : ℕ) (p : Phase) → is_over now p ≡ true → (is_closed p ≡ true) ⊎ IsHalfOpen p
+over_phase now (phase.InitSent sent) over = absurd cc
+over_phase now (phase.AuthSent sent) over = absurd cc
+over_phase now (phase.HalfOpen opened) over = inr (record { opened = opened; is = refl })
+over_phase now (phase.Established keys) over = absurd cc
+over_phase now (phase.Closed keys at) over = inl refl
+
+-- what is half open is as it was made
+still_first : (a : Association) (keys : KeyRecord) → is_closed a.phase ≡ false → ((n : ℕ) → octets_out a.outgoing n ≡ None) → TookFirstRequest a → ledger_of a keys ≡ first_ledger keys Responder
+still_first a keys is_open none first =
+    let out : (n : ℕ) → octets_out a.outgoing n ≡ octets_out none_issued n = λ n. none n ∙ sym (ap (option_map (λ (x : Request). x.octets)) (map.get-empty {X = Request} nat_cmp n)) in
+    λ i. record (ledger_with keys (first.role i) (is_open i) (first.incoming i) none_issued) {
+      next = first.next i;
+      answered = first.answered i;
+      window = first.window i;
+      outstanding = λ n. out n i;
+    }
 
 pub removal_moves : (now : ℕ) (old : Association) (keys : KeyRecord) → IsSoundlyHeld old → keys_in old.phase ≡ Some keys → is_over now old.phase ≡ true → Lead (Remove ∷ []) (ledger old) None
 removal_moves now old keys held are over =
+    let none : (n : ℕ) → octets_out old.outgoing n ≡ None = λ number. none_out (map.get old.outgoing.outstanding number)
+    (λ request there. over_waits now old.phase number request.exchange over (held.waits number request there)) in
     from_keys (Remove ∷ []) old keys None are (
       None,
-      record { waits = λ number. none_out (map.get old.outgoing.outstanding number) (λ request there. over_waits now old.phase number request.exchange over (held.waits number request there)) },
+      record {
+        waits = none;
+        over = elim (over_phase now old.phase over) [
+          | inl closed ↦ inl closed
+          | inr opened ↦ inr (still_first old keys (ap is_closed opened.is) none (held.took_first opened))
+        ];
+      },
       refl,
     )
 
@@ -361,7 +473,19 @@ pub admitted_moves : (cipher : Cipher) (group : ℕ) (public_value : Octets → 
 admitted_moves cipher group public_value shared_secret fresh moment serial offer spi_i request admitted is =
     let keys = is.agreed.record in
     let are : keys_in admitted.association.phase ≡ Some keys = ap (λ (x : Association). keys_in x.phase) is.content in
-    (keys, (Some (ledger_of admitted.association keys), record { role = Responder; content = ap (λ (x : Association). ledger_of x keys) is.content }, keyed admitted.association keys are))
+    let role : admitted.association.role ≡ Responder = ap (λ (x : Association). x.role) is.content in (
+      keys,
+      (
+        Some (ledger_of admitted.association keys),
+        record { content = ap (λ (x : Association). ledger_of x keys) is.content ∙ ap (first_ledger keys) (sym role) },
+        keyed admitted.association keys are,
+      ),
+    )
+
+-- there is nothing to speak of as this end begins
+pub begun_none : (cipher : Cipher) (group : ℕ) (public_value : Octets → Octets) (fresh : Fresh) (moment serial : ℕ) (beginning : Beginning) (child : FirstChildView)
+    → Begins cipher group public_value fresh moment beginning → ledger (begun serial beginning child) ≡ None
+begun_none cipher group public_value fresh moment serial beginning child is = refl
 
 -- a request that goes out again has the octets that it had
 again_out : (now : ℕ) (r : Request) (due : Bool) → (cond due (record r { timer = record { sent = now; repeats = r.timer.repeats + 1 } }) r).octets ≡ r.octets
@@ -403,6 +527,58 @@ pub waiting_again : (a : Association) (number : ℕ) (request : Request) → IsS
 waiting_again a number request held there other =
     let keys = sealed_keys a.phase number request.exchange (held.waits number request there) other in
     subst (λ (x : Option Ledger). WaitsWith x number request.octets) (sym (keyed a keys.0 keys.1)) (ap (option_map (λ (x : Request). x.octets)) there)
+
+-- ---- keys come by IKE_SA_INIT
+
+identified_further : (informational : Bool) (meaning : Meaning) (setup : Setup) (old : Association) (table : Database) (number : ℕ) (plain : Plain) (next : Octets) (new : Association) (new_table : Database)
+    → DoesFurther informational meaning setup old table number plain (effect.Identified next) new new_table → ⊥
+identified_further true meaning setup old table number plain next new new_table is = is
+identified_further false meaning setup old table number plain next new new_table is = is
+
+identified_request : (p : Phase) (meaning : Meaning) (setup : Setup) (exchange : ℕ) (old : Association) (table : Database) (number : ℕ) (plain : Plain) (next : Octets) (new : Association) (new_table : Database)
+    → DoesRequest meaning setup p exchange old table number plain (effect.Identified next) new new_table → ⊥
+identified_request (phase.InitSent sent) meaning setup exchange old table number plain next new new_table is = is
+identified_request (phase.AuthSent sent) meaning setup exchange old table number plain next new new_table is = is
+identified_request (phase.HalfOpen opened) meaning setup exchange old table number plain next new new_table is = is
+identified_request (phase.Established keys) meaning setup exchange old table number plain next new new_table is =
+    identified_further (exchange == INFORMATIONAL) meaning setup old table number plain next new new_table is
+identified_request (phase.Closed keys at) meaning setup exchange old table number plain next new new_table is = is
+
+identified_response : (p : Phase) (meaning : Meaning) (setup : Setup) (old : Association) (table : Database) (number : ℕ) (plain : Plain) (next : Octets) (new : Association) (new_table : Database)
+    → DoesResponse meaning setup p old table number plain (effect.Identified next) new new_table → ⊥
+identified_response (phase.InitSent sent) meaning setup old table number plain next new new_table is = is
+identified_response (phase.AuthSent sent) meaning setup old table number plain next new new_table is = is
+identified_response (phase.HalfOpen opened) meaning setup old table number plain next new new_table is = is
+identified_response (phase.Established keys) meaning setup old table number plain next new new_table is = is
+identified_response (phase.Closed keys at) meaning setup old table number plain next new new_table is = is
+
+identified_reception : (r : Reception) (meaning : Meaning) (setup : Setup) (old : Association) (table : Database) (octets : Octets) (m : Message) (next : Octets) (new : Association) (new_table : Database)
+    → Does meaning setup old table octets m r (effect.Identified next) new new_table → r ≡ AnswersInitial
+identified_reception (Refused fault) meaning setup old table octets m next new new_table is = absurd is
+identified_reception (Repeat reply) meaning setup old table octets m next new new_table is = absurd is
+identified_reception (TakesEffect plain) meaning setup old table octets m next new new_table is =
+    absurd (identified_request old.phase meaning setup m.header.exchange old table m.header.id plain next new new_table is)
+identified_reception (Answers plain) meaning setup old table octets m next new new_table is = absurd (identified_response old.phase meaning setup old table m.header.id plain next new new_table is)
+identified_reception AnswersInitial meaning setup old table octets m next new new_table is = refl
+
+-- what waits then is of IKE_SA_INIT
+waiting_initial : (p : Phase) (number exchange : ℕ) → is_waiting p ≡ true → MayBeOutstanding p number exchange → exchange ≡ IKE_SA_INIT
+waiting_initial (phase.InitSent sent) number exchange waits may = may.1
+waiting_initial (phase.AuthSent sent) number exchange waits may = absurd cc
+waiting_initial (phase.HalfOpen opened) number exchange waits may = absurd may
+waiting_initial (phase.Established keys) number exchange waits may = absurd cc
+waiting_initial (phase.Closed keys at) number exchange waits may = absurd may
+
+pub identified_by : ((plain_of : Opening) (a : Association) (octets : Octets) (m : Message) → IsReceived plain_of a octets m AnswersInitial → IsAnsweringInitial a m)
+    → (meaning : Meaning) (setup : Setup) (old : Association) (table : Database) (octets : Octets) (m : Message) (next : Octets) (new : Association) (new_table : Database)
+    → IsSoundlyHeld old → TakesMessage meaning setup old table octets m (effect.Identified next) new new_table → (m.header.exchange ≡ IKE_SA_INIT) × (m.header.flags.response ≡ true)
+identified_by why meaning setup old table octets m next new new_table held is =
+    let same = identified_reception is.reception meaning setup old table octets m next new new_table is.done in
+    let answers = why meaning.plain_of old octets m (subst (λ (r : Reception). IsReceived meaning.plain_of old octets m r) same is.received) in
+    let due = answers.due in (
+      sym (eqb-true due.request.exchange m.header.exchange due.exchange_is) ∙ waiting_initial old.phase m.header.id due.request.exchange answers.waiting (held.waits m.header.id due.request due.outstanding),
+      due.response,
+    )
 
 -- ---- how many there are
 

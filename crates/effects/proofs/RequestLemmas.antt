@@ -1,5 +1,5 @@
 -- What a message does to the peer's requests of one association.
-use Rattle.std.proofs.Common.{◌≡◌, ◌≢◌, ◌==◌, ◌||◌, ◌⊎◌, inl, inr, ℕ, ◌+◌, ◌<◌, ◌≤◌, Bool, true, false, cond, max, Option, Some, None, ap, refl, subst, sym, ◌∙◌, arith}
+use Rattle.std.proofs.Common.{◌≡◌, ◌≢◌, ◌==◌, ◌||◌, ◌⊎◌, inl, inr, ℕ, ◌+◌, ◌≤◌, Bool, true, false, cond, max, List, Option, Some, None, ap, refl, subst, sym, ◌∙◌, arith}
 use Rattle.std.specs.Cmp.{nat_cmp_total, unsigned_tied}
 use Rattle.std.specs.FinMap as map
 use Rattle.std.specs.FinSet as set
@@ -10,6 +10,7 @@ use Rattle.std.proofs.lemmas.Bool.Decides.{eqb_tells}
 use Rattle.base.specs.Octets.{Octets}
 use Rattle.wire.specs.Numbers.{CREATE_CHILD_SA, IKE_AUTH, IKE_SA_INIT, INFORMATIONAL}
 use Rattle.wire.specs.declared.message.Message.{Message}
+use Rattle.wire.specs.declared.payload.Payload.{Payload}
 use Rattle.suite.specs.declared.fresh.Fresh.{Fresh}
 use Rattle.suite.specs.declared.key_record.KeyRecord.{KeyRecord}
 use Rattle.suite.specs.declared.keys.Keys.{Keys}
@@ -37,10 +38,14 @@ use Rattle.association.specs.declared.phase.InitSent.{InitSent}
 use Rattle.association.specs.declared.phase.Phase.{Phase}
 use Rattle.association.specs.declared.phase.Phase.TheVariants as phase
 use Rattle.association.specs.declared.phase.Request.{Request}
+use Rattle.auth.specs.Proofs.{Accepts}
+use Rattle.auth.specs.Windows.{peer_window, IsWindow, WIDEST_WINDOW}
 use Rattle.initial.specs.Answering.{outcome_of, AnswersAuth}
 use Rattle.initial.specs.Beginning.{begun, Admits, Begins}
 use Rattle.initial.specs.Concluding.{established, widened, with_incoming, with_outgoing, ConcludesBy}
 use Rattle.initial.specs.Configs.{Setup}
+use Rattle.initial.specs.Deciding.{IsDecision}
+use Rattle.initial.specs.Ending.{IsAuthSent, IsVerdict}
 use Rattle.initial.specs.Issuing.{new_request, IssuesNext}
 use Rattle.initial.specs.Reading.{IsInitSent}
 use Rattle.initial.specs.declared.answering.Answered.{Answered}
@@ -48,14 +53,16 @@ use Rattle.initial.specs.declared.beginning.Admitted.{Admitted}
 use Rattle.initial.specs.declared.beginning.Beginning.{Beginning}
 use Rattle.initial.specs.declared.concluding.Outcome.{Outcome}
 use Rattle.initial.specs.declared.concluding.Outcome.TheVariants as outcome
+use Rattle.initial.specs.declared.deciding.Decision.{Decision}
+use Rattle.initial.specs.declared.deciding.Decision.TheVariants as decision
 use Rattle.informational.specs.Answering.{is_ending, verdict_on, AnswersInformational}
 use Rattle.informational.specs.Counting.{is_rejected}
 use Rattle.informational.specs.Orders.{ClosesIf}
 use Rattle.informational.specs.Probing.{Probes}
 use Rattle.effects.specs.Keeping.{HasKeys}
-use Rattle.effects.specs.Requests.{is_concluded, takes_requests, IsPassing, IsSoundlyHeld, KeepsWindow, PutsIntoEffect, StaysConcluded}
+use Rattle.effects.specs.Requests.{is_concluded, takes_requests, IsPassing, IsSoundlyHeld, KeepsPeersWindow, KeepsWindow, PutsIntoEffect, StaysConcluded}
 use Rattle.effects.specs.Taking.{prover_of, Does, DoesFurther, DoesRequest, DoesResponse, IsPassedOver, Meaning, TakesMessage}
-use Rattle.effects.specs.Waiting.{AreIssued, MayBeOutstanding, TookNoRequest, SuitPhase}
+use Rattle.effects.specs.Waiting.{AreIssued, MayBeOutstanding, SuitPhase}
 use Rattle.effects.specs.declared.taking.Effect.{Effect}
 use Rattle.effects.specs.declared.taking.Effect.TheVariants as effect
 use Rattle.effects.proofs.KeepingLemmas.{established_keys}
@@ -68,6 +75,10 @@ pub record FollowLaws : Type 0 where
   pub preparing : (old new : PeerRequests) → HasSameRequests old new → FollowsIncoming old new
   pub taking : (old new : PeerRequests) (number : ℕ) (reply : Octets) → TakesRequest old number reply new → FollowsIncoming old new
   pub sizing : (old new : PeerRequests) (size : ℕ) → old.size ≤ size → new ≡ record old { size = size } → FollowsIncoming old new
+
+-- what is known of windows that are told
+abbrev pub Windows : Type 0
+Windows = (payloads : List Payload) → IsWindow (peer_window payloads)
 
 some_none : {T : Type 0} (x : T) → None ≡ Some x → ⊥
 some_none x is = cc
@@ -100,7 +111,7 @@ or_true : (b c : Bool) → c ≡ true → (b || c) ≡ true
 or_true true c is = refl
 or_true false c is = is
 
-inserted : (numbers : NumberSet) (n : ℕ) → HasNumber (set.insert numbers n) n
+pub inserted : (numbers : NumberSet) (n : ℕ) → HasNumber (set.insert numbers n) n
 inserted numbers n = elim (eqb_tells n n) [
   | inl (one, same) ↦ set.contains-insert nat_cmp_total numbers n n ∙ ap (λ b. b || set.contains numbers n) (unsigned_tied n n ∙ one)
   | inr (none, apart) ↦ absurd (apart refl)
@@ -110,13 +121,13 @@ inserted_other : (numbers : NumberSet) (n m : ℕ) → HasNumber numbers m → H
 inserted_other numbers n m has = set.contains-insert nat_cmp_total numbers n m ∙ or_true _ (set.contains numbers m) has
 
 -- a number that came is the one that was put in
-came : (numbers : NumberSet) (n m : ℕ) → LacksNumber numbers m → HasNumber (set.insert numbers n) m → m ≡ n
+pub came : (numbers : NumberSet) (n m : ℕ) → LacksNumber numbers m → HasNumber (set.insert numbers n) m → m ≡ n
 came numbers n m lacks has = elim (eqb_tells m n) [
   | inl (one, same) ↦ same
   | inr (none, apart) ↦ absurd (yes_no _ (sym (set.contains-insert nat_cmp_total numbers n m) ∙ has) (ap (λ b. b || set.contains numbers m) (unsigned_tied m n ∙ none) ∙ lacks))
 ]
 
-pub kept_was : (kept : map.FinMap nat_cmp Octets) (n : ℕ) (reply : Octets) (m : ℕ) (octets : Octets) → map.get (map.insert kept n reply) m ≡ Some octets → (m ≡ n) ⊎ (map.get kept m ≡ Some octets)
+kept_was : (kept : map.FinMap nat_cmp Octets) (n : ℕ) (reply : Octets) (m : ℕ) (octets : Octets) → map.get (map.insert kept n reply) m ≡ Some octets → (m ≡ n) ⊎ (map.get kept m ≡ Some octets)
 kept_was kept n reply m octets is = elim (eqb_tells m n) [
   | inl (one, same) ↦ inl same
   | inr (none, apart) ↦ inr (sym (map.get-insert nat_cmp_total kept n reply m ∙ ap (λ b. cond b (Some reply) (map.get kept m)) (unsigned_tied m n ∙ none)) ∙ is)
@@ -139,6 +150,7 @@ record Leaves (own : ℕ) (old new : Association) : Type 0 where
   follows : FollowsIncoming old.incoming new.incoming
   concluded : is_concluded old.phase ≡ true → StaysConcluded old new
   half_open : (opened : HalfOpen) → new.phase ≡ phase.HalfOpen opened → old.phase ≡ phase.HalfOpen opened
+  peers : IsSoundlyHeld old → KeepsPeersWindow old new
   sound : IsSoundlyHeld old → IsSoundlyHeld new
 
 same_leaves : (laws : FollowLaws) (own : ℕ) (old new : Association) → new ≡ old → Leaves own old new
@@ -147,6 +159,7 @@ same_leaves laws own old new same = record {
   follows = subst (λ (x : Association). FollowsIncoming old.incoming x.incoming) (sym same) (laws.reflexive old.incoming);
   concluded = λ is. record { concluded = subst (λ (x : Association). is_concluded x.phase ≡ true) (sym same) is; size = ap (λ (x : Association). x.incoming.size) same };
   half_open = λ opened is. sym (ap (λ (x : Association). x.phase) same) ∙ is;
+  peers = λ held. inl (ap (λ (x : Association). x.outgoing.window) same);
   sound = λ held. subst (λ (x : Association). IsSoundlyHeld x) (sym same) held;
 }
 
@@ -243,16 +256,64 @@ auth_window setup a table (outcome.Establishes pair window) child new new_table 
   size = ap (λ (x : Association). x.incoming.size) is.content;
 })
 
+-- so is the peer's, to what it told
+abbrev pub TellsWindow : Outcome → Type 0
+TellsWindow outcome.Closes = Unit {0}
+TellsWindow (outcome.Establishes pair window) = IsWindow window
+
+pub decided_window : Windows → (accepts : Accepts) (setup : Setup) (ike : ℕ) (opened : HalfOpen) (table : Database) (payloads : Option (List Payload)) (d : Decision)
+    → IsDecision accepts setup ike opened table payloads d → TellsWindow (outcome_of d)
+decided_window windows accepts setup ike opened table None (decision.Refused notice) is = tt
+decided_window windows accepts setup ike opened table None (decision.Accepted answer window) is = absurd is
+decided_window windows accepts setup ike opened table (Some payloads) (decision.Refused notice) is = tt
+decided_window windows accepts setup ike opened table (Some payloads) (decision.Accepted answer window) is =
+    subst (λ n. IsWindow n) (sym (is.told ∙ is.judged.told)) (windows payloads)
+
+pub judged_window : Windows → (accepts : Accepts) (setup : Setup) (ike : ℕ) (sent : AuthSent) (payloads : Option (List Payload)) (o : Outcome)
+    → IsVerdict accepts setup ike sent payloads o → TellsWindow o
+judged_window windows accepts setup ike sent None outcome.Closes is = tt
+judged_window windows accepts setup ike sent None (outcome.Establishes pair window) is = absurd is
+judged_window windows accepts setup ike sent (Some payloads) outcome.Closes is = tt
+judged_window windows accepts setup ike sent (Some payloads) (outcome.Establishes pair window) is = subst (λ n. IsWindow n) (sym is.told) (windows payloads)
+
+auth_peers : (setup : Setup) (a : Association) (table : Database) (o : Outcome) (child : Option ℕ) (new : Association) (new_table : Database) (keys : KeyRecord)
+    → is_concluded a.phase ≡ false → established_of a.phase ≡ phase.Established keys → TellsWindow o → ConcludesBy setup a table o child new new_table → KeepsPeersWindow a new
+auth_peers setup a table outcome.Closes child new new_table keys open_yet was tells is = inl (ap (λ (r : OwnRequests Request). r.window) is.over.requests.content)
+auth_peers setup a table (outcome.Establishes pair window) child new new_table keys open_yet was tells is = inr (record {
+  before = open_yet;
+  after = ap (λ (x : Association). is_concluded x.phase) is.content ∙ ap is_concluded was;
+  told = window;
+  is_window = tells;
+  window = ap (λ (x : Association). x.outgoing.window) is.content;
+})
+
+-- it is 16 at most from then on
+narrow : (old new : Association) → old.outgoing.window ≤ WIDEST_WINDOW → KeepsPeersWindow old new → new.outgoing.window ≤ WIDEST_WINDOW
+narrow old new before (inl same) = omega (arith, before, same)
+narrow old new before (inr widened) = omega (arith, before, widened.window, widened.is_window.widest)
+
+-- the window of one that has as wide a one
+peers_from : (old a new : Association) → a.phase ≡ old.phase → a.outgoing.window ≡ old.outgoing.window → KeepsPeersWindow a new → KeepsPeersWindow old new
+peers_from old a new same_phase same (inl kept) = inl (kept ∙ same)
+peers_from old a new same_phase same (inr widened) = inr (record {
+  before = ap is_concluded (sym same_phase) ∙ widened.before;
+  after = widened.after;
+  told = widened.told;
+  is_window = widened.is_window;
+  window = widened.window ∙ ap (max widened.told) same;
+})
+
 -- that none is half open
 concluded_opens : (p : Phase) (opened : HalfOpen) → is_concluded p ≡ true → p ≡ phase.HalfOpen opened → ⊥
 concluded_opens p opened is opens = yes_no (is_concluded p) is (ap is_concluded opens)
 
-concluded_waits : (p : Phase) → is_concluded p ≡ true → IsInitSent p → ⊥
-concluded_waits p concluded is = yes_no (is_concluded p) concluded (ap is_concluded is.is)
+concluded_waits : (p : Phase) → is_concluded p ≡ true → IsInitSent p ⊎ IsAuthSent p → ⊥
+concluded_waits p concluded (inl is) = yes_no (is_concluded p) concluded (ap is_concluded is.is)
+concluded_waits p concluded (inr is) = yes_no (is_concluded p) concluded (ap is_concluded is.is)
 
 sound_by : (old a new : Association) → a.phase ≡ old.phase → a.role ≡ old.role → a.spi_r ≡ old.spi_r → Concludes a new → KeptWell a.incoming
-    → SuitPhase (established_of a.phase) a.outgoing.outstanding → AreIssued a.outgoing → IsSoundlyHeld old → IsSoundlyHeld new
-sound_by old a new same_phase same_role same_spi done well waits issued held =
+    → SuitPhase (established_of a.phase) a.outgoing.outstanding → AreIssued a.outgoing → KeepsPeersWindow old new → IsSoundlyHeld old → IsSoundlyHeld new
+sound_by old a new same_phase same_role same_spi done well waits issued peers held =
     let after = done.well well in
     record {
       in_effect = after.in_effect;
@@ -263,6 +324,8 @@ sound_by old a new same_phase same_role same_spi done well waits issued held =
       waits = done.waits waits;
       issued = done.issued issued;
       took_none = λ is. absurd (concluded_waits new.phase done.concluded is);
+      took_first = λ is. absurd (concluded_opens new.phase is.opened done.concluded is.is);
+      peers = narrow old new held.peers peers;
     }
 
 well_ready : (old ready : PeerRequests) → HasSameRequests old ready → KeptWell old → KeptWell ready
@@ -274,37 +337,57 @@ window_from own old a new same_phase same (inl kept) = inl (kept ∙ same)
 window_from own old a new same_phase same (inr widened) =
     inr (record { before = ap is_concluded (sym same_phase) ∙ widened.before; after = widened.after; size = widened.size ∙ ap (max own) same })
 
+-- the window stays as wide as a request takes effect
+pub taken_size : (old ready : PeerRequests) (number : ℕ) (reply : Octets) (new : PeerRequests) → HasSameRequests old ready → TakesRequest ready number reply new → new.size ≡ old.size
+taken_size old ready number reply new prepared taken = taken.size ∙ ap (λ (r : PeerRequests). r.size) prepared.content
+
 -- a request took effect
 taken_leaves : (laws : FollowLaws) (own : ℕ) (old : Association) (ready incoming : PeerRequests) (number : ℕ) (reply : Octets) (new : Association)
     → HasSameRequests old.incoming ready → TakesRequest ready number reply incoming → Concludes (with_incoming old incoming) new
-    → (is_concluded old.phase ≡ true → new.incoming.size ≡ incoming.size) → KeepsWindow own (with_incoming old incoming) new
+    → (is_concluded old.phase ≡ true → new.incoming.size ≡ incoming.size) → KeepsWindow own (with_incoming old incoming) new → KeepsPeersWindow (with_incoming old incoming) new
     → (SuitPhase old.phase old.outgoing.outstanding → SuitPhase (established_of old.phase) old.outgoing.outstanding) → Leaves own old new
-taken_leaves laws own old ready incoming number reply new prepared taken done size window waits = record {
+taken_leaves laws own old ready incoming number reply new prepared taken done size window peers waits = record {
   window = window_from own old (with_incoming old incoming) new refl (taken.size ∙ ap (λ (r : PeerRequests). r.size) prepared.content) window;
   follows = laws.transitive old.incoming incoming new.incoming
       (laws.transitive old.incoming ready incoming (laws.preparing old.incoming ready prepared) (laws.taking ready incoming number reply taken)) done.follows;
   concluded = λ is. record { concluded = done.concluded; size = size is ∙ taken.size ∙ ap (λ (r : PeerRequests). r.size) prepared.content };
   half_open = λ opened opens. absurd (concluded_opens new.phase opened done.concluded opens);
+  peers = λ held. peers_from old (with_incoming old incoming) new refl refl peers;
   sound = λ held. sound_by old (with_incoming old incoming) new refl refl refl done
-      (well_taken ready incoming number reply (well_ready old.incoming ready prepared (kept_well old held)) taken) (waits held.waits) held.issued held;
+      (well_taken ready incoming number reply (well_ready old.incoming ready prepared (kept_well old held)) taken) (waits held.waits) held.issued
+      (peers_from old (with_incoming old incoming) new refl refl peers) held;
 }
 
 -- a response was counted
 counted_leaves : (laws : FollowLaws) (own : ℕ) (old a new : Association) → a.incoming ≡ old.incoming → a.phase ≡ old.phase → a.role ≡ old.role → a.spi_r ≡ old.spi_r
-    → Concludes a new → (is_concluded old.phase ≡ true → new.incoming.size ≡ old.incoming.size) → KeepsWindow own a new
+    → Concludes a new → (is_concluded old.phase ≡ true → new.incoming.size ≡ old.incoming.size) → KeepsWindow own a new → a.outgoing.window ≡ old.outgoing.window → KeepsPeersWindow a new
     → (SuitPhase old.phase old.outgoing.outstanding → SuitPhase (established_of a.phase) a.outgoing.outstanding) → (AreIssued old.outgoing → AreIssued a.outgoing) → Leaves own old new
-counted_leaves laws own old a new same same_phase same_role same_spi done size window waits issued = record {
+counted_leaves laws own old a new same same_phase same_role same_spi done size window same_window peers waits issued = record {
   window = window_from own old a new same_phase (ap (λ (r : PeerRequests). r.size) same) window;
   follows = subst (λ (r : PeerRequests). FollowsIncoming r new.incoming) same done.follows;
   concluded = λ is. record { concluded = done.concluded; size = size is };
   half_open = λ opened opens. absurd (concluded_opens new.phase opened done.concluded opens);
-  sound = λ held. sound_by old a new same_phase same_role same_spi done (well_as old.incoming a.incoming same (kept_well old held)) (waits held.waits) (issued held.issued) held;
+  peers = λ held. peers_from old a new same_phase same_window peers;
+  sound = λ held. sound_by old a new same_phase same_role same_spi done (well_as old.incoming a.incoming same (kept_well old held)) (waits held.waits) (issued held.issued)
+      (peers_from old a new same_phase same_window peers) held;
 }
 
 -- the window stays as wide where nothing but a closing can be
 size_if : (ending : Bool) (a : Association) (table : Database) (moment : ℕ) (new : Association) (new_table : Database) → ClosesIf ending a table moment new new_table → new.incoming.size ≡ a.incoming.size
 size_if true a table moment new new_table is = ap (λ (x : Association). x.incoming.size) is.content
 size_if false a table moment new new_table is = ap (λ (x : Association). x.incoming.size) is.0
+
+-- so does the peer's
+peers_if : (ending : Bool) (a : Association) (table : Database) (moment : ℕ) (new : Association) (new_table : Database) → ClosesIf ending a table moment new new_table → KeepsPeersWindow a new
+peers_if true a table moment new new_table is = inl (ap (λ (r : OwnRequests Request). r.window) is.requests.content)
+peers_if false a table moment new new_table is = inl (ap (λ (x : Association). x.outgoing.window) is.0)
+
+-- one request more, or an answer, leaves it
+issued_window : (old : OwnRequests Request) (request : Request) (new : OwnRequests Request) → IssuesNext old request new → new.window ≡ old.window
+issued_window old request new is = ap (λ (r : OwnRequests Request). r.window) is.issued.content ∙ ap (λ (r : OwnRequests Request). r.window) is.prepared.content
+
+pub counted_window : (old : OwnRequests Request) (number : ℕ) (request : Request) (new : OwnRequests Request) → CountsAnswer old number request new → new.window ≡ old.window
+counted_window old number request new is = ap (λ (r : OwnRequests Request). r.window) is.content
 
 -- IKE_AUTH is not done yet
 not_yet : (p q : Phase) (n m : ℕ) → p ≡ q → is_concluded q ≡ false → is_concluded p ≡ true → n ≡ m
@@ -317,28 +400,34 @@ auth_opens : (sent : AuthSent) (opened : HalfOpen) → phase.AuthSent sent ≡ p
 auth_opens sent opened is = cc
 
 -- it waits for a response still, and no reply is kept yet
-early_leaves : (laws : FollowLaws) (own : ℕ) (old new : Association) (p : Phase) → new.incoming ≡ old.incoming → old.phase ≡ p → is_concluded p ≡ false
+early_leaves : (laws : FollowLaws) (own : ℕ) (old new : Association) (sent : InitSent) → new.incoming ≡ old.incoming → old.phase ≡ phase.InitSent sent
     → ((opened : HalfOpen) → new.phase ≡ phase.HalfOpen opened → old.phase ≡ phase.HalfOpen opened)
-    → (HasKeys new.phase → new.role ≡ Initiator → new.spi_r ≢ 0) → (SuitPhase p old.outgoing.outstanding → SuitPhase new.phase new.outgoing.outstanding)
-    → (IsInitSent new.phase → IsInitSent p) → new.role ≡ old.role → (AreIssued old.outgoing → AreIssued new.outgoing) → Leaves own old new
-early_leaves laws own old new p same was open_yet opens named waits begins role issued = record {
+    → (HasKeys new.phase → new.role ≡ Initiator → new.spi_r ≢ 0) → (SuitPhase (phase.InitSent sent) old.outgoing.outstanding → SuitPhase new.phase new.outgoing.outstanding)
+    → (old.outgoing.window ≡ 1 → new.outgoing.window ≡ 1) → new.role ≡ old.role → (AreIssued old.outgoing → AreIssued new.outgoing) → Leaves own old new
+early_leaves laws own old new sent same was opens named waits window role issued = record {
   window = inl (ap (λ (r : PeerRequests). r.size) same);
   follows = subst (λ (r : PeerRequests). FollowsIncoming old.incoming r) (sym same) (laws.reflexive old.incoming);
-  concluded = λ is. absurd (yes_no (is_concluded p) (sym (ap is_concluded was) ∙ is) open_yet);
+  concluded = λ is. absurd (yes_no (is_concluded old.phase) is (ap is_concluded was));
   half_open = opens;
+  peers = λ held. let none = held.took_none (inl (record { sent = sent; is = was })) in inl (window none.window ∙ sym none.window);
   sound = λ held.
       let well = well_as old.incoming new.incoming same (kept_well old held) in
+      let none = held.took_none (inl (record { sent = sent; is = was })) in
       record {
         in_effect = well.in_effect;
         near = well.near;
         concluded = λ number reply kept.
-            absurd (yes_no (is_concluded p) (sym (ap is_concluded was) ∙ held.concluded number reply (ap (λ (r : PeerRequests). map.get r.kept number) (sym same) ∙ kept)) open_yet);
+            absurd (yes_no (is_concluded old.phase) (held.concluded number reply (ap (λ (r : PeerRequests). map.get r.kept number) (sym same) ∙ kept)) (ap is_concluded was));
         named = named;
         waits = waits (subst (λ (q : Phase). SuitPhase q old.outgoing.outstanding) was held.waits);
         issued = issued held.issued;
-        took_none = λ is.
-            let none = held.took_none (subst (λ (q : Phase). IsInitSent q) (sym was) (begins is)) in
-            record { role = role ∙ none.role; incoming = subst (λ (r : PeerRequests). r ≡ record no_requests { room = r.room }) (sym same) none.incoming };
+        took_none = λ is. record {
+          role = role ∙ none.role;
+          incoming = subst (λ (r : PeerRequests). r ≡ record no_requests { room = r.room }) (sym same) none.incoming;
+          window = window none.window;
+        };
+        took_first = λ is. absurd (init_opens sent is.opened (sym was ∙ opens is.opened is.is));
+        peers = let one = window none.window in omega (arith, one);
       };
 }
 
@@ -427,81 +516,90 @@ issued_waits new p old request same is before may =
     (subst (λ (r : OwnRequests Request). SuitPhase p r.outstanding) (sym is.issued.content)
     (inserted_waits is.ready.outstanding p old.next request (subst (λ (r : OwnRequests Request). SuitPhase p r.outstanding) (sym is.prepared.content) before) may))
 
-auth_begins : (new : Association) (sent : AuthSent) → new.phase ≡ phase.AuthSent sent → IsInitSent new.phase → ⊥
-auth_begins new sent same waits = let is : phase.AuthSent sent ≡ phase.InitSent waits.sent = sym same ∙ waits.is in cc
-
-way_leaves : (laws : FollowLaws) (meaning : Meaning) (setup : Setup) (old : Association) (table : Database) (octets : Octets) (m : Message) (e : Effect) (new : Association) (new_table : Database)
+way_leaves : (laws : FollowLaws) (windows : Windows) (meaning : Meaning) (setup : Setup) (old : Association) (table : Database) (octets : Octets) (m : Message) (e : Effect) (new : Association) (new_table : Database)
     → Way meaning setup old table octets m e new new_table → Leaves setup.config.window old new
-way_leaves laws meaning setup old table octets m (effect.Refused fault) new new_table is = same_leaves laws setup.config.window old new is.association
-way_leaves laws meaning setup old table octets m (effect.Repeated reply) new new_table is = same_leaves laws setup.config.window old new is.same.association
-way_leaves laws meaning setup old table octets m (effect.Replied answered) new new_table (inl is) =
+way_leaves laws windows meaning setup old table octets m (effect.Refused fault) new new_table is = same_leaves laws setup.config.window old new is.association
+way_leaves laws windows meaning setup old table octets m (effect.Repeated reply) new new_table is = same_leaves laws setup.config.window old new is.same.association
+way_leaves laws windows meaning setup old table octets m (effect.Replied answered) new new_table (inl is) =
     let d = is.done in
     taken_leaves laws setup.config.window old d.ready d.incoming m.header.id answered.octets new d.prepared d.taken
     (auth_concludes laws setup (with_incoming old d.incoming) d.between (outcome_of d.decision) answered.child new new_table d.opened.keys (ap established_of d.was) d.concluded)
     (not_yet old.phase (phase.HalfOpen d.opened) new.incoming.size d.incoming.size d.was refl)
     (auth_window setup (with_incoming old d.incoming) d.between (outcome_of d.decision) answered.child new new_table d.opened.keys (ap is_concluded d.was) (ap established_of d.was) d.concluded)
+    (auth_peers setup (with_incoming old d.incoming) d.between (outcome_of d.decision) answered.child new new_table d.opened.keys (ap is_concluded d.was) (ap established_of d.was)
+    (decided_window windows meaning.accepts setup old.serial d.opened table d.decided.payloads d.decision d.decided.due) d.concluded)
     (subst (λ (p : Phase). SuitPhase p old.outgoing.outstanding → SuitPhase (established_of p) old.outgoing.outstanding) (sym d.was) (λ waits number request there. absurd (waits number request there)))
-way_leaves laws meaning setup old table octets m (effect.Replied answered) new new_table (inr is) =
+way_leaves laws windows meaning setup old table octets m (effect.Replied answered) new new_table (inr is) =
     let d = is.done in
     taken_leaves laws setup.config.window old d.ready d.incoming m.header.id answered.octets new d.prepared d.taken
     (closing_concludes laws (is_ending (verdict_on d.payloads)) (with_incoming old d.incoming) table setup.moment new new_table (ap is_concluded d.established) d.concluded)
     (λ concluded. size_if (is_ending (verdict_on d.payloads)) (with_incoming old d.incoming) table setup.moment new new_table d.concluded)
     (inl (size_if (is_ending (verdict_on d.payloads)) (with_incoming old d.incoming) table setup.moment new new_table d.concluded))
+    (peers_if (is_ending (verdict_on d.payloads)) (with_incoming old d.incoming) table setup.moment new new_table d.concluded)
     (subst (λ (p : Phase). SuitPhase p old.outgoing.outstanding → SuitPhase (established_of p) old.outgoing.outstanding) (sym d.established) (λ waits. waits))
-way_leaves laws meaning setup old table octets m (effect.Counted ended) new new_table (inl is) =
+way_leaves laws windows meaning setup old table octets m (effect.Counted ended) new new_table (inl is) =
     let d = is.done in
     counted_leaves laws setup.config.window old (with_outgoing old d.outgoing) new refl refl refl refl
     (auth_concludes laws setup (with_outgoing old d.outgoing) table d.verdict ended.child new new_table d.sent.keys (ap established_of d.was) d.concluded)
     (not_yet old.phase (phase.AuthSent d.sent) new.incoming.size old.incoming.size d.was refl)
     (auth_window setup (with_outgoing old d.outgoing) table d.verdict ended.child new new_table d.sent.keys (ap is_concluded d.was) (ap established_of d.was) d.concluded)
+    (counted_window old.outgoing m.header.id d.request d.outgoing d.counted)
+    (auth_peers setup (with_outgoing old d.outgoing) table d.verdict ended.child new new_table d.sent.keys (ap is_concluded d.was) (ap established_of d.was)
+    (judged_window windows meaning.accepts setup old.serial d.sent d.judged.payloads d.verdict d.judged.due) d.concluded)
     (subst (λ (p : Phase). SuitPhase p old.outgoing.outstanding → SuitPhase (established_of p) d.outgoing.outstanding) (sym d.was) (asked_once d.sent old.outgoing m.header.id d.request d.outgoing d.counted))
     (fewer_issued old.outgoing m.header.id d.request d.outgoing d.counted)
-way_leaves laws meaning setup old table octets m (effect.Counted ended) new new_table (inr is) =
+way_leaves laws windows meaning setup old table octets m (effect.Counted ended) new new_table (inr is) =
     let d = is.done in
     counted_leaves laws setup.config.window old (with_outgoing old d.outgoing) new refl refl refl refl
     (closing_concludes laws (is_rejected d.payloads) (with_outgoing old d.outgoing) table setup.moment new new_table (ap is_concluded is.was) d.concluded)
     (λ concluded. size_if (is_rejected d.payloads) (with_outgoing old d.outgoing) table setup.moment new new_table d.concluded)
     (inl (size_if (is_rejected d.payloads) (with_outgoing old d.outgoing) table setup.moment new new_table d.concluded))
+    (counted_window old.outgoing m.header.id d.request d.outgoing d.counted)
+    (peers_if (is_rejected d.payloads) (with_outgoing old d.outgoing) table setup.moment new new_table d.concluded)
     (subst (λ (p : Phase). SuitPhase p old.outgoing.outstanding → SuitPhase (established_of p) d.outgoing.outstanding) (sym is.was) (fewer_wait is.keys old.outgoing m.header.id d.request d.outgoing d.counted))
     (fewer_issued old.outgoing m.header.id d.request d.outgoing d.counted)
-way_leaves laws meaning setup old table octets m (effect.Again next) new new_table is = early_leaves laws setup.config.window old new (phase.InitSent is.sent) (ap (λ (x : Association). x.incoming) is.done.content) is.was refl (λ opened opens. absurd (init_opens _ opened (sym (ap (λ (x : Association). x.phase) is.done.content) ∙ opens)))
+way_leaves laws windows meaning setup old table octets m (effect.Again next) new new_table is = early_leaves laws setup.config.window old new is.sent (ap (λ (x : Association). x.incoming) is.done.content) is.was (λ opened opens. absurd (init_opens _ opened (sym (ap (λ (x : Association). x.phase) is.done.content) ∙ opens)))
     (λ keyed initiator zero. some_none keyed.keys (sym (ap (λ (x : Association). keys_in x.phase) is.done.content) ∙ keyed.are))
     (replaced_waits old new is.sent m.header.id is.done.was (new_request next IKE_SA_INIT setup.moment) refl is.done.replaced _ (ap (λ (x : Association). x.phase) is.done.content))
-    (λ waits. record { sent = is.sent; is = refl })
+    (λ one. ap (λ (r : OwnRequests Request). r.window) is.done.replaced.content ∙ one)
     (ap (λ (x : Association). x.role) is.done.content)
     (replaced_issued old.outgoing m.header.id is.done.was (new_request next IKE_SA_INIT setup.moment) new.outgoing is.done.replaced)
-way_leaves laws meaning setup old table octets m (effect.Identified next) new new_table is = early_leaves laws setup.config.window old new (phase.InitSent is.sent) (ap (λ (x : Association). x.incoming) is.done.content) is.was refl (λ opened opens. absurd (auth_opens _ opened (sym (ap (λ (x : Association). x.phase) is.done.content) ∙ opens)))
+way_leaves laws windows meaning setup old table octets m (effect.Identified next) new new_table is = early_leaves laws setup.config.window old new is.sent (ap (λ (x : Association). x.incoming) is.done.content) is.was (λ opened opens. absurd (auth_opens _ opened (sym (ap (λ (x : Association). x.phase) is.done.content) ∙ opens)))
     (λ keyed initiator zero. is.named (sym (ap (λ (x : Association). x.spi_r) is.done.content) ∙ zero))
     (λ before. issued_waits new _ number_0_answered (new_request next IKE_AUTH setup.moment) (ap (λ (x : Association). x.phase) is.done.content) is.done.issued
     (λ number request there. absurd (none_outstanding number request there)) (refl, refl))
-    (λ waits. absurd (auth_begins new _ (ap (λ (x : Association). x.phase) is.done.content) waits))
+    (λ one. issued_window number_0_answered (new_request next IKE_AUTH setup.moment) new.outgoing is.done.issued)
     (ap (λ (x : Association). x.role) is.done.content)
     (λ before. next_issued number_0_answered (new_request next IKE_AUTH setup.moment) new.outgoing is.done.issued (λ number request there. absurd (none_outstanding number request there)))
 
-leaves : (laws : FollowLaws) (meaning : Meaning) (setup : Setup) (old : Association) (table : Database) (octets : Octets) (m : Message) (e : Effect) (new : Association) (new_table : Database)
+leaves : (laws : FollowLaws) (windows : Windows) (meaning : Meaning) (setup : Setup) (old : Association) (table : Database) (octets : Octets) (m : Message) (e : Effect) (new : Association) (new_table : Database)
     → TakesMessage meaning setup old table octets m e new new_table → Leaves setup.config.window old new
-leaves laws meaning setup old table octets m e new new_table is =
-    way_leaves laws meaning setup old table octets m e new new_table (way_of meaning setup old table octets m e new new_table is)
+leaves laws windows meaning setup old table octets m e new new_table is =
+    way_leaves laws windows meaning setup old table octets m e new new_table (way_of meaning setup old table octets m e new new_table is)
 
-pub requests_follow : FollowLaws → (meaning : Meaning) (setup : Setup) (old : Association) (table : Database) (octets : Octets) (m : Message) (e : Effect) (new : Association) (new_table : Database)
+pub requests_follow : FollowLaws → Windows → (meaning : Meaning) (setup : Setup) (old : Association) (table : Database) (octets : Octets) (m : Message) (e : Effect) (new : Association) (new_table : Database)
     → TakesMessage meaning setup old table octets m e new new_table → FollowsIncoming old.incoming new.incoming
-requests_follow laws meaning setup old table octets m e new new_table is = (leaves laws meaning setup old table octets m e new new_table is).follows
+requests_follow laws windows meaning setup old table octets m e new new_table is = (leaves laws windows meaning setup old table octets m e new new_table is).follows
 
-pub stays_concluded : FollowLaws → (meaning : Meaning) (setup : Setup) (old : Association) (table : Database) (octets : Octets) (m : Message) (e : Effect) (new : Association) (new_table : Database)
+pub stays_concluded : FollowLaws → Windows → (meaning : Meaning) (setup : Setup) (old : Association) (table : Database) (octets : Octets) (m : Message) (e : Effect) (new : Association) (new_table : Database)
     → TakesMessage meaning setup old table octets m e new new_table → is_concluded old.phase ≡ true → StaysConcluded old new
-stays_concluded laws meaning setup old table octets m e new new_table is = (leaves laws meaning setup old table octets m e new new_table is).concluded
+stays_concluded laws windows meaning setup old table octets m e new new_table is = (leaves laws windows meaning setup old table octets m e new new_table is).concluded
 
-pub keeps_window : FollowLaws → (meaning : Meaning) (setup : Setup) (old : Association) (table : Database) (octets : Octets) (m : Message) (e : Effect) (new : Association) (new_table : Database)
+pub keeps_window : FollowLaws → Windows → (meaning : Meaning) (setup : Setup) (old : Association) (table : Database) (octets : Octets) (m : Message) (e : Effect) (new : Association) (new_table : Database)
     → TakesMessage meaning setup old table octets m e new new_table → KeepsWindow setup.config.window old new
-keeps_window laws meaning setup old table octets m e new new_table is = (leaves laws meaning setup old table octets m e new new_table is).window
+keeps_window laws windows meaning setup old table octets m e new new_table is = (leaves laws windows meaning setup old table octets m e new new_table is).window
 
-pub stays_half_open : FollowLaws → (meaning : Meaning) (setup : Setup) (old : Association) (table : Database) (octets : Octets) (m : Message) (e : Effect) (new : Association) (new_table : Database) (opened : HalfOpen)
+pub keeps_peers : FollowLaws → Windows → (meaning : Meaning) (setup : Setup) (old : Association) (table : Database) (octets : Octets) (m : Message) (e : Effect) (new : Association) (new_table : Database)
+    → IsSoundlyHeld old → TakesMessage meaning setup old table octets m e new new_table → KeepsPeersWindow old new
+keeps_peers laws windows meaning setup old table octets m e new new_table held is = (leaves laws windows meaning setup old table octets m e new new_table is).peers held
+
+pub stays_half_open : FollowLaws → Windows → (meaning : Meaning) (setup : Setup) (old : Association) (table : Database) (octets : Octets) (m : Message) (e : Effect) (new : Association) (new_table : Database) (opened : HalfOpen)
     → TakesMessage meaning setup old table octets m e new new_table → new.phase ≡ phase.HalfOpen opened → old.phase ≡ phase.HalfOpen opened
-stays_half_open laws meaning setup old table octets m e new new_table opened is = (leaves laws meaning setup old table octets m e new new_table is).half_open opened
+stays_half_open laws windows meaning setup old table octets m e new new_table opened is = (leaves laws windows meaning setup old table octets m e new new_table is).half_open opened
 
-pub stays_sound : FollowLaws → (meaning : Meaning) (setup : Setup) (old : Association) (table : Database) (octets : Octets) (m : Message) (e : Effect) (new : Association) (new_table : Database)
+pub stays_sound : FollowLaws → Windows → (meaning : Meaning) (setup : Setup) (old : Association) (table : Database) (octets : Octets) (m : Message) (e : Effect) (new : Association) (new_table : Database)
     → IsSoundlyHeld old → TakesMessage meaning setup old table octets m e new new_table → IsSoundlyHeld new
-stays_sound laws meaning setup old table octets m e new new_table held is = (leaves laws meaning setup old table octets m e new new_table is).sound held
+stays_sound laws windows meaning setup old table octets m e new new_table held is = (leaves laws windows meaning setup old table octets m e new new_table is).sound held
 
 -- ---- as an association begins, and asks
 
@@ -518,14 +616,17 @@ begun_sound cipher group public_value fresh moment serial beginning child is = r
   waits = issued_waits (begun serial beginning child) (begun serial beginning child).phase none_issued (new_request beginning.octets IKE_SA_INIT moment) refl is.issued
       (λ number request there. absurd (none_outstanding number request there)) (refl, refl);
   issued = next_issued none_issued (new_request beginning.octets IKE_SA_INIT moment) beginning.outgoing is.issued (λ number request there. absurd (none_outstanding number request there));
-  took_none = λ waits. record { role = refl; incoming = refl };
+  took_none = λ waits. record { role = refl; incoming = refl; window = issued_window none_issued (new_request beginning.octets IKE_SA_INIT moment) beginning.outgoing is.issued };
+  took_first = λ opens. absurd (init_opens _ opens.opened opens.is);
+  peers = let one = issued_window none_issued (new_request beginning.octets IKE_SA_INIT moment) beginning.outgoing is.issued in omega (arith, one);
 }
 
 other_role : Responder ≡ Initiator → ⊥
 other_role is = cc
 
-half_begins : (opened : HalfOpen) → IsInitSent (phase.HalfOpen opened) → ⊥
-half_begins opened waits = let is = waits.is in cc
+half_begins : (opened : HalfOpen) → IsInitSent (phase.HalfOpen opened) ⊎ IsAuthSent (phase.HalfOpen opened) → ⊥
+half_begins opened (inl waits) = let is = waits.is in cc
+half_begins opened (inr waits) = let is = waits.is in cc
 
 pub admitted_sound : (cipher : Cipher) (group : ℕ) (public_value : Octets → Octets) (shared_secret : Octets → Octets → Option Octets) (fresh : Fresh) (moment serial : ℕ) (offer : OfferView) (spi_i : ℕ) (request : Octets) (admitted : Admitted)
     → Admits cipher group public_value shared_secret fresh moment serial offer spi_i request admitted → IsSoundlyHeld admitted.association
@@ -539,10 +640,9 @@ admitted_sound cipher group public_value shared_secret fresh moment serial offer
       waits = λ number request there. absurd (none_outstanding number request there);
       issued = λ number request there. absurd (none_outstanding number request there);
       took_none = λ waits. absurd (half_begins _ waits);
+      took_first = λ opens. record { role = refl; incoming = refl; next = refl; answered = refl; window = refl };
+      peers = omega arith;
     })
-
-established_begins : (a : Association) (keys : KeyRecord) → a.phase ≡ phase.Established keys → IsInitSent a.phase → ⊥
-established_begins a keys same waits = let is : phase.Established keys ≡ phase.InitSent waits.sent = sym same ∙ waits.is in cc
 
 pub probed_sound : (body_of : Keys → Octets → Octets → Octets → Octets) (setup : Setup) (old : Association) (octets : Octets) (new : Association)
     → IsSoundlyHeld old → Probes body_of setup old octets new → IsSoundlyHeld new
@@ -556,7 +656,9 @@ probed_sound body_of setup old octets new held is =
       waits = issued_waits (with_outgoing old is.outgoing) (phase.Established is.keys) old.outgoing (new_request octets INFORMATIONAL setup.moment) is.established is.issued
           (subst (λ (p : Phase). SuitPhase p old.outgoing.outstanding) is.established held.waits) refl;
       issued = next_issued old.outgoing (new_request octets INFORMATIONAL setup.moment) is.outgoing is.issued held.issued;
-      took_none = λ waits. absurd (established_begins old is.keys is.established waits);
+      took_none = λ waits. absurd (concluded_waits old.phase (ap is_concluded is.established) waits);
+      took_first = λ opens. absurd (concluded_opens old.phase opens.opened (ap is_concluded is.established) opens.is);
+      peers = let same = issued_window old.outgoing (new_request octets INFORMATIONAL setup.moment) is.outgoing is.issued in omega (arith, same, held.peers);
     })
 
 -- ---- which number comes into effect

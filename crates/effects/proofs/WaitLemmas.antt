@@ -1,5 +1,5 @@
 -- What waits for its answer after a message waited before, or goes out by it.
-use Rattle.std.proofs.Common.{◌≡◌, ◌==◌, ◌⊎◌, inl, inr, ℕ, ◌+◌, ◌<◌, arith, Bool, true, false, cond, Option, Some, None, ap, refl, subst, sym, ◌∙◌}
+use Rattle.std.proofs.Common.{◌≡◌, ◌⊎◌, inl, inr, ℕ, arith, Bool, true, false, cond, Option, Some, None, ap, refl, subst, sym, ◌∙◌}
 use Rattle.std.specs.Cmp.{nat_cmp_total, unsigned_tied}
 use Rattle.std.specs.FinMap as map
 use Rattle.std.specs.Ordering.{nat_cmp}
@@ -35,7 +35,7 @@ use Rattle.informational.specs.Orders.{ClosesIf}
 use Rattle.informational.specs.Probing.{Probes}
 use Rattle.effects.specs.Taking.{Meaning, TakesMessage}
 use Rattle.effects.specs.Requests.{IsSoundlyHeld}
-use Rattle.effects.specs.Waiting.{asked_by, Ends, StartsWaiting, WaitsNoMore, TakesCookie, SuitPhase, KeepTimers, WaitUntil}
+use Rattle.effects.specs.Waiting.{asked_by, Ends, StartsWaiting, TakesCookie, SuitPhase, KeepTimers, WaitUntil}
 use Rattle.effects.specs.declared.taking.Effect.{Effect}
 use Rattle.effects.specs.declared.taking.Effect.TheVariants as effect
 use Rattle.effects.proofs.MapLemmas.{some_none}

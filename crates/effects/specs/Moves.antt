@@ -1,5 +1,5 @@
 -- What becomes of an association that has keys, as moves, which know keys, numbers and octets and no payload (RFC 7296 sections 2.1 to 2.4).
-use Rattle.std.specs.Prelude.{◌≡◌, ◌==◌, ◌⊎◌, ◌+◌, ◌<◌, ◌≤◌, ◌^◌, ◌∷◌, ℕ, Bool, true, false, Option, Some, None, List, [], if◌then◌else◌}
+use Rattle.std.specs.Prelude.{◌≡◌, ◌==◌, ◌⊎◌, ◌↔◌, ◌+◌, ◌<◌, ◌≤◌, ◌^◌, ◌∷◌, ℕ, Bool, true, false, Option, Some, None, List, [], if◌then◌else◌}
 use Rattle.std.specs.FinMap as map
 use Rattle.std.specs.FinSet as set
 use Rattle.std.specs.Option.{option_map}
@@ -8,13 +8,14 @@ use Rattle.base.specs.Octets.{Octets}
 use Rattle.suite.specs.declared.key_record.KeyRecord.{KeyRecord}
 use Rattle.exchange.specs.declared.headers.Role.{Role}
 use Rattle.exchange.specs.declared.headers.Role.TheVariants.{Initiator, Responder}
-use Rattle.requests.specs.Incoming.{after_number_0, no_requests, PeerRequests}
+use Rattle.requests.specs.Incoming.{after_number_0, no_requests, IsPassed, PeerRequests}
 use Rattle.requests.specs.Numbers.{IsGap, LacksNumber, NumberSet}
 use Rattle.requests.specs.Outgoing.{none_issued, number_0_answered, OwnRequests}
 use Rattle.association.specs.Phases.{keys_in}
 use Rattle.association.specs.Receiving.{is_closed}
 use Rattle.association.specs.declared.phase.Association.{Association}
 use Rattle.association.specs.declared.phase.Request.{Request}
+use Rattle.auth.specs.Windows.{WIDEST_WINDOW}
 use Rattle.effects.specs.declared.taking.Effect.{Effect}
 use Rattle.effects.specs.declared.taking.Effect.TheVariants as effect
 
@@ -79,8 +80,7 @@ first_ledger keys Initiator = ledger_with keys Initiator false no_requests numbe
 first_ledger keys Responder = ledger_with keys Responder false after_number_0 none_issued
 
 pub record Makes (keys : KeyRecord) (new : Ledger) : Type 0 where
-  pub role : Role
-  pub content : new ≡ first_ledger keys role
+  pub content : new ≡ first_ledger keys new.role
 
 -- An open association issues the least number never issued, which lies in the peer's window and has 32 bits.
 pub record Issues (number : ℕ) (octets : Octets) (old new : Ledger) : Type 0 where
@@ -90,16 +90,30 @@ pub record Issues (number : ℕ) (octets : Octets) (old new : Ledger) : Type 0 w
   pub is_open : old.is_closed ≡ false
   pub content : new ≡ record old { next = old.next + 1; outstanding = put old.outstanding number (Some octets) }
 
--- An outstanding request waits no more. Windows may be widened, as IKE_AUTH does it, and are never narrowed.
+-- IKE_AUTH is done, by its number, at the end that has this role: the initiator counts it, and the responder takes it. Each window is at
+-- least as wide from then on, and 16 at most (section 2.3).
+pub record WidensWindows (role : Role) (number : ℕ) (old new : Ledger) : Type 0 where
+  pub role_is : old.role ≡ role
+  pub number_is : number ≡ 1
+  pub wider : old.size ≤ new.size
+  pub most : new.size ≤ WIDEST_WINDOW
+  pub peers_wider : old.window ≤ new.window
+  pub peers_most : new.window ≤ WIDEST_WINDOW
+
+-- both windows stay as they are but for that
+abbrev pub KeepWindows : Role → ℕ → Ledger → Ledger → Type 0
+KeepWindows role number old new = ((new.size ≡ old.size) × (new.window ≡ old.window)) ⊎ WidensWindows role number old new
+
+-- an outstanding request waits no more
 pub record Counts (number : ℕ) (old new : Ledger) : Type 0 where
   pub octets : Octets
   pub there : old.outstanding number ≡ Some octets
   pub is_open : old.is_closed ≡ false
-  pub wider : old.size ≤ new.size
-  pub peers_wider : old.window ≤ new.window
+  pub windows : KeepWindows Initiator number old new
   pub content : new ≡ record old { answered = set.insert old.answered number; outstanding = put old.outstanding number None; size = new.size; window = new.window }
 
--- A request that did not take effect yet, inside the window; its reply is kept, and of those kept before some or all.
+-- A request that did not take effect yet, inside the window. Its reply is kept, and of those kept before all but those a window below a
+-- number in effect, which are given up (section 2.3).
 pub record TakesEffectOnce (number : ℕ) (reply : Octets) (old new : Ledger) : Type 0 where
   pub is_open : old.is_closed ≡ false
   pub not_yet : LacksNumber old.in_effect number
@@ -107,9 +121,9 @@ pub record TakesEffectOnce (number : ℕ) (reply : Octets) (old new : Ledger) : 
   pub is_gap : IsGap old.in_effect gap
   pub inside : number < gap + old.size
   pub own_reply : map.get new.kept number ≡ Some reply
-  pub kept : (other : ℕ) (octets : Octets) → map.get new.kept other ≡ Some octets → (other ≡ number) ⊎ (map.get old.kept other ≡ Some octets)
-  pub wider : old.size ≤ new.size
-  pub peers_wider : old.window ≤ new.window
+  pub kept : (other : ℕ) (octets : Octets) → (map.get new.kept other ≡ Some octets)
+      ↔ ((map.get (map.insert old.kept number reply) other ≡ Some octets) × (¬ IsPassed new.in_effect old.size other))
+  pub windows : KeepWindows Responder number old new
   pub content : new ≡ record old { in_effect = set.insert old.in_effect number; kept = new.kept; size = new.size; window = new.window }
 
 -- it waits for no answer, and takes no request, from now on
@@ -117,9 +131,10 @@ pub record ClosesLedger (old new : Ledger) : Type 0 where
   pub is_open : old.is_closed ≡ false
   pub content : new ≡ record old { is_closed = true; outstanding = λ number. None }
 
--- it is held no longer, and waits for no answer
+-- It is held no longer, and waits for no answer: it is closed, or the responder's as it was made.
 pub record RemovesLedger (old : Ledger) : Type 0 where
   pub waits : (number : ℕ) → old.outstanding number ≡ None
+  pub over : (old.is_closed ≡ true) ⊎ (old ≡ first_ledger old.keys Responder)
 
 abbrev pub Moves : Move → Option Ledger → Option Ledger → Type 0
 Moves (Make keys) None (Some new) = Makes keys new

@@ -1,6 +1,6 @@
 -- The peer's requests of one association: which octets are one, which take effect, and what holds of the replies that are kept
 -- (RFC 7296 sections 2.1 to 2.3 and 3.1).
-use Rattle.std.specs.Prelude.{◌≡◌, ◌≢◌, ◌==◌, ◌⊎◌, ℕ, Bool, true, false, Some, max}
+use Rattle.std.specs.Prelude.{◌≡◌, ◌≢◌, ◌==◌, ◌⊎◌, ◌≤◌, ℕ, Bool, true, false, Some, max}
 use Rattle.std.specs.FinMap as map
 use Rattle.base.specs.Octets.{Octets}
 use Rattle.wire.specs.Messages.{Spells}
@@ -15,10 +15,13 @@ use Rattle.association.specs.Receiving.{opened_by, Opening}
 use Rattle.association.specs.declared.phase.Association.{Association}
 use Rattle.association.specs.declared.phase.Phase.{Phase}
 use Rattle.association.specs.declared.phase.Phase.TheVariants.{HalfOpen, Established, Closed}
+use Rattle.auth.specs.Windows.{IsWindow, WIDEST_WINDOW}
+use Rattle.initial.specs.Answering.{IsHalfOpen}
+use Rattle.initial.specs.Ending.{IsAuthSent}
 use Rattle.initial.specs.Reading.{IsInitSent}
 use Rattle.initial.specs.declared.answering.Answered.{Answered}
 use Rattle.effects.specs.Keeping.{HasKeys}
-use Rattle.effects.specs.Waiting.{AreIssued, TookNoRequest, SuitPhase}
+use Rattle.effects.specs.Waiting.{AreIssued, TookFirstRequest, TookNoRequest, SuitPhase}
 use Rattle.effects.specs.declared.taking.Effect.{Effect}
 use Rattle.effects.specs.declared.taking.Effect.TheVariants as effect
 
@@ -76,8 +79,9 @@ is_concluded (Closed keys at) = true
 is_concluded _ = false
 
 -- What holds of an association, always: replies are kept of numbers in effect that are not left behind, and of none before IKE_AUTH is
--- done; an initiator that has keys knows the responder's SPI; what waits for an answer belongs to the phase, and was issued; and who waits
--- for the response to IKE_SA_INIT took no request yet.
+-- done; an initiator that has keys knows the responder's SPI; what waits for an answer belongs to the phase, and was issued; who waits for
+-- the response to IKE_SA_INIT or to IKE_AUTH took no request yet, and who waits for IKE_AUTH took that of IKE_SA_INIT alone; and the peer's
+-- window is 16 at most.
 pub record IsSoundlyHeld (a : Association) : Type 0 where
   pub in_effect : (number : ℕ) (reply : Octets) → map.get a.incoming.kept number ≡ Some reply → HasNumber a.incoming.in_effect number
   pub near : (number : ℕ) (reply : Octets) → map.get a.incoming.kept number ≡ Some reply → ¬ IsLeftBehind a.incoming number
@@ -85,7 +89,9 @@ pub record IsSoundlyHeld (a : Association) : Type 0 where
   pub named : HasKeys a.phase → a.role ≡ Initiator → a.spi_r ≢ 0
   pub waits : SuitPhase a.phase a.outgoing.outstanding
   pub issued : AreIssued a.outgoing
-  pub took_none : IsInitSent a.phase → TookNoRequest a
+  pub took_none : IsInitSent a.phase ⊎ IsAuthSent a.phase → TookNoRequest a
+  pub took_first : IsHalfOpen a.phase → TookFirstRequest a
+  pub peers : a.outgoing.window ≤ WIDEST_WINDOW
 
 -- what a message leaves of the peer's requests, once IKE_AUTH is done: their window stays as wide
 pub record StaysConcluded (old new : Association) : Type 0 where
@@ -101,3 +107,14 @@ pub record WidensWindow (own : ℕ) (old new : Association) : Type 0 where
 -- the window changes then alone
 abbrev pub KeepsWindow : ℕ → Association → Association → Type 0
 KeepsWindow own old new = (new.incoming.size ≡ old.incoming.size) ⊎ WidensWindow own old new
+
+-- The peer's window is widened then too, to the one that it tells, which is 16 at most, and changes then alone.
+pub record WidensPeersWindow (old new : Association) : Type 0 where
+  pub before : is_concluded old.phase ≡ false
+  pub after : is_concluded new.phase ≡ true
+  pub told : ℕ
+  pub is_window : IsWindow told
+  pub window : new.outgoing.window ≡ max told old.outgoing.window
+
+abbrev pub KeepsPeersWindow : Association → Association → Type 0
+KeepsPeersWindow old new = (new.outgoing.window ≡ old.outgoing.window) ⊎ WidensPeersWindow old new

@@ -1,11 +1,12 @@
 -- What an end waits for in each phase, and what it took of the peer's requests before it has keys (RFC 7296 sections 1.2, 1.4 and 2.2).
 use Rattle.std.specs.Prelude.{◌≡◌, ◌⊎◌, ◌<◌, ◌+◌, ℕ, true, Option, Some, None}
 use Rattle.std.specs.FinMap as map
+use Rattle.std.specs.FinSet as set
 use Rattle.std.specs.Ordering.{nat_cmp}
 use Rattle.base.specs.Octets.{Octets}
 use Rattle.wire.specs.Numbers.{IKE_AUTH, IKE_SA_INIT, INFORMATIONAL}
-use Rattle.exchange.specs.declared.headers.Role.TheVariants.{Initiator}
-use Rattle.requests.specs.Incoming.{no_requests}
+use Rattle.exchange.specs.declared.headers.Role.TheVariants.{Initiator, Responder}
+use Rattle.requests.specs.Incoming.{after_number_0, no_requests}
 use Rattle.requests.specs.Outgoing.{OwnRequests}
 use Rattle.association.specs.declared.phase.Association.{Association}
 use Rattle.association.specs.declared.phase.InitSent as phase
@@ -27,10 +28,19 @@ MayBeOutstanding (Closed keys at) number exchange = ⊥
 abbrev pub SuitPhase : Phase → map.FinMap nat_cmp Request → Type 0
 SuitPhase p outstanding = (number : ℕ) (request : Request) → map.get outstanding number ≡ Some request → MayBeOutstanding p number request.exchange
 
--- this end began the association, and took no request under it yet
+-- this end began the association, took no request under it yet, and makes one at a time
 pub record TookNoRequest (a : Association) : Type 0 where
   pub role : a.role ≡ Initiator
   pub incoming : a.incoming ≡ record no_requests { room = a.incoming.room }
+  pub window : a.outgoing.window ≡ 1
+
+-- this end answered the request of IKE_SA_INIT, took no other under the association yet, and made none
+pub record TookFirstRequest (a : Association) : Type 0 where
+  pub role : a.role ≡ Responder
+  pub incoming : a.incoming ≡ record after_number_0 { room = a.incoming.room }
+  pub next : a.outgoing.next ≡ 0
+  pub answered : a.outgoing.answered ≡ set.empty
+  pub window : a.outgoing.window ≡ 1
 
 -- the request that goes out by an effect: again with a cookie, or for the first time
 abbrev pub asked_by : Effect → Option Octets

@@ -39,14 +39,14 @@ ghost use Rattle.auth.specs.Proofs.{Accepts};
 ghost use Rattle.initial.specs.Answering.{AnswersAuth, Prover};
 ghost use Rattle.initial.specs.Beginning.{begun, Admits, Begins};
 ghost use Rattle.effects.specs.Children.{AsksForChild, IsAsking, MakesChild};
-ghost use Rattle.initial.specs.Configs.{Setup};
+ghost use Rattle.initial.specs.Configs.{IsConfig, Setup};
 ghost use Rattle.informational.specs.Probing.{Probes};
 ghost use Rattle.moments.specs.Due.{is_over, SendsAgain};
 ghost use Rattle.moments.specs.Held.{IsClosedAt, IsInTime};
 ghost use Rattle.effects.specs.Moves.{ledger, moves_of, Close, Issue, KeepsReply, Lead, Make, Remove, WaitsWith};
 ghost use Rattle.initial.specs.Ending.{EndsAuth};
 ghost use Rattle.effects.specs.Keeping.{child_in, octets_of_effect, IsShort, KeepsShort, KeyedBy};
-ghost use Rattle.effects.specs.Requests.{is_concluded, takes_requests, IsPassing, IsSoundlyHeld, KeepsWindow, PutsIntoEffect, StaysConcluded};
+ghost use Rattle.effects.specs.Requests.{is_concluded, takes_requests, IsPassing, IsSoundlyHeld, KeepsPeersWindow, KeepsWindow, PutsIntoEffect, StaysConcluded};
 ghost use Rattle.effects.specs.Waiting.{asked_by, Ends, KeepTimers, WaitUntil};
 ghost use Rattle.effects.specs.Offers.{AnswersAuthSa, AnswersInitialSa};
 ghost use Rattle.effects.specs.Openings.{OpensAsMessage, OpensWhatItSeals};
@@ -67,7 +67,7 @@ use association::laws::{
     endings_are_determined, receptions_are_determined, receptions_go_by_content,
     receptions_say_why, repeats_say_why, what_is_due_is_received,
 };
-use auth::laws::who_is_accepted_proved_itself;
+use auth::laws::{who_is_accepted_proved_itself, windows_are_read_again};
 use children::laws::{
     children_are_determined, pairs_are_children, pairs_have_few_selectors,
     responses_keep_to_their_offers, what_is_accepted_was_asked,
@@ -369,8 +369,9 @@ pub fn requests_take_effect()
 }
 
 /// What took effect is remembered: the peer's requests after a message follow those before it, their window is widened once, when IKE_AUTH
-/// is done, to the one that this end tells, and an association that is half open was so before, by the same request with the same reply. What is kept stays sound, from the
-/// beginning on.
+/// is done, to the one that this end tells, and so is the window for this end's, to the one that the peer tells, which is 16 at most; and an
+/// association that is half open was so before, by the same request with the same reply. What is kept stays sound, from the beginning on
+/// (RFC 7296, sections 2.1 to 2.3).
 pub fn requests_are_remembered()
     ensures follows { (meaning : Meaning) (setup : Setup) (old : Association) (table : Database) (octets : Octets) (m : Message)
         (effect : Effect) (new : Association) (new_table : Database)
@@ -381,6 +382,9 @@ pub fn requests_are_remembered()
     ensures window { (meaning : Meaning) (setup : Setup) (old : Association) (table : Database) (octets : Octets) (m : Message)
         (effect : Effect) (new : Association) (new_table : Database)
         → TakesMessage meaning setup old table octets m effect new new_table → KeepsWindow setup.config.window old new }
+    ensures peers { (meaning : Meaning) (setup : Setup) (old : Association) (table : Database) (octets : Octets) (m : Message)
+        (effect : Effect) (new : Association) (new_table : Database) → IsSoundlyHeld old
+        → TakesMessage meaning setup old table octets m effect new new_table → KeepsPeersWindow old new }
     ensures half_open { (meaning : Meaning) (setup : Setup) (old : Association) (table : Database) (octets : Octets) (m : Message)
         (effect : Effect) (new : Association) (new_table : Database) (opened : HalfOpen)
         → TakesMessage meaning setup old table octets m effect new new_table → new.phase ≡ phase.HalfOpen opened
@@ -400,15 +404,17 @@ pub fn requests_are_remembered()
         (new : Association) → IsSoundlyHeld old → Probes body_of setup old octets new → IsSoundlyHeld new }
 {
     later_incoming_follow();
+    windows_are_read_again();
 }
 
 /// What becomes of an association that has keys, as moves: a message makes two at most, those of what came of it, from what moves speak of
 /// before to what they speak of after; to answer a first request, to ask the peer, to close and to hold no longer are one each. What is
-/// passed over, a repeat, and a request that goes out again make none, and before this end has come to keys there is nothing to speak of
-/// (RFC 7296, sections 2.1 to 2.4).
+/// passed over, a repeat, and a request that goes out again make none, and before this end has come to keys there is nothing to speak of:
+/// an initiator comes to them by a response of IKE_SA_INIT. Of the configuration it is asked that it is one that an end may have (RFC 7296,
+/// sections 2.1 to 2.4).
 pub fn messages_make_moves()
     ensures message { (meaning : Meaning) (setup : Setup) (old : Association) (table : Database) (octets : Octets) (m : Message)
-        (effect : Effect) (new : Association) (new_table : Database) → IsSoundlyHeld old
+        (effect : Effect) (new : Association) (new_table : Database) → IsSoundlyHeld old → IsConfig setup.config
         → TakesMessage meaning setup old table octets m effect new new_table
         → Lead (moves_of m.header.id (keys_in new.phase) effect) (ledger old) (ledger new) }
     ensures probe { (body_of : Keys → Octets → Octets → Octets → Octets) (setup : Setup) (old : Association) (octets : Octets)
@@ -419,6 +425,13 @@ pub fn messages_make_moves()
         (request : Octets) (admitted : Admitted)
         → Admits cipher group public_value shared_secret fresh moment serial offer spi_i request admitted
         → (keys : KeyRecord) × Lead (Make keys ∷ []) None (ledger admitted.association) }
+    ensures begun { (cipher : Cipher) (group : ℕ) (public_value : Octets → Octets) (fresh : Fresh) (moment serial : ℕ)
+        (beginning : Beginning) (child : FirstChildView) → Begins cipher group public_value fresh moment beginning
+        → ledger (begun serial beginning child) ≡ None }
+    ensures initial { (meaning : Meaning) (setup : Setup) (old : Association) (table : Database) (octets : Octets) (m : Message)
+        (next : Octets) (new : Association) (new_table : Database) → IsSoundlyHeld old
+        → TakesMessage meaning setup old table octets m (Identified next) new new_table
+        → (m.header.exchange ≡ IKE_SA_INIT) × (m.header.flags.response ≡ true) }
     ensures sending { (now : ℕ) (old new : Association) → SendsAgain now old new → Lead [] (ledger old) (ledger new) }
     ensures closing { (now : ℕ) (old new : Association) (keys : KeyRecord) → IsSoundlyHeld old
         → keys_in old.phase ≡ Some keys → IsClosedAt now old new → Lead (Close ∷ []) (ledger old) (ledger new) }
@@ -426,7 +439,9 @@ pub fn messages_make_moves()
         → is_over now old.phase ≡ true → Lead (Remove ∷ []) (ledger old) None }
     ensures few { (number : ℕ) (keys : Option KeyRecord) (effect : Effect) → length (moves_of number keys effect) ≤ 2 }
 {
+    receptions_say_why();
     who_is_gone_was_asked();
+    windows_are_read_again();
 }
 
 /// What goes out again under an association's keys is what moves speak of: the reply that is kept of the request that comes again, and a

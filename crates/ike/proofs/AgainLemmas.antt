@@ -1,5 +1,5 @@
 -- What goes out again with a moment does so under keys that its association holds.
-use Rattle.std.proofs.Common.{◌≡◌, ◌⊎◌, inl, inr, ℕ, Bool, true, false, List, length, Option, Some, None, Contains, ap, refl, subst, sym, ◌∙◌}
+use Rattle.std.proofs.Common.{◌≡◌, inl, inr, ℕ, true, List, length, Option, Some, None, Contains, ap, refl, subst, sym, ◌∙◌}
 use Rattle.std.proofs.lemmas.List.Elements.{All-contains}
 use Rattle.std.proofs.lemmas.Option.{slice_get_read}
 use Rattle.std.specs.Option.{option_map}
@@ -54,5 +54,5 @@ pub step_again_keyed : TickFacts → StaysSound → (meaning : Meaning) (entries
     → IsSoundTable table → IsSoundMachine old table → Steps meaning entries input old table stepped new new_table → stepped.output ≡ output.Ticked ticked → Contains ticked.requests r → r.encrypted ≡ true → HoldsKeys new.held r.ike
 step_again_keyed facts stays meaning entries input old table stepped new new_table ticked r sound_table sound is said there sealed = elim (step_way meaning entries input old table stepped new new_table is) [
   | inl w ↦ absurd (way_not_ticked meaning w.setup w.octets old.held table stepped new.held new_table ticked w.way said)
-  | inr passes ↦ again_keyed facts input old.held new.held table new_table stepped ticked r sound (stays meaning entries input old table stepped new new_table sound_table sound is) passes said there sealed
+  | inr passes ↦ again_keyed facts input old.held new.held table new_table stepped ticked r sound.held (stays meaning entries input old table stepped new new_table sound_table sound is).held passes said there sealed
 ]

@@ -1,5 +1,5 @@
 -- What goes out without a mark goes in clear.
-use Rattle.std.proofs.Common.{◌≡◌, ◌≢◌, ◌⊎◌, inl, inr, ℕ, Bool, true, false, List, Option, Some, None, IsSome, ap, refl, subst, sym, ◌∙◌}
+use Rattle.std.proofs.Common.{◌≡◌, inl, inr, ℕ, List, Option, Some, None, ap, refl, subst, sym, ◌∙◌}
 use Rattle.std.specs.Prelude.{option_and_then}
 use Rattle.base.specs.Octets.{Octets}
 use Rattle.policy.specs.declared.entry.Entry.{Entry}
@@ -92,6 +92,6 @@ way_clear laws meaning setup octets old table stepped new new_table sound (probe
 pub step_clear : ClearLaws → (meaning : Meaning) (entries : List Entry) (input : InputView) (old : Machine) (table : Database) (stepped : Stepped) (new : Machine) (new_table : Database) (octets : Octets)
     → IsSoundMachine old table → Steps meaning entries input old table stepped new new_table → stepped.trace.sent ≡ None → octets_in stepped.output ≡ Some octets → IsInClear old.held stepped.trace.keyed new.held stepped.output
 step_clear laws meaning entries input old table stepped new new_table octets sound is none out = elim (step_way meaning entries input old table stepped new new_table is) [
-  | inl w ↦ way_clear laws meaning w.setup w.octets old.held table stepped new.held new_table sound w.way octets none out
+  | inl w ↦ way_clear laws meaning w.setup w.octets old.held table stepped new.held new_table sound.held w.way octets none out
   | inr passes ↦ absurd (no_octets octets (sym (ap (λ (s : Stepped). octets_in s.output) passes.takes.said) ∙ out))
 ]

@@ -1,5 +1,5 @@
 -- The request of IKE_SA_INIT that comes again, and which one made an association half open.
-use Rattle.std.proofs.Common.{◌≡◌, ◌⊎◌, ◌≤◌, inl, inr, ℕ, true, max, List, Option, Some, None, ap, refl, subst, sym, ◌∙◌, arith}
+use Rattle.std.proofs.Common.{◌≡◌, ◌≤◌, inl, inr, ℕ, true, max, List, Option, Some, None, ap, refl, subst, sym, ◌∙◌, arith}
 use Rattle.std.specs.Cmp.Lexicographic.{same_text}
 use Rattle.std.specs.List.{position, slice_get}
 use Rattle.std.specs.Prelude.{slice_index_or, slice_set}
@@ -26,7 +26,6 @@ use Rattle.ike.specs.Faults.{is_want_of_memory}
 use Rattle.ike.specs.Steps.{InputView, Refuses, Steps}
 use Rattle.ike.specs.Steps as steps
 use Rattle.ike.specs.declared.fault.IkeFault.{IkeFault}
-use Rattle.ike.specs.declared.fault.IkeFault.TheVariants as fault
 use Rattle.ike.specs.declared.output.IkeOutput.TheVariants as output
 use Rattle.ike.specs.declared.output.Stepped.{Stepped}
 use Rattle.ike.proofs.DeterminedRefusals.{refused_is}
@@ -80,7 +79,7 @@ pub step_repeats_first : Laws → Quiet → (meaning : Meaning) (entries : List 
 step_repeats_first laws quiet meaning entries (steps.Message from octets fresh) old table stepped new new_table serial a opened sound is stands half same =
     let f = found_at old.held.associations serial a stands in
     let setup = setup_at old entries fresh in
-    let asked : IsInitialRequest opened.request = (sound.each f.place a f.there).asked opened half in
+    let asked : IsInitialRequest opened.request = (sound.held.each f.place a f.there).asked opened half in
     let taken : TakesDatagram meaning setup old.cookies from opened.request old.held table stepped new.held new_table =
     subst (λ (o : Octets). TakesDatagram meaning setup old.cookies from o old.held table stepped new.held new_table) same is.1 in
     only_says quiet meaning entries (steps.Message from octets fresh) old table stepped new new_table (output.Repeat opened.reply) is
@@ -94,7 +93,7 @@ step_repeats_first laws quiet meaning entries (steps.Message from octets fresh) 
           subst (λ b. TakesRead b meaning setup old.cookies from opened.request asked.message old.held table stepped new.held new_table) asked.initial by_header in
           let sound_one : TakesSound true meaning setup old.cookies from opened.request asked.message old.held stepped new.held =
           subst (λ b. TakesSound b meaning setup old.cookies from opened.request asked.message old.held stepped new.held) asked.sound initial.0 in
-          first_repeats old.held table f.place a opened stepped (position (is_answered opened.request) old.held.associations) meaning setup old.cookies from asked.message new.held sound f.there half refl sound_one
+          first_repeats old.held table f.place a opened stepped (position (is_answered opened.request) old.held.associations) meaning setup old.cookies from asked.message new.held sound.held f.there half refl sound_one
     ]) tt
 step_repeats_first laws quiet meaning entries (steps.Start ike place fresh) old table stepped new new_table serial a opened sound is stands half same = absurd same
 step_repeats_first laws quiet meaning entries (steps.Probe ike fresh) old table stepped new new_table serial a opened sound is stands half same = absurd same
@@ -165,19 +164,19 @@ pub step_admits : Laws → TicksHold → (meaning : Meaning) (entries : List Ent
     (serial : ℕ) (b : Association) (opened : HalfOpen) → IsSoundMachine old table → Steps meaning entries input old table stepped new new_table
     → association_of serial old.held.associations ≡ None → association_of serial new.held.associations ≡ Some b → b.phase ≡ phase.HalfOpen opened → IsAdmitted input opened stepped
 step_admits laws ticks meaning entries (steps.Message from octets fresh) old table stepped new new_table serial b opened sound is none there half =
-    let by = datagram_admits laws meaning (setup_at old entries fresh) octets old.held table stepped new.held new_table serial b opened sound (record { none = none; there = there }) half
+    let by = datagram_admits laws meaning (setup_at old entries fresh) octets old.held table stepped new.held new_table serial b opened sound.held (record { none = none; there = there }) half
     (datagram_way meaning (setup_at old entries fresh) old.cookies from octets old.held table stepped new.held new_table is.1) in
     record { request = by.0; said = by.1 }
 step_admits laws ticks meaning entries (steps.Start ike place fresh) old table stepped new new_table serial b opened sound is none there half =
-    absurd (begun_opened old.held table _ _ new.held serial b opened sound refl refl is.1.done.content (record { none = none; there = there }) half)
+    absurd (begun_opened old.held table _ _ new.held serial b opened sound.held refl refl is.1.done.content (record { none = none; there = there }) half)
 step_admits laws ticks meaning entries (steps.Probe ike fresh) old table stepped new new_table serial b opened sound is none there half =
-    let was = probed_stood meaning.body_of (setup_at old entries fresh) ike old.held stepped new.held is.1 table serial b sound there in
+    let was = probed_stood meaning.body_of (setup_at old entries fresh) ike old.held stepped new.held is.1 table serial b sound.held there in
     absurd (some_none was.was (sym none ∙ was.stood))
 step_admits laws ticks meaning entries (steps.Secret secret) old table stepped new new_table serial b opened sound is none there half =
     absurd (still_none old.held new.held serial b (ap (λ (m : Machine). m.held) is.content) (record { none = none; there = there }))
 step_admits laws ticks meaning entries (steps.Tick moment) old table stepped new new_table serial b opened sound is none there half =
     let t = is.takes in
-    let was = ticked_stood (max old.moment moment) old.held new.held table serial b sound (ticks (max old.moment moment) old.held.associations table t.ticked new.held.associations new_table t.ticks) there in
+    let was = ticked_stood (max old.moment moment) old.held new.held table serial b sound.held (ticks (max old.moment moment) old.held.associations table t.ticked new.held.associations new_table t.ticks) there in
     absurd (some_none was.was (sym none ∙ was.stood))
 
 -- ---- what is refused
@@ -186,7 +185,7 @@ pub opens_unrefused : Laws → (meaning : Meaning) (entries : List Entry) (input
     → association_of serial machine.held.associations ≡ Some a → OpensAsRequest meaning input a number → Refuses meaning entries input machine table reason → is_want_of_memory reason ≡ true
 opens_unrefused laws meaning entries (steps.Message from octets fresh) machine table reason serial a number sound stands opens is =
     let o = opens.1 in
-    let f = finds_of machine.held table serial a meaning.plain_of octets opens.0 number sound stands o in
+    let f = finds_of machine.held table serial a meaning.plain_of octets opens.0 number sound.held stands o in
     elim (refused_is meaning (setup_at machine entries fresh) machine.cookies from octets machine.held reason is) [
       | inl memory ↦ memory
       | inr refused ↦
@@ -258,11 +257,11 @@ pub step_next : Laws → TicksHold → (meaning : Meaning) (entries : List Entry
     → association_of serial old.held.associations ≡ None → association_of serial new.held.associations ≡ Some b → (serial ≡ old.held.next) × (b.incoming ≡ first_requests b.role)
 step_next laws ticks meaning entries input old table stepped new new_table serial b sound is none there = elim (step_way meaning entries input old table stepped new new_table is) [
   | inl w ↦
-      let begins = datagram_next laws meaning w.setup w.octets old.held table stepped new.held new_table serial b sound (record { none = none; there = there }) w.way in
+      let begins = datagram_next laws meaning w.setup w.octets old.held table stepped new.held new_table serial b sound.held (record { none = none; there = there }) w.way in
       (begins.next, begins.requests)
   | inr passes ↦
       let t = passes.takes in
-      let was = ticked_stood passes.now old.held new.held table serial b sound (ticks passes.now old.held.associations table t.ticked new.held.associations new_table t.ticks) there in
+      let was = ticked_stood passes.now old.held new.held table serial b sound.held (ticks passes.now old.held.associations table t.ticked new.held.associations new_table t.ticks) there in
       absurd (some_none was.was (sym none ∙ was.stood))
 ]
 

@@ -1,5 +1,5 @@
 -- What is due comes with the first moment that reaches it.
-use Rattle.std.proofs.Common.{◌≡◌, ◌≢◌, inl, inr, ℕ, zero, suc, ◌++◌, ◌∷◌, [], Bool, true, false, List, Option, Some, None, All, max, ap, refl, subst, sym, ◌∙◌}
+use Rattle.std.proofs.Common.{◌≡◌, inl, inr, ℕ, zero, suc, ◌++◌, ◌∷◌, [], Bool, true, false, List, Option, Some, All, max, ap, refl, subst, sym, ◌∙◌}
 use Rattle.std.proofs.lemmas.List.Elements.{All-from_recursion, recursion_from_All}
 use Rattle.std.specs.List.{flat_map, slice_get, AllByRecursion, AllZip}
 use Rattle.std.specs.Prelude.{◌≤◌, slice_set}
@@ -34,12 +34,11 @@ use Rattle.ike.specs.Receiving.{with_next}
 use Rattle.ike.specs.Starting.{child_by}
 use Rattle.ike.specs.Steps as steps
 use Rattle.ike.specs.Steps.{is_tick, InputView, KeepsRest, Steps}
-use Rattle.ike.specs.Ticking.{TakesMoment}
 use Rattle.ike.specs.declared.output.IkeOutput.{IkeOutput}
 use Rattle.ike.specs.declared.output.IkeOutput.TheVariants as output
 use Rattle.ike.specs.declared.output.Stepped.{Stepped}
 use Rattle.ike.proofs.WaitLemmas.{step_times, WaitLaws}
-use Rattle.ike.proofs.WayLemmas.{admitted, datagram_way, probed, rested, started, step_way, took, GoesOut, SomeWay, Way}
+use Rattle.ike.proofs.WayLemmas.{admitted, datagram_way, probed, rested, started, step_way, took, GoesOut, Way}
 
 pub record TimelyLaws : Type 0 where
   pub taken : (meaning : Meaning) (setup : Setup) (old : Association) (table : Database) (octets : Octets) (m : Message) (e : Effect) (new : Association) (new_table : Database)

@@ -3,8 +3,9 @@ use Rattle.std.proofs.Common.{◌≡◌, ◌≢◌, ◌⊎◌, inl, inr, ℕ, su
 use Rattle.std.proofs.lemmas.Bool.Decides.{eqb_tells}
 use Rattle.std.specs.List.{slice_get, AllByRecursion, AllZip}
 use Rattle.std.specs.Prelude.{slice_set, option_and_then}
-use Rattle.base.specs.Octets.{Octets}
+use Rattle.base.specs.Octets.{AreOctets, Octets}
 use Rattle.wire.specs.Messages.{Spells}
+use Rattle.wire.specs.Numbers.{IKE_SA_INIT}
 use Rattle.wire.specs.declared.message.Message.{Message}
 use Rattle.policy.specs.declared.entry.Entry.{Entry}
 use Rattle.suite.specs.declared.fresh.Fresh.{Fresh}
@@ -18,9 +19,8 @@ use Rattle.association.specs.Finding.{is_meant}
 use Rattle.association.specs.Phases.{keys_in}
 use Rattle.association.specs.Receiving.{Opening}
 use Rattle.association.specs.declared.phase.Association.{Association}
-use Rattle.association.specs.declared.phase.Phase.TheVariants as phase
 use Rattle.initial.specs.Beginning.{Admits}
-use Rattle.initial.specs.Configs.{Setup}
+use Rattle.initial.specs.Configs.{IsConfig, Setup}
 use Rattle.initial.specs.declared.answering.Answered.{Answered}
 use Rattle.initial.specs.declared.beginning.Admitted.{Admitted}
 use Rattle.initial.specs.declared.ending.Ended.{Ended}
@@ -38,7 +38,7 @@ use Rattle.effects.specs.Taking.{Meaning, KeepsIdentity, TakesMessage}
 use Rattle.effects.specs.declared.taking.Effect.{Effect}
 use Rattle.effects.specs.declared.taking.Effect.TheVariants as effect
 use Rattle.ike.specs.Machines.{association_of, has_serial, setup_at, Held, Machine}
-use Rattle.ike.specs.Moves.{ledger_at, IssuesOpenly, MoveComes, MoveOpens, MovesAt, OpensFresh, SaysNoMore, Tells, TellsClosed}
+use Rattle.ike.specs.Moves.{ledger_at, HasFresh, HasSeal, IsKeyless, IssuesOpenly, KeysCome, MoveComes, MoveOpens, MovesAt, OpensFresh, SaysNoMore, Tells, TellsAgain, TellsClosed}
 use Rattle.ike.specs.Outputs.{asking_step, half_open_step, plain_step, request_mark, stepped_of}
 use Rattle.ike.specs.Receiving.{with_next}
 use Rattle.ike.specs.Soundness.{AreSound, At, IsSoundMachine}
@@ -50,7 +50,7 @@ use Rattle.ike.proofs.OutputLemmas.{still_held, TicksLeave}
 use Rattle.ike.proofs.ProbeLemmas.{changed_itself, probed_serial}
 use Rattle.ike.proofs.RequestLemmas.{found_first, held_soundly, some_none, yes_no}
 use Rattle.ike.proofs.SerialLemmas.{grown_found, grown_stands, none_next, replaced_found, replaced_stands, same_one, sound_found}
-use Rattle.ike.proofs.TellingLemmas.{asking_says, asking_silent, closes_now, effect_says, effect_silent, half_open_says, half_open_silent, request_silent, said_silent, silent_tells, tick_says, ClosesNow, IsEffectOf, IsSilent, TickFacts}
+use Rattle.ike.proofs.TellingLemmas.{asking_says, asking_silent, closes_now, closes_one, effect_says, effect_silent, half_open_says, half_open_silent, request_silent, said_silent, sends_now, silent_tells, tick_says, ClosesNow, IsEffectOf, IsSilent, SendsNow, TickFacts}
 use Rattle.ike.proofs.TickLemmas.{found_at}
 use Rattle.ike.proofs.WayLemmas.{admitted, datagram_way, probed, rested, started, took, ProbesOne, StartsOne, Way}
 
@@ -59,11 +59,13 @@ pub record MoveLaws : Type 0 where
   pub itself : (meaning : Meaning) (setup : Setup) (old : Association) (table : Database) (octets : Octets) (m : Message) (e : Effect) (new : Association) (new_table : Database)
       → TakesMessage meaning setup old table octets m e new new_table → KeepsIdentity old new
   pub message : (meaning : Meaning) (setup : Setup) (old : Association) (table : Database) (octets : Octets) (m : Message) (e : Effect) (new : Association) (new_table : Database)
-      → IsSoundlyHeld old → TakesMessage meaning setup old table octets m e new new_table → Lead (moves_of m.header.id (keys_in new.phase) e) (ledger old) (ledger new)
+      → IsSoundlyHeld old → IsConfig setup.config → TakesMessage meaning setup old table octets m e new new_table → Lead (moves_of m.header.id (keys_in new.phase) e) (ledger old) (ledger new)
   pub probe : (body_of : Keys → Octets → Octets → Octets → Octets) (setup : Setup) (old : Association) (octets : Octets) (new : Association)
       → Probes body_of setup old octets new → Lead (Issue old.outgoing.next octets ∷ []) (ledger old) (ledger new)
   pub admits : (cipher : Cipher) (group : ℕ) (public_value : Octets → Octets) (shared_secret : Octets → Octets → Option Octets) (fresh : Fresh) (moment serial : ℕ) (offer : OfferView) (spi_i : ℕ) (request : Octets) (admitted : Admitted)
       → Admits cipher group public_value shared_secret fresh moment serial offer spi_i request admitted → (keys : KeyRecord) × Lead (Make keys ∷ []) None (ledger admitted.association)
+  pub initial : (meaning : Meaning) (setup : Setup) (old : Association) (table : Database) (octets : Octets) (m : Message) (next : Octets) (new : Association) (new_table : Database)
+      → IsSoundlyHeld old → TakesMessage meaning setup old table octets m (effect.Identified next) new new_table → (m.header.exchange ≡ IKE_SA_INIT) × (m.header.flags.response ≡ true)
   pub sending : (now : ℕ) (old new : Association) → SendsAgain now old new → Lead [] (ledger old) (ledger new)
   pub closing : (now : ℕ) (old new : Association) (keys : KeyRecord) → IsSoundlyHeld old → keys_in old.phase ≡ Some keys → moments.IsClosedAt now old new → Lead (Close ∷ []) (ledger old) (ledger new)
   pub removal : (now : ℕ) (old : Association) (keys : KeyRecord) → IsSoundlyHeld old → keys_in old.phase ≡ Some keys → is_over now old.phase ≡ true → Lead (Remove ∷ []) (ledger old) None
@@ -103,13 +105,13 @@ leads_by old new serial o p moves before after leads =
 
 -- it stays as it was
 rests_at : (meaning : Meaning) (input : InputView) (old : Held) (stepped : Stepped) (new : Held) (serial : ℕ) → association_of serial new.associations ≡ association_of serial old.associations
-    → SaysNoMore (ledger_at old serial) stepped serial [] → MovesAt meaning input old stepped new serial
+    → SaysNoMore (association_of serial old.associations) stepped serial [] → MovesAt meaning input old stepped new serial
 rests_at meaning input old stepped new serial same says =
-    record { moves = []; few = omega arith; lead = ap (option_and_then ledger) same; told = tt; no_more = says; came = tt; opened = λ opens whole. tt }
+    record { moves = []; few = omega arith; lead = ap (option_and_then ledger) same; told = tt; no_more = says; came = tt; opened = λ opens. tt }
 
 silent_at : (meaning : Meaning) (input : InputView) (old : Held) (stepped : Stepped) (new : Held) (serial : ℕ) → association_of serial new.associations ≡ association_of serial old.associations → IsSilent stepped serial
     → MovesAt meaning input old stepped new serial
-silent_at meaning input old stepped new serial same silent = rests_at meaning input old stepped new serial same (silent_tells (ledger_at old serial) stepped serial [] silent)
+silent_at meaning input old stepped new serial same silent = rests_at meaning input old stepped new serial same (silent_tells (association_of serial old.associations) stepped serial [] silent)
 
 -- where one association is changed: it is this one, or this one stays
 pub at_changed : (old : Held) (table : Database) (place : ℕ) (a b : Association) (new : Held) (serial : ℕ) → AreSound old table → At old place a → b.serial ≡ a.serial
@@ -171,22 +173,26 @@ came_ended : (meaning : Meaning) (input : InputView) (old : Held) (serial : ℕ)
 came_ended meaning input old serial move true comes = (comes, (tt, tt))
 came_ended meaning input old serial move false comes = (comes, tt)
 
-came_made : (meaning : Meaning) (input : InputView) (old : Held) (serial : ℕ) (keys : Option KeyRecord) (octets : Octets) → AllByRecursion (MoveComes meaning input old serial) (makes_and_issues keys octets)
-came_made meaning input old serial (Some keys) octets = (tt, (tt, tt))
-came_made meaning input old serial None octets = tt
+came_made : (meaning : Meaning) (input : InputView) (old : Held) (serial : ℕ) (keys : Option KeyRecord) (octets : Octets) → KeysCome input (association_of serial old.associations)
+    → AllByRecursion (MoveComes meaning input old serial) (makes_and_issues keys octets)
+came_made meaning input old serial (Some keys) octets comes = (comes, (tt, tt))
+came_made meaning input old serial None octets comes = tt
 
 came_effect : (laws : MoveLaws) (meaning : Meaning) (setup : Setup) (from octets : Octets) (old : Held) (table new_table : Database) (serial : ℕ) (a b : Association) (m : Message) (e : Effect)
-    → Spells m octets → is_meant m.header a ≡ true → association_of serial old.associations ≡ Some a → TakesMessage meaning setup a table octets m e b new_table
+    → Spells m octets → is_meant m.header a ≡ true → IsSoundlyHeld a → association_of serial old.associations ≡ Some a → TakesMessage meaning setup a table octets m e b new_table
     → AllByRecursion (MoveComes meaning (steps.Message from octets setup.fresh) old serial) (moves_of m.header.id (keys_in b.phase) e)
-came_effect laws meaning setup from octets old table new_table serial a b m (effect.Refused fault) spelled meant before takes = tt
-came_effect laws meaning setup from octets old table new_table serial a b m (effect.Repeated reply) spelled meant before takes = tt
-came_effect laws meaning setup from octets old table new_table serial a b m (effect.Again next) spelled meant before takes = tt
-came_effect laws meaning setup from octets old table new_table serial a b m (effect.Identified next) spelled meant before takes =
+came_effect laws meaning setup from octets old table new_table serial a b m (effect.Refused fault) spelled meant held before takes = tt
+came_effect laws meaning setup from octets old table new_table serial a b m (effect.Repeated reply) spelled meant held before takes = tt
+came_effect laws meaning setup from octets old table new_table serial a b m (effect.Again next) spelled meant held before takes = tt
+came_effect laws meaning setup from octets old table new_table serial a b m (effect.Identified next) spelled meant held before takes =
+    let initial = laws.initial meaning setup a table octets m next b new_table held takes in
     came_made meaning (steps.Message from octets setup.fresh) old serial (keys_in b.phase) next
-came_effect laws meaning setup from octets old table new_table serial a b m (effect.Replied answered) spelled meant before takes =
+    (subst (λ (o : Option Association). KeysCome (steps.Message from octets setup.fresh) o) (sym before)
+    (record { message = m; spelled = spelled; response = initial.1; exchange_is = initial.0 }))
+came_effect laws meaning setup from octets old table new_table serial a b m (effect.Replied answered) spelled meant held before takes =
     came_ended meaning (steps.Message from octets setup.fresh) old serial (TakeEffect m.header.id answered.octets) answered.closed
     (record { association = a; there = before; comes = laws.taken meaning setup a table octets m answered b new_table spelled meant takes })
-came_effect laws meaning setup from octets old table new_table serial a b m (effect.Counted ended) spelled meant before takes =
+came_effect laws meaning setup from octets old table new_table serial a b m (effect.Counted ended) spelled meant held before takes =
     came_ended meaning (steps.Message from octets setup.fresh) old serial (Count m.header.id) ended.closed
     (record { association = a; there = before; comes = laws.counted meaning setup a table octets m ended b new_table spelled meant takes })
 
@@ -231,9 +237,9 @@ started_moves input meaning setup old table stepped new new_table serial sound i
         few = omega arith;
         lead = ap (option_and_then ledger) after ∙ sym (ap (option_and_then ledger) before);
         told = tt;
-        no_more = silent_tells (ledger_at old serial) stepped serial [] silent;
+        no_more = silent_tells (association_of serial old.associations) stepped serial [] silent;
         came = tt;
-        opened = λ opens whole. tt;
+        opened = λ opens. tt;
       }
       | inr (apart, same) ↦ silent_at meaning input old stepped new serial same silent
     ]
@@ -257,11 +263,12 @@ probed_moves laws input meaning setup old table stepped new new_table serial sea
           ),
           tt,
         );
-        no_more = subst (λ (s : Stepped). SaysNoMore (ledger_at old serial) s serial moves) (sym p.said)
-            (subst (λ (n : ℕ). SaysNoMore (ledger_at old serial) (asking_step n p.association.outgoing.next p.octets) serial moves) (here ∙ named) (asking_says (ledger_at old serial) serial p.association.outgoing.next p.octets));
+        no_more = subst (λ (s : Stepped). SaysNoMore (association_of serial old.associations) s serial moves) (sym p.said)
+            (subst (λ (n : ℕ). SaysNoMore (association_of serial old.associations) (asking_step n p.association.outgoing.next p.octets) serial moves) (here ∙ named)
+            (asking_says (association_of serial old.associations) serial p.association.outgoing.next p.octets));
         came = (tt, tt);
-        opened = λ opens whole. (
-          record { association = p.changed; there = after; opens = laws.probed meaning.body_of meaning.plain_of setup p.association p.octets p.changed (sealed opens) (whole p.place p.association p.there) p.probes },
+        opened = λ opens. (
+          record { association = p.changed; there = after; opens = laws.probed meaning.body_of meaning.plain_of setup p.association p.octets p.changed (sealed opens) (sound.each p.place p.association p.there).whole p.probes },
           tt,
         );
       }
@@ -282,34 +289,35 @@ effect_of laws meaning setup octets a table m e b new_table takes =
     }
 
 way_moves : (laws : MoveLaws) (meaning : Meaning) (setup : Setup) (from octets : Octets) (old : Held) (table : Database) (stepped : Stepped) (new : Held) (new_table : Database) (serial : ℕ)
-    → AreSound old table → Way meaning setup octets old table stepped new new_table → MovesAt meaning (steps.Message from octets setup.fresh) old stepped new serial
-way_moves laws meaning setup from octets old table stepped new new_table serial sound (rested is) =
+    → AreSound old table → IsConfig setup.config → Way meaning setup octets old table stepped new new_table → MovesAt meaning (steps.Message from octets setup.fresh) old stepped new serial
+way_moves laws meaning setup from octets old table stepped new new_table serial sound config (rested is) =
     silent_at meaning (steps.Message from octets setup.fresh) old stepped new serial (ap (λ (h : Held). association_of serial h.associations) is.same)
     (subst (λ (s : Stepped). IsSilent s serial) (sym is.is) (said_silent old is.said serial is.goes))
-way_moves laws meaning setup from octets old table stepped new new_table serial sound (took is) =
+way_moves laws meaning setup from octets old table stepped new new_table serial sound config (took is) =
     let input : InputView = steps.Message from octets setup.fresh in
     let t = is.takes in
     let a = t.association in
     let stays = laws.itself meaning setup a table octets is.message t.effect t.changed new_table t.takes in
     let number = is.message.header.id in
     let moves = moves_of number (keys_in t.changed.phase) t.effect in
+    let held = sound.each is.place a t.there in
     elim (at_changed old table is.place a t.changed new serial sound t.there stays.serial t.content) [
       | inl (here, before, after) ↦ record {
         moves = moves;
         few = laws.few number (keys_in t.changed.phase) t.effect;
-        lead = leads_by old new serial (Some a) (Some t.changed) moves before after (laws.message meaning setup a table octets is.message t.effect t.changed new_table (sound.each is.place a t.there).soundly t.takes);
+        lead = leads_by old new serial (Some a) (Some t.changed) moves before after (laws.message meaning setup a table octets is.message t.effect t.changed new_table held.soundly config t.takes);
         told = subst (λ (s : Stepped). AllByRecursion (Tells input s serial) moves) (sym t.said)
             (subst (λ (n : ℕ). AllByRecursion (Tells input (stepped_of n number t.effect) serial) moves) here (told_effect input serial number (keys_in t.changed.phase) t.effect refl));
-        no_more = subst (λ (s : Stepped). SaysNoMore (ledger_at old serial) s serial moves) (sym t.said)
-            (subst (λ (n : ℕ). SaysNoMore (ledger_at old serial) (stepped_of n number t.effect) serial moves) here
-            (subst (λ (x : Option Association). SaysNoMore (option_and_then ledger x) (stepped_of serial number t.effect) serial moves) (sym before)
-            (effect_says (ledger a) serial number (keys_in t.changed.phase) t.effect (effect_of laws meaning setup octets a table is.message t.effect t.changed new_table t.takes))));
-        came = came_effect laws meaning setup from octets old table new_table serial a t.changed is.message t.effect is.spelled (found_first is.message.header old.associations is.place a is.found_there t.there).passes before t.takes;
-        opened = λ opens whole. opened_effect laws meaning setup octets old new table new_table serial a t.changed is.message t.effect opens (whole is.place a t.there) before after t.takes;
+        no_more = subst (λ (s : Stepped). SaysNoMore (association_of serial old.associations) s serial moves) (sym t.said)
+            (subst (λ (n : ℕ). SaysNoMore (association_of serial old.associations) (stepped_of n number t.effect) serial moves) here
+            (subst (λ (x : Option Association). SaysNoMore x (stepped_of serial number t.effect) serial moves) (sym before)
+            (effect_says (Some a) serial number (keys_in t.changed.phase) t.effect (effect_of laws meaning setup octets a table is.message t.effect t.changed new_table t.takes))));
+        came = came_effect laws meaning setup from octets old table new_table serial a t.changed is.message t.effect is.spelled (found_first is.message.header old.associations is.place a is.found_there t.there).passes held.soundly before t.takes;
+        opened = λ opens. opened_effect laws meaning setup octets old new table new_table serial a t.changed is.message t.effect opens held.whole before after t.takes;
       }
       | inr (apart, same) ↦ silent_at meaning input old stepped new serial same (subst (λ (s : Stepped). IsSilent s serial) (sym t.said) (effect_silent a.serial number t.effect serial apart))
     ]
-way_moves laws meaning setup from octets old table stepped new new_table serial sound (admitted is) =
+way_moves laws meaning setup from octets old table stepped new new_table serial sound config (admitted is) =
     let input : InputView = steps.Message from octets setup.fresh in
     let b = is.admits.admitted.association in
     let made = laws.admits meaning.cipher meaning.group meaning.public_value meaning.shared_secret setup.fresh setup.moment old.next is.offer is.spi_i octets is.admits.admitted is.admits.admits in
@@ -320,17 +328,17 @@ way_moves laws meaning setup from octets old table stepped new new_table serial 
         few = omega arith;
         lead = leads_by old new serial None (Some b) (Make made.0 ∷ []) before after made.1;
         told = ((ap (λ (s : Stepped). s.trace.keyed) is.admits.said ∙ ap Some (sym (here ∙ next)), refl), tt);
-        no_more = subst (λ (s : Stepped). SaysNoMore (ledger_at old serial) s serial (Make made.0 ∷ [])) (sym is.admits.said)
-            (subst (λ (n : ℕ). SaysNoMore (ledger_at old serial) (half_open_step n is.admits.admitted.octets) serial (Make made.0 ∷ [])) (here ∙ next)
-            (half_open_says (ledger_at old serial) serial is.admits.admitted.octets made.0));
-        came = (tt, tt);
-        opened = λ opens whole. (tt, tt);
+        no_more = subst (λ (s : Stepped). SaysNoMore (association_of serial old.associations) s serial (Make made.0 ∷ [])) (sym is.admits.said)
+            (subst (λ (n : ℕ). SaysNoMore (association_of serial old.associations) (half_open_step n is.admits.admitted.octets) serial (Make made.0 ∷ [])) (here ∙ next)
+            (half_open_says (association_of serial old.associations) serial is.admits.admitted.octets made.0));
+        came = (subst (λ (o : Option Association). KeysCome input o) (sym before) is.asked, tt);
+        opened = λ opens. (tt, tt);
       }
       | inr (apart, same) ↦ silent_at meaning input old stepped new serial same
           (subst (λ (s : Stepped). IsSilent s serial) (sym is.admits.said) (half_open_silent old.next is.admits.admitted.octets serial (λ here. apart (here ∙ sym next))))
     ]
-way_moves laws meaning setup from octets old table stepped new new_table serial sound (started is) = started_moves (steps.Message from octets setup.fresh) meaning setup old table stepped new new_table serial sound is
-way_moves laws meaning setup from octets old table stepped new new_table serial sound (probed is) =
+way_moves laws meaning setup from octets old table stepped new new_table serial sound config (started is) = started_moves (steps.Message from octets setup.fresh) meaning setup old table stepped new new_table serial sound is
+way_moves laws meaning setup from octets old table stepped new new_table serial sound config (probed is) =
     probed_moves laws (steps.Message from octets setup.fresh) meaning setup old table stepped new new_table serial (λ opens. opens) sound is
 
 -- ---- a moment
@@ -414,7 +422,8 @@ record Ends (input : InputView) (stepped : Stepped) (serial : ℕ) (a : Associat
   few : length moves ≤ 2
   lead : looked (Some a) o moves
   told : AllByRecursion (Tells input stepped serial) moves
-  closes : TellsClosed serial stepped.output → (ledger a ≡ None) ⊎ Contains moves Close
+  closes : TellsClosed serial stepped.output → (keys_in a.phase ≡ None) ⊎ Contains moves Close
+  none : TellsAgain serial stepped.output → moves ≡ []
   came : (meaning : Meaning) (old : Held) → AllByRecursion (MoveComes meaning input old serial) moves
   opened : (meaning : Meaning) (old new : Held) → AllByRecursion (MoveOpens meaning old new serial) moves
 
@@ -422,56 +431,60 @@ without_keys : (a : Association) → keys_in a.phase ≡ None → ledger a ≡ N
 without_keys a none = cc
 
 gone_moves : (laws : MoveLaws) (input : InputView) (stepped : Stepped) (serial now : ℕ) (a : Association) (keys : Option KeyRecord) → IsSoundlyHeld a → keys_in a.phase ≡ keys → is_over now a.phase ≡ true → is_tick input ≡ true
-    → (TellsClosed serial stepped.output → ClosesNow now a) → Ends input stepped serial a None
-gone_moves laws input stepped serial now a None held are over ticks closes =
-    record { moves = []; few = omega arith; lead = sym (without_keys a are); told = tt; closes = λ told. inl (without_keys a are); came = λ meaning old. tt; opened = λ meaning old new. tt }
-gone_moves laws input stepped serial now a (Some keys) held are over ticks closes =
+    → (TellsClosed serial stepped.output → ClosesNow now a) → (TellsAgain serial stepped.output → SendsNow now a) → Ends input stepped serial a None
+gone_moves laws input stepped serial now a None held are over ticks closes sends =
+    record { moves = []; few = omega arith; lead = sym (without_keys a are); told = tt; closes = λ told. inl are; none = λ told. refl; came = λ meaning old. tt; opened = λ meaning old new. tt }
+gone_moves laws input stepped serial now a (Some keys) held are over ticks closes sends =
     record {
       moves = Remove ∷ [];
       few = omega arith;
       lead = laws.removal now a keys held are over;
       told = (ticks, tt);
       closes = λ told. absurd (yes_no (is_over now a.phase) over (closes told).alive);
+      none = λ told. absurd (yes_no (is_over now a.phase) over (sends told).alive);
       came = λ meaning old. (tt, tt);
       opened = λ meaning old new. (tt, tt);
     }
 
 closed_moves : (laws : MoveLaws) (input : InputView) (stepped : Stepped) (ticked : Ticked) (serial now : ℕ) (a b : Association) (keys : Option KeyRecord) → IsSoundlyHeld a → keys_in a.phase ≡ keys → stepped.output ≡ output.Ticked ticked
-    → Contains ticked.closed serial → moments.IsClosedAt now a b → Ends input stepped serial a (Some b)
-closed_moves laws input stepped ticked serial now a b None held are said told is =
+    → Contains ticked.closed serial → (TellsAgain serial stepped.output → SendsNow now a) → moments.IsClosedAt now a b → Ends input stepped serial a (Some b)
+closed_moves laws input stepped ticked serial now a b None held are said told sends is =
     record {
       moves = [];
       few = omega arith;
       lead = without_keys b (ap (λ (x : Association). keys_in x.phase) is.content ∙ are) ∙ sym (without_keys a are);
       told = tt;
-      closes = λ closed. inl (without_keys a are);
+      closes = λ closed. inl are;
+      none = λ told. refl;
       came = λ meaning old. tt;
       opened = λ meaning old new. tt;
     }
-closed_moves laws input stepped ticked serial now a b (Some keys) held are said told is =
+closed_moves laws input stepped ticked serial now a b (Some keys) held are said told sends is =
     record {
       moves = Close ∷ [];
       few = omega arith;
       lead = laws.closing now a b keys held are is;
       told = (subst (λ o. TellsClosed serial o) (sym said) told, tt);
       closes = λ closed. inr (0, omega arith, refl);
+      none = λ told. absurd (yes_no (has_failed now a) is.failed (sends told).answered);
       came = λ meaning old. (tt, tt);
       opened = λ meaning old new. (tt, tt);
     }
 
 on_moves : (laws : MoveLaws) (input : InputView) (stepped : Stepped) (ticked : Ticked) (serial now : ℕ) (a b : Association) → IsSoundlyHeld a → a.serial ≡ serial → stepped.output ≡ output.Ticked ticked
-    → (TellsClosed serial stepped.output → ClosesNow now a) → moments.StaysItself now ticked.closed a b → Ends input stepped serial a (Some b)
-on_moves laws input stepped ticked serial now a b held named said closes is = elim is.stays [
-  | inl sends ↦ record {
+    → (TellsClosed serial stepped.output → ClosesNow now a) → (TellsAgain serial stepped.output → SendsNow now a) → moments.StaysItself now ticked.closed a b → Ends input stepped serial a (Some b)
+on_moves laws input stepped ticked serial now a b held named said closes sends is = elim is.stays [
+  | inl sent ↦ record {
     moves = [];
     few = omega arith;
-    lead = laws.sending now a b sends.1;
+    lead = laws.sending now a b sent.1;
     told = tt;
-    closes = λ told. absurd (yes_no (has_failed now a) (closes told).failed sends.0);
+    closes = λ told. absurd (yes_no (has_failed now a) (closes told).failed sent.0);
+    none = λ told. refl;
     came = λ meaning old. tt;
     opened = λ meaning old new. tt;
   }
-  | inr closed ↦ closed_moves laws input stepped ticked serial now a b (keys_in a.phase) held refl said (subst (λ n. Contains ticked.closed n) named closed.1) closed.0
+  | inr closed ↦ closed_moves laws input stepped ticked serial now a b (keys_in a.phase) held refl said (subst (λ n. Contains ticked.closed n) named closed.1) sends closed.0
 ]
 
 -- a moment at one association
@@ -491,15 +504,20 @@ ended_at laws meaning input old table stepped ticked now new new_table serial a 
       lead = leads_by old new serial (Some a) o ends.moves before after ends.lead;
       told = ends.told;
       no_more = tick_says laws.ticks now old new.associations table new_table stepped ticked serial ends.moves at.sound at.ticks at.said
-          (subst (λ (x : Option Association). TellsClosed serial stepped.output → (option_and_then ledger x ≡ None) ⊎ Contains ends.moves Close) (sym before) ends.closes);
+          (subst (λ (x : Option Association). TellsClosed serial stepped.output → IsKeyless x ⊎ Contains ends.moves Close) (sym before) ends.closes) ends.none;
       came = ends.came meaning old;
-      opened = λ opens whole. ends.opened meaning old new;
+      opened = λ opens. ends.opened meaning old new;
     }
 
 told_closes : (laws : MoveLaws) (input : InputView) (old : Held) (table : Database) (stepped : Stepped) (ticked : Ticked) (now : ℕ) (new : Held) (new_table : Database) (serial : ℕ) (a : Association)
     → TickAt input old table stepped ticked now new new_table → association_of serial old.associations ≡ Some a → TellsClosed serial stepped.output → ClosesNow now a
 told_closes laws input old table stepped ticked now new new_table serial a at stands told =
     closes_now laws.ticks now old new.associations table new_table ticked serial a at.sound at.ticks stands (subst (λ (s : Stepped). TellsClosed serial s.output) at.said told)
+
+told_sends : (laws : MoveLaws) (input : InputView) (old : Held) (table : Database) (stepped : Stepped) (ticked : Ticked) (now : ℕ) (new : Held) (new_table : Database) (serial : ℕ) (a : Association)
+    → TickAt input old table stepped ticked now new new_table → association_of serial old.associations ≡ Some a → TellsAgain serial stepped.output → SendsNow now a
+told_sends laws input old table stepped ticked now new new_table serial a at stands told =
+    sends_now laws.ticks now old new.associations table new_table ticked serial a at.sound at.ticks stands (subst (λ (s : Stepped). TellsAgain serial s.output) at.said told)
 
 -- who was not held before is not held on
 none_alive : (now serial : ℕ) (old : Held) (table : Database) (o : Option Association) → AreSound old table → association_of serial old.associations ≡ None → association_of serial (held_of now old.associations) ≡ o → o ≡ None
@@ -515,31 +533,32 @@ held_moves laws meaning input old table stepped ticked now new new_table serial 
     let gone = none_zips now serial ticked.closed (held_of now old.associations) new.associations at.zip (over_gone now serial old table a (association_of serial (held_of now old.associations)) at.sound stands over refl) in
     ended_at laws meaning input old table stepped ticked now new new_table serial a None at stands gone
     (gone_moves laws input stepped serial now a (keys_in a.phase) (held_soundly old table serial a at.sound stands) refl over at.is_moment
-    (told_closes laws input old table stepped ticked now new new_table serial a at stands))
+    (told_closes laws input old table stepped ticked now new new_table serial a at stands) (told_sends laws input old table stepped ticked now new new_table serial a at stands))
 held_moves laws meaning input old table stepped ticked now new new_table serial a false at stands over =
     let z = zipped now serial ticked.closed (held_of now old.associations) new.associations a at.zip (still_held now serial old.associations a over stands) in
     ended_at laws meaning input old table stepped ticked now new new_table serial a (Some z.held) at stands z.there
     (on_moves laws input stepped ticked serial now a z.held (held_soundly old table serial a at.sound stands) (found_at old.associations serial a stands).serial_is (ap (λ (s : Stepped). s.output) at.said)
-    (told_closes laws input old table stepped ticked now new new_table serial a at stands) z.stays)
+    (told_closes laws input old table stepped ticked now new new_table serial a at stands) (told_sends laws input old table stepped ticked now new new_table serial a at stands) z.stays)
 
 tick_moves : (laws : MoveLaws) (meaning : Meaning) (input : InputView) (old : Held) (table : Database) (stepped : Stepped) (ticked : Ticked) (now : ℕ) (new : Held) (new_table : Database) (serial : ℕ) (o : Option Association)
     → TickAt input old table stepped ticked now new new_table → association_of serial old.associations ≡ o → MovesAt meaning input old stepped new serial
 tick_moves laws meaning input old table stepped ticked now new new_table serial None at stands =
     let gone = none_zips now serial ticked.closed (held_of now old.associations) new.associations at.zip (none_alive now serial old table (association_of serial (held_of now old.associations)) at.sound stands refl) in
     rests_at meaning input old stepped new serial (gone ∙ sym stands)
-    (tick_says laws.ticks now old new.associations table new_table stepped ticked serial [] at.sound at.ticks at.said (λ told. inl (ap (option_and_then ledger) stands)))
+    (tick_says laws.ticks now old new.associations table new_table stepped ticked serial [] at.sound at.ticks at.said
+    (λ told. absurd (closes_one laws.ticks now old new.associations table new_table ticked serial at.sound at.ticks stands (subst (λ (s : Stepped). TellsClosed serial s.output) at.said told))) (λ told. refl))
 tick_moves laws meaning input old table stepped ticked now new new_table serial (Some a) at stands =
     held_moves laws meaning input old table stepped ticked now new new_table serial a (is_over now a.phase) at stands refl
 
 pub step_moves : MoveLaws → TicksLeave → (meaning : Meaning) (entries : List Entry) (input : InputView) (old : Machine) (table : Database) (stepped : Stepped) (new : Machine) (new_table : Database) (serial : ℕ)
     → IsSoundMachine old table → Steps meaning entries input old table stepped new new_table → MovesAt meaning input old.held stepped new.held serial
 step_moves laws leave meaning entries (steps.Message from octets fresh) old table stepped new new_table serial sound is =
-    way_moves laws meaning (setup_at old entries fresh) from octets old.held table stepped new.held new_table serial sound
+    way_moves laws meaning (setup_at old entries fresh) from octets old.held table stepped new.held new_table serial sound.held sound.config
     (datagram_way meaning (setup_at old entries fresh) old.cookies from octets old.held table stepped new.held new_table is.1)
 step_moves laws leave meaning entries (steps.Start ike place fresh) old table stepped new new_table serial sound is =
-    started_moves (steps.Start ike place fresh) meaning (setup_at old entries fresh) old.held table stepped new.held new_table serial sound (record { ike = ike; place = place; starts = is.1 })
+    started_moves (steps.Start ike place fresh) meaning (setup_at old entries fresh) old.held table stepped new.held new_table serial sound.held (record { ike = ike; place = place; starts = is.1 })
 step_moves laws leave meaning entries (steps.Probe ike fresh) old table stepped new new_table serial sound is =
-    probed_moves laws (steps.Probe ike fresh) meaning (setup_at old entries fresh) old.held table stepped new.held new_table serial (λ opens. opens) sound (record { ike = ike; probes = is.1; pairs = is.2 })
+    probed_moves laws (steps.Probe ike fresh) meaning (setup_at old entries fresh) old.held table stepped new.held new_table serial (λ opens. opens) sound.held (record { ike = ike; probes = is.1; pairs = is.2 })
 step_moves laws leave meaning entries (steps.Secret secret) old table stepped new new_table serial sound is =
     silent_at meaning (steps.Secret secret) old.held stepped new.held serial (ap (λ (m : Machine). association_of serial m.held.associations) is.content)
     (subst (λ (s : Stepped). IsSilent s serial) (sym is.said) (said_silent old.held output.Done serial tt))
@@ -547,4 +566,20 @@ step_moves laws leave meaning entries (steps.Tick moment) old table stepped new 
     let t = is.takes in
     let now = max old.moment moment in
     tick_moves laws meaning (steps.Tick moment) old.held table stepped t.ticked now new.held new_table serial (association_of serial old.held.associations)
-    (record { sound = sound; is_moment = refl; said = t.said; ticks = t.ticks; zip = leave now old.held.associations new.held.associations table new_table t.ticked t.ticks }) refl
+    (record { sound = sound.held; is_moment = refl; said = t.said; ticks = t.ticks; zip = leave now old.held.associations new.held.associations table new_table t.ticked t.ticks }) refl
+
+-- ---- what is fresh
+
+seal_opens : (body_of : Keys → Octets → Octets → Octets → Octets) (plain_of : Opening) → ((octets : Octets) → AreOctets octets → length octets ≡ 16 → OpensWhatItSeals body_of plain_of octets)
+    → (meaning : Meaning) (fresh : Fresh) → meaning.body_of ≡ body_of → meaning.plain_of ≡ plain_of → HasSeal fresh → OpensWhatItSeals meaning.body_of meaning.plain_of fresh.seal
+seal_opens body_of plain_of opens meaning fresh body plain has =
+    subst (λ (b : Keys → Octets → Octets → Octets → Octets). OpensWhatItSeals b meaning.plain_of fresh.seal) (sym body)
+    (subst (λ (p : Opening). OpensWhatItSeals body_of p fresh.seal) (sym plain) (opens fresh.seal has.octets has.many))
+
+pub fresh_opens : (body_of : Keys → Octets → Octets → Octets → Octets) (plain_of : Opening) → ((octets : Octets) → AreOctets octets → length octets ≡ 16 → OpensWhatItSeals body_of plain_of octets)
+    → (meaning : Meaning) (input : InputView) → meaning.body_of ≡ body_of → meaning.plain_of ≡ plain_of → HasFresh input → OpensFresh meaning input
+fresh_opens body_of plain_of opens meaning (steps.Message from octets fresh) body plain has = seal_opens body_of plain_of opens meaning fresh body plain has
+fresh_opens body_of plain_of opens meaning (steps.Start ike place fresh) body plain has = seal_opens body_of plain_of opens meaning fresh body plain has
+fresh_opens body_of plain_of opens meaning (steps.Probe ike fresh) body plain has = seal_opens body_of plain_of opens meaning fresh body plain has
+fresh_opens body_of plain_of opens meaning (steps.Secret secret) body plain has = tt
+fresh_opens body_of plain_of opens meaning (steps.Tick moment) body plain has = tt

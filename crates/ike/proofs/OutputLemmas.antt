@@ -73,7 +73,7 @@ pub step_otherwise : MoreLaws → (meaning : Meaning) (entries : List Entry) (in
 step_otherwise more meaning entries (steps.Message from octets fresh) old table stepped new new_table serial a number sound is stands opens =
     let o = opens.1 in
     let setup = setup_at old entries fresh in
-    let f = finds_of old.held table serial a meaning.plain_of octets opens.0 number sound stands o in
+    let f = finds_of old.held table serial a meaning.plain_of octets opens.0 number sound.held stands o in
     let it = takes_there more.laws meaning setup old.cookies from octets old.held table stepped new.held new_table a o.message o.spelled f is.1 in
     let t = it.takes in
     let takes : TakesMessage meaning setup a table octets o.message t.effect t.changed new_table = subst (λ (x : Association). TakesMessage meaning setup x table octets o.message t.effect t.changed new_table) it.is t.takes in
@@ -163,7 +163,7 @@ pub step_replied : MoreLaws → (meaning : Meaning) (entries : List Entry) (inpu
     → PutsOneIntoEffect old.held new.held ⊎ IsInitialDatagram input
 step_replied more meaning entries (steps.Message from octets fresh) old table stepped new new_table reply closed sound is said = elim is.1 [
   | inl unread ↦ let clash = sym (ap (λ (s : Stepped). s.output) unread.passed.said) ∙ said in absurd cc
-  | inr read ↦ read_replies more (is_initial_request read.message.header) meaning (setup_at old entries fresh) old.cookies from octets read.message old.held table stepped new.held new_table reply closed sound read.spelled refl said read.done
+  | inr read ↦ read_replies more (is_initial_request read.message.header) meaning (setup_at old entries fresh) old.cookies from octets read.message old.held table stepped new.held new_table reply closed sound.held read.spelled refl said read.done
 ]
 step_replied more meaning entries (steps.Start ike place fresh) old table stepped new new_table reply closed sound is said =
     let clash = sym (ap (λ (s : Stepped). s.output) is.1.done.said) ∙ said in absurd cc
@@ -276,7 +276,7 @@ pub step_repeats_only : MoreLaws → (meaning : Meaning) (entries : List Entry) 
     → IsReplyKept meaning input old.held reply ⊎ IsFirstReplyKept input old.held reply
 step_repeats_only more meaning entries (steps.Message from octets fresh) old table stepped new new_table reply sound is said = elim is.1 [
   | inl unread ↦ let clash = sym (ap (λ (s : Stepped). s.output) unread.passed.said) ∙ said in absurd cc
-  | inr read ↦ read_repeats more (is_initial_request read.message.header) meaning (setup_at old entries fresh) old.cookies from octets fresh read.message old.held table stepped new.held new_table reply sound read.spelled said read.done
+  | inr read ↦ read_repeats more (is_initial_request read.message.header) meaning (setup_at old entries fresh) old.cookies from octets fresh read.message old.held table stepped new.held new_table reply sound.held read.spelled said read.done
 ]
 step_repeats_only more meaning entries (steps.Start ike place fresh) old table stepped new new_table reply sound is said = let clash = sym (ap (λ (s : Stepped). s.output) is.1.done.said) ∙ said in absurd cc
 step_repeats_only more meaning entries (steps.Probe ike fresh) old table stepped new new_table reply sound is said = let clash = sym (ap (λ (s : Stepped). s.output) is.1.said) ∙ said in absurd cc
@@ -298,17 +298,17 @@ way_window more meaning setup octets old table stepped new new_table serial a b 
 pub step_window : MoreLaws → TicksHold → (meaning : Meaning) (entries : List Entry) (input : InputView) (old : Machine) (table : Database) (stepped : Stepped) (new : Machine) (new_table : Database)
     (serial : ℕ) (a b : Association) → IsSoundMachine old table → Steps meaning entries input old table stepped new new_table → IsHeldThrough serial old.held new.held a b → KeepsWindow old.config.window a b
 step_window more ticks meaning entries (steps.Message from octets fresh) old table stepped new new_table serial a b sound is held =
-    way_window more meaning (setup_at old entries fresh) octets old.held table stepped new.held new_table serial a b sound held (datagram_way meaning (setup_at old entries fresh) old.cookies from octets old.held table stepped new.held new_table is.1)
+    way_window more meaning (setup_at old entries fresh) octets old.held table stepped new.held new_table serial a b sound.held held (datagram_way meaning (setup_at old entries fresh) old.cookies from octets old.held table stepped new.held new_table is.1)
 step_window more ticks meaning entries (steps.Start ike place fresh) old table stepped new new_table serial a b sound is held =
-    way_window more meaning (setup_at old entries fresh) [] old.held table stepped new.held new_table serial a b sound held (started (record { ike = ike; place = place; starts = is.1 }))
+    way_window more meaning (setup_at old entries fresh) [] old.held table stepped new.held new_table serial a b sound.held held (started (record { ike = ike; place = place; starts = is.1 }))
 step_window more ticks meaning entries (steps.Probe ike fresh) old table stepped new new_table serial a b sound is held =
-    way_window more meaning (setup_at old entries fresh) [] old.held table stepped new.held new_table serial a b sound held (probed (record { ike = ike; probes = is.1; pairs = is.2 }))
+    way_window more meaning (setup_at old entries fresh) [] old.held table stepped new.held new_table serial a b sound.held held (probed (record { ike = ike; probes = is.1; pairs = is.2 }))
 step_window more ticks meaning entries (steps.Secret secret) old table stepped new new_table serial a b sound is held =
     inl (ap (λ (x : Association). x.incoming.size) (still_same old.held new.held serial a b (ap (λ (m : Machine). m.held) is.content) held.before held.after))
 step_window more ticks meaning entries (steps.Tick moment) old table stepped new new_table serial a b sound is held =
     let t = is.takes in
     let now = max old.moment moment in
-    let was = ticked_stood now old.held new.held table serial b sound (ticks now old.held.associations table t.ticked new.held.associations new_table t.ticks) held.after in
+    let was = ticked_stood now old.held new.held table serial b sound.held (ticks now old.held.associations table t.ticked new.held.associations new_table t.ticks) held.after in
     inl (ap (λ (r : PeerRequests). r.size) was.on.incoming ∙ ap (λ (x : Association). x.incoming.size) (same_one was.was a (sym was.stood ∙ held.before)))
 
 -- ---- how long it is held
@@ -384,11 +384,11 @@ pub step_gone : Laws → TicksLeave → (meaning : Meaning) (entries : List Entr
     (serial : ℕ) (a : Association) → IsSoundMachine old table → Steps meaning entries input old table stepped new new_table → association_of serial old.held.associations ≡ Some a
     → association_of serial new.held.associations ≡ None → IsGivenUp input old a
 step_gone laws leave meaning entries (steps.Message from octets fresh) old table stepped new new_table serial a sound is stands none =
-    absurd (way_keeps laws meaning (setup_at old entries fresh) octets old.held table stepped new.held new_table serial a sound stands none (datagram_way meaning (setup_at old entries fresh) old.cookies from octets old.held table stepped new.held new_table is.1))
+    absurd (way_keeps laws meaning (setup_at old entries fresh) octets old.held table stepped new.held new_table serial a sound.held stands none (datagram_way meaning (setup_at old entries fresh) old.cookies from octets old.held table stepped new.held new_table is.1))
 step_gone laws leave meaning entries (steps.Start ike place fresh) old table stepped new new_table serial a sound is stands none =
-    absurd (way_keeps laws meaning (setup_at old entries fresh) [] old.held table stepped new.held new_table serial a sound stands none (started (record { ike = ike; place = place; starts = is.1 })))
+    absurd (way_keeps laws meaning (setup_at old entries fresh) [] old.held table stepped new.held new_table serial a sound.held stands none (started (record { ike = ike; place = place; starts = is.1 })))
 step_gone laws leave meaning entries (steps.Probe ike fresh) old table stepped new new_table serial a sound is stands none =
-    absurd (way_keeps laws meaning (setup_at old entries fresh) [] old.held table stepped new.held new_table serial a sound stands none (probed (record { ike = ike; probes = is.1; pairs = is.2 })))
+    absurd (way_keeps laws meaning (setup_at old entries fresh) [] old.held table stepped new.held new_table serial a sound.held stands none (probed (record { ike = ike; probes = is.1; pairs = is.2 })))
 step_gone laws leave meaning entries (steps.Secret secret) old table stepped new new_table serial a sound is stands none =
     absurd (some_none a (sym none ∙ ap (λ (m : Machine). association_of serial m.held.associations) is.content ∙ stands))
 step_gone laws leave meaning entries (steps.Tick moment) old table stepped new new_table serial a sound is stands none =

@@ -154,17 +154,17 @@ pub step_known : ProvingFacts → TicksHold → (meaning : Meaning) (entries : L
     → IsSoundMachine old table → Steps meaning entries input old table stepped new new_table → association_of ike new.held.associations ≡ Some a → a.phase ≡ phase.Established keys
     → WasKnown meaning entries input old ike keys
 step_known facts held meaning entries (steps.Message from octets fresh) old table stepped new new_table ike a keys sound is stands established =
-    let known = way_known facts meaning (setup_at old entries fresh) octets old.held table stepped new.held new_table ike a keys sound
+    let known = way_known facts meaning (setup_at old entries fresh) octets old.held table stepped new.held new_table ike a keys sound.held
     (datagram_way meaning (setup_at old entries fresh) old.cookies from octets old.held table stepped new.held new_table is.1) stands established in
     record { was = known.was; stood = known.stood; known = known.known }
 step_known facts held meaning entries (steps.Start order place fresh) old table stepped new new_table ike a keys sound is stands established =
-    let stood = started_stood meaning (setup_at old entries fresh) order place old.held table stepped new.held new_table ike a keys sound is.1 stands established in
+    let stood = started_stood meaning (setup_at old entries fresh) order place old.held table stepped new.held new_table ike a keys sound.held is.1 stands established in
     record { was = stood.was; stood = stood.stood; known = inl stood.established }
 step_known facts held meaning entries (steps.Probe serial fresh) old table stepped new new_table ike a keys sound is stands established =
-    let stood = probed_so meaning (setup_at old entries fresh) serial old.held table stepped new.held ike a keys sound is.1 stands established in
+    let stood = probed_so meaning (setup_at old entries fresh) serial old.held table stepped new.held ike a keys sound.held is.1 stands established in
     record { was = stood.was; stood = stood.stood; known = inl stood.established }
 step_known facts held meaning entries (steps.Tick moment) old table stepped new new_table ike a keys sound is stands established =
-    let stood = passed_so held (max old.moment moment) old.held table new.held new_table stepped ike a keys sound is.takes stands established in
+    let stood = passed_so held (max old.moment moment) old.held table new.held new_table stepped ike a keys sound.held is.takes stands established in
     record { was = stood.was; stood = stood.stood; known = inl stood.established }
 step_known facts held meaning entries (steps.Secret secret) old table stepped new new_table ike a keys sound is stands established =
     let stood = same_stood old.held new.held ike a keys (ap (λ (m : Machine). m.held) is.content) stands established in

@@ -372,10 +372,10 @@ takes_there laws meaning setup cookies from octets old table stepped new new_tab
 held_leaves : (laws : Laws) (ticks : TicksHold) (meaning : Meaning) (entries : List Entry) (input : InputView) (old : Machine) (table : Database) (stepped : Stepped) (new : Machine) (new_table : Database)
     (serial : ℕ) (a b : Association) → IsSoundMachine old table → Steps meaning entries input old table stepped new new_table → IsHeldThrough serial old.held new.held a b → Leaves a b
 held_leaves laws ticks meaning entries input old table stepped new new_table serial a b sound is held = elim (step_way meaning entries input old table stepped new new_table is) [
-  | inl w ↦ change_leaves laws meaning w.setup w.octets stepped table a b (way_change laws meaning w.setup w.octets old.held table stepped new.held new_table serial a b sound held w.way)
+  | inl w ↦ change_leaves laws meaning w.setup w.octets stepped table a b (way_change laws meaning w.setup w.octets old.held table stepped new.held new_table serial a b sound.held held w.way)
   | inr passes ↦
       let t = passes.takes in
-      let was = ticked_stood passes.now old.held new.held table serial b sound (ticks passes.now old.held.associations table t.ticked new.held.associations new_table t.ticks) held.after in
+      let was = ticked_stood passes.now old.held new.held table serial b sound.held (ticks passes.now old.held.associations table t.ticked new.held.associations new_table t.ticks) held.after in
       ticked_leaves laws passes.now a b (subst (λ (x : Association). HoldsOn passes.now x b) (same_one was.was a (sym was.stood ∙ held.before)) was.on)
 ]
 
@@ -459,16 +459,16 @@ pub step_brings : Laws → TicksHold → (meaning : Meaning) (entries : List Ent
 step_brings laws ticks meaning entries (steps.Message from octets fresh) old table stepped new new_table serial a b number sound is held comes =
     let setup = setup_at old entries fresh in
     let by = change_brings laws meaning setup octets stepped table a b number comes
-    (way_change laws meaning setup octets old.held table stepped new.held new_table serial a b sound held (datagram_way meaning setup old.cookies from octets old.held table stepped new.held new_table is.1)) in
+    (way_change laws meaning setup octets old.held table stepped new.held new_table serial a b sound.held held (datagram_way meaning setup old.cookies from octets old.held table stepped new.held new_table is.1)) in
     (by.new_one, by.answered)
 step_brings laws ticks meaning entries (steps.Start ike place fresh) old table stepped new new_table serial a b number sound is held comes =
-    absurd (never a b number (ap (λ (x : Association). x.incoming) (grown_same old.held table serial _ b new.held sound refl is.1.done.content a held.before held.after)) comes)
+    absurd (never a b number (ap (λ (x : Association). x.incoming) (grown_same old.held table serial _ b new.held sound.held refl is.1.done.content a held.before held.after)) comes)
 step_brings laws ticks meaning entries (steps.Probe ike fresh) old table stepped new new_table serial a b number sound is held comes =
-    absurd (probed_never meaning (setup_at old entries fresh) ike old.held table stepped new.held serial a b number sound is.1 held comes)
+    absurd (probed_never meaning (setup_at old entries fresh) ike old.held table stepped new.held serial a b number sound.held is.1 held comes)
 step_brings laws ticks meaning entries (steps.Secret secret) old table stepped new new_table serial a b number sound is held comes =
     absurd (never a b number (ap (λ (x : Association). x.incoming) (still_same old.held new.held serial a b (ap (λ (m : Machine). m.held) is.content) held.before held.after)) comes)
 step_brings laws ticks meaning entries (steps.Tick moment) old table stepped new new_table serial a b number sound is held comes =
-    absurd (ticked_never ticks (max old.moment moment) old.held table new.held new_table stepped serial a b number sound is.takes held comes)
+    absurd (ticked_never ticks (max old.moment moment) old.held table new.held new_table stepped serial a b number sound.held is.takes held comes)
 
 -- ---- a new request always does
 
@@ -479,7 +479,7 @@ step_takes laws meaning entries (steps.Message from octets fresh) old table step
     let o = new_one.opens in
     let h : Header = o.message.header in
     let setup = setup_at old entries fresh in
-    let f = finds_of old.held table serial a meaning.plain_of octets new_one.exchange number sound stands o in
+    let f = finds_of old.held table serial a meaning.plain_of octets new_one.exchange number sound.held stands o in
     let it = takes_there laws meaning setup old.cookies from octets old.held table stepped new.held new_table a o.message o.spelled f is.1 in
     let t = it.takes in
     let takes : TakesMessage meaning setup a table octets o.message t.effect t.changed new_table = subst (λ (x : Association). TakesMessage meaning setup x table octets o.message t.effect t.changed new_table) it.is t.takes in
@@ -490,7 +490,7 @@ step_takes laws meaning entries (steps.Message from octets fresh) old table step
     record {
       association = t.changed;
       there = subst (λ n. association_of n new.held.associations ≡ Some t.changed) serial_is
-          (ap (λ (x : Held). association_of t.association.serial x.associations) t.content ∙ replaced_stands old.held table f.place t.association t.changed sound t.there stays.serial);
+          (ap (λ (x : Held). association_of t.association.serial x.associations) t.content ∙ replaced_stands old.held table f.place t.association t.changed sound.held t.there stays.serial);
       in_effect = subst (λ n. HasNumber t.changed.incoming.in_effect n) o.number_is has;
     }
 step_takes laws meaning entries (steps.Start ike place fresh) old table stepped new new_table serial a number sound is stands new_one = absurd new_one
@@ -517,12 +517,12 @@ pub step_repeats : Laws → Quiet → (meaning : Meaning) (entries : List Entry)
 step_repeats laws quiet meaning entries (steps.Message from octets fresh) old table stepped new new_table serial a number reply sound is stands opens kept =
     let o = opens.1 in
     let setup = setup_at old entries fresh in
-    let f = finds_of old.held table serial a meaning.plain_of octets opens.0 number sound stands o in
+    let f = finds_of old.held table serial a meaning.plain_of octets opens.0 number sound.held stands o in
     let it = takes_there laws meaning setup old.cookies from octets old.held table stepped new.held new_table a o.message o.spelled f is.1 in
     let t = it.takes in
     let takes : TakesMessage meaning setup a table octets o.message t.effect t.changed new_table = subst (λ (x : Association). TakesMessage meaning setup x table octets o.message t.effect t.changed new_table) it.is t.takes in
     let kept_here : map.get a.incoming.kept o.message.header.id ≡ Some reply = ap (map.get a.incoming.kept) o.number_is ∙ kept in
-    let soundly : IsSoundlyHeld a = (sound.each f.place a f.there).soundly in
+    let soundly : IsSoundlyHeld a = (sound.held.each f.place a f.there).soundly in
     let repeated = laws.repeated meaning setup a table octets o.message t.effect t.changed new_table o.plain reply takes o.request (soundly.in_effect o.message.header.id reply kept_here) kept_here o.opened in
     only_says quiet meaning entries (steps.Message from octets fresh) old table stepped new new_table (output.Repeat reply) is
     (ap (λ (s : Stepped). s.output) (t.said ∙ ap (stepped_of t.association.serial o.message.header.id) repeated)) tt
@@ -538,7 +538,7 @@ pub step_forgets : Laws → Quiet → (meaning : Meaning) (entries : List Entry)
 step_forgets laws quiet meaning entries (steps.Message from octets fresh) old table stepped new new_table serial a number sound is stands opens has none =
     let o = opens.1 in
     let setup = setup_at old entries fresh in
-    let f = finds_of old.held table serial a meaning.plain_of octets opens.0 number sound stands o in
+    let f = finds_of old.held table serial a meaning.plain_of octets opens.0 number sound.held stands o in
     let it = takes_there laws meaning setup old.cookies from octets old.held table stepped new.held new_table a o.message o.spelled f is.1 in
     let t = it.takes in
     let takes : TakesMessage meaning setup a table octets o.message t.effect t.changed new_table = subst (λ (x : Association). TakesMessage meaning setup x table octets o.message t.effect t.changed new_table) it.is t.takes in

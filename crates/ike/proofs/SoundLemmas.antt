@@ -54,6 +54,7 @@ still_sound old place b next table new_table sound joins k c (inr (other, there)
       short = was.short;
       soundly = was.soundly;
       asked = was.asked;
+      whole = was.whole;
     }
 
 still_apart : (old : Held) (place : ℕ) (b : Association) (next : ℕ) (table new_table : Database) → AreSound old table → Joins old place b next table new_table
@@ -115,6 +116,7 @@ sound_with old table new_table stays sound =
             short = was.short;
             soundly = was.soundly;
             asked = was.asked;
+            whole = was.whole;
           };
       apart = sound.apart;
     }

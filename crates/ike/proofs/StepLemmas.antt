@@ -12,6 +12,7 @@ use Rattle.wire.specs.declared.message.Message.{Message}
 use Rattle.wire.specs.declared.payload.Payload.{Payload}
 use Rattle.policy.specs.declared.entry.Entry.{Entry}
 use Rattle.suite.specs.declared.fresh.Fresh.{Fresh}
+use Rattle.suite.specs.declared.key_record.KeyRecord.{KeyRecord}
 use Rattle.suite.specs.declared.keys.Keys.{Keys}
 use Rattle.suite.specs.declared.sealer.Cipher.{Cipher}
 use Rattle.sadb.specs.Database.{Database, IsAsBefore, IsReserved, IsSoundTable, Reserves}
@@ -28,7 +29,7 @@ use Rattle.association.specs.declared.phase.HalfOpen.{HalfOpen}
 use Rattle.association.specs.declared.phase.InitSent.{InitSent}
 use Rattle.association.specs.declared.phase.Phase.TheVariants as phase
 use Rattle.exchange.specs.declared.headers.Role.TheVariants.{Initiator, Responder}
-use Rattle.initial.specs.Configs.{Setup}
+use Rattle.initial.specs.Configs.{IsConfig, Setup}
 use Rattle.initial.specs.Answering.{IsHalfOpen}
 use Rattle.initial.specs.Ending.{IsAuthSent}
 use Rattle.initial.specs.Reading.{IsInitSent}
@@ -41,6 +42,7 @@ use Rattle.effects.specs.declared.taking.Effect.{Effect}
 use Rattle.association.specs.Finding.{found}
 use Rattle.initial.specs.Beginning.{begun, half_open as half_open_association, Admits, Begins}
 use Rattle.effects.specs.Keeping.{IsShort, KeepsShort}
+use Rattle.effects.specs.Lengths.{HoldsWholeKeys}
 use Rattle.effects.specs.Requests.{IsSoundlyHeld}
 use Rattle.initial.specs.declared.beginning.Admitted.{Admitted}
 use Rattle.initial.specs.declared.beginning.Beginning.{Beginning}
@@ -85,6 +87,10 @@ pub record Laws : Type 0 where
       → Begins cipher group public_value fresh moment beginning → IsSoundlyHeld (begun serial beginning child)
   pub admits_soundly : (cipher : Cipher) (group : ℕ) (public_value : Octets → Octets) (shared_secret : Octets → Octets → Option Octets) (fresh : Fresh) (moment serial : ℕ) (offer : OfferView) (spi_i : ℕ) (request : Octets) (admitted : Admitted)
       → Admits cipher group public_value shared_secret fresh moment serial offer spi_i request admitted → IsSoundlyHeld admitted.association
+  pub whole : (meaning : Meaning) (setup : Setup) (old : Association) (table : Database) (octets : Octets) (m : Message) (effect : Effect) (new : Association) (new_table : Database)
+      → HoldsWholeKeys old.phase → TakesMessage meaning setup old table octets m effect new new_table → HoldsWholeKeys new.phase
+  pub admits_whole : (cipher : Cipher) (group : ℕ) (public_value : Octets → Octets) (shared_secret : Octets → Octets → Option Octets) (fresh : Fresh) (moment serial : ℕ) (offer : OfferView) (spi_i : ℕ) (request : Octets) (admitted : Admitted)
+      → Admits cipher group public_value shared_secret fresh moment serial offer spi_i request admitted → HoldsWholeKeys admitted.association.phase
   pub room : (cipher : Cipher) (group : ℕ) (secrets : CookieSecrets) (sender : Sender) (half_open held : ℕ) (payloads : List Payload) (offer : OfferView)
       → IsJudgement cipher group secrets sender half_open held payloads (Accepted offer) → (half_open < HALF_OPEN_LIMIT) × (held < ASSOCIATION_LIMIT)
 
@@ -124,6 +130,7 @@ taken_joins laws place meaning setup octets m old table stepped new new_table so
         short = laws.short meaning setup is.association table octets m is.effect is.changed new_table was.short is.takes;
         soundly = laws.soundly meaning setup is.association table octets m is.effect is.changed new_table was.soundly is.takes;
         asked = λ opened here. was.asked opened (opens opened here);
+        whole = laws.whole meaning setup is.association table octets m is.effect is.changed new_table was.whole is.takes;
       };
       more = omega arith;
       others = λ k c spi other there held reserved.
@@ -151,12 +158,12 @@ found_sound laws (Err f) meaning setup octets m old table stepped new new_table 
 
 -- what comes last has the next serial, and an SPI that isn't in use
 last_joins : (old : Held) (b : Association) (table new_table : Database) → AreSound old table → is_bad_spi (own_spi b) old.associations ≡ false → b.serial ≡ old.next
-    → (IsInitSent b.phase ⊎ IsAuthSent b.phase → b.role ≡ Initiator) → (IsHalfOpen b.phase → b.role ≡ Responder) → KeepsShort b → IsSoundlyHeld b
+    → (IsInitSent b.phase ⊎ IsAuthSent b.phase → b.role ≡ Initiator) → (IsHalfOpen b.phase → b.role ≡ Responder) → KeepsShort b → IsSoundlyHeld b → HoldsWholeKeys b.phase
     → ((opened : HalfOpen) → b.phase ≡ phase.HalfOpen opened → IsInitialRequest opened.request)
     → ((k : ℕ) (c : Association) (one two : HalfOpen) → At old k c → c.phase ≡ phase.HalfOpen one → b.phase ≡ phase.HalfOpen two → one.request ≢ two.request) → HoldsSpi (held_by b) new_table
     → ((spi : ℕ) → IsReserved table spi → IsReserved new_table spi) → ((spi : ℕ) → IsReserved table spi → held_by b ≢ Some spi)
     → Joins old (length old.associations) b (old.next + 1) table new_table
-last_joins old b table new_table sound usable serial initiator responder short soundly asked others_asked holds stays apart =
+last_joins old b table new_table sound usable serial initiator responder short soundly whole asked others_asked holds stays apart =
     record {
       sound = record {
         serial_least = subst (λ n. 1 ≤ n) (sym serial) sound.first;
@@ -168,6 +175,7 @@ last_joins old b table new_table sound usable serial initiator responder short s
         short = short;
         soundly = soundly;
         asked = asked;
+        whole = whole;
       };
       more = omega arith;
       others = λ k c spi other there held reserved. stays spi reserved;
@@ -197,6 +205,9 @@ begun_opens sent opened is = cc
 
 some_none : (spi : ℕ) → Some spi ≡ None → ⊥
 some_none spi e = cc
+
+no_keys : (keys : KeyRecord) → None ≡ Some keys → ⊥
+no_keys keys e = cc
 
 none_held : (o : Option ℕ) (spi : ℕ) → o ≡ None → o ≢ Some spi
 none_held o spi none e = some_none spi (sym e ∙ none)
@@ -232,12 +243,14 @@ admitted_sound laws meaning setup offer spi_i octets old stepped new table half_
     (laws.admits meaning.cipher meaning.group meaning.public_value meaning.shared_secret setup.fresh setup.moment old.next offer spi_i octets made.admitted made.admits).0 in
     let soundly : IsSoundlyHeld b = subst (λ (a : Association). IsSoundlyHeld a) made.admits.content
     (laws.admits_soundly meaning.cipher meaning.group meaning.public_value meaning.shared_secret setup.fresh setup.moment old.next offer spi_i octets made.admitted made.admits) in
+    let whole : HoldsWholeKeys b.phase = subst (λ (a : Association). HoldsWholeKeys a.phase) made.admits.content
+    (laws.admits_whole meaning.cipher meaning.group meaning.public_value meaning.shared_secret setup.fresh setup.moment old.next offer spi_i octets made.admitted made.admits) in
     subst (λ (h : Held). AreSound h table) (sym made.content)
     (subst (λ (a : Association). AreSound (with_next old a) table) (sym made.admits.content)
     (sound_grown old b table table few can.serial
     (let more = count_grown old.associations b in let one = weight_most b in omega (arith, more, one, half_open))
     sound
-    (last_joins old b table table sound can.usable refl (λ w. absurd (opened_waits _ w)) (λ h. refl) short soundly
+    (last_joins old b table table sound can.usable refl (λ w. absurd (opened_waits _ w)) (λ h. refl) short soundly whole
     (λ opened here. subst (λ (o : HalfOpen). IsInitialRequest o.request) (opened_as _ opened here) anew.asked)
     (λ k c one two there is also. subst (λ (o : HalfOpen). one.request ≢ o.request) (opened_as _ two also) (other_request octets old k c one anew there is))
     tt (λ spi there. there) (λ spi there. none_held None spi refl))))
@@ -360,6 +373,7 @@ start_sound laws meaning setup ike place old table stepped new new_table sound_t
     (last_joins old b table new_table sound (subst (λ n. is_bad_spi n old.associations ≡ false) (sym is.begins.spi) free.usable) refl (λ w. refl) (λ h. absurd (begun_opens _ h.opened h.is))
     (laws.begins meaning.cipher meaning.group meaning.public_value setup.fresh setup.moment old.next is.beginning (child_by is.entry is.done.spi setup.config.extended) is.begins).0
     (laws.begins_soundly meaning.cipher meaning.group meaning.public_value setup.fresh setup.moment old.next is.beginning (child_by is.entry is.done.spi setup.config.extended) is.begins)
+    (λ keys are. absurd (no_keys keys are))
     (λ opened here. absurd (begun_asks _ opened here))
     (λ k c one two there is_one is_two. absurd (begun_asks _ two is_two))
     (now_reserved is.between is.done.spi new_table is.done.reserved)
@@ -394,6 +408,7 @@ probed_joins laws body_of setup ike old table new_table stepped new sound same i
         short = (laws.probed body_of setup is.association is.octets is.changed was.short is.probes).0;
         soundly = laws.probed_soundly body_of setup is.association is.octets is.changed was.soundly is.probes;
         asked = λ opened here. was.asked opened (opens opened here);
+        whole = subst HoldsWholeKeys (sym phase_is) was.whole;
       };
       more = omega arith;
       others = λ k c spi other there held reserved. subst (λ (d : Database). IsReserved d spi) (sym same) reserved;
@@ -418,24 +433,40 @@ passed_sound laws now old table new new_table stepped sound is =
 
 -- ---- a step
 
+step_held : (laws : Laws) (orders : OrderLaws) (meaning : Meaning) (entries : List Entry) (input : InputView) (old : Machine) (table : Database) (stepped : Stepped) (new : Machine) (new_table : Database)
+    → IsSoundTable table → AreSound old.held table → Steps meaning entries input old table stepped new new_table → AreSound new.held new_table
+step_held laws orders meaning entries (steps.Message from octets fresh) old table stepped new new_table sound_table sound is =
+    datagram_sound laws meaning (setup_at old entries fresh) old.cookies from octets old.held table stepped new.held new_table sound_table sound is.1
+step_held laws orders meaning entries (steps.Start ike place fresh) old table stepped new new_table sound_table sound is =
+    start_sound laws meaning (setup_at old entries fresh) ike place old.held table stepped new.held new_table sound_table sound is.1
+step_held laws orders meaning entries (steps.Probe ike fresh) old table stepped new new_table sound_table sound is =
+    probed_sound orders meaning.body_of (setup_at old entries fresh) ike old.held table new_table stepped new.held sound is.2 is.1
+step_held laws orders meaning entries (steps.Tick moment) old table stepped new new_table sound_table sound is =
+    passed_sound orders (max old.moment moment) old.held table new.held new_table stepped sound is.takes
+step_held laws orders meaning entries (steps.Secret secret) old table stepped new new_table sound_table sound is =
+    same_sound old.held new.held table new_table sound (ap (λ (m : Machine). m.held) is.content) is.unchanged
+
+step_config : (meaning : Meaning) (entries : List Entry) (input : InputView) (old : Machine) (table : Database) (stepped : Stepped) (new : Machine) (new_table : Database)
+    → Steps meaning entries input old table stepped new new_table → new.config ≡ old.config
+step_config meaning entries (steps.Message from octets fresh) old table stepped new new_table is = ap (λ (m : Machine). m.config) is.0
+step_config meaning entries (steps.Start ike place fresh) old table stepped new new_table is = ap (λ (m : Machine). m.config) is.0
+step_config meaning entries (steps.Probe ike fresh) old table stepped new new_table is = ap (λ (m : Machine). m.config) is.0
+step_config meaning entries (steps.Tick moment) old table stepped new new_table is = ap (λ (m : Machine). m.config) is.content
+step_config meaning entries (steps.Secret secret) old table stepped new new_table is = ap (λ (m : Machine). m.config) is.content
+
 pub step_sound : (laws : Laws) (orders : OrderLaws) (meaning : Meaning) (entries : List Entry) (input : InputView) (old : Machine) (table : Database) (stepped : Stepped) (new : Machine) (new_table : Database)
     → IsSoundTable table → IsSoundMachine old table → Steps meaning entries input old table stepped new new_table → IsSoundMachine new new_table
-step_sound laws orders meaning entries (steps.Message from octets fresh) old table stepped new new_table sound_table sound is =
-    datagram_sound laws meaning (setup_at old entries fresh) old.cookies from octets old.held table stepped new.held new_table sound_table sound is.1
-step_sound laws orders meaning entries (steps.Start ike place fresh) old table stepped new new_table sound_table sound is =
-    start_sound laws meaning (setup_at old entries fresh) ike place old.held table stepped new.held new_table sound_table sound is.1
-step_sound laws orders meaning entries (steps.Probe ike fresh) old table stepped new new_table sound_table sound is =
-    probed_sound orders meaning.body_of (setup_at old entries fresh) ike old.held table new_table stepped new.held sound is.2 is.1
-step_sound laws orders meaning entries (steps.Tick moment) old table stepped new new_table sound_table sound is =
-    passed_sound orders (max old.moment moment) old.held table new.held new_table stepped sound is.takes
-step_sound laws orders meaning entries (steps.Secret secret) old table stepped new new_table sound_table sound is =
-    same_sound old.held new.held table new_table sound (ap (λ (m : Machine). m.held) is.content) is.unchanged
+step_sound laws orders meaning entries input old table stepped new new_table sound_table sound is =
+    record {
+      held = step_held laws orders meaning entries input old table stepped new new_table sound_table sound.held is;
+      config = subst IsConfig (sym (step_config meaning entries input old table stepped new new_table is)) sound.config;
+    }
 
 -- what is refused changes the table's room alone
 refused_sound : (old new : Machine) (table new_table : Database) → IsSoundMachine old table → new ≡ old → IsAsBefore table new_table → IsSoundMachine new new_table
 refused_sound old new table new_table sound same room =
     subst (λ (m : Machine). IsSoundMachine m new_table) (sym same)
-    (sound_with old.held table new_table (λ spi there. subst (λ (d : Database). IsReserved d spi) (sym room.content) there) sound)
+    (record { held = sound_with old.held table new_table (λ spi there. subst (λ (d : Database). IsReserved d spi) (sym room.content) there) sound.held; config = sound.config })
 
 pub result_sound : (entries : List Entry) (meaning : Meaning) (input : InputView) (old : Machine) (table : Database) (r : Result Stepped IkeFault) (new : Machine) (new_table : Database)
     → ((stepped : Stepped) → Steps meaning entries input old table stepped new new_table → IsSoundMachine new new_table) → IsSoundMachine old table

@@ -1,31 +1,29 @@
 -- What a step says of an association, and of which it says nothing.
-use Rattle.std.proofs.Common.{◌≡◌, ◌≢◌, ◌⊎◌, inl, inr, ℕ, zero, suc, ◌≤◌, ◌<◌, ◌∷◌, ◌++◌, [], Bool, true, false, cond, not, List, length, Option, Some, None, All, Contains, arith, ap, refl, subst, sym, ◌∙◌}
+use Rattle.std.proofs.Common.{◌≡◌, ◌≢◌, ◌⊎◌, inl, inr, ℕ, zero, suc, ◌∷◌, [], Bool, true, false, not, List, length, Option, Some, None, All, Contains, arith, ap, refl, subst, sym, ◌∙◌}
 use Rattle.std.proofs.lemmas.List.Elements.{All-contains, Contains-append_cases}
 use Rattle.std.proofs.lemmas.Option.{slice_get_read}
-use Rattle.std.specs.List.{flat_map, slice_get}
+use Rattle.std.specs.List.{filter, flat_map, slice_get}
 use Rattle.std.specs.FinMap as map
-use Rattle.std.specs.Prelude.{◌==◌, option_and_then}
+use Rattle.std.specs.Prelude.{◌==◌, option_and_then, map as list_map}
 use Rattle.base.specs.Octets.{Octets}
 use Rattle.wire.specs.Numbers.{IKE_SA_INIT}
 use Rattle.suite.specs.declared.key_record.KeyRecord.{KeyRecord}
 use Rattle.sadb.specs.Database.{Database}
-use Rattle.association.specs.Phases.{keys_in}
 use Rattle.association.specs.declared.phase.Association.{Association}
 use Rattle.association.specs.declared.phase.Request.{Request}
-use Rattle.moments.specs.Due.{closed_by, closed_of, has_failed, is_over, resent}
+use Rattle.moments.specs.Due.{closed_by, closed_of, has_failed, is_due, is_over, outstanding_of, resent, sent_by, sent_of}
 use Rattle.moments.specs.Held.{IsOutstandingOf}
 use Rattle.moments.specs.Ticking.{Ticks}
 use Rattle.moments.specs.declared.resent.Resent.{Resent}
 use Rattle.moments.specs.declared.ticking.Ticked.{Ticked}
-use Rattle.effects.specs.Keeping.{HasKeys}
 use Rattle.effects.specs.Moves.{and_closes, ledger, makes_and_issues, moves_of, Close, Count, Issue, KeepsReply, Ledger, Make, Move, TakeEffect, WaitsWith}
 use Rattle.effects.specs.Requests.{IsSoundlyHeld}
 use Rattle.effects.specs.declared.taking.Effect.{Effect}
 use Rattle.effects.specs.declared.taking.Effect.TheVariants as effect
 use Rattle.ike.specs.Machines.{association_of, Held}
-use Rattle.ike.specs.Moves.{ledger_at, IsMadeBy, IsSentBy, SaysNoMore, TellsClosed}
-use Rattle.ike.specs.Outputs.{asking_step, child_of, closed_serial as closed_if, half_open_step, octets_in, plain_step, reply_mark, request_mark, stepped_of}
-use Rattle.ike.specs.Soundness.{AreSound, At}
+use Rattle.ike.specs.Moves.{ledger_at, IsKeyless, IsMadeBy, IsSentBy, SaysNoMore, TellsAgain, TellsClosed}
+use Rattle.ike.specs.Outputs.{asking_step, child_of, closed_serial as closed_if, half_open_step, plain_step, stepped_of}
+use Rattle.ike.specs.Soundness.{AreSound}
 use Rattle.ike.specs.declared.output.IkeOutput.{IkeOutput}
 use Rattle.ike.specs.declared.output.IkeOutput.TheVariants as output
 use Rattle.ike.specs.declared.output.MadeChild.{MadeChild}
@@ -44,10 +42,20 @@ pub record IsSilent (stepped : Stepped) (serial : ℕ) : Type 0 where
   pub closed : TellsClosed serial stepped.output → ⊥
   pub child : (made : MadeChild) → stepped.trace.child ≡ Some made → made.ike ≡ serial → ⊥
 
-pub silent_tells : (old : Option Ledger) (stepped : Stepped) (serial : ℕ) (moves : List Move) → IsSilent stepped serial → SaysNoMore old stepped serial moves
+silent_again : (serial : ℕ) (o : IkeOutput) → ((ticked : Ticked) → o ≡ output.Ticked ticked → ⊥) → TellsAgain serial o → ⊥
+silent_again serial (output.Reply octets closed) none told = told
+silent_again serial (output.Repeat octets) none told = told
+silent_again serial (output.Request ike octets) none told = told
+silent_again serial (output.Counted ike child closed) none told = told
+silent_again serial (output.Ticked ticked) none told = none ticked refl
+silent_again serial output.Done none told = told
+silent_again serial (output.Dropped f) none told = told
+
+pub silent_tells : (old : Option Association) (stepped : Stepped) (serial : ℕ) (moves : List Move) → IsSilent stepped serial → SaysNoMore old stepped serial moves
 silent_tells old stepped serial moves is = record {
   sent = λ mark octets sent here out. absurd (is.sent mark sent here);
   again = λ ticked r said there here sealed. absurd (is.again ticked said);
+  none_beside = λ told. absurd (silent_again serial stepped.output is.again told);
   keyed = λ keyed. absurd (is.keyed keyed);
   counted = λ child closed said. absurd (is.counted child closed said);
   closed = λ told. absurd (is.closed told);
@@ -163,12 +171,12 @@ ended_said : (serial : ℕ) (move : Move) (child : Option ℕ) (closed : Bool) �
 ended_said serial move child true told = (1, omega arith, refl)
 ended_said serial move child false told = absurd told
 
-sent_by_mark : (moves : List Move) (old : Option Ledger) (ike number : ℕ) (response : Bool) (said : Octets) (mark : Mark) (octets : Octets)
+sent_by_mark : (moves : List Move) (old : Option Ledger) (o : IkeOutput) (ike number : ℕ) (response : Bool) (said : Octets) (mark : Mark) (octets : Octets)
     → Some (record { ike = ike; response = response; number = number }) ≡ Some mark → Some said ≡ Some octets
-    → IsSentBy moves old (record { ike = ike; response = response; number = number }) said → IsSentBy moves old mark octets
-sent_by_mark moves old ike number response said mark octets is out sent =
-    subst (λ (m : Mark). IsSentBy moves old m octets) (same_mark (record { ike = ike; response = response; number = number }) mark is)
-    (subst (λ (o : Octets). IsSentBy moves old (record { ike = ike; response = response; number = number }) o) (same_octets said octets out) sent)
+    → IsSentBy moves old o (record { ike = ike; response = response; number = number }) said → IsSentBy moves old o mark octets
+sent_by_mark moves old o ike number response said mark octets is out sent =
+    subst (λ (m : Mark). IsSentBy moves old o m octets) (same_mark (record { ike = ike; response = response; number = number }) mark is)
+    (subst (λ (x : Octets). IsSentBy moves old o (record { ike = ike; response = response; number = number }) x) (same_octets said octets out) sent)
 
 -- a child is made by the move beside it
 made_so : (moves : List Move) (one other : MadeChild) → one ≡ other → IsMadeBy moves one → IsMadeBy moves other
@@ -186,13 +194,14 @@ counted_child serial number closed (Some child) made named =
     let one : MadeChild = record { serial = child; ike = serial; number = number; asked = true } in
     made_so (and_closes (Count number) closed) one made (same_child one made named) (inl (refl, first_of (Count number) closed))
 
-identified_says : (old : Option Ledger) (serial number : ℕ) (next : Octets) (keys : Option KeyRecord) (k : KeyRecord) → keys ≡ Some k
+identified_says : (old : Option Association) (serial number : ℕ) (next : Octets) (keys : Option KeyRecord) (k : KeyRecord) → keys ≡ Some k
     → SaysNoMore old (stepped_of serial number (effect.Identified next)) serial (makes_and_issues keys next)
 identified_says old serial number next None k are = absurd (none_marked k are)
 identified_says old serial number next (Some keys) k are =
     record {
-      sent = λ mark octets is here out. sent_by_mark (makes_and_issues (Some keys) next) old serial 1 false next mark octets is out (inl (refl, (1, omega arith, refl)));
+      sent = λ mark octets is here out. sent_by_mark (makes_and_issues (Some keys) next) (option_and_then ledger old) (output.Request serial next) serial 1 false next mark octets is out (inl (refl, (1, omega arith, refl)));
       again = λ ticked r said there here sealed. cc;
+      none_beside = λ told. absurd told;
       keyed = λ is. (keys, (0, omega arith, refl));
       counted = λ child closed is. cc;
       closed = λ told. absurd told;
@@ -204,14 +213,16 @@ pub record IsEffectOf (old : Option Ledger) (number : ℕ) (keys : Option KeyRec
   pub kept : (reply : Octets) → e ≡ effect.Repeated reply → KeepsReply old number reply
   pub keyed : (next : Octets) → e ≡ effect.Identified next → (k : KeyRecord) × (keys ≡ Some k)
 
-pub effect_says : (old : Option Ledger) (serial number : ℕ) (keys : Option KeyRecord) (e : Effect) → IsEffectOf old number keys e → SaysNoMore old (stepped_of serial number e) serial (moves_of number keys e)
+pub effect_says : (old : Option Association) (serial number : ℕ) (keys : Option KeyRecord) (e : Effect) → IsEffectOf (option_and_then ledger old) number keys e → SaysNoMore old (stepped_of serial number e) serial (moves_of number keys e)
 effect_says old serial number keys (effect.Refused f) is =
     silent_tells old (stepped_of serial number (effect.Refused f)) serial []
     (record { sent = λ mark sent here. none_marked mark sent; again = λ ticked said. cc; keyed = λ named. none_marked serial named; counted = λ child closed said. cc; closed = λ told. told; child = λ made named here. none_marked made named })
 effect_says old serial number keys (effect.Repeated reply) is =
     record {
-      sent = λ mark octets sent here out. sent_by_mark [] old serial number true reply mark octets sent out (inr (refl, inr (is.kept reply refl)));
+      sent = λ mark octets sent here out. sent_by_mark [] (option_and_then ledger old) (output.Repeat reply) serial number true reply mark octets sent out
+          (inr (refl, inr (record { kept = is.kept reply refl; repeated = refl; none = refl })));
       again = λ ticked r said there here sealed. cc;
+      none_beside = λ told. absurd told;
       keyed = λ named. absurd (none_marked serial named);
       counted = λ child closed said. cc;
       closed = λ told. absurd told;
@@ -220,8 +231,9 @@ effect_says old serial number keys (effect.Repeated reply) is =
 effect_says old serial number keys (effect.Replied answered) is =
     let move = TakeEffect number answered.octets in
     record {
-      sent = λ mark octets sent here out. sent_by_mark (and_closes move answered.closed) old serial number true answered.octets mark octets sent out (inr (refl, inl (first_of move answered.closed)));
+      sent = λ mark octets sent here out. sent_by_mark (and_closes move answered.closed) (option_and_then ledger old) (output.Reply answered.octets (closed_if serial answered.closed)) serial number true answered.octets mark octets sent out (inr (refl, inl (first_of move answered.closed)));
       again = λ ticked r said there here sealed. cc;
+      none_beside = λ told. absurd told;
       keyed = λ named. absurd (none_marked serial named);
       counted = λ child closed said. cc;
       closed = λ told. inr (closed_said serial move answered.octets answered.closed told);
@@ -234,28 +246,31 @@ effect_says old serial number keys (effect.Counted ended) is =
     record {
       sent = λ mark octets sent here out. absurd (none_marked mark sent);
       again = λ ticked r said there here sealed. cc;
+      none_beside = λ told. absurd told;
       keyed = λ named. absurd (none_marked serial named);
       counted = λ child closed said. (number, first_of move ended.closed);
       closed = λ told. inr (ended_said serial move ended.child ended.closed told);
       child = λ made named here. counted_child serial number ended.closed ended.child made named;
     }
 
-pub asking_says : (old : Option Ledger) (serial number : ℕ) (octets : Octets) → SaysNoMore old (asking_step serial number octets) serial (Issue number octets ∷ [])
+pub asking_says : (old : Option Association) (serial number : ℕ) (octets : Octets) → SaysNoMore old (asking_step serial number octets) serial (Issue number octets ∷ [])
 asking_says old serial number octets =
     record {
-      sent = λ mark out sent here said. sent_by_mark (Issue number octets ∷ []) old serial number false octets mark out sent said (inl (refl, (0, omega arith, refl)));
+      sent = λ mark out sent here said. sent_by_mark (Issue number octets ∷ []) (option_and_then ledger old) (output.Request serial octets) serial number false octets mark out sent said (inl (refl, (0, omega arith, refl)));
       again = λ ticked r said there here sealed. cc;
+      none_beside = λ told. absurd told;
       keyed = λ named. absurd (none_marked serial named);
       counted = λ child closed said. cc;
       closed = λ told. absurd told;
       child = λ made named here. absurd (none_marked made named);
     }
 
-pub half_open_says : (old : Option Ledger) (serial : ℕ) (octets : Octets) (keys : KeyRecord) → SaysNoMore old (half_open_step serial octets) serial (Make keys ∷ [])
+pub half_open_says : (old : Option Association) (serial : ℕ) (octets : Octets) (keys : KeyRecord) → SaysNoMore old (half_open_step serial octets) serial (Make keys ∷ [])
 half_open_says old serial octets keys =
     record {
       sent = λ mark out sent here said. absurd (none_marked mark sent);
       again = λ ticked r said there here sealed. cc;
+      none_beside = λ told. absurd told;
       keyed = λ named. (keys, (0, omega arith, refl));
       counted = λ child closed said. cc;
       closed = λ told. absurd told;
@@ -268,6 +283,7 @@ half_open_says old serial octets keys =
 pub record TickFacts : Type 0 where
   pub again : (now : ℕ) (old new : List Association) (table new_table : Database) (ticked : Ticked) → Ticks now old table ticked new new_table → All (IsOutstandingOf now old new) ticked.requests
   pub closed : (now : ℕ) (old : List Association) (table : Database) (ticked : Ticked) (new : List Association) (new_table : Database) → Ticks now old table ticked new new_table → ticked.closed ≡ flat_map (closed_of now) old
+  pub sent : (now : ℕ) (old : List Association) (table : Database) (ticked : Ticked) (new : List Association) (new_table : Database) → Ticks now old table ticked new new_table → ticked.requests ≡ flat_map (sent_of now) old
   pub waits : (a : Association) (number : ℕ) (request : Request) → IsSoundlyHeld a → map.get a.outgoing.outstanding number ≡ Some request → (request.exchange == IKE_SA_INIT) ≡ false → WaitsWith (ledger a) number request.octets
 
 not_false : (b : Bool) → not b ≡ true → b ≡ false
@@ -304,8 +320,8 @@ record Closing (now : ℕ) (xs : List Association) (serial : ℕ) : Type 0 where
   alive : is_over now association.phase ≡ false
   failed : has_failed now association ≡ true
 
-none_contained : (serial : ℕ) → Contains [] serial → ⊥
-none_contained serial is = let within = is.1 in omega (arith, within)
+none_contained : {T : Type 0} (x : T) → Contains [] x → ⊥
+none_contained x is = let within = is.1 in omega (arith, within)
 
 closing_here : (now serial : ℕ) (over failed : Bool) (a : Association) (rest : List Association) → is_over now a.phase ≡ over → has_failed now a ≡ failed → Contains (closed_by over failed a) serial → Closing now (a ∷ rest) serial
 closing_here now serial true failed a rest over fails is = absurd (none_contained serial is)
@@ -326,22 +342,74 @@ pub record ClosesNow (now : ℕ) (a : Association) : Type 0 where
   pub alive : is_over now a.phase ≡ false
   pub failed : has_failed now a ≡ true
 
+-- what is closed stood under its serial
+closing_found : (facts : TickFacts) (now : ℕ) (old : Held) (new : List Association) (table new_table : Database) (ticked : Ticked) (serial : ℕ) → AreSound old table
+    → Ticks now old.associations table ticked new new_table → Contains ticked.closed serial → (c : Association) × (association_of serial old.associations ≡ Some c) × ClosesNow now c
+closing_found facts now old new table new_table ticked serial sound ticks told =
+    let c = closing_in now serial old.associations (subst (λ (xs : List ℕ). Contains xs serial) (facts.closed now old.associations table ticked new new_table ticks) told) in (
+      c.association,
+      subst (λ (n : ℕ). association_of n old.associations ≡ Some c.association) c.named (sound_found old table c.place c.association sound c.there),
+      record { alive = c.alive; failed = c.failed },
+    )
+
 pub closes_now : (facts : TickFacts) (now : ℕ) (old : Held) (new : List Association) (table new_table : Database) (ticked : Ticked) (serial : ℕ) (a : Association) → AreSound old table
     → Ticks now old.associations table ticked new new_table → association_of serial old.associations ≡ Some a → Contains ticked.closed serial → ClosesNow now a
 closes_now facts now old new table new_table ticked serial a sound ticks stands told =
-    let c = closing_in now serial old.associations (subst (λ (xs : List ℕ). Contains xs serial) (facts.closed now old.associations table ticked new new_table ticks) told) in
+    let c = closing_found facts now old new table new_table ticked serial sound ticks told in
+    subst (λ (x : Association). ClosesNow now x) (same_one c.0 a (sym c.1 ∙ stands)) c.2
+
+pub closes_one : (facts : TickFacts) (now : ℕ) (old : Held) (new : List Association) (table new_table : Database) (ticked : Ticked) (serial : ℕ) → AreSound old table
+    → Ticks now old.associations table ticked new new_table → association_of serial old.associations ≡ None → Contains ticked.closed serial → ⊥
+closes_one facts now old new table new_table ticked serial sound ticks none told =
+    let c = closing_found facts now old new table new_table ticked serial sound ticks told in
+    none_marked c.0 (sym none ∙ c.1)
+
+-- one whose requests go out again is held on, and its peer is not gone
+pub record SendsNow (now : ℕ) (a : Association) : Type 0 where
+  pub alive : is_over now a.phase ≡ false
+  pub answered : has_failed now a ≡ false
+
+record Sending (now : ℕ) (xs : List Association) (serial : ℕ) : Type 0 where
+  place : ℕ
+  association : Association
+  there : slice_get xs place ≡ Some association
+  named : association.serial ≡ serial
+  sends : SendsNow now association
+
+resent_named : (a : Association) (es : List (ℕ × Request)) (r : Resent) → Contains (list_map (resent a) es) r → a.serial ≡ r.ike
+resent_named a [] r is = absurd (none_contained r is)
+resent_named a (e ∷ es) r (zero, within, same) = ap (λ (x : Resent). x.ike) same
+resent_named a (e ∷ es) r (suc k, within, same) = resent_named a es r (k, omega (arith, within), same)
+
+sending_here : (now : ℕ) (r : Resent) (over failed : Bool) (a : Association) (rest : List Association) → is_over now a.phase ≡ over → has_failed now a ≡ failed → Contains (sent_by over failed now a) r → Sending now (a ∷ rest) r.ike
+sending_here now r true failed a rest over fails is = absurd (none_contained r is)
+sending_here now r false true a rest over fails is = absurd (none_contained r is)
+sending_here now r false false a rest over fails is =
+    record { place = 0; association = a; there = refl; named = resent_named a (filter (λ e. is_due now e.1) (outstanding_of a)) r is; sends = record { alive = over; answered = fails } }
+
+sending_in : (now : ℕ) (r : Resent) (xs : List Association) → Contains (flat_map (sent_of now) xs) r → Sending now xs r.ike
+sending_in now r [] is = absurd (none_contained r is)
+sending_in now r (a ∷ rest) is = elim (Contains-append_cases (sent_of now a) (flat_map (sent_of now) rest) r is) [
+  | inl here ↦ sending_here now r (is_over now a.phase) (has_failed now a) a rest refl refl here
+  | inr later ↦ (let found = sending_in now r rest later in
+      record { place = suc found.place; association = found.association; there = found.there; named = found.named; sends = found.sends })
+]
+
+pub sends_now : (facts : TickFacts) (now : ℕ) (old : Held) (new : List Association) (table new_table : Database) (ticked : Ticked) (serial : ℕ) (a : Association) → AreSound old table
+    → Ticks now old.associations table ticked new new_table → association_of serial old.associations ≡ Some a → TellsAgain serial (output.Ticked ticked) → SendsNow now a
+sends_now facts now old new table new_table ticked serial a sound ticks stands (r, there, named) =
+    let c = sending_in now r old.associations (subst (λ (xs : List Resent). Contains xs r) (facts.sent now old.associations table ticked new new_table ticks) there) in
     let found : association_of serial old.associations ≡ Some c.association =
-    subst (λ (n : ℕ). association_of n old.associations ≡ Some c.association) c.named (sound_found old table c.place c.association sound c.there) in
-    let same : c.association ≡ a = same_one c.association a (sym found ∙ stands) in
-    subst (λ (x : Association). ClosesNow now x) same (record { alive = c.alive; failed = c.failed })
+    subst (λ (n : ℕ). association_of n old.associations ≡ Some c.association) (c.named ∙ named) (sound_found old table c.place c.association sound c.there) in
+    subst (λ (x : Association). SendsNow now x) (same_one c.association a (sym found ∙ stands)) c.sends
 
 pub same_ticked : (one other : Ticked) → output.Ticked one ≡ output.Ticked other → one ≡ other
 same_ticked one other is = cc
 
 pub tick_says : (facts : TickFacts) (now : ℕ) (old : Held) (new : List Association) (table new_table : Database) (stepped : Stepped) (ticked : Ticked) (serial : ℕ) (moves : List Move) → AreSound old table
-    → Ticks now old.associations table ticked new new_table → stepped ≡ plain_step (output.Ticked ticked) → (TellsClosed serial stepped.output → (ledger_at old serial ≡ None) ⊎ Contains moves Close)
-    → SaysNoMore (ledger_at old serial) stepped serial moves
-tick_says facts now old new table new_table stepped ticked serial moves sound ticks said closes =
+    → Ticks now old.associations table ticked new new_table → stepped ≡ plain_step (output.Ticked ticked) → (TellsClosed serial stepped.output → IsKeyless (association_of serial old.associations) ⊎ Contains moves Close)
+    → (TellsAgain serial stepped.output → moves ≡ []) → SaysNoMore (association_of serial old.associations) stepped serial moves
+tick_says facts now old new table new_table stepped ticked serial moves sound ticks said closes none =
     record {
       sent = λ mark octets sent here out. absurd (none_marked mark (sym (ap (λ (s : Stepped). s.trace.sent) said) ∙ sent));
       again = λ other r is there here sealed.
@@ -350,6 +418,7 @@ tick_says facts now old new table new_table stepped ticked serial moves sound ti
           (again_waits facts now old new table new_table ticked r sound ticks (subst (λ (x : Ticked). Contains x.requests r) same there) sealed);
       keyed = λ named. absurd (none_marked serial (sym (ap (λ (s : Stepped). s.trace.keyed) said) ∙ named));
       counted = λ child closed is. (let clash : output.Ticked ticked ≡ output.Counted serial child closed = sym (ap (λ (s : Stepped). s.output) said) ∙ is in cc);
+      none_beside = none;
       closed = closes;
       child = λ made named here. absurd (none_marked made (sym (ap (λ (s : Stepped). s.trace.child) said) ∙ named));
     }

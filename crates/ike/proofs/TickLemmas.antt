@@ -6,7 +6,7 @@ use Rattle.std.specs.List.{slice_get}
 use Rattle.std.specs.Ordering.{nat_cmp}
 use Rattle.std.specs.Prelude.{◌==◌}
 use Rattle.exchange.specs.declared.headers.Role.{Role}
-use Rattle.requests.specs.Incoming.{no_requests, IsLeftBehind, PeerRequests}
+use Rattle.requests.specs.Incoming.{after_number_0, no_requests, IsLeftBehind, PeerRequests}
 use Rattle.requests.specs.Numbers.{HasNumber}
 use Rattle.requests.specs.Outgoing.{OwnRequests}
 use Rattle.sadb.specs.Database.{Database, IsReserved}
@@ -205,8 +205,22 @@ on_soundly now a b on held = record {
       let was = on.requests number request there in
       subst (λ (n : ℕ). number < n) (sym on.next) (held.issued number was.was was.there);
   took_none = λ is.
-      let none = held.took_none (on_phase IsInitSent now a b on closed_waits is) in
-      record { role = on.role ∙ none.role; incoming = subst (λ (r : PeerRequests). r ≡ record no_requests { room = r.room }) (sym on.incoming) none.incoming };
+      let none = held.took_none (on_waits now a b on is) in
+      record {
+        role = on.role ∙ none.role;
+        incoming = subst (λ (r : PeerRequests). r ≡ record no_requests { room = r.room }) (sym on.incoming) none.incoming;
+        window = on.window ∙ none.window;
+      };
+  took_first = λ is.
+      let first = held.took_first (on_opened now a b on is) in
+      record {
+        role = on.role ∙ first.role;
+        incoming = subst (λ (r : PeerRequests). r ≡ record after_number_0 { room = r.room }) (sym on.incoming) first.incoming;
+        next = on.next ∙ first.next;
+        answered = on.answered ∙ first.answered;
+        window = on.window ∙ first.window;
+      };
+  peers = omega (arith, on.window, held.peers);
 }
 
 -- ---- all of them
@@ -258,6 +272,7 @@ each_on now held table new_table b sound keeps place o =
       short = on_short now o.was b o.on was.short;
       soundly = on_soundly now o.was b o.on was.soundly;
       asked = λ opened here. was.asked opened (on_half_open now o.was b o.on opened here);
+      whole = λ keys are. was.whole keys (sym (on_keys now o.was b o.on) ∙ are);
     }
 
 apart_on : (now : ℕ) (held : Held) (table : Database) (b c : Association) → AreSound held table → Origins now held.associations b c → AreApart b c

@@ -135,7 +135,7 @@ way_short facts meaning setup octets old table stepped new new_table sound (star
 pub step_short : ShortFacts → (meaning : Meaning) (entries : List Entry) (input : InputView) (old : Machine) (table : Database) (stepped : Stepped) (new : Machine) (new_table : Database) (octets : Octets)
     → IsSoundMachine old table → Steps meaning entries input old table stepped new new_table → octets_in stepped.output ≡ Some octets → IsShort octets
 step_short facts meaning entries input old table stepped new new_table octets sound is named = elim (step_way meaning entries input old table stepped new new_table is) [
-  | inl w ↦ way_short facts meaning w.setup w.octets old.held table stepped new.held new_table sound w.way octets named
+  | inl w ↦ way_short facts meaning w.setup w.octets old.held table stepped new.held new_table sound.held w.way octets named
   | inr passes ↦ absurd (none_out octets (sym (ap (λ (s : Stepped). octets_in s.output) passes.takes.said) ∙ named))
 ]
 
@@ -192,7 +192,7 @@ pub step_again : TicksAgain → (meaning : Meaning) (entries : List Entry) (inpu
     → IsSoundMachine old table → Steps meaning entries input old table stepped new new_table → stepped.output ≡ output.Ticked ticked → All (λ (r : Resent). IsShort r.octets) ticked.requests
 step_again again meaning entries input old table stepped new new_table ticked sound is said = elim (step_way meaning entries input old table stepped new new_table is) [
   | inl w ↦ absurd (way_not_ticked meaning w.setup w.octets old.held table stepped new.held new_table ticked w.way said)
-  | inr passes ↦ again_short again input old.held new.held table new_table stepped ticked sound passes said
+  | inr passes ↦ again_short again input old.held new.held table new_table stepped ticked sound.held passes said
 ]
 
 -- what is known of how many go out again
@@ -562,9 +562,9 @@ way_traced facts meaning setup octets old table stepped new new_table sound_tabl
 pub step_traced : ToldFacts → TickFacts → (meaning : Meaning) (entries : List Entry) (input : InputView) (old : Machine) (table : Database) (stepped : Stepped) (new : Machine) (new_table : Database)
     → IsSoundTable table → IsSoundMachine old table → Steps meaning entries input old table stepped new new_table → IsTraced old.held table stepped new.held new_table
 step_traced facts ticks meaning entries input old table stepped new new_table sound_table sound is = elim (step_way meaning entries input old table stepped new new_table is) [
-  | inl w ↦ way_traced facts meaning w.setup w.octets old.held table stepped new.held new_table sound_table sound
-      (facts.trace.sound meaning entries input old table stepped new new_table sound_table sound is) w.way
-  | inr passes ↦ passed_traced ticks passes.now old.held table new.held new_table stepped sound passes.takes
+  | inl w ↦ way_traced facts meaning w.setup w.octets old.held table stepped new.held new_table sound_table sound.held
+      (facts.trace.sound meaning entries input old table stepped new new_table sound_table sound is).held w.way
+  | inr passes ↦ passed_traced ticks passes.now old.held table new.held new_table stepped sound.held passes.takes
 ]
 
 -- ---- keys stay
@@ -598,10 +598,10 @@ pub step_keys : TraceFacts → TicksHold → (meaning : Meaning) (entries : List
     → IsSoundTable table → IsSoundMachine old table → Steps meaning entries input old table stepped new new_table
     → keys_of_serial serial old.held.associations ≡ Some keys → association_of serial new.held.associations ≡ Some a → keys_in a.phase ≡ Some keys
 step_keys facts held meaning entries input old table stepped new new_table serial keys a sound_table sound is are stands = elim (step_way meaning entries input old table stepped new new_table is) [
-  | inl w ↦ sym (ap keys_of stands) ∙ way_keys facts meaning w.setup w.octets old.held table stepped new.held new_table serial keys sound
-      (facts.sound meaning entries input old table stepped new new_table sound_table sound is) w.way are
+  | inl w ↦ sym (ap keys_of stands) ∙ way_keys facts meaning w.setup w.octets old.held table stepped new.held new_table serial keys sound.held
+      (facts.sound meaning entries input old table stepped new new_table sound_table sound is).held w.way are
   | inr passes ↦
-      let before = ticked_stood passes.now old.held new.held table serial a sound (held passes.now old.held.associations table passes.takes.ticked new.held.associations new_table passes.takes.ticks) stands in
+      let before = ticked_stood passes.now old.held new.held table serial a sound.held (held passes.now old.held.associations table passes.takes.ticked new.held.associations new_table passes.takes.ticks) stands in
       on_keys passes.now before.was a before.on ∙ sym (ap keys_of before.stood) ∙ are
 ]
 
@@ -645,8 +645,8 @@ pub step_makes : TraceFacts → (meaning : Meaning) (entries : List Entry) (from
     → IsSoundTable table → IsSoundMachine old table → Steps meaning entries (steps.Message from octets fresh) old table stepped new new_table → stepped.trace.child ≡ Some made
     → MakesFirstChild meaning (setup_at old entries fresh) octets old.held table stepped made new.held new_table
 step_makes facts meaning entries from octets fresh old table stepped made new new_table sound_table sound is named =
-    way_makes facts meaning (setup_at old entries fresh) octets old.held table stepped made new.held new_table sound_table sound
-    (facts.sound meaning entries (steps.Message from octets fresh) old table stepped new new_table sound_table sound is)
+    way_makes facts meaning (setup_at old entries fresh) octets old.held table stepped made new.held new_table sound_table sound.held
+    (facts.sound meaning entries (steps.Message from octets fresh) old table stepped new new_table sound_table sound is).held
     (datagram_way meaning (setup_at old entries fresh) old.cookies from octets old.held table stepped new.held new_table is.1) named
 
 -- the effect by which keys come and a request goes out
@@ -703,7 +703,7 @@ pub step_asks : TraceFacts → (meaning : Meaning) (entries : List Entry) (from 
     → stepped.output ≡ output.Request ike next → stepped.trace.keyed ≡ Some ike → AsksFirstChild meaning (setup_at old entries fresh) ike next new.held
 step_asks facts meaning entries from octets fresh old table stepped ike next new new_table sound_table sound is said keyed =
     way_asks facts meaning (setup_at old entries fresh) octets old.held table stepped ike next new.held new_table
-    (facts.sound meaning entries (steps.Message from octets fresh) old table stepped new new_table sound_table sound is)
+    (facts.sound meaning entries (steps.Message from octets fresh) old table stepped new new_table sound_table sound is).held
     (datagram_way meaning (setup_at old entries fresh) old.cookies from octets old.held table stepped new.held new_table is.1) said keyed
 
 -- ---- who waits for a child waited for it before, or asks for it now
@@ -788,10 +788,10 @@ pub step_waits : TraceFacts → TicksHold → (meaning : Meaning) (entries : Lis
     → IsSoundTable table → IsSoundMachine old table → Steps meaning entries input old table stepped new new_table
     → association_of ike new.held.associations ≡ Some a → a.phase ≡ phase.AuthSent sent → WaitedBefore ike sent old.held ⊎ AsksNow ike stepped
 step_waits facts held meaning entries input old table stepped new new_table ike a sent sound_table sound is stands waits = elim (step_way meaning entries input old table stepped new new_table is) [
-  | inl w ↦ way_waits facts meaning w.setup w.octets old.held table stepped new.held new_table ike a sent sound
-      (facts.sound meaning entries input old table stepped new new_table sound_table sound is) w.way stands waits
+  | inl w ↦ way_waits facts meaning w.setup w.octets old.held table stepped new.held new_table ike a sent sound.held
+      (facts.sound meaning entries input old table stepped new new_table sound_table sound is).held w.way stands waits
   | inr passes ↦
-      let before = ticked_stood passes.now old.held new.held table ike a sound (held passes.now old.held.associations table passes.takes.ticked new.held.associations new_table passes.takes.ticks) stands in
+      let before = ticked_stood passes.now old.held new.held table ike a sound.held (held passes.now old.held.associations table passes.takes.ticked new.held.associations new_table passes.takes.ticks) stands in
       inl (record {
         was = before.was;
         stood = before.stood;

@@ -1,5 +1,5 @@
 -- What a step that is no moment leaves of what waits for an answer, and of the phases that end with time.
-use Rattle.std.proofs.Common.{◌≡◌, ◌≢◌, ◌⊎◌, inl, inr, ℕ, Bool, true, false, List, Option, Some, None, ap, refl, subst, sym, ◌∙◌}
+use Rattle.std.proofs.Common.{◌≡◌, ◌⊎◌, inl, inr, ℕ, Bool, false, List, Option, Some, None, ap, refl, subst, sym, ◌∙◌}
 use Rattle.std.specs.FinMap as map
 use Rattle.std.specs.Ordering.{nat_cmp}
 use Rattle.base.specs.Octets.{Octets}
@@ -28,7 +28,7 @@ use Rattle.effects.specs.Waiting as effects
 use Rattle.effects.specs.declared.taking.Effect.{Effect}
 use Rattle.effects.specs.declared.taking.Effect.TheVariants as effect
 use Rattle.ike.specs.Machines.{association_of, setup_at, Held, Machine}
-use Rattle.ike.specs.Moments.{StandsIn, StartsToWait, StopsWaiting, TakesCookieAt, WaitsAt}
+use Rattle.ike.specs.Moments.{StandsIn, StartsToWait, StopsWaiting, WaitsAt}
 use Rattle.ike.specs.Moves.{TellsClosed}
 use Rattle.ike.specs.Outputs.{closed_serial, stepped_of}
 use Rattle.ike.specs.Soundness.{AreSound, IsSoundMachine}
@@ -262,12 +262,12 @@ way_times laws meaning setup octets old table stepped new new_table serial sound
 pub step_times : WaitLaws → (meaning : Meaning) (entries : List Entry) (input : InputView) (old : Machine) (table : Database) (stepped : Stepped) (new : Machine) (new_table : Database) (serial : ℕ)
     → is_tick input ≡ false → IsSoundMachine old table → Steps meaning entries input old table stepped new new_table → Times old.moment old.held stepped new.held serial
 step_times laws meaning entries (steps.Message from octets fresh) old table stepped new new_table serial none sound is =
-    way_times laws meaning (setup_at old entries fresh) octets old.held table stepped new.held new_table serial sound
+    way_times laws meaning (setup_at old entries fresh) octets old.held table stepped new.held new_table serial sound.held
     (datagram_way meaning (setup_at old entries fresh) old.cookies from octets old.held table stepped new.held new_table is.1)
 step_times laws meaning entries (steps.Start ike place fresh) old table stepped new new_table serial none sound is =
-    started_times laws meaning (setup_at old entries fresh) old.held table stepped new.held new_table serial sound (record { ike = ike; place = place; starts = is.1 })
+    started_times laws meaning (setup_at old entries fresh) old.held table stepped new.held new_table serial sound.held (record { ike = ike; place = place; starts = is.1 })
 step_times laws meaning entries (steps.Probe ike fresh) old table stepped new new_table serial none sound is =
-    probed_times laws meaning (setup_at old entries fresh) old.held table stepped new.held new_table serial sound (record { ike = ike; probes = is.1; pairs = is.2 })
+    probed_times laws meaning (setup_at old entries fresh) old.held table stepped new.held new_table serial sound.held (record { ike = ike; probes = is.1; pairs = is.2 })
 step_times laws meaning entries (steps.Secret secret) old table stepped new new_table serial none sound is =
     times_apart old.moment old.held stepped new.held serial (ap (λ (m : Machine). association_of serial m.held.associations) is.content)
 step_times laws meaning entries (steps.Tick moment) old table stepped new new_table serial none sound is = absurd cc

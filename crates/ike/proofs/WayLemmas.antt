@@ -17,7 +17,7 @@ use Rattle.effects.specs.Keeping.{kept_reply, IsShort}
 use Rattle.effects.specs.Taking.{Meaning}
 use Rattle.ike.specs.Machines.{setup_at, Held, Machine}
 use Rattle.ike.specs.Outputs.{plain_step}
-use Rattle.ike.specs.Receiving.{is_answered, is_initial_request, is_sound_initial, AdmitsNext, DoesJudgement, PassesOver, TakesAt, TakesDatagram, TakesFound, TakesRead, TakesRequestAt, TakesSound}
+use Rattle.ike.specs.Receiving.{is_answered, is_initial_request, is_sound_initial, AdmitsNext, DoesJudgement, IsInitialRequest, PassesOver, TakesAt, TakesDatagram, TakesFound, TakesRead, TakesRequestAt, TakesSound}
 use Rattle.ike.specs.Probing.{ProbesAt}
 use Rattle.ike.specs.Starting.{Starts}
 use Rattle.ike.specs.Ticking.{TakesHeld}
@@ -65,6 +65,7 @@ pub record Takes (meaning : Meaning) (setup : Setup) (octets : Octets) (old : He
 pub record AdmitsOne (meaning : Meaning) (setup : Setup) (octets : Octets) (old : Held) (table : Database) (stepped : Stepped) (new : Held) (new_table : Database) : Type 0 where
   pub offer : OfferView
   pub spi_i : ℕ
+  pub asked : IsInitialRequest octets
   pub admits : AdmitsNext meaning setup offer spi_i octets old stepped new
   pub pairs : new_table ≡ table
 
@@ -99,20 +100,20 @@ passed_way meaning setup octets reason old table stepped new new_table is same =
     rested (record { said = output.Dropped reason; is = is.said; goes = tt; same = is.unchanged; pairs = same })
 
 judged_way : (meaning : Meaning) (setup : Setup) (octets : Octets) (m : Message) (j : JudgementView) (old : Held) (table : Database) (stepped : Stepped) (new : Held) (new_table : Database)
-    → DoesJudgement meaning setup m.header.spi_i octets j old stepped new → new_table ≡ table → Way meaning setup octets old table stepped new new_table
-judged_way meaning setup octets m (Answered notice) old table stepped new new_table is same =
+    → IsInitialRequest octets → DoesJudgement meaning setup m.header.spi_i octets j old stepped new → new_table ≡ table → Way meaning setup octets old table stepped new new_table
+judged_way meaning setup octets m (Answered notice) old table stepped new new_table asked is same =
     rested (record { said = output.Reply is.0.octets None; is = is.0.said; goes = is.0.spelled.limit; same = is.1; pairs = same })
-judged_way meaning setup octets m Incomplete old table stepped new new_table is same = passed_way meaning setup octets _ old table stepped new new_table is same
-judged_way meaning setup octets m Full old table stepped new new_table is same = passed_way meaning setup octets _ old table stepped new new_table is same
-judged_way meaning setup octets m (Accepted offer) old table stepped new new_table is same =
+judged_way meaning setup octets m Incomplete old table stepped new new_table asked is same = passed_way meaning setup octets _ old table stepped new new_table is same
+judged_way meaning setup octets m Full old table stepped new new_table asked is same = passed_way meaning setup octets _ old table stepped new new_table is same
+judged_way meaning setup octets m (Accepted offer) old table stepped new new_table asked is same =
     elim is.done [
       | inl refused ↦ passed_way meaning setup octets _ old table stepped new new_table refused.1 same
-      | inr made ↦ admitted (record { offer = offer; spi_i = m.header.spi_i; admits = made; pairs = same })
+      | inr made ↦ admitted (record { offer = offer; spi_i = m.header.spi_i; asked = asked; admits = made; pairs = same })
     ]
 
 request_way : (o : Option ℕ) (meaning : Meaning) (setup : Setup) (cookies : CookieSecrets) (from octets : Octets) (m : Message) (old : Held) (table : Database) (stepped : Stepped) (new : Held) (new_table : Database)
-    → TakesRequestAt o meaning setup cookies from octets m old stepped new → new_table ≡ table → Way meaning setup octets old table stepped new new_table
-request_way (Some place) meaning setup cookies from octets m old table stepped new new_table is same =
+    → IsInitialRequest octets → TakesRequestAt o meaning setup cookies from octets m old stepped new → new_table ≡ table → Way meaning setup octets old table stepped new new_table
+request_way (Some place) meaning setup cookies from octets m old table stepped new new_table asked is same =
     rested (record {
       said = output.Repeat is.0.reply;
       is = is.0.said;
@@ -120,14 +121,14 @@ request_way (Some place) meaning setup cookies from octets m old table stepped n
       same = is.1;
       pairs = same;
     })
-request_way None meaning setup cookies from octets m old table stepped new new_table is same =
-    judged_way meaning setup octets m is.judgement old table stepped new new_table is.done same
+request_way None meaning setup cookies from octets m old table stepped new new_table asked is same =
+    judged_way meaning setup octets m is.judgement old table stepped new new_table asked is.done same
 
 initial_way : (b : Bool) (meaning : Meaning) (setup : Setup) (cookies : CookieSecrets) (from octets : Octets) (m : Message) (old : Held) (table : Database) (stepped : Stepped) (new : Held) (new_table : Database)
-    → TakesSound b meaning setup cookies from octets m old stepped new → new_table ≡ table → Way meaning setup octets old table stepped new new_table
-initial_way true meaning setup cookies from octets m old table stepped new new_table is same =
-    request_way (position (is_answered octets) old.associations) meaning setup cookies from octets m old table stepped new new_table is same
-initial_way false meaning setup cookies from octets m old table stepped new new_table is same = passed_way meaning setup octets _ old table stepped new new_table is same
+    → (b ≡ true → IsInitialRequest octets) → TakesSound b meaning setup cookies from octets m old stepped new → new_table ≡ table → Way meaning setup octets old table stepped new new_table
+initial_way true meaning setup cookies from octets m old table stepped new new_table asked is same =
+    request_way (position (is_answered octets) old.associations) meaning setup cookies from octets m old table stepped new new_table (asked refl) is same
+initial_way false meaning setup cookies from octets m old table stepped new new_table asked is same = passed_way meaning setup octets _ old table stepped new new_table is same
 
 found_way : (r : Result ℕ MessageFault) (meaning : Meaning) (setup : Setup) (octets : Octets) (m : Message) (old : Held) (table : Database) (stepped : Stepped) (new : Held) (new_table : Database)
     → Spells m octets → found m.header old.associations ≡ r → TakesFound r meaning setup octets m old table stepped new new_table → Way meaning setup octets old table stepped new new_table
@@ -135,10 +136,11 @@ found_way (Ok place) meaning setup octets m old table stepped new new_table spel
 found_way (Err f) meaning setup octets m old table stepped new new_table spelled finds is = passed_way meaning setup octets _ old table stepped new new_table is.0 is.1
 
 read_way : (b : Bool) (meaning : Meaning) (setup : Setup) (cookies : CookieSecrets) (from octets : Octets) (m : Message) (old : Held) (table : Database) (stepped : Stepped) (new : Held) (new_table : Database)
-    → Spells m octets → TakesRead b meaning setup cookies from octets m old table stepped new new_table → Way meaning setup octets old table stepped new new_table
-read_way true meaning setup cookies from octets m old table stepped new new_table spelled is =
-    initial_way (is_sound_initial m.header) meaning setup cookies from octets m old table stepped new new_table is.0 is.1
-read_way false meaning setup cookies from octets m old table stepped new new_table spelled is =
+    → Spells m octets → is_initial_request m.header ≡ b → TakesRead b meaning setup cookies from octets m old table stepped new new_table → Way meaning setup octets old table stepped new new_table
+read_way true meaning setup cookies from octets m old table stepped new new_table spelled initial is =
+    initial_way (is_sound_initial m.header) meaning setup cookies from octets m old table stepped new new_table
+    (λ sound. record { message = m; spelled = spelled; initial = initial; sound = sound }) is.0 is.1
+read_way false meaning setup cookies from octets m old table stepped new new_table spelled initial is =
     found_way (found m.header old.associations) meaning setup octets m old table stepped new new_table spelled refl is
 
 pub datagram_way : (meaning : Meaning) (setup : Setup) (cookies : CookieSecrets) (from octets : Octets) (old : Held) (table : Database) (stepped : Stepped) (new : Held) (new_table : Database)
@@ -146,7 +148,7 @@ pub datagram_way : (meaning : Meaning) (setup : Setup) (cookies : CookieSecrets)
 datagram_way meaning setup cookies from octets old table stepped new new_table is =
     elim is [
       | inl unread ↦ passed_way meaning setup octets _ old table stepped new new_table unread.passed unread.unchanged
-      | inr read ↦ read_way (is_initial_request read.message.header) meaning setup cookies from octets read.message old table stepped new new_table read.spelled read.done
+      | inr read ↦ read_way (is_initial_request read.message.header) meaning setup cookies from octets read.message old table stepped new new_table read.spelled refl read.done
     ]
 
 -- what is not asked for

@@ -1,19 +1,24 @@
 -- What a step does to each association that has keys, as moves, what it says of them, and what their octets open as (RFC 7296 sections 2.1
 -- to 2.4, 3.1 and 3.14).
-use Rattle.std.specs.Prelude.{◌≡◌, ◌≤◌, ◌⊎◌, ◌∷◌, ℕ, Bool, true, false, Option, Some, None, List, [], Contains, length, option_and_then}
+use Rattle.std.specs.Prelude.{◌≡◌, ◌≤◌, ◌⊎◌, ℕ, Bool, true, false, Option, Some, None, List, [], Contains, length, option_and_then}
 use Rattle.std.specs.List.{AllByRecursion}
-use Rattle.base.specs.Octets.{Octets}
+use Rattle.base.specs.Octets.{AreOctets, Octets}
+use Rattle.wire.specs.Messages.{Spells}
+use Rattle.wire.specs.Numbers.{IKE_SA_INIT}
+use Rattle.wire.specs.declared.message.Message as wire
+use Rattle.suite.specs.declared.fresh.Fresh.{Fresh}
 use Rattle.suite.specs.declared.key_record.KeyRecord.{KeyRecord}
 use Rattle.exchange.specs.Headers.{other_role}
+use Rattle.association.specs.Phases.{keys_in}
 use Rattle.association.specs.declared.phase.Association.{Association}
 use Rattle.moments.specs.declared.resent.Resent.{Resent}
 use Rattle.moments.specs.declared.ticking.Ticked.{Ticked}
 use Rattle.effects.specs.Moves.{ledger, Close, Count, Issue, KeepsReply, Lead, Ledger, Make, Move, Remove, TakeEffect, WaitsWith}
 use Rattle.effects.specs.Openings.{OpensAsMessage, OpensWhatItSeals}
 use Rattle.effects.specs.Taking.{Meaning}
-use Rattle.ike.specs.Lengths.{HoldWholeKeys}
 use Rattle.ike.specs.Machines.{association_of, Held}
 use Rattle.ike.specs.Outputs.{octets_in, reply_mark, request_mark}
+use Rattle.ike.specs.Requests.{IsInitialDatagram}
 use Rattle.ike.specs.Steps.{is_tick, InputView, Message, Probe, Secret, Start, Tick}
 use Rattle.ike.specs.declared.output.IkeOutput.{IkeOutput}
 use Rattle.ike.specs.declared.output.IkeOutput.TheVariants as output
@@ -32,6 +37,11 @@ TellsClosed serial (output.Counted ike child (Some closed)) = closed ≡ serial
 TellsClosed serial (output.Ticked ticked) = Contains ticked.closed serial
 TellsClosed serial o = ⊥
 
+-- a request of the association with this serial goes out again
+abbrev pub TellsAgain : ℕ → IkeOutput → Type 0
+TellsAgain serial (output.Ticked ticked) = (r : Resent) × Contains ticked.requests r × (r.ike ≡ serial)
+TellsAgain serial o = ⊥
+
 -- What a step says of a move: keys that come are in its trace, a request and a reply are its output, with their number in its trace, and so
 -- on; an association is let go at a moment alone.
 abbrev pub Tells : InputView → Stepped → ℕ → Move → Type 0
@@ -43,25 +53,39 @@ Tells input stepped serial (TakeEffect number reply) =
 Tells input stepped serial Close = TellsClosed serial stepped.output
 Tells input stepped serial Remove = is_tick input ≡ true
 
--- What goes out under this mark is a request that is issued, a reply by which a request takes effect, or a reply that is kept of one that
--- took effect before.
-abbrev pub IsSentBy : List Move → Option Ledger → Mark → Octets → Type 0
-IsSentBy moves old mark octets =
+-- a reply goes out again: it is kept of a request that took effect before, and nothing is done beside it
+pub record RepeatsReply (moves : List Move) (old : Option Ledger) (said : IkeOutput) (number : ℕ) (octets : Octets) : Type 0 where
+  pub kept : KeepsReply old number octets
+  pub repeated : said ≡ output.Repeat octets
+  pub none : moves ≡ []
+
+-- What goes out under this mark is a request that is issued, a reply by which a request takes effect, or a reply that goes out again.
+abbrev pub IsSentBy : List Move → Option Ledger → IkeOutput → Mark → Octets → Type 0
+IsSentBy moves old said mark octets =
     ((mark.response ≡ false) × Contains moves (Issue mark.number octets))
-    ⊎ ((mark.response ≡ true) × (Contains moves (TakeEffect mark.number octets) ⊎ KeepsReply old mark.number octets))
+    ⊎ ((mark.response ≡ true) × (Contains moves (TakeEffect mark.number octets) ⊎ RepeatsReply moves old said mark.number octets))
 
 -- this end asked for the child, and counts the answer; or the peer did, and its request takes effect
 abbrev pub IsMadeBy : List Move → MadeChild → Type 0
 IsMadeBy moves made = ((made.asked ≡ true) × Contains moves (Count made.number)) ⊎ ((made.asked ≡ false) × ((reply : Octets) × Contains moves (TakeEffect made.number reply)))
 
--- Nothing that a step says of an association is missing among these moves: what is sent under its keys, or goes out again under them with a
--- moment, the keys that come, a response that is counted, the child that is made, and its end, but for one that never had keys.
-pub record SaysNoMore (old : Option Ledger) (stepped : Stepped) (serial : ℕ) (moves : List Move) : Type 0 where
-  pub sent : (mark : Mark) (octets : Octets) → stepped.trace.sent ≡ Some mark → mark.ike ≡ serial → octets_in stepped.output ≡ Some octets → IsSentBy moves old mark octets
-  pub again : (ticked : Ticked) (r : Resent) → stepped.output ≡ output.Ticked ticked → Contains ticked.requests r → r.ike ≡ serial → r.encrypted ≡ true → WaitsWith old r.number r.octets
+-- it is held, and has no keys
+abbrev pub IsKeyless : Option Association → Type 0
+IsKeyless None = ⊥
+IsKeyless (Some a) = keys_in a.phase ≡ None
+
+-- Nothing that a step says of an association, as it was before it, is missing among these moves: what is sent under its keys, the keys that
+-- come, a response that is counted, the child that is made, and its end, but for one that has no keys yet. Beside what goes out again with a
+-- moment there are none, and under keys it is what waits.
+pub record SaysNoMore (old : Option Association) (stepped : Stepped) (serial : ℕ) (moves : List Move) : Type 0 where
+  pub sent : (mark : Mark) (octets : Octets) → stepped.trace.sent ≡ Some mark → mark.ike ≡ serial → octets_in stepped.output ≡ Some octets
+      → IsSentBy moves (option_and_then ledger old) stepped.output mark octets
+  pub again : (ticked : Ticked) (r : Resent) → stepped.output ≡ output.Ticked ticked → Contains ticked.requests r → r.ike ≡ serial → r.encrypted ≡ true
+      → WaitsWith (option_and_then ledger old) r.number r.octets
+  pub none_beside : TellsAgain serial stepped.output → moves ≡ []
   pub keyed : stepped.trace.keyed ≡ Some serial → (keys : KeyRecord) × Contains moves (Make keys)
   pub counted : (child closed : Option ℕ) → stepped.output ≡ output.Counted serial child closed → (number : ℕ) × Contains moves (Count number)
-  pub closed : TellsClosed serial stepped.output → (old ≡ None) ⊎ Contains moves Close
+  pub closed : TellsClosed serial stepped.output → IsKeyless old ⊎ Contains moves Close
   -- a child is made with the answer that is counted, or with the request that takes effect
   pub child : (made : MadeChild) → stepped.trace.child ≡ Some made → made.ike ≡ serial → IsMadeBy moves made
 
@@ -72,6 +96,18 @@ OpensFresh meaning (Start ike place fresh) = OpensWhatItSeals meaning.body_of me
 OpensFresh meaning (Probe ike fresh) = OpensWhatItSeals meaning.body_of meaning.plain_of fresh.seal
 OpensFresh meaning (Secret secret) = Unit {0}
 OpensFresh meaning (Tick moment) = Unit {0}
+
+-- those octets are 16, as every value of their type has them
+pub record HasSeal (fresh : Fresh) : Type 0 where
+  pub octets : AreOctets fresh.seal
+  pub many : length fresh.seal ≡ 16
+
+abbrev pub HasFresh : InputView → Type 0
+HasFresh (Message from octets fresh) = HasSeal fresh
+HasFresh (Start ike place fresh) = HasSeal fresh
+HasFresh (Probe ike fresh) = HasSeal fresh
+HasFresh (Secret secret) = Unit {0}
+HasFresh (Tick moment) = Unit {0}
 
 -- the input is a datagram that opens as this request or response of the association's peer
 abbrev pub Comes : Meaning → InputView → Association → Bool → ℕ → Type 0
@@ -84,8 +120,25 @@ pub record ComesFor (meaning : Meaning) (input : InputView) (old : Held) (serial
   pub there : association_of serial old.associations ≡ Some association
   pub comes : Comes meaning input association response number
 
--- what is counted comes as the peer's response, and what takes effect as its request
+-- the octets are a response of IKE_SA_INIT
+pub record IsInitialResponse (octets : Octets) : Type 0 where
+  pub message : wire.Message
+  pub spelled : Spells message octets
+  pub response : message.header.flags.response ≡ true
+  pub exchange_is : message.header.exchange ≡ IKE_SA_INIT
+
+abbrev pub IsResponseDatagram : InputView → Type 0
+IsResponseDatagram (Message from octets fresh) = IsInitialResponse octets
+IsResponseDatagram input = ⊥
+
+-- Keys come by a datagram of IKE_SA_INIT: to an association that is held before by the response, to a new one by the request.
+abbrev pub KeysCome : InputView → Option Association → Type 0
+KeysCome input (Some a) = IsResponseDatagram input
+KeysCome input None = IsInitialDatagram input
+
+-- what is counted comes as the peer's response, what takes effect as its request, and keys by IKE_SA_INIT
 abbrev pub MoveComes : Meaning → InputView → Held → ℕ → Move → Type 0
+MoveComes meaning input old serial (Make keys) = KeysCome input (association_of serial old.associations)
 MoveComes meaning input old serial (Count number) = ComesFor meaning input old serial true number
 MoveComes meaning input old serial (TakeEffect number reply) = ComesFor meaning input old serial false number
 MoveComes meaning input old serial move = Unit {0}
@@ -108,13 +161,13 @@ MoveOpens meaning old new serial (TakeEffect number reply) = RepliesOpenly meani
 MoveOpens meaning old new serial move = Unit {0}
 
 -- The moves of one step at the association with this serial: two at most, which lead from what they speak of before to what they speak of
--- after. Each is told, and nothing else is; what it takes of the peer's comes as that. Where the cipher opens what it seals, and keys are whole, as they
--- stay, what goes out opens as what it is.
+-- after. Each is told, and nothing else is; what it takes of the peer's comes as that. Where the cipher opens what it seals, what goes out
+-- opens as what it is.
 pub record MovesAt (meaning : Meaning) (input : InputView) (old : Held) (stepped : Stepped) (new : Held) (serial : ℕ) : Type 0 where
   pub moves : List Move
   pub few : length moves ≤ 2
   pub lead : Lead moves (ledger_at old serial) (ledger_at new serial)
   pub told : AllByRecursion (Tells input stepped serial) moves
-  pub no_more : SaysNoMore (ledger_at old serial) stepped serial moves
+  pub no_more : SaysNoMore (association_of serial old.associations) stepped serial moves
   pub came : AllByRecursion (MoveComes meaning input old serial) moves
-  pub opened : OpensFresh meaning input → HoldWholeKeys old → AllByRecursion (MoveOpens meaning old new serial) moves
+  pub opened : OpensFresh meaning input → AllByRecursion (MoveOpens meaning old new serial) moves

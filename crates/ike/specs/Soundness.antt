@@ -9,8 +9,10 @@ use Rattle.association.specs.declared.phase.Association.{Association}
 use Rattle.association.specs.declared.phase.HalfOpen.{HalfOpen}
 use Rattle.association.specs.declared.phase.Phase.TheVariants as phase
 use Rattle.initial.specs.Answering.{IsHalfOpen}
+use Rattle.initial.specs.Configs.{IsConfig}
 use Rattle.initial.specs.Ending.{IsAuthSent}
 use Rattle.effects.specs.Keeping.{KeepsShort}
+use Rattle.effects.specs.Lengths.{HoldsWholeKeys}
 use Rattle.effects.specs.Requests.{IsSoundlyHeld}
 use Rattle.initial.specs.Reading.{IsInitSent}
 use Rattle.ike.specs.Machines.{half_open_count, own_spi, Held, Machine, SERIAL_END}
@@ -22,8 +24,8 @@ At held place a = slice_get held.associations place ≡ Some a
 
 -- what holds of each association: its serial was given, the SPI of this end is not zero, who waits for the response to IKE_SA_INIT or to
 -- IKE_AUTH is the initiator, who waits for IKE_AUTH is the responder, an SPI that is held for a first child is reserved, all that can go
--- out again has at most 3000 octets, what is kept of the peer's requests is sound and what waits for an answer belongs to the phase, and a
--- half-open one was asked for by IKE_SA_INIT
+-- out again has at most 3000 octets, what is kept of the peer's requests is sound and what waits for an answer belongs to the phase, a
+-- half-open one was asked for by IKE_SA_INIT, and its keys have 32 octets each
 pub record IsSound (a : Association) (next : ℕ) (table : Database) : Type 0 where
   pub serial_least : 1 ≤ a.serial
   pub serial_given : a.serial < next
@@ -34,6 +36,7 @@ pub record IsSound (a : Association) (next : ℕ) (table : Database) : Type 0 wh
   pub short : KeepsShort a
   pub soundly : IsSoundlyHeld a
   pub asked : (opened : HalfOpen) → a.phase ≡ phase.HalfOpen opened → IsInitialRequest opened.request
+  pub whole : HoldsWholeKeys a.phase
 
 -- what holds of two associations, of which the other was made later
 pub record AreApart (a other : Association) : Type 0 where
@@ -51,5 +54,7 @@ pub record AreSound (held : Held) (table : Database) : Type 0 where
   pub each : (place : ℕ) (a : Association) → At held place a → IsSound a held.next table
   pub apart : (place later : ℕ) (a other : Association) → place < later → At held place a → At held later other → AreApart a other
 
-abbrev pub IsSoundMachine : Machine → Database → Type 0
-IsSoundMachine machine table = AreSound machine.held table
+-- and the configuration is one that a machine is made with
+pub record IsSoundMachine (machine : Machine) (table : Database) : Type 0 where
+  pub held : AreSound machine.held table
+  pub config : IsConfig machine.config

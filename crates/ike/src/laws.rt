@@ -24,7 +24,7 @@ ghost use Rattle.effects.specs.Taking.{Meaning};
 ghost use Rattle.ike.specs.Children.{AsksFirstChild, MakesFirstChild, AsksNow, WaitedBefore};
 ghost use Rattle.ike.specs.Machines.{half_open_count, keys_of_serial, setup_at, Machine, new_machine, association_of};
 ghost use Rattle.ike.specs.Moments.{ComesTo, IsTimely, StaysAt};
-ghost use Rattle.ike.specs.Moves.{MovesAt};
+ghost use Rattle.ike.specs.Moves.{HasFresh, MovesAt, OpensFresh};
 ghost use Rattle.ike.specs.Outputs.{octets_in, IsQuiet};
 ghost use Rattle.ike.specs.Pairs.{ChangesOne};
 ghost use Rattle.ike.specs.Proving.{WasKnown};
@@ -59,7 +59,7 @@ use effects::laws::{
     effects_are_determined, keys_stay, messages_make_moves, messages_open, no_spi_comes,
     nothing_comes_due, pairs_that_come_are_told, probes_are_short_and_determined, requests_wait_on,
     spis_stay_reserved, what_goes_out_again_is_kept, what_is_kept_is_short,
-    what_is_passed_over_changes_nothing, what_others_hold_stays,
+    what_is_passed_over_changes_nothing, what_is_sealed_opens, what_others_hold_stays,
 };
 use moments::laws::{
     no_more_go_out_than_wait, nothing_is_due_afterwards, pairs_go_with_their_associations,
@@ -69,6 +69,7 @@ use moments::laws::{
 use requests::laws::later_incoming_follow;
 use sa_init::laws::{acceptance_is_limited, judgements_are_determined};
 use sadb::laws::later_tables_are_determined;
+use suite::Sealer;
 use wire::laws::{
     first_faults_are_determined, octets_spell_one_message, plain_spellings_are_determined,
     what_is_spelled_has_no_fault,
@@ -76,7 +77,8 @@ use wire::laws::{
 
 /// Whatever a step does, the machine is sound with its table from then on: at most 128 associations, 32 of them half open, by rising
 /// serial, each under an SPI of its own that is not zero; of one that waits for a response this end is the initiator, and of one that is
-/// half open the responder; and what they hold for their first children is reserved in the table, each SPI for one of them alone.
+/// half open the responder; what they hold for their first children is reserved in the table, each SPI for one of them alone; their keys
+/// have 32 octets each; and the configuration is one that a machine is made with.
 pub fn soundness_stays()
     ensures { (meaning : Meaning) (entries : List Entry) (input : InputView) (old : Machine) (table : Database)
         (stepped : Stepped) (new : Machine) (new_table : Database) → IsSoundTable table → IsSoundMachine old table
@@ -89,6 +91,7 @@ pub fn soundness_stays()
     what_is_kept_is_short();
     acceptance_is_limited();
     probes_are_short_and_determined();
+    effects::laws::keys_stay_whole();
     effects::laws::requests_are_remembered();
     some_are_held_on();
 }
@@ -260,8 +263,10 @@ pub fn soundness_asks_for_reservations()
         → IsSoundMachine machine table → IsSoundMachine machine other }
 {}
 
-/// The keys of all associations have 32 octets each: a new machine holds none, and whatever a step does, they stay so.
+/// The keys of all associations have 32 octets each: a new machine holds none, and whatever a step does, they stay so. So are they of every
+/// machine that is sound.
 pub fn keys_stay_whole()
+    ensures sound { (machine : Machine) (table : Database) → IsSoundMachine machine table → HoldWholeKeys machine.held }
     ensures begun { (config : Config) → HoldWholeKeys (new_machine config).held }
     ensures stepped { (meaning : Meaning) (entries : List Entry) (input : InputView) (old : Machine) (table : Database)
         (stepped : Stepped) (new : Machine) (new_table : Database) → HoldWholeKeys old.held
@@ -400,9 +405,9 @@ pub fn requests_are_remembered()
 /// first time, a response is counted, a request of the peer takes effect, the association is closed, or is held no longer. They lead from
 /// what moves speak of before the step (keys, role, numbers, and octets that wait or are kept) to what they speak of after, so
 /// nothing else that they speak of changes; and nothing more is told: what is sent under its keys is sent by a move, or is a reply that is
-/// kept, and what goes out again with a moment waits for its answer. What takes effect came as that request of the peer, and what is
-/// counted as that response; where the cipher opens what it seals, and keys are whole, as they stay ([`keys_stay_whole`]), a request and a
-/// reply that go out open as this end's of that number (RFC 7296, sections 2.1 to 2.4 and 3.14).
+/// kept, and what goes out again with a moment waits for its answer; beside what goes out again there are no moves. What takes effect came as that request of the peer, and what is
+/// counted as that response, and keys come by a datagram of IKE_SA_INIT; where the cipher opens what it seals ([`fresh_octets_open`]), a
+/// request and a reply that go out open as this end's of that number (RFC 7296, sections 2.1 to 2.4 and 3.14).
 pub fn steps_are_moves()
     ensures { (meaning : Meaning) (entries : List Entry) (input : InputView) (old : Machine) (table : Database)
         (stepped : Stepped) (new : Machine) (new_table : Database) (serial : ℕ) → IsSoundMachine old table
@@ -417,6 +422,15 @@ pub fn steps_are_moves()
     what_goes_out_again_is_kept();
     what_goes_out_again_is_outstanding();
     what_is_held_was_held();
+}
+
+/// What [`steps_are_moves`] asks of a cipher is so of every caller's, as the law of [`Sealer`] says: with the octets that are fresh to a step,
+/// which are 16, it opens what it seals.
+pub fn fresh_octets_open<S: Sealer>(sealer: &S)
+    ensures { (meaning : Meaning) (input : InputView) → meaning.body_of ≡ S.body_of → meaning.plain_of ≡ S.plain_of
+        → HasFresh input → OpensFresh meaning input }
+{
+    what_is_sealed_opens(sealer);
 }
 
 /// What is due comes with a moment that has reached it. A machine with no association has nothing due that its moment has reached

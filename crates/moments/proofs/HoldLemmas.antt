@@ -1,24 +1,20 @@
 -- What a moment leaves of the associations and of the table.
-use Rattle.std.proofs.Common.{◌≡◌, ◌≢◌, ◌⊎◌, inl, inr, ℕ, zero, suc, ◌+◌, ◌<◌, ◌++◌, ◌∷◌, [], Bool, true, false, cond, not, List, Option, Some, None, ap, refl, subst, sym, ◌∙◌, arith}
+use Rattle.std.proofs.Common.{◌≡◌, ◌≢◌, inl, inr, ℕ, suc, ◌+◌, ◌++◌, ◌∷◌, [], Bool, true, false, not, List, Option, Some, None, ap, refl, subst, sym, ◌∙◌}
 use Rattle.std.specs.FinMap as map
 use Rattle.std.specs.FinSet as set
-use Rattle.std.specs.List.{slice_get}
 use Rattle.std.specs.Option.{option_map}
 use Rattle.std.specs.Cmp.{nat_cmp_total, unsigned_tied}
 use Rattle.std.specs.Ordering.{nat_cmp}
 use Rattle.std.specs.Prelude.{◌&&◌, if◌then◌else◌}
 use Rattle.std.proofs.lemmas.Bool.{ne_eqb}
-use Rattle.base.specs.Octets.{Octets}
-use Rattle.sadb.specs.Database.{pair_at, Database, IsReserved, RemovesAllOf, Releases}
-use Rattle.sadb.specs.declared.pair.Pair.{Pair}
+use Rattle.sadb.specs.Database.{Database, IsReserved, RemovesAllOf}
 use Rattle.association.specs.Closing.{Closes, GivesUpSpi}
-use Rattle.association.specs.Phases.{keys_in, spi_in}
+use Rattle.association.specs.Phases.{spi_in}
 use Rattle.association.specs.declared.phase.Association.{Association}
-use Rattle.association.specs.declared.phase.Phase.{Phase}
 use Rattle.association.specs.declared.phase.Request.{Request}
 use Rattle.moments.specs.Due.{after_sending, has_failed, is_due, is_over, SendsAgain}
 use Rattle.moments.specs.Holding.{HoldSome, HoldsNone, HoldsOn, LeavesFewer, WasOutstanding}
-use Rattle.moments.specs.Ticking.{PassAll, Passes, PassesBy}
+use Rattle.moments.specs.Ticking.{PassAll, PassesBy}
 use Rattle.moments.specs.declared.resent.Resent.{Resent}
 
 -- ---- one association
@@ -51,6 +47,8 @@ sends_on now a b alive is =
       spi_r = ap (λ (x : Association). x.spi_r) is.content;
       incoming = ap (λ (x : Association). x.incoming) is.content;
       next = ap (λ (x : Association). x.outgoing.next) is.content;
+      answered = ap (λ (x : Association). x.outgoing.answered) is.content;
+      window = ap (λ (x : Association). x.outgoing.window) is.content;
       requests = λ number request there. sent_was now number a request (map.get a.outgoing.outstanding number) refl (sym (is.each number) ∙ there);
       phase = inl (alive, ap (λ (x : Association). x.phase) is.content);
     }
@@ -67,6 +65,8 @@ closes_on now a b table new_table failed is =
       spi_r = ap (λ (x : Association). x.spi_r) is.content;
       incoming = ap (λ (x : Association). x.incoming) is.content;
       next = ap (λ r. r.next) is.requests.content;
+      answered = ap (λ r. r.answered) is.requests.content;
+      window = ap (λ r. r.window) is.requests.content;
       requests = λ number request there. absurd (none_there number request (sym (ap (λ o. map.get o number) (ap (λ r. r.outstanding) is.requests.content)) ∙ there));
       phase = inr (record { failed = failed; requests = is.requests; content = is.content });
     }

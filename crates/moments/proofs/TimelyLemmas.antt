@@ -15,7 +15,7 @@ use Rattle.association.specs.Phases.{spi_in}
 use Rattle.association.specs.declared.phase.Association.{Association}
 use Rattle.association.specs.declared.phase.Request.{Request}
 use Rattle.moments.specs.Due.{after_sending, closed_by, closed_of, has_failed, is_due, is_over, is_unanswered, outstanding_of, sent_by, sent_of, SendsAgain}
-use Rattle.moments.specs.Held.{began, HasBegun, HasNothingDue, IsInTime, LeavesPairsBut}
+use Rattle.moments.specs.Held.{began, HasBegun, IsInTime, LeavesPairsBut}
 use Rattle.moments.specs.Ticking.{PassAll, PassesBy, Ticks}
 use Rattle.moments.specs.declared.resent.Resent.{Resent}
 use Rattle.moments.specs.declared.ticking.Ticked.{Ticked}

@@ -28,6 +28,8 @@ pub record HoldsOn (now : ℕ) (a b : Association) : Type 0 where
   pub spi_r : b.spi_r ≡ a.spi_r
   pub incoming : b.incoming ≡ a.incoming
   pub next : b.outgoing.next ≡ a.outgoing.next
+  pub answered : b.outgoing.answered ≡ a.outgoing.answered
+  pub window : b.outgoing.window ≡ a.outgoing.window
   pub requests : (number : ℕ) (request : Request) → map.get b.outgoing.outstanding number ≡ Some request → WasOutstanding a number request
   pub phase : StaysOrCloses now a b
 

@@ -1,4 +1,4 @@
-use Rattle.effects.proofs.RequestLemmas.{admitted_sound, begun_sound, keeps_window, probed_sound, requests_follow, stays_concluded, stays_half_open, stays_sound, FollowLaws}
+use Rattle.effects.proofs.RequestLemmas.{admitted_sound, begun_sound, keeps_peers, keeps_window, probed_sound, requests_follow, stays_concluded, stays_half_open, stays_sound, FollowLaws}
 use Rattle.effects.proofs.laws.requests_are_remembered.Goals as goal
 
 pub returns : goal.returns
@@ -11,12 +11,13 @@ returns c =
       sizing = c.later_incoming_follow.ensures.sizing;
     } in
     record {
-      follows = requests_follow incoming;
-      concluded = stays_concluded incoming;
-      half_open = stays_half_open incoming;
-      sound = stays_sound incoming;
+      follows = requests_follow incoming c.windows_are_read_again.ensures.bounds;
+      concluded = stays_concluded incoming c.windows_are_read_again.ensures.bounds;
+      half_open = stays_half_open incoming c.windows_are_read_again.ensures.bounds;
+      sound = stays_sound incoming c.windows_are_read_again.ensures.bounds;
       begun = begun_sound;
       admitted = admitted_sound;
       probed = probed_sound;
-      window = keeps_window incoming;
+      window = keeps_window incoming c.windows_are_read_again.ensures.bounds;
+      peers = keeps_peers incoming c.windows_are_read_again.ensures.bounds;
     }

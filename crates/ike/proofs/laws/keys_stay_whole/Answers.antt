@@ -1,6 +1,9 @@
 use Rattle.ike.proofs.WholeKeyLemmas.{new_whole, stepped_whole}
 use Rattle.ike.proofs.laws.keys_stay_whole.Goals as goal
 
+pub returns-clause-sound : goal.returns-clause-sound
+returns-clause-sound c = λ machine table sound place a there. (sound.held.each place a there).whole
+
 pub returns-clause-begun : goal.returns-clause-begun
 returns-clause-begun c = new_whole
 

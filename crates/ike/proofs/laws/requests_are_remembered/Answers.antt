@@ -32,8 +32,8 @@ returns c =
       admitted = step_admits laws c.some_are_held_on.ensures.held;
       begun = step_next laws c.some_are_held_on.ensures.held;
       rises = step_rises;
-      given = λ machine table serial a sound stands. below machine.held table serial a sound stands;
-      soundly = λ machine table serial a sound stands. held_soundly machine.held table serial a sound stands;
+      given = λ machine table serial a sound stands. below machine.held table serial a sound.held stands;
+      soundly = λ machine table serial a sound stands. held_soundly machine.held table serial a sound.held stands;
       window = step_window more c.some_are_held_on.ensures.held;
       gone = step_gone laws c.what_is_held_was_held.ensures;
     }

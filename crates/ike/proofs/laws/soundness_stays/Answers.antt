@@ -15,6 +15,8 @@ returns c =
       opened = c.requests_are_remembered.ensures.half_open;
       begins_soundly = c.requests_are_remembered.ensures.begun;
       admits_soundly = c.requests_are_remembered.ensures.admitted;
+      whole = c.keys_stay_whole.ensures.taken;
+      admits_whole = c.keys_stay_whole.ensures.admitted;
       room = c.acceptance_is_limited.ensures.room;
     }) (record {
       probed = c.probes_are_short_and_determined.ensures.kept;

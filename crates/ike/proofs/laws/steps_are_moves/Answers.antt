@@ -8,6 +8,7 @@ returns c =
       message = c.messages_make_moves.ensures.message;
       probe = c.messages_make_moves.ensures.probe;
       admits = c.messages_make_moves.ensures.admitted;
+      initial = c.messages_make_moves.ensures.initial;
       sending = c.messages_make_moves.ensures.sending;
       closing = c.messages_make_moves.ensures.closing;
       removal = c.messages_make_moves.ensures.removal;
@@ -23,6 +24,7 @@ returns c =
       ticks = record {
         again = c.what_goes_out_again_is_outstanding.ensures;
         closed = λ now old table ticked new new_table is. (c.what_comes_is_due.ensures now old table ticked new new_table is).1;
+        sent = λ now old table ticked new new_table is. (c.what_comes_is_due.ensures now old table ticked new new_table is).0;
         waits = c.what_goes_out_again_is_kept.ensures.request;
       };
     } in

@@ -37,6 +37,7 @@ returns-clause-again c =
     step_again_keyed (record {
       again = c.what_goes_out_again_is_outstanding.ensures;
       closed = λ now old table ticked new new_table is. (c.what_comes_is_due.ensures now old table ticked new new_table is).1;
+      sent = λ now old table ticked new new_table is. (c.what_comes_is_due.ensures now old table ticked new new_table is).0;
       waits = c.what_goes_out_again_is_kept.ensures.request;
     }) c.soundness_stays.ensures
 

@@ -1,5 +1,4 @@
-use Rattle.std.proofs.Common.{◌≡◌, ◌<◌, List, Some, ap, length, refl, subst, sym, slice_set, ◌∙◌}
-use Rattle.std.specs.List.{slice_get}
+use Rattle.std.proofs.Common.{◌<◌, List, ap, length, refl, subst, sym, slice_set, ◌∙◌}
 use Rattle.std.proofs.lemmas.Option.{slice_get_read}
 use Rattle.association.specs.declared.phase.Association.{Association}
 use Rattle.informational.specs.Orders.{RefusesOrder}
