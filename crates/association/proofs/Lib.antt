@@ -1,3 +1,4 @@
 mod ReceivingLemmas
 mod RepeatingLemmas
 mod DeterminedAssociations
+mod DeletingLemmas

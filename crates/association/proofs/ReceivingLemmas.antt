@@ -8,6 +8,7 @@ use Rattle.exchange.specs.declared.sealed.Plain.{Plain}
 use Rattle.requests.specs.Incoming.{IsJudgement, IsSameJudgement, PeerRequests}
 use Rattle.requests.specs.declared.incoming.Judgement.{Judgement}
 use Rattle.requests.specs.declared.incoming.Judgement.TheVariants as judged
+use Rattle.association.specs.Purposes.{exchange_of}
 use Rattle.association.specs.Receiving.{admits, answering_reception, fresh_reception, is_closed, judged_reception, opened_by, reception_by, repeated_reception, Answers, AnswersInitial, IsAnswering, IsAnsweringInitial, IsDue, IsEffective, IsReceived, IsReceivedBy, Opening, Reception, Refused, TakesEffect}
 use Rattle.association.specs.Finding.{is_waiting}
 use Rattle.association.specs.declared.phase.Association.{Association}
@@ -102,13 +103,13 @@ answering_effect (phase.Closed keys at) true (Some q) plain is = cc
 response_effect : (p : Phase) (exchange : ℕ) (request : Option Request) (opened : Option Plain) (plain : Plain) → TakesEffect plain ≡ reception_by p exchange request opened → ⊥
 response_effect (phase.Closed keys at) exchange request opened plain is = cc
 response_effect (phase.InitSent sent) exchange None opened plain is = cc
-response_effect (phase.InitSent sent) exchange (Some r) opened plain is = answering_effect (phase.InitSent sent) (r.exchange == exchange) opened plain is
+response_effect (phase.InitSent sent) exchange (Some r) opened plain is = answering_effect (phase.InitSent sent) (exchange_of r.purpose == exchange) opened plain is
 response_effect (phase.AuthSent sent) exchange None opened plain is = cc
-response_effect (phase.AuthSent sent) exchange (Some r) opened plain is = answering_effect (phase.AuthSent sent) (r.exchange == exchange) opened plain is
+response_effect (phase.AuthSent sent) exchange (Some r) opened plain is = answering_effect (phase.AuthSent sent) (exchange_of r.purpose == exchange) opened plain is
 response_effect (phase.HalfOpen o) exchange None opened plain is = cc
-response_effect (phase.HalfOpen o) exchange (Some r) opened plain is = answering_effect (phase.HalfOpen o) (r.exchange == exchange) opened plain is
+response_effect (phase.HalfOpen o) exchange (Some r) opened plain is = answering_effect (phase.HalfOpen o) (exchange_of r.purpose == exchange) opened plain is
 response_effect (phase.Established keys) exchange None opened plain is = cc
-response_effect (phase.Established keys) exchange (Some r) opened plain is = answering_effect (phase.Established keys) (r.exchange == exchange) opened plain is
+response_effect (phase.Established keys) exchange (Some r) opened plain is = answering_effect (phase.Established keys) (exchange_of r.purpose == exchange) opened plain is
 
 effective_by : (plain_of : Opening) (a : Association) (octets : Octets) (m : Message) (plain : Plain) (response : Bool) → m.header.flags.response ≡ response
     → IsReceivedBy response plain_of a octets m (TakesEffect plain) → IsEffective plain_of a octets m plain
@@ -127,7 +128,7 @@ record Due (p : Phase) (exchange : ℕ) (request : Option Request) : Type 0 wher
   open_yet : is_closed p ≡ false
   r : Request
   is : request ≡ Some r
-  same : (r.exchange == exchange) ≡ true
+  same : (exchange_of r.purpose == exchange) ≡ true
 
 answered_if : (p : Phase) (b : Bool) (opened : Option Plain) (plain : Plain) → Answers plain ≡ answering_reception p b opened → (b ≡ true) × (opened ≡ Some plain)
 answered_if (phase.InitSent sent) false opened plain is = absurd (cc)
@@ -148,19 +149,19 @@ answered_if (phase.Closed keys at) true (Some q) plain is = (refl, cc)
 answers_due : (p : Phase) (exchange : ℕ) (request : Option Request) (opened : Option Plain) (plain : Plain) → Answers plain ≡ reception_by p exchange request opened → Due p exchange request × (opened ≡ Some plain)
 answers_due (phase.InitSent sent) exchange None opened plain is = absurd (cc)
 answers_due (phase.InitSent sent) exchange (Some r) opened plain is =
-    let answered = answered_if (phase.InitSent sent) (r.exchange == exchange) opened plain is in
+    let answered = answered_if (phase.InitSent sent) (exchange_of r.purpose == exchange) opened plain is in
     (record { open_yet = refl; r = r; is = refl; same = answered.0 }, answered.1)
 answers_due (phase.AuthSent sent) exchange None opened plain is = absurd (cc)
 answers_due (phase.AuthSent sent) exchange (Some r) opened plain is =
-    let answered = answered_if (phase.AuthSent sent) (r.exchange == exchange) opened plain is in
+    let answered = answered_if (phase.AuthSent sent) (exchange_of r.purpose == exchange) opened plain is in
     (record { open_yet = refl; r = r; is = refl; same = answered.0 }, answered.1)
 answers_due (phase.HalfOpen held) exchange None opened plain is = absurd (cc)
 answers_due (phase.HalfOpen held) exchange (Some r) opened plain is =
-    let answered = answered_if (phase.HalfOpen held) (r.exchange == exchange) opened plain is in
+    let answered = answered_if (phase.HalfOpen held) (exchange_of r.purpose == exchange) opened plain is in
     (record { open_yet = refl; r = r; is = refl; same = answered.0 }, answered.1)
 answers_due (phase.Established keys) exchange None opened plain is = absurd (cc)
 answers_due (phase.Established keys) exchange (Some r) opened plain is =
-    let answered = answered_if (phase.Established keys) (r.exchange == exchange) opened plain is in
+    let answered = answered_if (phase.Established keys) (exchange_of r.purpose == exchange) opened plain is in
     (record { open_yet = refl; r = r; is = refl; same = answered.0 }, answered.1)
 answers_due (phase.Closed keys at) exchange request opened plain is = absurd (cc)
 
@@ -183,19 +184,19 @@ initial_if (phase.Closed keys at) true (Some q) is = absurd (cc)
 initial_due : (p : Phase) (exchange : ℕ) (request : Option Request) (opened : Option Plain) → AnswersInitial ≡ reception_by p exchange request opened → Due p exchange request × (is_waiting p ≡ true)
 initial_due (phase.InitSent sent) exchange None opened is = absurd (cc)
 initial_due (phase.InitSent sent) exchange (Some r) opened is =
-    let answered = initial_if (phase.InitSent sent) (r.exchange == exchange) opened is in
+    let answered = initial_if (phase.InitSent sent) (exchange_of r.purpose == exchange) opened is in
     (record { open_yet = refl; r = r; is = refl; same = answered.0 }, answered.1)
 initial_due (phase.AuthSent sent) exchange None opened is = absurd (cc)
 initial_due (phase.AuthSent sent) exchange (Some r) opened is =
-    let answered = initial_if (phase.AuthSent sent) (r.exchange == exchange) opened is in
+    let answered = initial_if (phase.AuthSent sent) (exchange_of r.purpose == exchange) opened is in
     (record { open_yet = refl; r = r; is = refl; same = answered.0 }, answered.1)
 initial_due (phase.HalfOpen held) exchange None opened is = absurd (cc)
 initial_due (phase.HalfOpen held) exchange (Some r) opened is =
-    let answered = initial_if (phase.HalfOpen held) (r.exchange == exchange) opened is in
+    let answered = initial_if (phase.HalfOpen held) (exchange_of r.purpose == exchange) opened is in
     (record { open_yet = refl; r = r; is = refl; same = answered.0 }, answered.1)
 initial_due (phase.Established keys) exchange None opened is = absurd (cc)
 initial_due (phase.Established keys) exchange (Some r) opened is =
-    let answered = initial_if (phase.Established keys) (r.exchange == exchange) opened is in
+    let answered = initial_if (phase.Established keys) (exchange_of r.purpose == exchange) opened is in
     (record { open_yet = refl; r = r; is = refl; same = answered.0 }, answered.1)
 initial_due (phase.Closed keys at) exchange request opened is = absurd (cc)
 

@@ -1,5 +1,5 @@
 -- What a request is that comes again.
-use Rattle.std.proofs.Common.{◌≡◌, ◌==◌, ℕ, Bool, true, false, if◌then◌else◌, Option, Some, None, refl, sym, ◌∙◌}
+use Rattle.std.proofs.Common.{◌≡◌, ◌==◌, ℕ, Bool, true, false, if◌then◌else◌, Option, Some, None, refl, ◌∙◌}
 use Rattle.std.specs.FinMap as map
 use Rattle.base.specs.Octets.{Octets}
 use Rattle.wire.specs.declared.message.Message.{Message}
@@ -7,7 +7,8 @@ use Rattle.exchange.specs.declared.sealed.Plain.{Plain}
 use Rattle.requests.specs.Incoming.{IsJudgement}
 use Rattle.requests.specs.declared.incoming.Judgement.{Judgement}
 use Rattle.requests.specs.declared.incoming.Judgement.TheVariants as judged
-use Rattle.association.specs.Receiving.{admits, answering_reception, fresh_reception, judged_reception, opened_by, reception_by, repeated_reception, IsReceived, IsReceivedBy, IsRepeating, Opening, Reception, Refused, Repeat, TakesEffect}
+use Rattle.association.specs.Purposes.{exchange_of}
+use Rattle.association.specs.Receiving.{admits, answering_reception, fresh_reception, judged_reception, opened_by, reception_by, repeated_reception, IsReceived, IsReceivedBy, IsRepeating, Opening, Refused, Repeat, TakesEffect}
 use Rattle.association.specs.declared.fault.MessageFault.TheVariants.{WrongPhase}
 use Rattle.association.specs.declared.phase.Association.{Association}
 use Rattle.association.specs.declared.phase.Phase.{Phase}
@@ -34,7 +35,7 @@ answering_repeats p true (Some q) reply is = cc
 response_repeats : (p : Phase) (exchange : ℕ) (request : Option Request) (opened : Option Plain) (reply : Octets) → Repeat reply ≡ reception_by p exchange request opened → ⊥
 response_repeats (phase.Closed keys at) exchange request opened reply is = cc
 response_repeats p exchange None opened reply is = cc
-response_repeats p exchange (Some r) opened reply is = answering_repeats p (r.exchange == exchange) opened reply is
+response_repeats p exchange (Some r) opened reply is = answering_repeats p (exchange_of r.purpose == exchange) opened reply is
 
 -- ---- what comes again
 

@@ -1,5 +1,6 @@
 pub mod Faults
 pub mod FirstChildren
+pub mod Purposes
 pub mod Phases
 pub mod Finding
 pub mod Receiving

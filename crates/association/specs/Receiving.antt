@@ -19,6 +19,7 @@ use Rattle.requests.specs.declared.incoming.Judgement.{Judgement}
 use Rattle.requests.specs.declared.incoming.Judgement.TheVariants as judged
 use Rattle.association.specs.Finding.{is_waiting}
 use Rattle.association.specs.Phases.{keys_in}
+use Rattle.association.specs.Purposes.{exchange_of}
 use Rattle.association.specs.declared.fault.MessageFault.{MessageFault}
 use Rattle.association.specs.declared.fault.MessageFault.TheVariants.{NotOpened, Forgotten, OutsideWindow, WrongPhase}
 use Rattle.association.specs.declared.phase.Association.{Association}
@@ -95,7 +96,7 @@ answering_reception phase true (Some plain) = Answers plain
 abbrev pub reception_by : Phase → ℕ → Option Request → Option Plain → Reception
 reception_by (Closed keys at) exchange request plain = Refused WrongPhase
 reception_by phase exchange None plain = Refused OutsideWindow
-reception_by phase exchange (Some request) plain = answering_reception phase (request.exchange == exchange) plain
+reception_by phase exchange (Some request) plain = answering_reception phase (exchange_of request.purpose == exchange) plain
 
 abbrev pub reception_of_response : Opening → Association → Octets → Message → Reception
 reception_of_response plain_of a octets m =
@@ -130,7 +131,7 @@ abbrev pub awaits : Phase → ℕ → Option Request → Bool
 awaits (InitSent sent) exchange request = false
 awaits (Closed keys at) exchange request = false
 awaits phase exchange None = false
-awaits phase exchange (Some request) = request.exchange == exchange
+awaits phase exchange (Some request) = exchange_of request.purpose == exchange
 
 abbrev pub is_undecided_response : Association → Header → Bool
 is_undecided_response a h = awaits a.phase h.exchange (map.get a.outgoing.outstanding h.id)
@@ -167,7 +168,7 @@ pub record IsDue (a : Association) (m : Message) : Type 0 where
   pub open_yet : is_closed a.phase ≡ false
   pub request : Request
   pub outstanding : map.get a.outgoing.outstanding m.header.id ≡ Some request
-  pub exchange_is : (request.exchange == m.header.exchange) ≡ true
+  pub exchange_is : (exchange_of request.purpose == m.header.exchange) ≡ true
 
 -- one that opens under the peer's keys
 pub record IsAnswering (plain_of : Opening) (a : Association) (octets : Octets) (m : Message) (plain : Plain) : Type 0 where

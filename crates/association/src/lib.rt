@@ -22,10 +22,12 @@ mod finding;
 mod first_child;
 pub mod laws;
 mod phase;
+mod purpose;
 mod receiving;
 
 pub use fault::MessageFault;
 pub use finding::find;
 pub use first_child::FirstChild;
 pub use phase::{Association, AuthSent, HalfOpen, InitSent, Phase, Request};
+pub use purpose::Purpose;
 pub use receiving::{Received, receive};

@@ -1,10 +1,11 @@
 //! What an end holds of one association.
-ghost use Rattle.std.specs.Prelude.{◌≡◌, Some, None, MatchOption};
+ghost use Rattle.std.specs.Prelude.{◌≡◌, Some, None, MatchBool, MatchOption};
 ghost use Rattle.std.specs.Option.{option_copied};
 ghost use Rattle.association.specs.Closing.{Closes, GivesUpSpi, HoldsSpi};
 ghost use Rattle.association.specs.Phases.{established_of, established_spi, keys_in, spi_in};
+ghost use Rattle.association.specs.Purposes.{AwaitsDeletion};
 
-use crate::FirstChild;
+use crate::{FirstChild, Purpose};
 use base::Items;
 use exchange::Role;
 use requests::{Incoming, Outgoing, Timer};
@@ -36,8 +37,8 @@ pub struct Association {
 pub struct Request {
     /// The datagram, which goes out again as it is (RFC 7296, section 2.1).
     pub octets: Items<u8>,
-    /// Its exchange type, which the answer has too (section 3.1).
-    pub exchange: u8,
+    /// What it asks for.
+    pub purpose: Purpose,
     /// When it goes out again.
     pub timer: Timer,
 }
@@ -113,6 +114,13 @@ impl Association {
             Phase::Established(keys) => Some(keys),
             Phase::Closed { keys, .. } => keys.as_ref(),
         }
+    }
+
+    /// Whether a request of this end to delete it waits for its answer (RFC 7296, section 1.4.1). Takes no memory.
+    pub fn is_deleting(&self) -> bool
+        ensures { MatchBool result (AwaitsDeletion self.now.outgoing) (¬ AwaitsDeletion self.now.outgoing) }
+    {
+        self.outgoing.any(|request| request.purpose.asks_to_end())
     }
 
     /// Makes an association established whose IKE_AUTH is done; in any other phase than [`Phase::AuthSent`] and

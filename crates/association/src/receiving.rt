@@ -79,7 +79,7 @@ fn receive_response<'a, S: Sealer>(
     let Some(request) = association.outgoing.get(message.header.id) else {
         return Ok(Received::Refused(MessageFault::OutsideWindow));
     };
-    if request.exchange != message.header.exchange {
+    if request.purpose.exchange() != message.header.exchange {
         return Ok(Received::Refused(MessageFault::WrongPhase));
     }
     if let Phase::InitSent(_) = &association.phase {

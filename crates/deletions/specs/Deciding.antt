@@ -41,11 +41,11 @@ pub record IsVerdictOn (pairs : PairMap) (ike : ℕ) (plain : Plain) (made : Ver
   pub due : made ≡ verdict_on pairs ike payloads
 
 -- the IKE association ends: INVALID_SYNTAX ends it too (section 2.21.3)
-abbrev pub is_closing : Verdict → Bool
-is_closing verdict.BadSyntax = true
-is_closing (verdict.Unsupported kind) = false
-is_closing verdict.Closes = true
-is_closing (verdict.Deletes deleted) = false
+abbrev pub is_closing_verdict : Verdict → Bool
+is_closing_verdict verdict.BadSyntax = true
+is_closing_verdict (verdict.Unsupported kind) = false
+is_closing_verdict verdict.Closes = true
+is_closing_verdict (verdict.Deletes deleted) = false
 
 -- Live pairs of this IKE association, none twice, each with the SPI under which it receives, and no more than a message may name
 pub record AreLivePairs (pairs : PairMap) (ike : ℕ) (deleted : DeletedPairs) : Type 0 where

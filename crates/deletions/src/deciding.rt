@@ -1,6 +1,6 @@
 //! What is made of a request.
 ghost use Rattle.std.specs.Prelude.{◌≡◌, IfOk};
-ghost use Rattle.deletions.specs.Deciding.{is_closing, verdict_of, IsSoundVerdict, IsVerdictOn};
+ghost use Rattle.deletions.specs.Deciding.{is_closing_verdict, verdict_of, IsSoundVerdict, IsVerdictOn};
 
 use crate::DeletedPairs;
 use crate::naming::find_deleted;
@@ -32,7 +32,7 @@ impl Verdict {
     /// Whether it ends the IKE association: a request that deletes it, or one that is refused as not in the grammar (RFC 7296, sections
     /// 1.4.1 and 2.21.3).
     pub fn is_closing(&self) -> bool
-        ensures { result ≡ is_closing self.now }
+        ensures { result ≡ is_closing_verdict self.now }
     {
         match self {
             Verdict::BadSyntax => true,

@@ -1,5 +1,5 @@
 -- What becomes of an association and of the table when an exchange is done is determined, but for room.
-use Rattle.std.proofs.Common.{◌≡◌, ℕ, Bool, true, false, Option, Some, None, refl, sym, ap, subst, ◌∙◌}
+use Rattle.std.proofs.Common.{◌≡◌, ℕ, Bool, true, false, Option, Some, None, refl, sym, ap, subst, ◌∙◌, List}
 use Rattle.sadb.specs.Contents.{table_content}
 use Rattle.sadb.specs.Database.{Database}
 use Rattle.sadb.specs.declared.pair.Pair.{Pair}
@@ -62,12 +62,12 @@ one_conclusion laws setup (outcome.Establishes pair window) child number old oth
     }
 
 -- an end after an exchange of INFORMATIONAL, or none
-pub one_closing : TableLaws → (ending : Bool) (moment : ℕ) (old other a b : Association) (table another a_table b_table : Database)
+pub one_closing : TableLaws → (ending : Bool) (serials : List ℕ) (moment : ℕ) (old other a b : Association) (table another a_table b_table : Database)
     → association_content old ≡ association_content other → table_content table ≡ table_content another
-    → ClosesIf ending old table moment a a_table → ClosesIf ending other another moment b b_table
+    → ClosesIf ending serials old table moment a a_table → ClosesIf ending serials other another moment b b_table
     → (association_content a ≡ association_content b) × (table_content a_table ≡ table_content b_table)
-one_closing laws true moment old other a b table another a_table b_table same alike is also = laws.ended old other a b table another a_table b_table moment same alike is also
-one_closing laws false moment old other a b table another a_table b_table same alike is also = (
+one_closing laws true serials moment old other a b table another a_table b_table same alike is also = laws.ended old other a b table another a_table b_table moment same alike is also
+one_closing laws false serials moment old other a b table another a_table b_table same alike is also = (
   ap association_content is.0 ∙ same ∙ sym (ap association_content also.0),
-  ap table_content is.1 ∙ alike ∙ sym (ap table_content also.1),
+  laws.gone table another a_table b_table serials alike is.1.removed also.1.removed,
 )

@@ -1,5 +1,6 @@
 -- What a message does to its association and to the table is determined, but for room.
-use Rattle.std.proofs.Common.{◌≡◌, ◌==◌, ℕ, Bool, true, false, List, Option, refl, sym, ap, subst, ◌∙◌}
+use Rattle.std.proofs.Common.{◌≡◌, ◌==◌, ℕ, Bool, true, false, List, Option, Some, refl, sym, ap, subst, ◌∙◌}
+use Rattle.std.specs.FinMap as map
 use Rattle.base.specs.Octets.{Octets}
 use Rattle.wire.specs.Numbers.{IKE_AUTH, INFORMATIONAL}
 use Rattle.wire.specs.declared.message.Message.{Message}
@@ -12,7 +13,7 @@ use Rattle.requests.specs.Contents.{incoming_content, outgoing_content}
 use Rattle.requests.specs.Incoming.{HasSameRequests, PeerRequests, TakesRequest}
 use Rattle.requests.specs.Outgoing.{CountsAnswer, OwnRequests}
 use Rattle.sadb.specs.Contents.{table_content}
-use Rattle.sadb.specs.Database.{Database}
+use Rattle.sadb.specs.Database.{Database, PairMap}
 use Rattle.association.specs.Contents.{association_content}
 use Rattle.association.specs.Phases.{keys_in}
 use Rattle.association.specs.Receiving.{Answers, AnswersInitial, IsReceived, Reception, Refused, Repeat, TakesEffect}
@@ -24,13 +25,17 @@ use Rattle.association.specs.declared.phase.HalfOpen.{HalfOpen}
 use Rattle.association.specs.declared.phase.Phase.{Phase}
 use Rattle.association.specs.declared.phase.Phase.TheVariants as phase
 use Rattle.association.specs.declared.phase.Request.{Request}
+use Rattle.association.specs.declared.purpose.Purpose.{Purpose}
 use Rattle.initial.specs.Answering.{outcome_of, reply_message, reply_payloads, AnswersAuth, Prover}
 use Rattle.initial.specs.Concluding.{is_closing, with_incoming, with_outgoing, ConcludesBy}
 use Rattle.initial.specs.Configs.{Setup}
 use Rattle.initial.specs.Deciding.{Decides}
 use Rattle.initial.specs.Ending.{EndsAuth, Judges}
-use Rattle.informational.specs.Answering.{is_ending, payloads_of_verdict, verdict_on, AnswersInformational}
-use Rattle.informational.specs.Counting.{is_rejected, CountsInformational}
+use Rattle.deletions.specs.Answering.{payloads_of_verdict}
+use Rattle.deletions.specs.Deciding.{is_closing_verdict, verdict_on}
+use Rattle.deletions.specs.declared.deciding.Verdict.{Verdict}
+use Rattle.informational.specs.Answering.{gone_by, AnswersInformational}
+use Rattle.informational.specs.Counting.{gone_with, is_ended, CountsInformational}
 use Rattle.informational.specs.Orders.{ClosesIf}
 use Rattle.effects.specs.Lengths.{AreWholeKeys, HoldsWholeKeys, TellsLengths}
 use Rattle.effects.specs.Taking.{asker_of, prover_of, Does, DoesFurther, DoesInitial, DoesRequest, DoesResponse, IsPassedOver, Meaning, Says, TakesMessage}
@@ -52,6 +57,9 @@ pub record SameEnd (e f : Effect) (a b : Association) (a_table b_table : Databas
   pub effect_is : e ≡ f
   pub association : association_content a ≡ association_content b
   pub table : table_content a_table ≡ table_content b_table
+
+same_request : (one other : Request) → Some one ≡ Some other → one ≡ other
+same_request one other same = cc
 
 same_opened : (p : Phase) (one other : HalfOpen) → p ≡ phase.HalfOpen one → p ≡ phase.HalfOpen other → one ≡ other
 same_opened p one other is also = cc
@@ -158,16 +166,22 @@ module _ (laws : Laws) (meaning : Meaning) (setup : Setup) (old other : Associat
   one_information tells whole number plain x y a b a_table b_table is also =
       let keys : also.keys ≡ is.keys = same_keys other.phase also.keys is.keys also.established (sym (ap (λ (z : Association). z.phase) same) ∙ is.established) in
       let payloads : also.payloads ≡ is.payloads = one_read laws.messages plain also.payloads is.payloads also.read is.read in
-      let sealed_by_keys : IsSealed meaning.body_of (keys_of other.role is.keys) setup.fresh.seal (reply_message other INFORMATIONAL number (payloads_of_verdict (verdict_on also.payloads))) y.octets =
-      subst (λ (k : KeyRecord). IsSealed meaning.body_of (keys_of other.role k) setup.fresh.seal (reply_message other INFORMATIONAL number (payloads_of_verdict (verdict_on also.payloads))) y.octets) keys also.sealed in
-      let sealed : IsSealed meaning.body_of (keys_of other.role is.keys) setup.fresh.seal (reply_message other INFORMATIONAL number (payloads_of_verdict (verdict_on is.payloads))) y.octets =
-      subst (λ (p : Option (List Payload)). IsSealed meaning.body_of (keys_of other.role is.keys) setup.fresh.seal (reply_message other INFORMATIONAL number (payloads_of_verdict (verdict_on p))) y.octets) payloads sealed_by_keys in
-      let octets : x.octets ≡ y.octets = one_sealing tells is.keys (whole is.keys (ap keys_in is.established)) INFORMATIONAL number (payloads_of_verdict (verdict_on is.payloads)) x.octets y.octets is.sealed sealed in
+      let v : Verdict = verdict_on table.pairs old.serial is.payloads in
+      let w : Verdict = verdict_on another.pairs other.serial also.payloads in
+      let verdicts : w ≡ v =
+      ap (λ (p : PairMap). verdict_on p other.serial also.payloads) (sym (ap (λ (d : Database). d.pairs) alike))
+      ∙ ap (λ (n : ℕ). verdict_on table.pairs n also.payloads) (sym (ap (λ (z : Association). z.serial) same))
+      ∙ ap (λ (p : Option (List Payload)). verdict_on table.pairs old.serial p) payloads in
+      let sealed_by_keys : IsSealed meaning.body_of (keys_of other.role is.keys) setup.fresh.seal (reply_message other INFORMATIONAL number (payloads_of_verdict w)) y.octets =
+      subst (λ (k : KeyRecord). IsSealed meaning.body_of (keys_of other.role k) setup.fresh.seal (reply_message other INFORMATIONAL number (payloads_of_verdict w)) y.octets) keys also.sealed in
+      let sealed : IsSealed meaning.body_of (keys_of other.role is.keys) setup.fresh.seal (reply_message other INFORMATIONAL number (payloads_of_verdict v)) y.octets =
+      subst (λ (u : Verdict). IsSealed meaning.body_of (keys_of other.role is.keys) setup.fresh.seal (reply_message other INFORMATIONAL number (payloads_of_verdict u)) y.octets) verdicts sealed_by_keys in
+      let octets : x.octets ≡ y.octets = one_sealing tells is.keys (whole is.keys (ap keys_in is.established)) INFORMATIONAL number (payloads_of_verdict v) x.octets y.octets is.sealed sealed in
       let before = one_taking number x.octets y.octets is.ready also.ready is.incoming also.incoming octets is.prepared also.prepared is.taken also.taken in
-      let concluded : ClosesIf (is_ending (verdict_on is.payloads)) (with_incoming other also.incoming) another setup.moment b b_table =
-      subst (λ (p : Option (List Payload)). ClosesIf (is_ending (verdict_on p)) (with_incoming other also.incoming) another setup.moment b b_table) payloads also.concluded in
-      let over = one_closing laws.tables (is_ending (verdict_on is.payloads)) setup.moment (with_incoming old is.incoming) (with_incoming other also.incoming) a b table another a_table b_table before alike is.concluded concluded in
-      let closed : x.closed ≡ y.closed = is.closed ∙ ap (λ (p : Option (List Payload)). is_ending (verdict_on p)) (sym payloads) ∙ sym also.closed in
+      let concluded : ClosesIf (is_closing_verdict v) (gone_by v) (with_incoming other also.incoming) another setup.moment b b_table =
+      subst (λ (u : Verdict). ClosesIf (is_closing_verdict u) (gone_by u) (with_incoming other also.incoming) another setup.moment b b_table) verdicts also.concluded in
+      let over = one_closing laws.tables (is_closing_verdict v) (gone_by v) setup.moment (with_incoming old is.incoming) (with_incoming other also.incoming) a b table another a_table b_table before alike is.concluded concluded in
+      let closed : x.closed ≡ y.closed = is.closed ∙ ap is_closing_verdict (sym verdicts) ∙ sym also.closed in
       record {
         effect_is = ap (λ (z : Answered). effect.Replied z) (answered_alike x y octets (is.child ∙ sym also.child) closed);
         association = over.0;
@@ -180,10 +194,19 @@ module _ (laws : Laws) (meaning : Meaning) (setup : Setup) (old other : Associat
   one_count number plain x y a b a_table b_table is also =
       let payloads : also.payloads ≡ is.payloads = one_read laws.messages plain also.payloads is.payloads also.read is.read in
       let before = one_counting number is.request also.request is.outgoing also.outgoing is.counted also.counted in
-      let concluded : ClosesIf (is_rejected is.payloads) (with_outgoing other also.outgoing) another setup.moment b b_table =
-      subst (λ (p : Option (List Payload)). ClosesIf (is_rejected p) (with_outgoing other also.outgoing) another setup.moment b b_table) payloads also.concluded in
-      let over = one_closing laws.tables (is_rejected is.payloads) setup.moment (with_outgoing old is.outgoing) (with_outgoing other also.outgoing) a b table another a_table b_table before alike is.concluded concluded in
-      let closed : x.closed ≡ y.closed = is.closed ∙ ap (λ (p : Option (List Payload)). is_rejected p) (sym payloads) ∙ sym also.closed in
+      let requests : also.request ≡ is.request = same_request also.request is.request (sym also.counted.there ∙ sym (ap (λ (z : Association). map.get z.outgoing.outstanding number) same) ∙ is.counted.there) in
+      let asked : also.request.purpose ≡ is.request.purpose = ap (λ (r : Request). r.purpose) requests in
+      let ends : is_ended also.payloads also.request.purpose ≡ is_ended is.payloads is.request.purpose =
+      ap (λ (p : Option (List Payload)). is_ended p also.request.purpose) payloads ∙ ap (λ (q : Purpose). is_ended is.payloads q) asked in
+      let gone : gone_with another.pairs other.serial also.request.purpose ≡ gone_with table.pairs old.serial is.request.purpose =
+      ap (λ (p : PairMap). gone_with p other.serial also.request.purpose) (sym (ap (λ (d : Database). d.pairs) alike))
+      ∙ ap (λ (n : ℕ). gone_with table.pairs n also.request.purpose) (sym (ap (λ (z : Association). z.serial) same))
+      ∙ ap (λ (q : Purpose). gone_with table.pairs old.serial q) asked in
+      let concluded : ClosesIf (is_ended is.payloads is.request.purpose) (gone_with table.pairs old.serial is.request.purpose) (with_outgoing other also.outgoing) another setup.moment b b_table =
+      subst (λ (e : Bool). ClosesIf e (gone_with table.pairs old.serial is.request.purpose) (with_outgoing other also.outgoing) another setup.moment b b_table) ends
+      (subst (λ (g : List ℕ). ClosesIf (is_ended also.payloads also.request.purpose) g (with_outgoing other also.outgoing) another setup.moment b b_table) gone also.concluded) in
+      let over = one_closing laws.tables (is_ended is.payloads is.request.purpose) (gone_with table.pairs old.serial is.request.purpose) setup.moment (with_outgoing old is.outgoing) (with_outgoing other also.outgoing) a b table another a_table b_table before alike is.concluded concluded in
+      let closed : x.closed ≡ y.closed = is.closed ∙ sym ends ∙ sym also.closed in
       record {
         effect_is = ap (λ (z : Ended). effect.Counted z) (ended_alike x y (is.child ∙ sym also.child) closed);
         association = over.0;

@@ -19,6 +19,7 @@ use Rattle.policy.specs.declared.entry.Entry.{Entry}
 use Rattle.sadb.specs.Contents.{table_content}
 use Rattle.sadb.specs.Database.{Database, Installs, IsAsBefore, Releases}
 use Rattle.sadb.specs.declared.pair.Pair.{Pair}
+use Rattle.deletions.specs.Removing.{RemovesNamed}
 use Rattle.association.specs.Closing.{Closes}
 use Rattle.association.specs.Contents.{association_content}
 use Rattle.association.specs.Receiving.{IsReceived, Opening, Reception}
@@ -95,6 +96,7 @@ pub record TableLaws : Type 0 where
       → (serial ≡ number) × (table_content a ≡ table_content b)
   pub added : (old other a b : Database) (pair : Pair) (serial number : ℕ) → table_content old ≡ table_content other → AddsNext old pair serial a → AddsNext other pair number b
       → (serial ≡ number) × (table_content a ≡ table_content b)
+  pub gone : (old other a b : Database) (serials : List ℕ) → table_content old ≡ table_content other → RemovesNamed old serials a → RemovesNamed other serials b → table_content a ≡ table_content b
   pub ended : (old other a b : Association) (old_table other_table a_table b_table : Database) (moment : ℕ)
       → association_content old ≡ association_content other → table_content old_table ≡ table_content other_table
       → Closes old old_table moment a a_table → Closes other other_table moment b b_table

@@ -30,6 +30,7 @@ use Rattle.association.specs.declared.phase.InitSent.{InitSent}
 use Rattle.association.specs.declared.phase.Phase.{Phase}
 use Rattle.association.specs.declared.phase.Phase.TheVariants as phase
 use Rattle.association.specs.declared.phase.Request.{Request}
+use Rattle.association.specs.declared.purpose.Purpose.TheVariants.{Begin, Identify}
 use Rattle.initial.specs.Beginning.{begun, half_open, Admits, Begins}
 use Rattle.initial.specs.Configs.{Setup}
 use Rattle.initial.specs.Issuing.{new_request, IssuesNext}
@@ -66,8 +67,8 @@ pub one_beginning : OneSpelling → OutgoingLaws → (cipher : Cipher) (group : 
     → (a.octets ≡ b.octets) × (association_content (begun serial a child) ≡ association_content (begun serial b child))
 one_beginning spelling numbers cipher group public_value fresh moment serial child a b is also =
     let octets : a.octets ≡ b.octets = spelling (request_message cipher group (public_value fresh.secret) fresh.spi None fresh.nonce) a.octets b.octets is.spelled also.spelled in
-    let issued : IssuesNext none_issued (new_request a.octets IKE_SA_INIT moment) b.outgoing = subst (λ (x : Octets). IssuesNext none_issued (new_request x IKE_SA_INIT moment) b.outgoing) (sym octets) also.issued in
-    let outgoing : outgoing_content a.outgoing ≡ outgoing_content b.outgoing = one_issue numbers none_issued none_issued a.outgoing b.outgoing (new_request a.octets IKE_SA_INIT moment) refl is.issued issued in
+    let issued : IssuesNext none_issued (new_request a.octets Begin moment) b.outgoing = subst (λ (x : Octets). IssuesNext none_issued (new_request x Begin moment) b.outgoing) (sym octets) also.issued in
+    let outgoing : outgoing_content a.outgoing ≡ outgoing_content b.outgoing = one_issue numbers none_issued none_issued a.outgoing b.outgoing (new_request a.octets Begin moment) refl is.issued issued in
     (octets, begun_alike serial child a b outgoing (is.spi ∙ sym also.spi) (is.secret ∙ sym also.secret) (is.nonce_is ∙ sym also.nonce_is))
 
 pub one_admission : InitLaws → (cipher : Cipher) (group : ℕ) (public_value : Octets → Octets) (shared_secret : Octets → Octets → Option Octets) (fresh : Fresh) (moment serial : ℕ) (offer : OfferView) (spi_i : ℕ) (request : Octets) (a b : Admitted)
@@ -111,10 +112,10 @@ module _ (messages : MessageLaws) (numbers : OutgoingLaws) (asker : Asker) (setu
       let spi : other.spi_i ≡ old.spi_i = sym (ap (λ (x : Association). x.spi_i) same) in
       let spelled = subst (λ (n : ℕ). SpellsPlainly (request_message asker.cipher asker.group (asker.public_value sent.secret) n (Some cookie) sent.nonce) again) spi also.spelled in
       let one : octets ≡ again = messages.spelling (request_message asker.cipher asker.group (asker.public_value sent.secret) old.spi_i (Some cookie) sent.nonce) octets again is.spelled spelled in
-      let replaced : ReplacesRequest other.outgoing number also.was (new_request octets IKE_SA_INIT setup.moment) b.outgoing =
-      subst (λ (x : Octets). ReplacesRequest other.outgoing number also.was (new_request x IKE_SA_INIT setup.moment) b.outgoing) (sym one) also.replaced in
+      let replaced : ReplacesRequest other.outgoing number also.was (new_request octets Begin setup.moment) b.outgoing =
+      subst (λ (x : Octets). ReplacesRequest other.outgoing number also.was (new_request x Begin setup.moment) b.outgoing) (sym one) also.replaced in
       let outgoing : outgoing_content a.outgoing ≡ outgoing_content b.outgoing =
-      (numbers.replaced old.outgoing other.outgoing a.outgoing b.outgoing number is.was also.was (new_request octets IKE_SA_INIT setup.moment) (ap (λ (x : Association). x.outgoing) same) is.replaced replaced).1 in
+      (numbers.replaced old.outgoing other.outgoing a.outgoing b.outgoing number is.was also.was (new_request octets Begin setup.moment) (ap (λ (x : Association). x.outgoing) same) is.replaced replaced).1 in
       let next : Phase = phase.InitSent (record sent { cookie = Some cookie; cookies_taken = sent.cookies_taken + 1 }) in
       record {
         continued_is = ap (λ (x : Octets). continued.Again x) one;
@@ -138,9 +139,9 @@ module _ (messages : MessageLaws) (numbers : OutgoingLaws) (asker : Asker) (setu
       let one : one_octets ≡ two_octets =
       messages.sealing asker.body_of (keys_of old.role keys) setup.fresh.seal (identity_message asker.own_method asker.proof_of setup old sent m.header.spi_r keys is.request.octets) one_octets two_octets
       (tells.told (keys_of old.role keys) (keys_by_role old.role keys whole)) is.sealed sealed in
-      let issued : IssuesNext number_0_answered (new_request one_octets IKE_AUTH setup.moment) b.outgoing =
-      subst (λ (x : Octets). IssuesNext number_0_answered (new_request x IKE_AUTH setup.moment) b.outgoing) (sym one) also.issued in
-      let outgoing : outgoing_content a.outgoing ≡ outgoing_content b.outgoing = one_issue numbers number_0_answered number_0_answered a.outgoing b.outgoing (new_request one_octets IKE_AUTH setup.moment) refl is.issued issued in
+      let issued : IssuesNext number_0_answered (new_request one_octets Identify setup.moment) b.outgoing =
+      subst (λ (x : Octets). IssuesNext number_0_answered (new_request x Identify setup.moment) b.outgoing) (sym one) also.issued in
+      let outgoing : outgoing_content a.outgoing ≡ outgoing_content b.outgoing = one_issue numbers number_0_answered number_0_answered a.outgoing b.outgoing (new_request one_octets Identify setup.moment) refl is.issued issued in
       let next : Phase = phase.AuthSent (record { keys = keys; first = octets; child = sent.child }) in
       record {
         continued_is = ap (λ (x : Octets). continued.Identity x) one;

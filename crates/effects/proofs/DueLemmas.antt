@@ -1,5 +1,5 @@
 -- A message leaves nothing of its association due that was not due before: what it makes is of its own moment.
-use Rattle.std.proofs.Common.{◌≡◌, ◌+◌, ◌<◌, ◌≤◌, ℕ, nat_le, length, Bool, true, false, Option, arith, ap, inl, inr, refl, subst, sym, ◌∙◌}
+use Rattle.std.proofs.Common.{◌≡◌, ◌+◌, ◌<◌, ◌≤◌, ℕ, nat_le, length, Bool, true, false, Option, Some, arith, ap, inl, inr, refl, subst, sym, ◌∙◌, List}
 use Rattle.std.proofs.lemmas.Bool.Decides.{nat_tests}
 use Rattle.std.specs.FinMap as map
 use Rattle.base.specs.Octets.{Octets}
@@ -20,6 +20,8 @@ use Rattle.association.specs.declared.phase.Association.{Association}
 use Rattle.association.specs.declared.phase.Phase.{Phase}
 use Rattle.association.specs.declared.phase.Phase.TheVariants as phase
 use Rattle.association.specs.declared.phase.Request.{Request}
+use Rattle.association.specs.declared.purpose.Purpose.{Purpose}
+use Rattle.association.specs.declared.purpose.Purpose.TheVariants.{Begin, Identify}
 use Rattle.initial.specs.Answering.{outcome_of}
 use Rattle.initial.specs.Beginning.{begun, Admits, Begins}
 use Rattle.initial.specs.Concluding.{with_incoming, with_outgoing, ConcludesBy}
@@ -29,10 +31,13 @@ use Rattle.initial.specs.declared.beginning.Admitted.{Admitted}
 use Rattle.initial.specs.declared.beginning.Beginning.{Beginning}
 use Rattle.initial.specs.declared.concluding.Outcome.{Outcome}
 use Rattle.initial.specs.declared.concluding.Outcome.TheVariants as outcome
-use Rattle.informational.specs.Answering.{is_ending, verdict_on}
-use Rattle.informational.specs.Counting.{is_rejected}
+use Rattle.deletions.specs.Deciding.{is_closing_verdict, verdict_on}
+use Rattle.informational.specs.Answering.{gone_by}
+use Rattle.informational.specs.Counting.{gone_with, is_ended}
 use Rattle.informational.specs.Orders.{ClosesIf}
-use Rattle.informational.specs.Probing.{Probes}
+use Rattle.informational.specs.Asking.{Asks}
+use Rattle.informational.specs.Ordering.{purpose_of}
+use Rattle.informational.specs.declared.ordering.Order.{Order}
 use Rattle.moments.specs.Due.{is_over, HALF_OPEN_TIME}
 use Rattle.moments.specs.Held.{began, IsInTime}
 use Rattle.effects.specs.Taking.{Meaning, TakesMessage}
@@ -52,8 +57,8 @@ Waits now r = (now < due_from r.timer) × (r.timer.sent ≤ now) × (r.timer.rep
 abbrev AllWait : ℕ → OwnRequests Request → Type 0
 AllWait now r = EachHas (Waits now) r.outstanding
 
-new_waits : (octets : Octets) (exchange now : ℕ) → Waits now (new_request octets exchange now)
-new_waits octets exchange now = (omega arith, omega arith, omega arith)
+new_waits : (octets : Octets) (asked : Purpose) (now : ℕ) → Waits now (new_request octets asked now)
+new_waits octets asked now = (omega arith, omega arith, omega arith)
 
 all_wait : (now : ℕ) (a : Association) → IsInTime now a → AllWait now a.outgoing
 all_wait now a is = λ number r there. (is.nothing_due.none_due number r there, is.begun.sent number r there, is.begun.often number r there)
@@ -73,10 +78,10 @@ counted_wait : (now : ℕ) (old : OwnRequests Request) (number : ℕ) (request :
 counted_wait now old number request new is waits =
     same_has (Waits now) (map.remove old.outstanding number) new.outstanding (ap (λ (r : OwnRequests Request). r.outstanding) is.content) (remove_has (Waits now) old.outstanding number waits)
 
-issued_wait : (now : ℕ) (old : OwnRequests Request) (octets : Octets) (exchange : ℕ) (new : OwnRequests Request) → IssuesNext old (new_request octets exchange now) new → AllWait now old → AllWait now new
-issued_wait now old octets exchange new is waits =
-    same_has (Waits now) (map.insert is.ready.outstanding old.next (new_request octets exchange now)) new.outstanding (ap (λ (r : OwnRequests Request). r.outstanding) is.issued.content)
-    (insert_has (Waits now) is.ready.outstanding old.next (new_request octets exchange now) (new_waits octets exchange now)
+issued_wait : (now : ℕ) (old : OwnRequests Request) (octets : Octets) (asked : Purpose) (new : OwnRequests Request) → IssuesNext old (new_request octets asked now) new → AllWait now old → AllWait now new
+issued_wait now old octets asked new is waits =
+    same_has (Waits now) (map.insert is.ready.outstanding old.next (new_request octets asked now)) new.outstanding (ap (λ (r : OwnRequests Request). r.outstanding) is.issued.content)
+    (insert_has (Waits now) is.ready.outstanding old.next (new_request octets asked now) (new_waits octets asked now)
     (same_has (Waits now) old.outstanding is.ready.outstanding (ap (λ (r : OwnRequests Request). r.outstanding) is.prepared.content) waits))
 
 -- ---- when an exchange is done
@@ -99,10 +104,10 @@ concluded_timely closing setup a table (outcome.Establishes pair window) child n
     (begun_by setup.moment new.phase (established_of a.phase) (ap (λ (x : Association). x.phase) is.content) (established_since setup.moment (established_of a.phase) keys was))
     (same_has (Waits setup.moment) a.outgoing.outstanding new.outgoing.outstanding (ap (λ (x : Association). x.outgoing.outstanding) is.content) waits)
 
-closed_if_timely : ClosingLaw → (ending : Bool) (a : Association) (table : Database) (moment : ℕ) (new : Association) (new_table : Database)
-    → IsInTime moment a → ClosesIf ending a table moment new new_table → IsInTime moment new
-closed_if_timely closing true a table moment new new_table timely is = closing moment a new table new_table is
-closed_if_timely closing false a table moment new new_table timely is = timely_as moment a new is.0 timely
+closed_if_timely : ClosingLaw → (ending : Bool) (serials : List ℕ) (a : Association) (table : Database) (moment : ℕ) (new : Association) (new_table : Database)
+    → IsInTime moment a → ClosesIf ending serials a table moment new new_table → IsInTime moment new
+closed_if_timely closing true serials a table moment new new_table timely is = closing moment a new table new_table is
+closed_if_timely closing false serials a table moment new new_table timely is = timely_as moment a new is.0 timely
 
 way_timely : ClosingLaw → (meaning : Meaning) (setup : Setup) (old : Association) (table : Database) (octets : Octets) (m : Message) (e : Effect) (new : Association) (new_table : Database)
     → IsInTime setup.moment old → Way meaning setup old table octets m e new new_table → IsInTime setup.moment new
@@ -113,7 +118,7 @@ way_timely closing meaning setup old table octets m (effect.Replied answered) ne
     concluded_timely closing setup (with_incoming old d.incoming) d.between (outcome_of d.decision) answered.child new new_table d.opened.keys (ap established_of d.was) d.concluded (all_wait setup.moment old timely)
 way_timely closing meaning setup old table octets m (effect.Replied answered) new new_table timely (inr is) =
     let d = is.done in
-    closed_if_timely closing (is_ending (verdict_on d.payloads)) (with_incoming old d.incoming) table setup.moment new new_table
+    closed_if_timely closing (is_closing_verdict (verdict_on table.pairs old.serial d.payloads)) (gone_by (verdict_on table.pairs old.serial d.payloads)) (with_incoming old d.incoming) table setup.moment new new_table
     (by_parts setup.moment (with_incoming old d.incoming) timely.nothing_due.held timely.begun.since (all_wait setup.moment old timely)) d.concluded
 way_timely closing meaning setup old table octets m (effect.Counted ended) new new_table timely (inl is) =
     let d = is.done in
@@ -121,18 +126,18 @@ way_timely closing meaning setup old table octets m (effect.Counted ended) new n
     (counted_wait setup.moment old.outgoing m.header.id d.request d.outgoing d.counted (all_wait setup.moment old timely))
 way_timely closing meaning setup old table octets m (effect.Counted ended) new new_table timely (inr is) =
     let d = is.done in
-    closed_if_timely closing (is_rejected d.payloads) (with_outgoing old d.outgoing) table setup.moment new new_table
+    closed_if_timely closing (is_ended d.payloads d.request.purpose) (gone_with table.pairs old.serial d.request.purpose) (with_outgoing old d.outgoing) table setup.moment new new_table
     (by_parts setup.moment (with_outgoing old d.outgoing) timely.nothing_due.held timely.begun.since (counted_wait setup.moment old.outgoing m.header.id d.request d.outgoing d.counted (all_wait setup.moment old timely))) d.concluded
 way_timely closing meaning setup old table octets m (effect.Again next) new new_table timely is =
     let d = is.done in
     by_parts setup.moment new (ap (λ (x : Association). is_over setup.moment x.phase) d.content) (begun_by setup.moment new.phase _ (ap (λ (x : Association). x.phase) d.content) (omega arith))
-    (same_has (Waits setup.moment) (map.insert old.outgoing.outstanding m.header.id (new_request next IKE_SA_INIT setup.moment)) new.outgoing.outstanding
+    (same_has (Waits setup.moment) (map.insert old.outgoing.outstanding m.header.id (new_request next Begin setup.moment)) new.outgoing.outstanding
     (ap (λ (r : OwnRequests Request). r.outstanding) d.replaced.content)
-    (insert_has (Waits setup.moment) old.outgoing.outstanding m.header.id (new_request next IKE_SA_INIT setup.moment) (new_waits next IKE_SA_INIT setup.moment) (all_wait setup.moment old timely)))
+    (insert_has (Waits setup.moment) old.outgoing.outstanding m.header.id (new_request next Begin setup.moment) (new_waits next Begin setup.moment) (all_wait setup.moment old timely)))
 way_timely closing meaning setup old table octets m (effect.Identified next) new new_table timely is =
     let d = is.done in
     by_parts setup.moment new (ap (λ (x : Association). is_over setup.moment x.phase) d.content) (begun_by setup.moment new.phase _ (ap (λ (x : Association). x.phase) d.content) (omega arith))
-    (issued_wait setup.moment number_0_answered next IKE_AUTH new.outgoing d.issued (empty_has (Waits setup.moment)))
+    (issued_wait setup.moment number_0_answered next Identify new.outgoing d.issued (empty_has (Waits setup.moment)))
 
 pub taken_timely : ClosingLaw → (meaning : Meaning) (setup : Setup) (old : Association) (table : Database) (octets : Octets) (m : Message) (e : Effect) (new : Association) (new_table : Database)
     → IsInTime setup.moment old → TakesMessage meaning setup old table octets m e new new_table → IsInTime setup.moment new
@@ -144,7 +149,7 @@ taken_timely closing meaning setup old table octets m e new new_table timely is 
 pub begun_timely : (cipher : Cipher) (group : ℕ) (public_value : Octets → Octets) (fresh : Fresh) (moment serial : ℕ) (beginning : Beginning) (child : FirstChildView)
     → Begins cipher group public_value fresh moment beginning → IsInTime moment (begun serial beginning child)
 begun_timely cipher group public_value fresh moment serial beginning child is =
-    by_parts moment (begun serial beginning child) refl (omega arith) (issued_wait moment none_issued beginning.octets IKE_SA_INIT beginning.outgoing is.issued (empty_has (Waits moment)))
+    by_parts moment (begun serial beginning child) refl (omega arith) (issued_wait moment none_issued beginning.octets Begin beginning.outgoing is.issued (empty_has (Waits moment)))
 
 half_open_now : (now : ℕ) → nat_le (now + HALF_OPEN_TIME) now ≡ false
 half_open_now now = grind (arith, nat_tests)
@@ -156,8 +161,8 @@ admitted_timely cipher group public_value shared_secret fresh moment serial offe
     (begun_by moment admitted.association.phase _ (ap (λ (x : Association). x.phase) is.content) (omega arith))
     (same_has (Waits moment) map.empty admitted.association.outgoing.outstanding (ap (λ (x : Association). x.outgoing.outstanding) is.content) (empty_has (Waits moment)))
 
-pub probed_timely : (body_of : Keys → Octets → Octets → Octets → Octets) (setup : Setup) (old : Association) (octets : Octets) (new : Association)
-    → IsInTime setup.moment old → Probes body_of setup old octets new → IsInTime setup.moment new
-probed_timely body_of setup old octets new timely is =
+pub probed_timely : (body_of : Keys → Octets → Octets → Octets → Octets) (setup : Setup) (order : Order) (old : Association) (octets : Octets) (new : Association)
+    → IsInTime setup.moment old → Asks body_of setup order old octets new → IsInTime setup.moment new
+probed_timely body_of setup order old octets new timely is =
     timely_as setup.moment (with_outgoing old is.outgoing) new is.content
-    (by_parts setup.moment (with_outgoing old is.outgoing) timely.nothing_due.held timely.begun.since (issued_wait setup.moment old.outgoing octets INFORMATIONAL is.outgoing is.issued (all_wait setup.moment old timely)))
+    (by_parts setup.moment (with_outgoing old is.outgoing) timely.nothing_due.held timely.begun.since (issued_wait setup.moment old.outgoing octets (purpose_of order) is.outgoing is.issued (all_wait setup.moment old timely)))

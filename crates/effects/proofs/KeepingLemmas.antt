@@ -24,14 +24,16 @@ use Rattle.association.specs.declared.phase.InitSent.{InitSent}
 use Rattle.association.specs.declared.phase.Phase.{Phase}
 use Rattle.association.specs.declared.phase.Phase.TheVariants as phase
 use Rattle.association.specs.declared.phase.Request.{Request}
+use Rattle.association.specs.declared.purpose.Purpose.TheVariants.{Begin, Identify}
 use Rattle.initial.specs.Answering.{outcome_of}
 use Rattle.initial.specs.Beginning.{begun, half_open, Admits, Begins}
 use Rattle.effects.specs.Children.{IsAsking}
 use Rattle.initial.specs.Concluding.{established, widened, ConcludesBy}
 use Rattle.initial.specs.Configs.{Setup}
 use Rattle.initial.specs.Issuing.{new_request, IssuesNext}
-use Rattle.informational.specs.Answering.{is_ending, verdict_on}
-use Rattle.informational.specs.Counting.{is_rejected}
+use Rattle.deletions.specs.Deciding.{is_closing_verdict, verdict_on}
+use Rattle.informational.specs.Answering.{gone_by}
+use Rattle.informational.specs.Counting.{gone_with, is_ended}
 use Rattle.informational.specs.Orders.{ClosesIf}
 use Rattle.effects.specs.Keeping.{kept_reply, octets_of_effect, HasKeys, IsShort, KeepsShort, KeyedBy}
 use Rattle.effects.specs.Taking.{Meaning, TakesMessage}
@@ -124,10 +126,10 @@ concluded_done setup a table (outcome.Establishes pair window) child new new_tab
       keys = ap (λ (x : Association). keys_in x.phase) c.content ∙ established_keys a.phase;
     }
 
-closed_if_done : (ending : Bool) (a : Association) (table : Database) (moment : ℕ) (new : Association) (new_table : Database) (keys : KeyRecord)
-    → a.phase ≡ phase.Established keys → ClosesIf ending a table moment new new_table → IsDone a new
-closed_if_done true a table moment new new_table keys was is = over_done a table moment new new_table is
-closed_if_done false a table moment new new_table keys was is =
+closed_if_done : (ending : Bool) (serials : List ℕ) (a : Association) (table : Database) (moment : ℕ) (new : Association) (new_table : Database) (keys : KeyRecord)
+    → a.phase ≡ phase.Established keys → ClosesIf ending serials a table moment new new_table → IsDone a new
+closed_if_done true serials a table moment new new_table keys was is = over_done a table moment new new_table is
+closed_if_done false serials a table moment new new_table keys was is =
     record {
       short = λ replies requests.
           short_as a new is.0
@@ -227,7 +229,7 @@ informed_leaves : (meaning : Meaning) (setup : Setup) (old : Association) (table
 informed_leaves meaning setup old table m answered new new_table is =
     let d = is.done in
     replied_leaves old d.ready d.incoming m.header.id answered new d.keys (ap keys_in d.established) d.sealed.whole.limit d.prepared d.taken
-    (closed_if_done (is_ending (verdict_on d.payloads)) (record old { incoming = d.incoming }) table setup.moment new new_table d.keys d.established d.concluded)
+    (closed_if_done (is_closing_verdict (verdict_on table.pairs old.serial d.payloads)) (gone_by (verdict_on table.pairs old.serial d.payloads)) (record old { incoming = d.incoming }) table setup.moment new new_table d.keys d.established d.concluded)
 
 auth_counted_leaves : (meaning : Meaning) (setup : Setup) (old : Association) (table : Database) (octets : Octets) (m : Message) (ended : Ended) (new : Association) (new_table : Database)
     → CountedAuth meaning setup old table octets m ended new new_table → Leaves (effect.Counted ended) old new
@@ -241,7 +243,7 @@ informing_counted_leaves : (setup : Setup) (old : Association) (table : Database
 informing_counted_leaves setup old table m ended new new_table is =
     let d = is.done in
     counted_leaves old m.header.id d.request d.outgoing ended new is.keys (ap keys_in is.was) d.counted
-    (closed_if_done (is_rejected d.payloads) (record old { outgoing = d.outgoing }) table setup.moment new new_table is.keys is.was d.concluded)
+    (closed_if_done (is_ended d.payloads d.request.purpose) (gone_with table.pairs old.serial d.request.purpose) (record old { outgoing = d.outgoing }) table setup.moment new new_table is.keys is.was d.concluded)
 
 -- an association that waits for the response to IKE_SA_INIT has no keys
 no_keys : (old : Association) (p : Phase) (sent : InitSent) (keys : KeyRecord) → old.phase ≡ phase.InitSent sent → keys_in old.phase ≡ Some keys → keys_in p ≡ Some keys
@@ -256,9 +258,9 @@ asked_leaves meaning setup old table m next new new_table is =
           short_as (record old { outgoing = new.outgoing; phase = phase.InitSent (record is.sent { cookie = Some is.cookie; cookies_taken = is.sent.cookies_taken + 1 }) }) new d.content
           (record {
             replies = short.replies;
-            requests = same_short octets_of (map.insert old.outgoing.outstanding m.header.id (new_request next IKE_SA_INIT setup.moment)) new.outgoing.outstanding
+            requests = same_short octets_of (map.insert old.outgoing.outstanding m.header.id (new_request next Begin setup.moment)) new.outgoing.outstanding
                 (ap (λ (r : OwnRequests Request). r.outstanding) d.replaced.content)
-                (insert_short octets_of old.outgoing.outstanding m.header.id (new_request next IKE_SA_INIT setup.moment) d.spelled.limit short.requests);
+                (insert_short octets_of old.outgoing.outstanding m.header.id (new_request next Begin setup.moment) d.spelled.limit short.requests);
             first = none_sent;
           });
       sent = λ short said e. sent_short next said d.spelled.limit e;
@@ -282,7 +284,7 @@ identified_leaves meaning setup old table octets m next new new_table is =
           short_as (record old { spi_r = m.header.spi_r; outgoing = new.outgoing; phase = phase.AuthSent (record { keys = is.keys; first = octets; child = is.sent.child }) }) new d.content
           (record {
             replies = short.replies;
-            requests = issued_short number_0_answered (new_request next IKE_AUTH setup.moment) new.outgoing (empty_short octets_of) d.sealed.whole.limit d.issued;
+            requests = issued_short number_0_answered (new_request next Identify setup.moment) new.outgoing (empty_short octets_of) d.sealed.whole.limit d.issued;
             first = none_sent;
           });
       sent = λ short said e. sent_short next said d.sealed.whole.limit e;
@@ -349,7 +351,7 @@ pub begun_short : (cipher : Cipher) (group : ℕ) (public_value : Octets → Oct
 begun_short cipher group public_value fresh moment serial beginning child is = (
   record {
     replies = empty_short itself;
-    requests = issued_short none_issued (new_request beginning.octets IKE_SA_INIT moment) beginning.outgoing (empty_short octets_of) is.spelled.limit is.issued;
+    requests = issued_short none_issued (new_request beginning.octets Begin moment) beginning.outgoing (empty_short octets_of) is.spelled.limit is.issued;
     first = none_sent;
   },
   is.spelled.limit,

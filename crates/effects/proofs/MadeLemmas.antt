@@ -38,6 +38,7 @@ use Rattle.association.specs.declared.phase.InitSent.{InitSent}
 use Rattle.association.specs.declared.phase.Phase.{Phase}
 use Rattle.association.specs.declared.phase.Phase.TheVariants as phase
 use Rattle.association.specs.declared.phase.Request.{Request}
+use Rattle.association.specs.declared.purpose.Purpose.TheVariants.{Identify}
 use Rattle.auth.specs.Proofs.{proving_of, Accepts}
 use Rattle.auth.specs.Requests.{auth_request}
 use Rattle.children.specs.Accepting.{IsAcceptedChild, KeepsToRequest}
@@ -55,8 +56,9 @@ use Rattle.initial.specs.Configs.{first_setting, Setup}
 use Rattle.initial.specs.Deciding.{own_proving, AcceptsAuth, IsDecision, IsRead}
 use Rattle.initial.specs.Ending.{IsVerdict}
 use Rattle.initial.specs.Issuing.{new_request, IssuesNext}
-use Rattle.informational.specs.Answering.{is_ending, verdict_on}
-use Rattle.informational.specs.Counting.{is_rejected}
+use Rattle.deletions.specs.Deciding.{is_closing_verdict, verdict_on}
+use Rattle.informational.specs.Answering.{gone_by}
+use Rattle.informational.specs.Counting.{gone_with, is_ended}
 use Rattle.informational.specs.Orders.{ClosesIf}
 use Rattle.effects.specs.Keeping.{child_in}
 use Rattle.effects.specs.Pairs.{IsUnused, LeavesPairs}
@@ -363,7 +365,7 @@ identified_asks meaning setup old table octets m next new new_table is =
       request = request;
       asks = request_has meaning.own_method meaning.proof_of setup.config.own.identity (proving_of Initiator is.keys d.request.octets) (child_request (asked_of is.sent.child)) setup.config.window;
       sealed = subst (λ (x : Association). IsSealed meaning.body_of (keys_of x.role is.keys) setup.fresh.seal (record { header = sent_header x.spi_i x.spi_r IKE_AUTH x.role false 1; payloads = request }) next) (sym d.content) d.sealed;
-      kept = issued_kept number_0_answered (new_request next IKE_AUTH setup.moment) new.outgoing d.issued;
+      kept = issued_kept number_0_answered (new_request next Identify setup.moment) new.outgoing d.issued;
     }
 
 pub asks_for_child : (meaning : Meaning) (setup : Setup) (old : Association) (table : Database) (octets : Octets) (m : Message) (next : Octets) (new : Association) (new_table : Database)
@@ -389,11 +391,11 @@ concluded_waits setup a table outcome.Closes child new new_table keys sent was c
 concluded_waits setup a table (outcome.Establishes pair window) child new new_table keys sent was c waits =
     established_waits keys sent (sym was ∙ sym (ap (λ (x : Association). x.phase) c.content) ∙ waits)
 
-closed_if_waits : (ending : Bool) (a : Association) (table : Database) (moment : ℕ) (new : Association) (new_table : Database) (keys : KeyRecord) (sent : AuthSent)
-    → a.phase ≡ phase.Established keys → ClosesIf ending a table moment new new_table → new.phase ≡ phase.AuthSent sent → ⊥
-closed_if_waits true a table moment new new_table keys sent was is waits =
+closed_if_waits : (ending : Bool) (serials : List ℕ) (a : Association) (table : Database) (moment : ℕ) (new : Association) (new_table : Database) (keys : KeyRecord) (sent : AuthSent)
+    → a.phase ≡ phase.Established keys → ClosesIf ending serials a table moment new new_table → new.phase ≡ phase.AuthSent sent → ⊥
+closed_if_waits true serials a table moment new new_table keys sent was is waits =
     closed_waits (keys_in a.phase) moment sent (sym (ap (λ (x : Association). x.phase) is.content) ∙ waits)
-closed_if_waits false a table moment new new_table keys sent was is waits =
+closed_if_waits false serials a table moment new new_table keys sent was is waits =
     established_waits keys sent (sym was ∙ sym (ap (λ (x : Association). x.phase) is.0) ∙ waits)
 
 abbrev pub Waits : Association → Effect → AuthSent → Type 0
@@ -408,7 +410,7 @@ way_waits meaning setup old table octets m (effect.Replied answered) new new_tab
     absurd (concluded_waits setup (record old { incoming = d.incoming }) d.between (outcome_of d.decision) answered.child new new_table d.opened.keys sent (ap established_of d.was) d.concluded waits)
 way_waits meaning setup old table octets m (effect.Replied answered) new new_table sent waits (inr is) =
     let d = is.done in
-    absurd (closed_if_waits (is_ending (verdict_on d.payloads)) (record old { incoming = d.incoming }) table setup.moment new new_table d.keys sent d.established d.concluded waits)
+    absurd (closed_if_waits (is_closing_verdict (verdict_on table.pairs old.serial d.payloads)) (gone_by (verdict_on table.pairs old.serial d.payloads)) (record old { incoming = d.incoming }) table setup.moment new new_table d.keys sent d.established d.concluded waits)
 way_waits meaning setup old table octets m (effect.Again next) new new_table sent waits is =
     absurd (initial_waits (record is.sent { cookie = Some is.cookie; cookies_taken = is.sent.cookies_taken + 1 }) sent (sym (ap (λ (x : Association). x.phase) is.done.content) ∙ waits))
 way_waits meaning setup old table octets m (effect.Identified next) new new_table sent waits is = inr (record { octets = next; is = refl })
@@ -417,7 +419,7 @@ way_waits meaning setup old table octets m (effect.Counted ended) new new_table 
     absurd (concluded_waits setup (record old { outgoing = d.outgoing }) table d.verdict ended.child new new_table d.sent.keys sent (ap established_of d.was) d.concluded waits)
 way_waits meaning setup old table octets m (effect.Counted ended) new new_table sent waits (inr is) =
     let d = is.done in
-    absurd (closed_if_waits (is_rejected d.payloads) (record old { outgoing = d.outgoing }) table setup.moment new new_table is.keys sent is.was d.concluded waits)
+    absurd (closed_if_waits (is_ended d.payloads d.request.purpose) (gone_with table.pairs old.serial d.request.purpose) (record old { outgoing = d.outgoing }) table setup.moment new new_table is.keys sent is.was d.concluded waits)
 
 pub waits_for_child : (meaning : Meaning) (setup : Setup) (old : Association) (table : Database) (octets : Octets) (m : Message) (e : Effect) (new : Association) (new_table : Database) (sent : AuthSent)
     → new.phase ≡ phase.AuthSent sent → TakesMessage meaning setup old table octets m e new new_table → (old.phase ≡ phase.AuthSent sent) ⊎ IsAsking e

@@ -28,7 +28,10 @@ use Rattle.association.specs.Receiving.{is_closed, opened_under, Answers, Answer
 use Rattle.association.specs.declared.phase.Association.{Association}
 use Rattle.association.specs.declared.phase.Phase.{Phase}
 use Rattle.association.specs.declared.phase.Phase.TheVariants as phase
+use Rattle.association.specs.Purposes.{exchange_of}
 use Rattle.association.specs.declared.phase.Request.{Request}
+use Rattle.association.specs.declared.purpose.Purpose.{Purpose}
+use Rattle.association.specs.declared.purpose.Purpose.TheVariants.{Identify}
 use Rattle.suite.specs.declared.fresh.Fresh.{Fresh}
 use Rattle.suite.specs.declared.sealer.Cipher.{Cipher}
 use Rattle.sa_init.specs.Judging.{OfferView}
@@ -44,10 +47,13 @@ use Rattle.initial.specs.Configs.{IsConfig, Setup}
 use Rattle.initial.specs.Issuing.{new_request, IssuesNext}
 use Rattle.initial.specs.declared.concluding.Outcome.{Outcome}
 use Rattle.initial.specs.declared.concluding.Outcome.TheVariants as outcome
-use Rattle.informational.specs.Answering.{is_ending, verdict_on}
-use Rattle.informational.specs.Counting.{is_rejected}
+use Rattle.deletions.specs.Deciding.{is_closing_verdict, verdict_on}
+use Rattle.informational.specs.Answering.{gone_by}
+use Rattle.informational.specs.Counting.{gone_with, is_ended}
 use Rattle.informational.specs.Orders.{ClosesIf}
-use Rattle.informational.specs.Probing.{Probes}
+use Rattle.informational.specs.Asking.{Asks}
+use Rattle.informational.specs.Ordering.{payloads_of_order, purpose_of}
+use Rattle.informational.specs.declared.ordering.Order.{Order}
 use Rattle.suite.specs.declared.keys.Keys.{Keys}
 use Rattle.effects.specs.Moves.{and_closes, first_ledger, ledger, ledger_of, ledger_with, makes_and_issues, moves_of, octets_out, put, ClosesLedger, Close, Count, Counts, Issue, Issues, KeepsReply, KeepWindows, Lead, Ledger, Make, Move, Remove, TakeEffect, TakesEffectOnce, WaitsWith}
 use Rattle.effects.specs.Requests.{IsSoundlyHeld}
@@ -200,10 +206,10 @@ over_ends role number a keys table moment new new_table are is_open is = closed_
 same_ends : (role : Role) (number : ℕ) (a : Association) (keys : KeyRecord) (new : Association) → keys_in a.phase ≡ Some keys → new ≡ a → Ends false role number (ledger_of a keys) (ledger new)
 same_ends role number a keys new are same = (ledger_of a keys, ap ledger same ∙ keyed a keys are, record { windows = inl (refl, refl); content = refl })
 
-closed_if_ends : (role : Role) (number : ℕ) (ending : Bool) (a : Association) (keys : KeyRecord) (table : Database) (moment : ℕ) (new : Association) (new_table : Database) → keys_in a.phase ≡ Some keys
-    → is_closed a.phase ≡ false → ClosesIf ending a table moment new new_table → Ends ending role number (ledger_of a keys) (ledger new)
-closed_if_ends role number true a keys table moment new new_table are is_open is = over_ends role number a keys table moment new new_table are is_open is
-closed_if_ends role number false a keys table moment new new_table are is_open is = same_ends role number a keys new are is.0
+closed_if_ends : (role : Role) (number : ℕ) (ending : Bool) (serials : List ℕ) (a : Association) (keys : KeyRecord) (table : Database) (moment : ℕ) (new : Association) (new_table : Database) → keys_in a.phase ≡ Some keys
+    → is_closed a.phase ≡ false → ClosesIf ending serials a table moment new new_table → Ends ending role number (ledger_of a keys) (ledger new)
+closed_if_ends role number true serials a keys table moment new new_table are is_open is = over_ends role number a keys table moment new new_table are is_open is
+closed_if_ends role number false serials a keys table moment new new_table are is_open is = same_ends role number a keys new are is.0
 
 established_open : (p : Phase) → is_closed (established_of p) ≡ is_closed p
 established_open (phase.InitSent sent) = refl
@@ -341,7 +347,7 @@ way_moves windows meaning setup old table octets m (effect.Replied answered) new
     (taken_moves old d.keys d.ready d.incoming m.header.id answered.octets is_open d.prepared d.taken)
     (taken_size old.incoming d.ready m.header.id answered.octets d.incoming d.prepared d.taken) refl
     (subst (λ (b : Bool). Ends b Responder m.header.id (ledger_of (with_incoming old d.incoming) d.keys) (ledger new)) (sym d.closed)
-    (closed_if_ends Responder m.header.id (is_ending (verdict_on d.payloads)) (with_incoming old d.incoming) d.keys table setup.moment new new_table (ap keys_in d.established) is_open d.concluded)))
+    (closed_if_ends Responder m.header.id (is_closing_verdict (verdict_on table.pairs old.serial d.payloads)) (gone_by (verdict_on table.pairs old.serial d.payloads)) (with_incoming old d.incoming) d.keys table setup.moment new new_table (ap keys_in d.established) is_open d.concluded)))
 way_moves windows meaning setup old table octets m (effect.Counted ended) new new_table held config (inl is) =
     let d = is.done in
     let keys = d.sent.keys in
@@ -351,7 +357,7 @@ way_moves windows meaning setup old table octets m (effect.Counted ended) new ne
     let one : old.incoming.size ≡ 1 = ap (λ (r : PeerRequests). r.size) none.incoming in
     let awaits : AwaitsWindows setup Initiator m.header.id (with_outgoing old d.outgoing) d.verdict = record {
       role_is = none.role;
-      number_is = (subst (λ (p : Phase). MayBeOutstanding p m.header.id d.request.exchange) d.was (held.waits m.header.id d.request d.counted.there)).0;
+      number_is = (subst (λ (p : Phase). MayBeOutstanding p m.header.id d.request.purpose) d.was (held.waits m.header.id d.request d.counted.there)).0;
       own = omega (arith, one);
       peers = omega (arith, window, held.peers);
       configured = config.window;
@@ -369,7 +375,7 @@ way_moves windows meaning setup old table octets m (effect.Counted ended) new ne
     (counted_leads ended.closed m.header.id (ledger_of old is.keys) (ledger_of (with_outgoing old d.outgoing) is.keys) (ledger new)
     (counted_moves old is.keys m.header.id d.request d.outgoing is_open d.counted) refl (counted_window old.outgoing m.header.id d.request d.outgoing d.counted)
     (subst (λ (b : Bool). Ends b Initiator m.header.id (ledger_of (with_outgoing old d.outgoing) is.keys) (ledger new)) (sym d.closed)
-    (closed_if_ends Initiator m.header.id (is_rejected d.payloads) (with_outgoing old d.outgoing) is.keys table setup.moment new new_table (ap keys_in is.was) is_open d.concluded)))
+    (closed_if_ends Initiator m.header.id (is_ended d.payloads d.request.purpose) (gone_with table.pairs old.serial d.request.purpose) (with_outgoing old d.outgoing) is.keys table setup.moment new new_table (ap keys_in is.was) is_open d.concluded)))
 way_moves windows meaning setup old table octets m (effect.Again next) new new_table held config is = ap ledger is.done.content ∙ sym (no_ledger old (ap keys_in is.was))
 way_moves windows meaning setup old table octets m (effect.Identified next) new new_table held config is =
     let d = is.done in
@@ -382,7 +388,7 @@ way_moves windows meaning setup old table octets m (effect.Identified next) new 
     let leads : Lead (makes_and_issues (Some is.keys) next) None (Some (ledger_of new is.keys)) = (
       Some made,
       record { content = (λ i. ledger_with is.keys (role i) (is_open i) (incoming i) number_0_answered) ∙ ap (first_ledger is.keys) (sym role) },
-      (Some (ledger_of new is.keys), issued_moves made number_0_answered (new_request next IKE_AUTH setup.moment) new.outgoing is_open d.issued, refl),
+      (Some (ledger_of new is.keys), issued_moves made number_0_answered (new_request next Identify setup.moment) new.outgoing is_open d.issued, refl),
     ) in
     subst (λ (k : Option KeyRecord). Lead (makes_and_issues k next) (ledger old) (ledger new)) (sym are)
     (subst (λ (x : Option Ledger). Lead (makes_and_issues (Some is.keys) next) x (ledger new)) (sym (no_ledger old (ap keys_in is.was)))
@@ -394,29 +400,29 @@ message_moves windows meaning setup old table octets m e new new_table held conf
 
 -- ---- an order, and the end
 
-pub probe_moves : (body_of : Keys → Octets → Octets → Octets → Octets) (setup : Setup) (old : Association) (octets : Octets) (new : Association)
-    → Probes body_of setup old octets new → Lead (Issue old.outgoing.next octets ∷ []) (ledger old) (ledger new)
-probe_moves body_of setup old octets new is =
+pub probe_moves : (body_of : Keys → Octets → Octets → Octets → Octets) (setup : Setup) (order : Order) (old : Association) (octets : Octets) (new : Association)
+    → Asks body_of setup order old octets new → Lead (Issue old.outgoing.next octets ∷ []) (ledger old) (ledger new)
+probe_moves body_of setup order old octets new is =
     let are : keys_in new.phase ≡ Some is.keys = ap (λ (x : Association). keys_in x.phase) is.content ∙ ap keys_in is.established in
     let l = ledger_of old is.keys in
     let after : ledger new ≡ Some (with_own l is.outgoing) = ap ledger is.content ∙ ap (option_map (ledger_of (with_outgoing old is.outgoing))) (ap keys_in is.established) in
     from_keys (Issue old.outgoing.next octets ∷ []) old is.keys (ledger new) (ap keys_in is.established)
-    (Some (with_own l is.outgoing), issued_moves l old.outgoing (new_request octets INFORMATIONAL setup.moment) is.outgoing (ap is_closed is.established) is.issued, after)
+    (Some (with_own l is.outgoing), issued_moves l old.outgoing (new_request octets (purpose_of order) setup.moment) is.outgoing (ap is_closed is.established) is.issued, after)
 
 -- what waits belongs to a phase that is open, and in which nothing is over
-waiting_open : (p : Phase) (number exchange : ℕ) → MayBeOutstanding p number exchange → is_closed p ≡ false
-waiting_open (phase.InitSent sent) number exchange may = refl
-waiting_open (phase.AuthSent sent) number exchange may = refl
-waiting_open (phase.HalfOpen opened) number exchange may = absurd may
-waiting_open (phase.Established keys) number exchange may = refl
-waiting_open (phase.Closed keys at) number exchange may = absurd may
+waiting_open : (p : Phase) (number : ℕ) (asked : Purpose) → MayBeOutstanding p number asked → is_closed p ≡ false
+waiting_open (phase.InitSent sent) number asked may = refl
+waiting_open (phase.AuthSent sent) number asked may = refl
+waiting_open (phase.HalfOpen opened) number asked may = absurd may
+waiting_open (phase.Established keys) number asked may = refl
+waiting_open (phase.Closed keys at) number asked may = absurd may
 
-over_waits : (now : ℕ) (p : Phase) (number exchange : ℕ) → is_over now p ≡ true → MayBeOutstanding p number exchange → ⊥
-over_waits now (phase.InitSent sent) number exchange over may = cc
-over_waits now (phase.AuthSent sent) number exchange over may = cc
-over_waits now (phase.HalfOpen opened) number exchange over may = may
-over_waits now (phase.Established keys) number exchange over may = cc
-over_waits now (phase.Closed keys at) number exchange over may = may
+over_waits : (now : ℕ) (p : Phase) (number : ℕ) (asked : Purpose) → is_over now p ≡ true → MayBeOutstanding p number asked → ⊥
+over_waits now (phase.InitSent sent) number asked over may = cc
+over_waits now (phase.AuthSent sent) number asked over may = cc
+over_waits now (phase.HalfOpen opened) number asked over may = may
+over_waits now (phase.Established keys) number asked over may = cc
+over_waits now (phase.Closed keys at) number asked over may = may
 
 none_out : (o : Option Request) → ((request : Request) → o ≡ Some request → ⊥) → option_map (λ (x : Request). x.octets) o ≡ None
 none_out None never = refl
@@ -429,7 +435,7 @@ WhoIsGone = (now : ℕ) (a : Association) → has_failed now a ≡ true → Some
 pub closing_moves : WhoIsGone → (now : ℕ) (old new : Association) (keys : KeyRecord) → IsSoundlyHeld old → keys_in old.phase ≡ Some keys → IsClosedAt now old new → Lead (Close ∷ []) (ledger old) (ledger new)
 closing_moves gone now old new keys held are is =
     let asked = gone now old is.failed in
-    let is_open = waiting_open old.phase asked.number asked.request.exchange (held.waits asked.number asked.request asked.there) in
+    let is_open = waiting_open old.phase asked.number asked.request.purpose (held.waits asked.number asked.request asked.there) in
     let ends = closed_ends old.role asked.number old keys now new are is_open is.requests is.content in
     from_keys (Close ∷ []) old keys (ledger new) are (Some ends.0, ends.2, ends.1)
 
@@ -455,7 +461,7 @@ still_first a keys is_open none first =
 pub removal_moves : (now : ℕ) (old : Association) (keys : KeyRecord) → IsSoundlyHeld old → keys_in old.phase ≡ Some keys → is_over now old.phase ≡ true → Lead (Remove ∷ []) (ledger old) None
 removal_moves now old keys held are over =
     let none : (n : ℕ) → octets_out old.outgoing n ≡ None = λ number. none_out (map.get old.outgoing.outstanding number)
-    (λ request there. over_waits now old.phase number request.exchange over (held.waits number request there)) in
+    (λ request there. over_waits now old.phase number request.purpose over (held.waits number request there)) in
     from_keys (Remove ∷ []) old keys None are (
       None,
       record {
@@ -515,17 +521,17 @@ kept_again why meaning setup old table octets m reply new new_table is =
     let keys = with_keys (keys_in old.phase) meaning.plain_of old.role octets m.payloads repeats.plain repeats.opened in
     subst (λ (x : Option Ledger). KeepsReply x m.header.id reply) (sym (keyed old keys.0 keys.1)) repeats.kept
 
-sealed_keys : (p : Phase) (number exchange : ℕ) → MayBeOutstanding p number exchange → (exchange == IKE_SA_INIT) ≡ false → (k : KeyRecord) × (keys_in p ≡ Some k)
-sealed_keys (phase.InitSent sent) number exchange may other = absurd (yes_no (exchange == IKE_SA_INIT) (ap (λ (e : ℕ). e == IKE_SA_INIT) may.1) other)
-sealed_keys (phase.AuthSent sent) number exchange may other = (sent.keys, refl)
-sealed_keys (phase.HalfOpen opened) number exchange may other = absurd may
-sealed_keys (phase.Established keys) number exchange may other = (keys, refl)
-sealed_keys (phase.Closed keys at) number exchange may other = absurd may
+sealed_keys : (p : Phase) (number : ℕ) (asked : Purpose) → MayBeOutstanding p number asked → (exchange_of asked == IKE_SA_INIT) ≡ false → (k : KeyRecord) × (keys_in p ≡ Some k)
+sealed_keys (phase.InitSent sent) number asked may other = absurd (yes_no (exchange_of asked == IKE_SA_INIT) (ap (λ (e : Purpose). exchange_of e == IKE_SA_INIT) may.1) other)
+sealed_keys (phase.AuthSent sent) number asked may other = (sent.keys, refl)
+sealed_keys (phase.HalfOpen opened) number asked may other = absurd may
+sealed_keys (phase.Established keys) number asked may other = (keys, refl)
+sealed_keys (phase.Closed keys at) number asked may other = absurd may
 
-pub waiting_again : (a : Association) (number : ℕ) (request : Request) → IsSoundlyHeld a → map.get a.outgoing.outstanding number ≡ Some request → (request.exchange == IKE_SA_INIT) ≡ false
+pub waiting_again : (a : Association) (number : ℕ) (request : Request) → IsSoundlyHeld a → map.get a.outgoing.outstanding number ≡ Some request → (exchange_of request.purpose == IKE_SA_INIT) ≡ false
     → WaitsWith (ledger a) number request.octets
 waiting_again a number request held there other =
-    let keys = sealed_keys a.phase number request.exchange (held.waits number request there) other in
+    let keys = sealed_keys a.phase number request.purpose (held.waits number request there) other in
     subst (λ (x : Option Ledger). WaitsWith x number request.octets) (sym (keyed a keys.0 keys.1)) (ap (option_map (λ (x : Request). x.octets)) there)
 
 -- ---- keys come by IKE_SA_INIT
@@ -562,12 +568,12 @@ identified_reception (Answers plain) meaning setup old table octets m next new n
 identified_reception AnswersInitial meaning setup old table octets m next new new_table is = refl
 
 -- what waits then is of IKE_SA_INIT
-waiting_initial : (p : Phase) (number exchange : ℕ) → is_waiting p ≡ true → MayBeOutstanding p number exchange → exchange ≡ IKE_SA_INIT
-waiting_initial (phase.InitSent sent) number exchange waits may = may.1
-waiting_initial (phase.AuthSent sent) number exchange waits may = absurd cc
-waiting_initial (phase.HalfOpen opened) number exchange waits may = absurd may
-waiting_initial (phase.Established keys) number exchange waits may = absurd cc
-waiting_initial (phase.Closed keys at) number exchange waits may = absurd may
+waiting_initial : (p : Phase) (number : ℕ) (asked : Purpose) → is_waiting p ≡ true → MayBeOutstanding p number asked → exchange_of asked ≡ IKE_SA_INIT
+waiting_initial (phase.InitSent sent) number asked waits may = ap exchange_of may.1
+waiting_initial (phase.AuthSent sent) number asked waits may = absurd cc
+waiting_initial (phase.HalfOpen opened) number asked waits may = absurd may
+waiting_initial (phase.Established keys) number asked waits may = absurd cc
+waiting_initial (phase.Closed keys at) number asked waits may = absurd may
 
 pub identified_by : ((plain_of : Opening) (a : Association) (octets : Octets) (m : Message) → IsReceived plain_of a octets m AnswersInitial → IsAnsweringInitial a m)
     → (meaning : Meaning) (setup : Setup) (old : Association) (table : Database) (octets : Octets) (m : Message) (next : Octets) (new : Association) (new_table : Database)
@@ -576,7 +582,7 @@ identified_by why meaning setup old table octets m next new new_table held is =
     let same = identified_reception is.reception meaning setup old table octets m next new new_table is.done in
     let answers = why meaning.plain_of old octets m (subst (λ (r : Reception). IsReceived meaning.plain_of old octets m r) same is.received) in
     let due = answers.due in (
-      sym (eqb-true due.request.exchange m.header.exchange due.exchange_is) ∙ waiting_initial old.phase m.header.id due.request.exchange answers.waiting (held.waits m.header.id due.request due.outstanding),
+      sym (eqb-true (exchange_of due.request.purpose) m.header.exchange due.exchange_is) ∙ waiting_initial old.phase m.header.id due.request.purpose answers.waiting (held.waits m.header.id due.request due.outstanding),
       due.response,
     )
 

@@ -48,8 +48,14 @@ use Rattle.initial.specs.declared.answering.Answered.{Answered}
 use Rattle.initial.specs.declared.ending.Ended.{Ended}
 use Rattle.initial.specs.declared.deciding.Decision.{Decision}
 use Rattle.initial.specs.declared.deciding.Decision.TheVariants as decision
-use Rattle.informational.specs.Answering.{payloads_of_verdict, verdict_by, verdict_on}
-use Rattle.informational.specs.Probing.{Probes}
+use Rattle.deletions.specs.Answering.{deletion_if_any, payloads_of_verdict}
+use Rattle.deletions.specs.Deciding.{verdict_on}
+use Rattle.deletions.specs.declared.deciding.Verdict.{Verdict}
+use Rattle.deletions.specs.declared.deciding.Verdict.TheVariants as verdict
+use Rattle.informational.specs.Asking.{Asks}
+use Rattle.informational.specs.Ordering.{payloads_of_order}
+use Rattle.informational.specs.declared.ordering.Order.{Order}
+use Rattle.informational.specs.declared.ordering.Order.TheVariants as order
 use Rattle.effects.specs.Lengths.{AreWholeKeys, HoldsWholeKeys}
 use Rattle.effects.specs.Openings.{OpensAsMessage, OpensWhatItSeals}
 use Rattle.effects.specs.Requests.{PutsIntoEffect}
@@ -82,13 +88,20 @@ answering_clear : (answer : ChildAnswer) → AreClear (answering_payloads answer
 answering_clear (answered.Payloads child) = child_clear child
 answering_clear (answered.Notice notice) = notice_clear notice
 
-unknown_clear : (unknown : Option ℕ) → AreClear (payloads_of_verdict (verdict_by unknown))
-unknown_clear (Some kind) = (λ same. omega (arith, same), tt)
-unknown_clear None = tt
+named_clear : (spis : List ℕ) → AreClear (deletion_if_any spis)
+named_clear [] = tt
+named_clear (spi ∷ spis) = (λ same. omega (arith, same), tt)
 
-verdict_clear : (payloads : Option (List Payload)) → AreClear (payloads_of_verdict (verdict_on payloads))
-verdict_clear None = (λ same. omega (arith, same), tt)
-verdict_clear (Some payloads) = unknown_clear (unknown_critical payloads)
+verdict_clear : (made : Verdict) → AreClear (payloads_of_verdict made)
+verdict_clear verdict.BadSyntax = (λ same. omega (arith, same), tt)
+verdict_clear (verdict.Unsupported kind) = (λ same. omega (arith, same), tt)
+verdict_clear verdict.Closes = tt
+verdict_clear (verdict.Deletes deleted) = named_clear deleted.inbound_spis
+
+order_clear : (order : Order) → AreClear (payloads_of_order order)
+order_clear order.Probe = tt
+order_clear (order.DeleteChild child spi) = (λ same. omega (arith, same), tt)
+order_clear order.DeleteAssociation = (λ same. omega (arith, same), tt)
 
 reply_clear : (own_method : ℕ) (proof_of : Octets → Octets) (setup : Setup) (opened : HalfOpen) (d : Decision) → AreClear (reply_payloads own_method proof_of setup opened d)
 reply_clear own_method proof_of setup opened (decision.Refused notice) = notice_clear notice
@@ -140,8 +153,8 @@ way_replies meaning setup old table octets m answered new new_table opens whole 
 way_replies meaning setup old table octets m answered new new_table opens whole (inr is) =
     let d = is.done in
     let are : keys_in old.phase ≡ Some d.keys = ap keys_in d.established in
-    own_opens meaning.body_of meaning.plain_of setup.fresh.seal old d.keys INFORMATIONAL m.header.id true (payloads_of_verdict (verdict_on d.payloads)) answered.octets opens are (whole d.keys are)
-    (verdict_clear d.payloads) d.sealed
+    own_opens meaning.body_of meaning.plain_of setup.fresh.seal old d.keys INFORMATIONAL m.header.id true (payloads_of_verdict (verdict_on table.pairs old.serial d.payloads)) answered.octets opens are (whole d.keys are)
+    (verdict_clear (verdict_on table.pairs old.serial d.payloads)) d.sealed
 
 pub replies_open : (meaning : Meaning) (setup : Setup) (old : Association) (table : Database) (octets : Octets) (m : Message) (answered : Answered) (new : Association) (new_table : Database)
     → OpensWhatItSeals meaning.body_of meaning.plain_of setup.fresh.seal → HoldsWholeKeys old.phase → TakesMessage meaning setup old table octets m (effect.Replied answered) new new_table
@@ -168,14 +181,14 @@ pub identities_open : (meaning : Meaning) (setup : Setup) (old : Association) (t
 identities_open meaning setup old table octets m next new new_table opens whole is =
     way_identifies meaning setup old table octets m next new new_table opens whole (way_of meaning setup old table octets m (effect.Identified next) new new_table is)
 
-pub probes_open : (body_of : Keys → Octets → Octets → Octets → Octets) (plain_of : Opening) (setup : Setup) (old : Association) (octets : Octets) (new : Association)
-    → OpensWhatItSeals body_of plain_of setup.fresh.seal → HoldsWholeKeys old.phase → Probes body_of setup old octets new
+pub probes_open : (body_of : Keys → Octets → Octets → Octets → Octets) (plain_of : Opening) (setup : Setup) (order : Order) (old : Association) (octets : Octets) (new : Association)
+    → OpensWhatItSeals body_of plain_of setup.fresh.seal → HoldsWholeKeys old.phase → Asks body_of setup order old octets new
     → OpensAsMessage plain_of new new.role false old.outgoing.next octets
-probes_open body_of plain_of setup old octets new opens whole is =
+probes_open body_of plain_of setup order old octets new opens whole is =
     let are : keys_in old.phase ≡ Some is.keys = ap keys_in is.established in
     let asked = with_outgoing old is.outgoing in
     subst (λ (a : Association). OpensAsMessage plain_of a a.role false old.outgoing.next octets) (sym is.content)
-    (own_opens body_of plain_of setup.fresh.seal asked is.keys INFORMATIONAL old.outgoing.next false [] octets opens are (whole is.keys are) tt is.sealed)
+    (own_opens body_of plain_of setup.fresh.seal asked is.keys INFORMATIONAL old.outgoing.next false (payloads_of_order order) octets opens are (whole is.keys are) (order_clear order) is.sealed)
 
 -- ---- what comes from the peer
 

@@ -1,5 +1,5 @@
 -- An SPI that another association holds stays reserved.
-use Rattle.std.proofs.Common.{◌≡◌, ◌≢◌, inl, inr, ◌+◌, ◌<◌, ◌||◌, ◌&&◌, ℕ, Bool, true, false, not, Option, Some, None, ap, refl, subst, sym, ◌∙◌, arith}
+use Rattle.std.proofs.Common.{◌≡◌, ◌≢◌, inl, inr, ◌+◌, ◌<◌, ◌||◌, ◌&&◌, ℕ, Bool, true, false, not, Option, Some, None, ap, refl, subst, sym, ◌∙◌, arith, List}
 use Rattle.std.specs.Cmp.{nat_cmp_total, unsigned_tied}
 use Rattle.std.specs.FinSet as set
 use Rattle.std.specs.Ordering.{nat_cmp}
@@ -20,8 +20,9 @@ use Rattle.initial.specs.Answering.{outcome_of, AnswersAuth, Prover}
 use Rattle.initial.specs.Concluding.{AddsChild, ConcludesBy}
 use Rattle.initial.specs.Configs.{Setup}
 use Rattle.initial.specs.Ending.{EndsAuth}
-use Rattle.informational.specs.Answering.{is_ending, verdict_on}
-use Rattle.informational.specs.Counting.{is_rejected}
+use Rattle.deletions.specs.Deciding.{is_closing_verdict, verdict_on}
+use Rattle.informational.specs.Answering.{gone_by}
+use Rattle.informational.specs.Counting.{gone_with, is_ended}
 use Rattle.informational.specs.Orders.{ClosesIf}
 use Rattle.effects.specs.Taking.{prover_of, Meaning, TakesMessage}
 use Rattle.initial.specs.declared.answering.Answered.{Answered}
@@ -108,10 +109,10 @@ conclusion_keeps setup old table outcome.Closes child new new_table q apart is k
 conclusion_keeps setup old table (outcome.Establishes pair window) child new new_table q apart is kept =
     child_keeps table (established_spi old.phase) pair child new_table q (established_apart old.phase q apart) is.added kept
 
-closed_if_keeps : (ending : Bool) (old : Association) (table : Database) (moment : ℕ) (new : Association) (new_table : Database) (q : ℕ)
-    → spi_in old.phase ≢ Some q → ClosesIf ending old table moment new new_table → IsKept table q → IsKept new_table q
-closed_if_keeps true old table moment new new_table q apart is kept = over_keeps old table moment new new_table q apart is kept
-closed_if_keeps false old table moment new new_table q apart is kept = subst (λ d. IsKept d q) (sym is.1) kept
+closed_if_keeps : (ending : Bool) (serials : List ℕ) (old : Association) (table : Database) (moment : ℕ) (new : Association) (new_table : Database) (q : ℕ)
+    → spi_in old.phase ≢ Some q → ClosesIf ending serials old table moment new new_table → IsKept table q → IsKept new_table q
+closed_if_keeps true serials old table moment new new_table q apart is kept = over_keeps old table moment new new_table q apart is kept
+closed_if_keeps false serials old table moment new new_table q apart is kept = subst (λ d. IsKept d q) (sym is.1.removed.content) (record { there = kept.there; given = kept.given })
 
 answer_keeps : (prover : Prover) (setup : Setup) (old : Association) (table : Database) (number : ℕ) (plain : Plain) (a : Answered) (new : Association) (new_table : Database) (q : ℕ)
     → spi_in old.phase ≢ Some q → AnswersAuth prover setup old table number plain a new new_table → IsKept table q → IsKept new_table q
@@ -133,13 +134,13 @@ way_keeps meaning setup old table octets m (effect.Repeated reply) new new_table
 way_keeps meaning setup old table octets m (effect.Replied answered) new new_table q apart (inl is) kept =
     answer_keeps (prover_of meaning) setup old table m.header.id is.plain answered new new_table q apart is.done kept
 way_keeps meaning setup old table octets m (effect.Replied answered) new new_table q apart (inr is) kept =
-    closed_if_keeps (is_ending (verdict_on is.done.payloads)) (record old { incoming = is.done.incoming }) table setup.moment new new_table q apart is.done.concluded kept
+    closed_if_keeps (is_closing_verdict (verdict_on table.pairs old.serial is.done.payloads)) (gone_by (verdict_on table.pairs old.serial is.done.payloads)) (record old { incoming = is.done.incoming }) table setup.moment new new_table q apart is.done.concluded kept
 way_keeps meaning setup old table octets m (effect.Again next) new new_table q apart is kept = unchanged_keeps table new_table q is.pairs kept
 way_keeps meaning setup old table octets m (effect.Identified next) new new_table q apart is kept = unchanged_keeps table new_table q is.pairs kept
 way_keeps meaning setup old table octets m (effect.Counted ended) new new_table q apart (inl is) kept =
     end_keeps meaning.accepts setup old table m.header.id is.plain ended new new_table q apart is.done kept
 way_keeps meaning setup old table octets m (effect.Counted ended) new new_table q apart (inr is) kept =
-    closed_if_keeps (is_rejected is.done.payloads) (record old { outgoing = is.done.outgoing }) table setup.moment new new_table q apart is.done.concluded kept
+    closed_if_keeps (is_ended is.done.payloads is.done.request.purpose) (gone_with table.pairs old.serial is.done.request.purpose) (record old { outgoing = is.done.outgoing }) table setup.moment new new_table q apart is.done.concluded kept
 
 pub others_keep : (meaning : Meaning) (setup : Setup) (old : Association) (table : Database) (octets : Octets) (m : Message) (e : Effect) (new : Association) (new_table : Database) (q : ℕ)
     → spi_in old.phase ≢ Some q → IsReserved table q → q < table.start + table.given → TakesMessage meaning setup old table octets m e new new_table → IsReserved new_table q

@@ -1,11 +1,12 @@
 -- What IKE_AUTH, and an association's end, leave of the pairs.
-use Rattle.std.proofs.Common.{◌≡◌, ◌≢◌, ◌⊎◌, ◌+◌, ◌≤◌, inl, inr, ℕ, cond, Bool, true, false, List, Option, Some, None, ap, refl, subst, sym, ◌∙◌, arith}
+use Rattle.std.proofs.Common.{◌≡◌, ◌≢◌, ◌⊎◌, ◌+◌, ◌≤◌, inl, inr, ℕ, cond, Bool, true, false, All, Contains, List, Option, Some, None, ap, refl, subst, sym, ◌∙◌, arith}
 use Rattle.std.specs.Cmp.{nat_cmp_total, unsigned_tied}
 use Rattle.std.specs.FinMap as map
 use Rattle.std.proofs.lemmas.Bool.Decides.{eqb_tells}
+use Rattle.std.proofs.lemmas.List.Elements.{All-contains}
 use Rattle.wire.specs.declared.payload.Payload.{Payload}
 use Rattle.exchange.specs.declared.sealed.Plain.{Plain}
-use Rattle.sadb.specs.Database.{pair_at, Database, Installs, IsAsBefore, PairMap, Releases, RemovesAllOf, Reserves}
+use Rattle.sadb.specs.Database.{pair_at, BelongsTo, Database, Installs, IsAsBefore, PairMap, Releases, RemovesAllOf, Reserves}
 use Rattle.sadb.specs.declared.pair.Pair.{Pair}
 use Rattle.association.specs.Closing.{Closes, GivesUpSpi}
 use Rattle.association.specs.Phases.{established_spi, spi_in}
@@ -19,7 +20,7 @@ use Rattle.initial.specs.Concluding.{AddsChild, ConcludesBy}
 use Rattle.initial.specs.Configs.{Setup}
 use Rattle.initial.specs.Deciding.{Decides, IsDecision}
 use Rattle.initial.specs.Ending.{IsFirstChild, IsVerdict, Judges}
-use Rattle.informational.specs.Orders.{ClosesIf}
+use Rattle.informational.specs.Orders.{ClosesIf, RemovesOwn}
 use Rattle.effects.specs.Pairs.{IsUnused, LeavesPairs}
 use Rattle.initial.specs.declared.concluding.Outcome.{Outcome}
 use Rattle.initial.specs.declared.concluding.Outcome.TheVariants as outcome
@@ -150,9 +151,26 @@ concluded_leaves setup a old between outcome.Closes child new new_table same unu
 concluded_leaves setup a old between (outcome.Establishes pair window) child new new_table same unused is =
     child_leaves old between a.serial (established_spi a.phase) pair child new_table same unused is.added
 
-pub closed_if_leaves : (ending : Bool) (a : Association) (table : Database) (moment : ℕ) (new : Association) (new_table : Database) → ClosesIf ending a table moment new new_table → LeavesPairs table a.serial new_table
-closed_if_leaves true a table moment new new_table is = over_leaves a table table moment new new_table (itself_same table) is
-closed_if_leaves false a table moment new new_table is = same_leaves table a.serial new_table (subst (λ (d : Database). HasSamePairs table d) (sym is.1) (itself_same table))
+-- which association a named pair is of
+owned : (pairs : PairMap) (ike : ℕ) (serials : List ℕ) (serial : ℕ) (pair : Pair) → All (BelongsTo pairs ike) serials → Contains serials serial → pair_at pairs serial ≡ Some pair → pair.ike ≡ ike
+owned pairs ike serials serial pair own named there =
+    let its = All-contains (BelongsTo pairs ike) serials serial own named in
+    ap (λ (p : Pair). p.ike) (same_pair pair its.pair (sym there ∙ its.there)) ∙ its.its
+
+-- what the deletion of some pairs leaves
+named_leaves : (old : Database) (ike : ℕ) (serials : List ℕ) (new : Database) → RemovesOwn ike serials old new → LeavesPairs old ike new
+named_leaves old ike serials new is =
+    record {
+      start = ap (λ (d : Database). d.start) is.removed.content;
+      given = subst (λ n. old.given ≤ n) (sym (ap (λ (d : Database). d.given) is.removed.content)) (omega arith);
+      next = let still : new.next ≡ old.next = ap (λ (d : Database). d.next) is.removed.content in omega (arith, still);
+      each = λ q p there. inl ((is.removed.kept q p).0 there).0;
+      others = λ q p below there other. (is.removed.kept q p).1 (there, λ named. other (owned old.pairs ike serials q p is.its_own named there));
+    }
+
+pub closed_if_leaves : (ending : Bool) (serials : List ℕ) (a : Association) (table : Database) (moment : ℕ) (new : Association) (new_table : Database) → ClosesIf ending serials a table moment new new_table → LeavesPairs table a.serial new_table
+closed_if_leaves true serials a table moment new new_table is = over_leaves a table table moment new new_table (itself_same table) is
+closed_if_leaves false serials a table moment new new_table is = named_leaves table a.serial serials new_table is.1
 
 decided_unused : (accepts : Accepts) (setup : Setup) (ike : ℕ) (opened : HalfOpen) (table : Database) (payloads : Option (List Payload)) (d : Decision)
     → IsDecision accepts setup ike opened table payloads d → UnusedBy ike (outcome_of d)
@@ -224,6 +242,6 @@ concluded_told setup a old between outcome.Closes child new new_table same is = 
 concluded_told setup a old between (outcome.Establishes pair window) child new new_table same is =
     child_told old between (established_spi a.phase) pair child new_table same is.added
 
-pub closed_if_told : (ending : Bool) (a : Association) (table : Database) (moment : ℕ) (child : Option ℕ) (new : Association) (new_table : Database) → ClosesIf ending a table moment new new_table → ComesTold table child new_table
-closed_if_told true a table moment child new new_table is = over_told a table table moment child new new_table (itself_same table) is
-closed_if_told false a table moment child new new_table is = unchanged_told table child new_table is.1
+pub closed_if_told : (ending : Bool) (serials : List ℕ) (a : Association) (table : Database) (moment : ℕ) (child : Option ℕ) (new : Association) (new_table : Database) → ClosesIf ending serials a table moment new new_table → ComesTold table child new_table
+closed_if_told true serials a table moment child new new_table is = over_told a table table moment child new new_table (itself_same table) is
+closed_if_told false serials a table moment child new new_table is = λ q p there. inl ((is.1.removed.kept q p).0 there).0

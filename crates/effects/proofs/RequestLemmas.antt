@@ -1,5 +1,5 @@
 -- What a message does to the peer's requests of one association.
-use Rattle.std.proofs.Common.{◌≡◌, ◌≢◌, ◌==◌, ◌||◌, ◌⊎◌, inl, inr, ℕ, ◌+◌, ◌≤◌, Bool, true, false, cond, max, List, Option, Some, None, ap, refl, subst, sym, ◌∙◌, arith}
+use Rattle.std.proofs.Common.{◌≡◌, ◌≢◌, ◌==◌, ◌||◌, ◌⊎◌, inl, inr, ℕ, ◌+◌, ◌<◌, ◌≤◌, Bool, true, false, cond, max, Option, Some, None, ap, refl, subst, sym, ◌∙◌, arith, List}
 use Rattle.std.specs.Cmp.{nat_cmp_total, unsigned_tied}
 use Rattle.std.specs.FinMap as map
 use Rattle.std.specs.FinSet as set
@@ -37,7 +37,9 @@ use Rattle.association.specs.declared.phase.HalfOpen.{HalfOpen}
 use Rattle.association.specs.declared.phase.InitSent.{InitSent}
 use Rattle.association.specs.declared.phase.Phase.{Phase}
 use Rattle.association.specs.declared.phase.Phase.TheVariants as phase
+use Rattle.association.specs.Purposes.{exchange_of}
 use Rattle.association.specs.declared.phase.Request.{Request}
+use Rattle.association.specs.declared.purpose.Purpose.TheVariants.{Begin, Identify}
 use Rattle.auth.specs.Proofs.{Accepts}
 use Rattle.auth.specs.Windows.{peer_window, IsWindow, WIDEST_WINDOW}
 use Rattle.initial.specs.Answering.{outcome_of, AnswersAuth}
@@ -53,12 +55,16 @@ use Rattle.initial.specs.declared.beginning.Admitted.{Admitted}
 use Rattle.initial.specs.declared.beginning.Beginning.{Beginning}
 use Rattle.initial.specs.declared.concluding.Outcome.{Outcome}
 use Rattle.initial.specs.declared.concluding.Outcome.TheVariants as outcome
+use Rattle.deletions.specs.Deciding.{is_closing_verdict, verdict_on}
+use Rattle.informational.specs.Answering.{gone_by, AnswersInformational}
+use Rattle.informational.specs.Counting.{gone_with, is_ended}
 use Rattle.initial.specs.declared.deciding.Decision.{Decision}
 use Rattle.initial.specs.declared.deciding.Decision.TheVariants as decision
-use Rattle.informational.specs.Answering.{is_ending, verdict_on, AnswersInformational}
-use Rattle.informational.specs.Counting.{is_rejected}
 use Rattle.informational.specs.Orders.{ClosesIf}
-use Rattle.informational.specs.Probing.{Probes}
+use Rattle.informational.specs.Asking.{Asks}
+use Rattle.informational.specs.Ordering.{payloads_of_order, purpose_of}
+use Rattle.informational.specs.declared.ordering.Order.{Order}
+use Rattle.informational.specs.declared.ordering.Order.TheVariants as order
 use Rattle.effects.specs.Keeping.{HasKeys}
 use Rattle.effects.specs.Requests.{is_concluded, takes_requests, IsPassing, IsSoundlyHeld, KeepsPeersWindow, KeepsWindow, PutsIntoEffect, StaysConcluded}
 use Rattle.effects.specs.Taking.{prover_of, Does, DoesFurther, DoesRequest, DoesResponse, IsPassedOver, Meaning, TakesMessage}
@@ -228,10 +234,10 @@ auth_concludes laws setup a table (outcome.Establishes pair window) child new ne
       issued = λ before. before;
     })
 
-closing_concludes : (laws : FollowLaws) (ending : Bool) (a : Association) (table : Database) (moment : ℕ) (new : Association) (new_table : Database) → is_concluded a.phase ≡ true
-    → ClosesIf ending a table moment new new_table → Concludes a new
-closing_concludes laws true a table moment new new_table concluded is = over_concludes laws a table moment new new_table is
-closing_concludes laws false a table moment new new_table concluded is =
+closing_concludes : (laws : FollowLaws) (ending : Bool) (serials : List ℕ) (a : Association) (table : Database) (moment : ℕ) (new : Association) (new_table : Database) → is_concluded a.phase ≡ true
+    → ClosesIf ending serials a table moment new new_table → Concludes a new
+closing_concludes laws true serials a table moment new new_table concluded is = over_concludes laws a table moment new new_table is
+closing_concludes laws false serials a table moment new new_table concluded is =
     concludes_as a a new is.0
     (record {
       follows = laws.reflexive a.incoming;
@@ -373,14 +379,14 @@ counted_leaves laws own old a new same same_phase same_role same_spi done size w
 }
 
 -- the window stays as wide where nothing but a closing can be
-size_if : (ending : Bool) (a : Association) (table : Database) (moment : ℕ) (new : Association) (new_table : Database) → ClosesIf ending a table moment new new_table → new.incoming.size ≡ a.incoming.size
-size_if true a table moment new new_table is = ap (λ (x : Association). x.incoming.size) is.content
-size_if false a table moment new new_table is = ap (λ (x : Association). x.incoming.size) is.0
+size_if : (ending : Bool) (serials : List ℕ) (a : Association) (table : Database) (moment : ℕ) (new : Association) (new_table : Database) → ClosesIf ending serials a table moment new new_table → new.incoming.size ≡ a.incoming.size
+size_if true serials a table moment new new_table is = ap (λ (x : Association). x.incoming.size) is.content
+size_if false serials a table moment new new_table is = ap (λ (x : Association). x.incoming.size) is.0
 
 -- so does the peer's
-peers_if : (ending : Bool) (a : Association) (table : Database) (moment : ℕ) (new : Association) (new_table : Database) → ClosesIf ending a table moment new new_table → KeepsPeersWindow a new
-peers_if true a table moment new new_table is = inl (ap (λ (r : OwnRequests Request). r.window) is.requests.content)
-peers_if false a table moment new new_table is = inl (ap (λ (x : Association). x.outgoing.window) is.0)
+peers_if : (ending : Bool) (serials : List ℕ) (a : Association) (table : Database) (moment : ℕ) (new : Association) (new_table : Database) → ClosesIf ending serials a table moment new new_table → KeepsPeersWindow a new
+peers_if true serials a table moment new new_table is = inl (ap (λ (r : OwnRequests Request). r.window) is.requests.content)
+peers_if false serials a table moment new new_table is = inl (ap (λ (x : Association). x.outgoing.window) is.0)
 
 -- one request more, or an answer, leaves it
 issued_window : (old : OwnRequests Request) (request : Request) (new : OwnRequests Request) → IssuesNext old request new → new.window ≡ old.window
@@ -434,11 +440,11 @@ early_leaves laws own old new sent same was opens named waits window role issued
 -- ---- what waits for an answer
 
 -- one more waits, or another in its place
-inserted_waits : (outstanding : map.FinMap nat_cmp Request) (p : Phase) (n : ℕ) (request : Request) → SuitPhase p outstanding → MayBeOutstanding p n request.exchange → SuitPhase p (map.insert outstanding n request)
+inserted_waits : (outstanding : map.FinMap nat_cmp Request) (p : Phase) (n : ℕ) (request : Request) → SuitPhase p outstanding → MayBeOutstanding p n request.purpose → SuitPhase p (map.insert outstanding n request)
 inserted_waits outstanding p n request before may number found there = elim (eqb_tells number n) [
   | inl (one, same) ↦ (let is : Some request ≡ Some found = sym (map.get-insert nat_cmp_total outstanding n request number ∙ ap (λ b. cond b (Some request) (map.get outstanding number)) (unsigned_tied number n ∙ one)) ∙ there in
       let its : request ≡ found = cc in
-      subst (λ (k : ℕ). MayBeOutstanding p k found.exchange) (sym same) (subst (λ (r : Request). MayBeOutstanding p n r.exchange) its may))
+      subst (λ (k : ℕ). MayBeOutstanding p k found.purpose) (sym same) (subst (λ (r : Request). MayBeOutstanding p n r.purpose) its may))
   | inr (none, apart) ↦ before number found (sym (map.get-insert nat_cmp_total outstanding n request number ∙ ap (λ b. cond b (Some request) (map.get outstanding number)) (unsigned_tied number n ∙ none)) ∙ there)
 ]
 
@@ -502,14 +508,14 @@ asked_once sent old number request new is before n found there =
     let still = counted_out old number request new n found is there in
     absurd (still.other ((before n found still.there).0 ∙ sym (before number request is.there).0))
 
-replaced_waits : (old new : Association) (sent : InitSent) (number : ℕ) (was request : Request) → request.exchange ≡ IKE_SA_INIT → ReplacesRequest old.outgoing number was request new.outgoing
+replaced_waits : (old new : Association) (sent : InitSent) (number : ℕ) (was request : Request) → request.purpose ≡ Begin → ReplacesRequest old.outgoing number was request new.outgoing
     → (later : InitSent) → new.phase ≡ phase.InitSent later → SuitPhase (phase.InitSent sent) old.outgoing.outstanding → SuitPhase new.phase new.outgoing.outstanding
 replaced_waits old new sent number was request exchange is later comes before =
     subst (λ (p : Phase). SuitPhase p new.outgoing.outstanding) (sym comes)
     (subst (λ (r : OwnRequests Request). SuitPhase (phase.InitSent later) r.outstanding) (sym is.content)
     (inserted_waits old.outgoing.outstanding (phase.InitSent later) number request before ((before number was is.there).0, exchange)))
 
-issued_waits : (new : Association) (p : Phase) (old : OwnRequests Request) (request : Request) → new.phase ≡ p → IssuesNext old request new.outgoing → SuitPhase p old.outstanding → MayBeOutstanding p old.next request.exchange
+issued_waits : (new : Association) (p : Phase) (old : OwnRequests Request) (request : Request) → new.phase ≡ p → IssuesNext old request new.outgoing → SuitPhase p old.outstanding → MayBeOutstanding p old.next request.purpose
     → SuitPhase new.phase new.outgoing.outstanding
 issued_waits new p old request same is before may =
     subst (λ (q : Phase). SuitPhase q new.outgoing.outstanding) (sym same)
@@ -532,10 +538,10 @@ way_leaves laws windows meaning setup old table octets m (effect.Replied answere
 way_leaves laws windows meaning setup old table octets m (effect.Replied answered) new new_table (inr is) =
     let d = is.done in
     taken_leaves laws setup.config.window old d.ready d.incoming m.header.id answered.octets new d.prepared d.taken
-    (closing_concludes laws (is_ending (verdict_on d.payloads)) (with_incoming old d.incoming) table setup.moment new new_table (ap is_concluded d.established) d.concluded)
-    (λ concluded. size_if (is_ending (verdict_on d.payloads)) (with_incoming old d.incoming) table setup.moment new new_table d.concluded)
-    (inl (size_if (is_ending (verdict_on d.payloads)) (with_incoming old d.incoming) table setup.moment new new_table d.concluded))
-    (peers_if (is_ending (verdict_on d.payloads)) (with_incoming old d.incoming) table setup.moment new new_table d.concluded)
+    (closing_concludes laws (is_closing_verdict (verdict_on table.pairs old.serial d.payloads)) (gone_by (verdict_on table.pairs old.serial d.payloads)) (with_incoming old d.incoming) table setup.moment new new_table (ap is_concluded d.established) d.concluded)
+    (λ concluded. size_if (is_closing_verdict (verdict_on table.pairs old.serial d.payloads)) (gone_by (verdict_on table.pairs old.serial d.payloads)) (with_incoming old d.incoming) table setup.moment new new_table d.concluded)
+    (inl (size_if (is_closing_verdict (verdict_on table.pairs old.serial d.payloads)) (gone_by (verdict_on table.pairs old.serial d.payloads)) (with_incoming old d.incoming) table setup.moment new new_table d.concluded))
+    (peers_if (is_closing_verdict (verdict_on table.pairs old.serial d.payloads)) (gone_by (verdict_on table.pairs old.serial d.payloads)) (with_incoming old d.incoming) table setup.moment new new_table d.concluded)
     (subst (λ (p : Phase). SuitPhase p old.outgoing.outstanding → SuitPhase (established_of p) old.outgoing.outstanding) (sym d.established) (λ waits. waits))
 way_leaves laws windows meaning setup old table octets m (effect.Counted ended) new new_table (inl is) =
     let d = is.done in
@@ -551,26 +557,26 @@ way_leaves laws windows meaning setup old table octets m (effect.Counted ended) 
 way_leaves laws windows meaning setup old table octets m (effect.Counted ended) new new_table (inr is) =
     let d = is.done in
     counted_leaves laws setup.config.window old (with_outgoing old d.outgoing) new refl refl refl refl
-    (closing_concludes laws (is_rejected d.payloads) (with_outgoing old d.outgoing) table setup.moment new new_table (ap is_concluded is.was) d.concluded)
-    (λ concluded. size_if (is_rejected d.payloads) (with_outgoing old d.outgoing) table setup.moment new new_table d.concluded)
-    (inl (size_if (is_rejected d.payloads) (with_outgoing old d.outgoing) table setup.moment new new_table d.concluded))
+    (closing_concludes laws (is_ended d.payloads d.request.purpose) (gone_with table.pairs old.serial d.request.purpose) (with_outgoing old d.outgoing) table setup.moment new new_table (ap is_concluded is.was) d.concluded)
+    (λ concluded. size_if (is_ended d.payloads d.request.purpose) (gone_with table.pairs old.serial d.request.purpose) (with_outgoing old d.outgoing) table setup.moment new new_table d.concluded)
+    (inl (size_if (is_ended d.payloads d.request.purpose) (gone_with table.pairs old.serial d.request.purpose) (with_outgoing old d.outgoing) table setup.moment new new_table d.concluded))
     (counted_window old.outgoing m.header.id d.request d.outgoing d.counted)
-    (peers_if (is_rejected d.payloads) (with_outgoing old d.outgoing) table setup.moment new new_table d.concluded)
+    (peers_if (is_ended d.payloads d.request.purpose) (gone_with table.pairs old.serial d.request.purpose) (with_outgoing old d.outgoing) table setup.moment new new_table d.concluded)
     (subst (λ (p : Phase). SuitPhase p old.outgoing.outstanding → SuitPhase (established_of p) d.outgoing.outstanding) (sym is.was) (fewer_wait is.keys old.outgoing m.header.id d.request d.outgoing d.counted))
     (fewer_issued old.outgoing m.header.id d.request d.outgoing d.counted)
 way_leaves laws windows meaning setup old table octets m (effect.Again next) new new_table is = early_leaves laws setup.config.window old new is.sent (ap (λ (x : Association). x.incoming) is.done.content) is.was (λ opened opens. absurd (init_opens _ opened (sym (ap (λ (x : Association). x.phase) is.done.content) ∙ opens)))
     (λ keyed initiator zero. some_none keyed.keys (sym (ap (λ (x : Association). keys_in x.phase) is.done.content) ∙ keyed.are))
-    (replaced_waits old new is.sent m.header.id is.done.was (new_request next IKE_SA_INIT setup.moment) refl is.done.replaced _ (ap (λ (x : Association). x.phase) is.done.content))
+    (replaced_waits old new is.sent m.header.id is.done.was (new_request next Begin setup.moment) refl is.done.replaced _ (ap (λ (x : Association). x.phase) is.done.content))
     (λ one. ap (λ (r : OwnRequests Request). r.window) is.done.replaced.content ∙ one)
     (ap (λ (x : Association). x.role) is.done.content)
-    (replaced_issued old.outgoing m.header.id is.done.was (new_request next IKE_SA_INIT setup.moment) new.outgoing is.done.replaced)
+    (replaced_issued old.outgoing m.header.id is.done.was (new_request next Begin setup.moment) new.outgoing is.done.replaced)
 way_leaves laws windows meaning setup old table octets m (effect.Identified next) new new_table is = early_leaves laws setup.config.window old new is.sent (ap (λ (x : Association). x.incoming) is.done.content) is.was (λ opened opens. absurd (auth_opens _ opened (sym (ap (λ (x : Association). x.phase) is.done.content) ∙ opens)))
     (λ keyed initiator zero. is.named (sym (ap (λ (x : Association). x.spi_r) is.done.content) ∙ zero))
-    (λ before. issued_waits new _ number_0_answered (new_request next IKE_AUTH setup.moment) (ap (λ (x : Association). x.phase) is.done.content) is.done.issued
+    (λ before. issued_waits new _ number_0_answered (new_request next Identify setup.moment) (ap (λ (x : Association). x.phase) is.done.content) is.done.issued
     (λ number request there. absurd (none_outstanding number request there)) (refl, refl))
-    (λ one. issued_window number_0_answered (new_request next IKE_AUTH setup.moment) new.outgoing is.done.issued)
+    (λ one. issued_window number_0_answered (new_request next Identify setup.moment) new.outgoing is.done.issued)
     (ap (λ (x : Association). x.role) is.done.content)
-    (λ before. next_issued number_0_answered (new_request next IKE_AUTH setup.moment) new.outgoing is.done.issued (λ number request there. absurd (none_outstanding number request there)))
+    (λ before. next_issued number_0_answered (new_request next Identify setup.moment) new.outgoing is.done.issued (λ number request there. absurd (none_outstanding number request there)))
 
 leaves : (laws : FollowLaws) (windows : Windows) (meaning : Meaning) (setup : Setup) (old : Association) (table : Database) (octets : Octets) (m : Message) (e : Effect) (new : Association) (new_table : Database)
     → TakesMessage meaning setup old table octets m e new new_table → Leaves setup.config.window old new
@@ -613,12 +619,12 @@ begun_sound cipher group public_value fresh moment serial beginning child is = r
   near = λ number reply kept. absurd (none_kept number reply kept);
   concluded = λ number reply kept. absurd (none_kept number reply kept);
   named = λ keyed initiator. absurd (some_none keyed.keys keyed.are);
-  waits = issued_waits (begun serial beginning child) (begun serial beginning child).phase none_issued (new_request beginning.octets IKE_SA_INIT moment) refl is.issued
+  waits = issued_waits (begun serial beginning child) (begun serial beginning child).phase none_issued (new_request beginning.octets Begin moment) refl is.issued
       (λ number request there. absurd (none_outstanding number request there)) (refl, refl);
-  issued = next_issued none_issued (new_request beginning.octets IKE_SA_INIT moment) beginning.outgoing is.issued (λ number request there. absurd (none_outstanding number request there));
-  took_none = λ waits. record { role = refl; incoming = refl; window = issued_window none_issued (new_request beginning.octets IKE_SA_INIT moment) beginning.outgoing is.issued };
+  issued = next_issued none_issued (new_request beginning.octets Begin moment) beginning.outgoing is.issued (λ number request there. absurd (none_outstanding number request there));
+  took_none = λ waits. record { role = refl; incoming = refl; window = issued_window none_issued (new_request beginning.octets Begin moment) beginning.outgoing is.issued };
   took_first = λ opens. absurd (init_opens _ opens.opened opens.is);
-  peers = let one = issued_window none_issued (new_request beginning.octets IKE_SA_INIT moment) beginning.outgoing is.issued in omega (arith, one);
+  peers = let one = issued_window none_issued (new_request beginning.octets Begin moment) beginning.outgoing is.issued in omega (arith, one);
 }
 
 other_role : Responder ≡ Initiator → ⊥
@@ -644,21 +650,26 @@ admitted_sound cipher group public_value shared_secret fresh moment serial offer
       peers = omega arith;
     })
 
-pub probed_sound : (body_of : Keys → Octets → Octets → Octets → Octets) (setup : Setup) (old : Association) (octets : Octets) (new : Association)
-    → IsSoundlyHeld old → Probes body_of setup old octets new → IsSoundlyHeld new
-probed_sound body_of setup old octets new held is =
+asks_informational : (order : Order) → exchange_of (purpose_of order) ≡ INFORMATIONAL
+asks_informational order.Probe = refl
+asks_informational (order.DeleteChild child spi) = refl
+asks_informational order.DeleteAssociation = refl
+
+pub probed_sound : (body_of : Keys → Octets → Octets → Octets → Octets) (setup : Setup) (order : Order) (old : Association) (octets : Octets) (new : Association)
+    → IsSoundlyHeld old → Asks body_of setup order old octets new → IsSoundlyHeld new
+probed_sound body_of setup order old octets new held is =
     subst (λ (a : Association). IsSoundlyHeld a) (sym is.content)
     (record {
       in_effect = held.in_effect;
       near = held.near;
       concluded = held.concluded;
       named = held.named;
-      waits = issued_waits (with_outgoing old is.outgoing) (phase.Established is.keys) old.outgoing (new_request octets INFORMATIONAL setup.moment) is.established is.issued
-          (subst (λ (p : Phase). SuitPhase p old.outgoing.outstanding) is.established held.waits) refl;
-      issued = next_issued old.outgoing (new_request octets INFORMATIONAL setup.moment) is.outgoing is.issued held.issued;
+      waits = issued_waits (with_outgoing old is.outgoing) (phase.Established is.keys) old.outgoing (new_request octets (purpose_of order) setup.moment) is.established is.issued
+          (subst (λ (p : Phase). SuitPhase p old.outgoing.outstanding) is.established held.waits) (asks_informational order);
+      issued = next_issued old.outgoing (new_request octets (purpose_of order) setup.moment) is.outgoing is.issued held.issued;
       took_none = λ waits. absurd (concluded_waits old.phase (ap is_concluded is.established) waits);
       took_first = λ opens. absurd (concluded_opens old.phase opens.opened (ap is_concluded is.established) opens.is);
-      peers = let same = issued_window old.outgoing (new_request octets INFORMATIONAL setup.moment) is.outgoing is.issued in omega (arith, same, held.peers);
+      peers = let same = issued_window old.outgoing (new_request octets (purpose_of order) setup.moment) is.outgoing is.issued in omega (arith, same, held.peers);
     })
 
 -- ---- which number comes into effect
@@ -695,7 +706,7 @@ informed_taken laws meaning setup old table m plain answered new new_table admit
   answered = answered;
   said = refl;
   taken = taken_by old is.ready is.incoming m.header.id answered.octets new is.prepared is.taken
-      (closing_concludes laws (is_ending (verdict_on is.payloads)) (with_incoming old is.incoming) table setup.moment new new_table (ap is_concluded is.established) is.concluded);
+      (closing_concludes laws (is_closing_verdict (verdict_on table.pairs old.serial is.payloads)) (gone_by (verdict_on table.pairs old.serial is.payloads)) (with_incoming old is.incoming) table setup.moment new new_table (ap is_concluded is.established) is.concluded);
 }
 
 auth_taken : (laws : FollowLaws) (meaning : Meaning) (setup : Setup) (old : Association) (table : Database) (m : Message) (plain : Plain) (answered : Answered) (new : Association) (new_table : Database)
@@ -749,7 +760,7 @@ way_same laws meaning setup old table octets m (effect.Counted ended) new new_ta
     inl (auth_concludes laws setup (with_outgoing old d.outgoing) table d.verdict ended.child new new_table d.sent.keys (ap established_of d.was) d.concluded).in_effect
 way_same laws meaning setup old table octets m (effect.Counted ended) new new_table (inr is) =
     let d = is.done in
-    inl (closing_concludes laws (is_rejected d.payloads) (with_outgoing old d.outgoing) table setup.moment new new_table (ap is_concluded is.was) d.concluded).in_effect
+    inl (closing_concludes laws (is_ended d.payloads d.request.purpose) (gone_with table.pairs old.serial d.request.purpose) (with_outgoing old d.outgoing) table setup.moment new new_table (ap is_concluded is.was) d.concluded).in_effect
 
 -- what a message that was answered is
 record IsRequest (r : Reception) : Type 0 where

@@ -1,5 +1,5 @@
 -- An SPI that an association holds stays reserved, or is held no more.
-use Rattle.std.proofs.Common.{◌≡◌, ◌⊎◌, inl, inr, ℕ, ◌+◌, Bool, true, false, Option, Some, None, ap, refl, subst, sym, ◌∙◌}
+use Rattle.std.proofs.Common.{◌≡◌, ◌⊎◌, inl, inr, ℕ, ◌+◌, Bool, true, false, Option, Some, None, ap, refl, subst, sym, ◌∙◌, List}
 use Rattle.base.specs.Octets.{Octets}
 use Rattle.wire.specs.declared.message.Message.{Message}
 use Rattle.suite.specs.declared.key_record.KeyRecord.{KeyRecord}
@@ -22,8 +22,9 @@ use Rattle.initial.specs.Configs.{Setup}
 use Rattle.initial.specs.Ending.{EndsAuth, IsAuthSent}
 use Rattle.effects.specs.Pairs.{LeavesPairs}
 use Rattle.initial.specs.Reading.{IsInitSent}
-use Rattle.informational.specs.Answering.{is_ending, verdict_on, AnswersInformational}
-use Rattle.informational.specs.Counting.{is_rejected}
+use Rattle.deletions.specs.Deciding.{is_closing_verdict, verdict_on}
+use Rattle.informational.specs.Answering.{gone_by, AnswersInformational}
+use Rattle.informational.specs.Counting.{gone_with, is_ended}
 use Rattle.informational.specs.Orders.{ClosesIf}
 use Rattle.effects.specs.Taking.{prover_of, IsPassedOver, Meaning, KeepsIdentity, TakesMessage}
 use Rattle.initial.specs.declared.answering.Answered.{Answered}
@@ -53,9 +54,9 @@ ended_none : (accepts : Accepts) (setup : Setup) (old : Association) (table : Da
 ended_none accepts setup old table number plain e new new_table is =
     concluded_none setup (record old { outgoing = is.outgoing }) table is.verdict e.child new new_table (ap (λ p. spi_in (established_of p)) is.was) is.concluded
 
-closed_if_none : (ending : Bool) (a : Association) (table : Database) (moment : ℕ) (new : Association) (new_table : Database) → held_by a ≡ None → ClosesIf ending a table moment new new_table → held_by new ≡ None
-closed_if_none true a table moment new new_table none is = ap held_by is.content
-closed_if_none false a table moment new new_table none is = ap held_by is.0 ∙ none
+closed_if_none : (ending : Bool) (serials : List ℕ) (a : Association) (table : Database) (moment : ℕ) (new : Association) (new_table : Database) → held_by a ≡ None → ClosesIf ending serials a table moment new new_table → held_by new ≡ None
+closed_if_none true serials a table moment new new_table none is = ap held_by is.content
+closed_if_none false serials a table moment new new_table none is = ap held_by is.0 ∙ none
 
 -- a message that is passed over, or comes again, changes nothing
 abbrev pub Idle : Effect → Association → Database → Association → Database → Type 0
@@ -131,9 +132,9 @@ over_itself old table moment new new_table is =
       half_open = λ h. absurd (closed_opens (keys_in old.phase) moment h.opened h.is);
     })
 
-closed_if_itself : (ending : Bool) (old : Association) (table : Database) (moment : ℕ) (new : Association) (new_table : Database) → ClosesIf ending old table moment new new_table → KeepsIdentity old new
-closed_if_itself true old table moment new new_table is = over_itself old table moment new new_table is
-closed_if_itself false old table moment new new_table is = itself_by old old new is.0 (all_itself old)
+closed_if_itself : (ending : Bool) (serials : List ℕ) (old : Association) (table : Database) (moment : ℕ) (new : Association) (new_table : Database) → ClosesIf ending serials old table moment new new_table → KeepsIdentity old new
+closed_if_itself true serials old table moment new new_table is = over_itself old table moment new new_table is
+closed_if_itself false serials old table moment new new_table is = itself_by old old new is.0 (all_itself old)
 
 -- when IKE_AUTH is done
 concluded_itself : (setup : Setup) (old : Association) (table : Database) (o : Outcome) (child : Option ℕ) (new : Association) (new_table : Database) (keys : KeyRecord)
@@ -192,25 +193,27 @@ ended_leaves accepts setup old table number plain e new new_table is =
 informed_leaves : (body_of : Keys → Octets → Octets → Octets → Octets) (setup : Setup) (old : Association) (table : Database) (number : ℕ) (plain : Plain) (a : Answered) (new : Association) (new_table : Database)
     → AnswersInformational body_of setup old table number plain a new new_table → Leaves (effect.Replied a) old table new new_table
 informed_leaves body_of setup old table number plain a new new_table is =
-    let ending = is_ending (verdict_on is.payloads) in
+    let ending = is_closing_verdict (verdict_on table.pairs old.serial is.payloads) in
+    let serials = gone_by (verdict_on table.pairs old.serial is.payloads) in
     let taken : Association = record old { incoming = is.incoming } in
     record {
       idle = tt;
-      spi = inl (closed_if_none ending taken table setup.moment new new_table (ap spi_in is.established) is.concluded);
-      itself = like taken old new refl refl refl refl refl (closed_if_itself ending taken table setup.moment new new_table is.concluded);
-      pairs = closed_if_leaves ending taken table setup.moment new new_table is.concluded;
+      spi = inl (closed_if_none ending serials taken table setup.moment new new_table (ap spi_in is.established) is.concluded);
+      itself = like taken old new refl refl refl refl refl (closed_if_itself ending serials taken table setup.moment new new_table is.concluded);
+      pairs = closed_if_leaves ending serials taken table setup.moment new new_table is.concluded;
     }
 
 counted_leaves : (setup : Setup) (old : Association) (table : Database) (m : Message) (e : Ended) (new : Association) (new_table : Database)
     → CountedInformational setup old table m e new new_table → Leaves (effect.Counted e) old table new new_table
 counted_leaves setup old table m e new new_table is =
-    let ending = is_rejected is.done.payloads in
+    let ending = is_ended is.done.payloads is.done.request.purpose in
+    let serials = gone_with table.pairs old.serial is.done.request.purpose in
     let counted : Association = record old { outgoing = is.done.outgoing } in
     record {
       idle = tt;
-      spi = inl (closed_if_none ending counted table setup.moment new new_table (ap spi_in is.was) is.done.concluded);
-      itself = like counted old new refl refl refl refl refl (closed_if_itself ending counted table setup.moment new new_table is.done.concluded);
-      pairs = closed_if_leaves ending counted table setup.moment new new_table is.done.concluded;
+      spi = inl (closed_if_none ending serials counted table setup.moment new new_table (ap spi_in is.was) is.done.concluded);
+      itself = like counted old new refl refl refl refl refl (closed_if_itself ending serials counted table setup.moment new new_table is.done.concluded);
+      pairs = closed_if_leaves ending serials counted table setup.moment new new_table is.done.concluded;
     }
 
 asked_leaves : (meaning : Meaning) (setup : Setup) (old : Association) (table : Database) (m : Message) (next : Octets) (new : Association) (new_table : Database)

@@ -8,8 +8,9 @@ use Rattle.association.specs.declared.phase.Association.{Association}
 use Rattle.initial.specs.Answering.{outcome_of}
 use Rattle.initial.specs.Concluding.{with_incoming, with_outgoing}
 use Rattle.initial.specs.Configs.{Setup}
-use Rattle.informational.specs.Answering.{is_ending, verdict_on}
-use Rattle.informational.specs.Counting.{is_rejected}
+use Rattle.deletions.specs.Deciding.{is_closing_verdict, verdict_on}
+use Rattle.informational.specs.Answering.{gone_by}
+use Rattle.informational.specs.Counting.{gone_with, is_ended}
 use Rattle.effects.specs.Keeping.{child_in}
 use Rattle.effects.specs.Taking.{Meaning, TakesMessage}
 use Rattle.effects.specs.declared.taking.Effect.{Effect}
@@ -25,13 +26,13 @@ way_told meaning setup old table octets m (effect.Replied answered) new new_tabl
     concluded_told setup (with_incoming old is.done.incoming) table is.done.between (outcome_of is.done.decision) answered.child new new_table
     (room_same table is.done.between is.done.room) is.done.concluded
 way_told meaning setup old table octets m (effect.Replied answered) new new_table (inr is) =
-    closed_if_told (is_ending (verdict_on is.done.payloads)) (with_incoming old is.done.incoming) table setup.moment answered.child new new_table is.done.concluded
+    closed_if_told (is_closing_verdict (verdict_on table.pairs old.serial is.done.payloads)) (gone_by (verdict_on table.pairs old.serial is.done.payloads)) (with_incoming old is.done.incoming) table setup.moment answered.child new new_table is.done.concluded
 way_told meaning setup old table octets m (effect.Again next) new new_table is = unchanged_told table None new_table is.pairs
 way_told meaning setup old table octets m (effect.Identified next) new new_table is = unchanged_told table None new_table is.pairs
 way_told meaning setup old table octets m (effect.Counted ended) new new_table (inl is) =
     concluded_told setup (with_outgoing old is.done.outgoing) table table is.done.verdict ended.child new new_table (itself_same table) is.done.concluded
 way_told meaning setup old table octets m (effect.Counted ended) new new_table (inr is) =
-    closed_if_told (is_rejected is.done.payloads) (with_outgoing old is.done.outgoing) table setup.moment ended.child new new_table is.done.concluded
+    closed_if_told (is_ended is.done.payloads is.done.request.purpose) (gone_with table.pairs old.serial is.done.request.purpose) (with_outgoing old is.done.outgoing) table setup.moment ended.child new new_table is.done.concluded
 
 pub pairs_told : (meaning : Meaning) (setup : Setup) (old : Association) (table : Database) (octets : Octets) (m : Message) (e : Effect) (new : Association) (new_table : Database) (serial : ℕ) (pair : Pair)
     → TakesMessage meaning setup old table octets m e new new_table → pair_at new_table.pairs serial ≡ Some pair → (pair_at table.pairs serial ≡ Some pair) ⊎ (child_in e ≡ Some serial)

@@ -1,5 +1,5 @@
 -- What waits for its answer after a message waited before, or goes out by it.
-use Rattle.std.proofs.Common.{◌≡◌, ◌⊎◌, inl, inr, ℕ, arith, Bool, true, false, cond, Option, Some, None, ap, refl, subst, sym, ◌∙◌}
+use Rattle.std.proofs.Common.{◌≡◌, ◌==◌, ◌⊎◌, inl, inr, ℕ, ◌+◌, ◌<◌, arith, Bool, true, false, cond, Option, Some, None, ap, refl, subst, sym, ◌∙◌, List}
 use Rattle.std.specs.Cmp.{nat_cmp_total, unsigned_tied}
 use Rattle.std.specs.FinMap as map
 use Rattle.std.specs.Ordering.{nat_cmp}
@@ -21,6 +21,8 @@ use Rattle.association.specs.declared.phase.InitSent.{InitSent}
 use Rattle.association.specs.declared.phase.Phase.{Phase}
 use Rattle.association.specs.declared.phase.Phase.TheVariants as phase
 use Rattle.association.specs.declared.phase.Request.{Request}
+use Rattle.association.specs.declared.purpose.Purpose.{Purpose}
+use Rattle.association.specs.declared.purpose.Purpose.TheVariants.{Begin, Identify}
 use Rattle.initial.specs.Answering.{outcome_of}
 use Rattle.initial.specs.Beginning.{begun, Begins}
 use Rattle.initial.specs.Concluding.{is_closing, with_incoming, with_outgoing, ConcludesBy}
@@ -29,10 +31,13 @@ use Rattle.initial.specs.Issuing.{new_request, IssuesNext}
 use Rattle.initial.specs.declared.beginning.Beginning.{Beginning}
 use Rattle.initial.specs.declared.concluding.Outcome.{Outcome}
 use Rattle.initial.specs.declared.concluding.Outcome.TheVariants as outcome
-use Rattle.informational.specs.Answering.{is_ending, verdict_on}
-use Rattle.informational.specs.Counting.{is_rejected}
+use Rattle.deletions.specs.Deciding.{is_closing_verdict, verdict_on}
+use Rattle.informational.specs.Answering.{gone_by}
+use Rattle.informational.specs.Counting.{gone_with, is_ended}
 use Rattle.informational.specs.Orders.{ClosesIf}
-use Rattle.informational.specs.Probing.{Probes}
+use Rattle.informational.specs.Asking.{Asks}
+use Rattle.informational.specs.Ordering.{payloads_of_order, purpose_of}
+use Rattle.informational.specs.declared.ordering.Order.{Order}
 use Rattle.effects.specs.Taking.{Meaning, TakesMessage}
 use Rattle.effects.specs.Requests.{IsSoundlyHeld}
 use Rattle.effects.specs.Waiting.{asked_by, Ends, StartsWaiting, TakesCookie, SuitPhase, KeepTimers, WaitUntil}
@@ -83,17 +88,17 @@ concluded_keeps : (setup : Setup) (a : Association) (table : Database) (o : Outc
 concluded_keeps setup a table outcome.Closes child new new_table is = inr refl
 concluded_keeps setup a table (outcome.Establishes pair window) child new new_table is = inl (λ number request there. ap (λ (x : Association). map.get x.outgoing.outstanding number) is.content ∙ there)
 
-closed_fewer : (ending : Bool) (a : Association) (table : Database) (moment : ℕ) (new : Association) (new_table : Database) → ClosesIf ending a table moment new new_table → Fewer a.outgoing new.outgoing
-closed_fewer true a table moment new new_table is = given_up a.outgoing new.outgoing is.requests
-closed_fewer false a table moment new new_table is = λ number request there. sym (ap (λ (x : Association). map.get x.outgoing.outstanding number) is.0) ∙ there
+closed_fewer : (ending : Bool) (serials : List ℕ) (a : Association) (table : Database) (moment : ℕ) (new : Association) (new_table : Database) → ClosesIf ending serials a table moment new new_table → Fewer a.outgoing new.outgoing
+closed_fewer true serials a table moment new new_table is = given_up a.outgoing new.outgoing is.requests
+closed_fewer false serials a table moment new new_table is = λ number request there. sym (ap (λ (x : Association). map.get x.outgoing.outstanding number) is.0) ∙ there
 
-closed_keeps : (ending : Bool) (a : Association) (table : Database) (moment : ℕ) (new : Association) (new_table : Database) → ClosesIf ending a table moment new new_table → Keeps a.outgoing new.outgoing ⊎ (ending ≡ true)
-closed_keeps true a table moment new new_table is = inr refl
-closed_keeps false a table moment new new_table is = inl (λ number request there. ap (λ (x : Association). map.get x.outgoing.outstanding number) is.0 ∙ there)
+closed_keeps : (ending : Bool) (serials : List ℕ) (a : Association) (table : Database) (moment : ℕ) (new : Association) (new_table : Database) → ClosesIf ending serials a table moment new new_table → Keeps a.outgoing new.outgoing ⊎ (ending ≡ true)
+closed_keeps true serials a table moment new new_table is = inr refl
+closed_keeps false serials a table moment new new_table is = inl (λ number request there. ap (λ (x : Association). map.get x.outgoing.outstanding number) is.0 ∙ there)
 
-goes_out : (octets : Octets) (exchange moment : ℕ) (old new : Association) (number : ℕ) (found : Request) → (map.get old.outgoing.outstanding number ≡ None) ⊎ TakesCookie old new → new_request octets exchange moment ≡ found
+goes_out : (octets : Octets) (asked : Purpose) (moment : ℕ) (old new : Association) (number : ℕ) (found : Request) → (map.get old.outgoing.outstanding number ≡ None) ⊎ TakesCookie old new → new_request octets asked moment ≡ found
     → StartsWaiting moment (Some octets) old new number found
-goes_out octets exchange moment old new number found fresh is = subst (λ (r : Request). StartsWaiting moment (Some octets) old new number r) is (record { said = refl; timer = refl; fresh = fresh })
+goes_out octets asked moment old new number found fresh is = subst (λ (r : Request). StartsWaiting moment (Some octets) old new number r) is (record { said = refl; timer = refl; fresh = fresh })
 
 none_by : (o : Option Request) → ((request : Request) → o ≡ Some request → ⊥) → o ≡ None
 none_by None never = refl
@@ -124,7 +129,7 @@ way_waits meaning setup old table octets m (effect.Replied answered) new new_tab
     fewer_wait setup.moment None old new (concluded_fewer setup (with_incoming old d.incoming) d.between (outcome_of d.decision) answered.child new new_table d.concluded)
 way_waits meaning setup old table octets m (effect.Replied answered) new new_table held (inr is) =
     let d = is.done in
-    fewer_wait setup.moment None old new (closed_fewer (is_ending (verdict_on d.payloads)) (with_incoming old d.incoming) table setup.moment new new_table d.concluded)
+    fewer_wait setup.moment None old new (closed_fewer (is_closing_verdict (verdict_on table.pairs old.serial d.payloads)) (gone_by (verdict_on table.pairs old.serial d.payloads)) (with_incoming old d.incoming) table setup.moment new new_table d.concluded)
 way_waits meaning setup old table octets m (effect.Counted ended) new new_table held (inl is) =
     let d = is.done in
     fewer_wait setup.moment None old new
@@ -133,19 +138,19 @@ way_waits meaning setup old table octets m (effect.Counted ended) new new_table 
     let d = is.done in
     fewer_wait setup.moment None old new
     (λ number request there. counted_fewer old.outgoing m.header.id d.request d.outgoing d.counted number request
-    (closed_fewer (is_rejected d.payloads) (with_outgoing old d.outgoing) table setup.moment new new_table d.concluded number request there))
+    (closed_fewer (is_ended d.payloads d.request.purpose) (gone_with table.pairs old.serial d.request.purpose) (with_outgoing old d.outgoing) table setup.moment new new_table d.concluded number request there))
 way_waits meaning setup old table octets m (effect.Again next) new new_table held is =
     let takes : TakesCookie old new = record { before = is.sent; was = is.was; after = _; is = ap (λ (x : Association). x.phase) is.done.content; taken = refl } in
     λ number found there.
-    elim (put_at old.outgoing.outstanding m.header.id (new_request next IKE_SA_INIT setup.moment) number found (sym (ap (λ (r : OwnRequests Request). map.get r.outstanding number) is.done.replaced.content) ∙ there)) [
+    elim (put_at old.outgoing.outstanding m.header.id (new_request next Begin setup.moment) number found (sym (ap (λ (r : OwnRequests Request). map.get r.outstanding number) is.done.replaced.content) ∙ there)) [
       | inl before ↦ inl before
-      | inr (here, now) ↦ inr (goes_out next IKE_SA_INIT setup.moment old new number found (inr takes) now)
+      | inr (here, now) ↦ inr (goes_out next Begin setup.moment old new number found (inr takes) now)
     ]
 way_waits meaning setup old table octets m (effect.Identified next) new new_table held is =
     λ number found there.
-    elim (issued_put number_0_answered (new_request next IKE_AUTH setup.moment) new.outgoing number found is.done.issued there) [
+    elim (issued_put number_0_answered (new_request next Identify setup.moment) new.outgoing number found is.done.issued there) [
       | inl before ↦ absurd (none_first number found before)
-      | inr (here, now) ↦ inr (goes_out next IKE_AUTH setup.moment old new number found
+      | inr (here, now) ↦ inr (goes_out next Identify setup.moment old new number found
           (inl (none_by (map.get old.outgoing.outstanding number) (λ request stood. let zero_it_is = init_number old is.sent number request held is.was stood in omega (arith, here, zero_it_is)))) now)
     ]
 
@@ -177,13 +182,13 @@ way_until meaning setup old table octets m (effect.Replied answered) new new_tab
     replied_until old.outgoing new.outgoing answered.closed (is_closing (outcome_of d.decision)) d.closed (concluded_keeps setup (with_incoming old d.incoming) d.between (outcome_of d.decision) answered.child new new_table d.concluded)
 way_until meaning setup old table octets m (effect.Replied answered) new new_table held (inr is) =
     let d = is.done in
-    replied_until old.outgoing new.outgoing answered.closed (is_ending (verdict_on d.payloads)) d.closed (closed_keeps (is_ending (verdict_on d.payloads)) (with_incoming old d.incoming) table setup.moment new new_table d.concluded)
+    replied_until old.outgoing new.outgoing answered.closed (is_closing_verdict (verdict_on table.pairs old.serial d.payloads)) d.closed (closed_keeps (is_closing_verdict (verdict_on table.pairs old.serial d.payloads)) (gone_by (verdict_on table.pairs old.serial d.payloads)) (with_incoming old d.incoming) table setup.moment new new_table d.concluded)
 way_until meaning setup old table octets m (effect.Counted ended) new new_table held (inl is) =
     let d = is.done in
     counted_until old.outgoing d.outgoing new.outgoing m.header.id d.request ended.closed (is_closing d.verdict) d.counted d.closed (concluded_keeps setup (with_outgoing old d.outgoing) table d.verdict ended.child new new_table d.concluded)
 way_until meaning setup old table octets m (effect.Counted ended) new new_table held (inr is) =
     let d = is.done in
-    counted_until old.outgoing d.outgoing new.outgoing m.header.id d.request ended.closed (is_rejected d.payloads) d.counted d.closed (closed_keeps (is_rejected d.payloads) (with_outgoing old d.outgoing) table setup.moment new new_table d.concluded)
+    counted_until old.outgoing d.outgoing new.outgoing m.header.id d.request ended.closed (is_ended d.payloads d.request.purpose) d.counted d.closed (closed_keeps (is_ended d.payloads d.request.purpose) (gone_with table.pairs old.serial d.request.purpose) (with_outgoing old d.outgoing) table setup.moment new new_table d.concluded)
 way_until meaning setup old table octets m (effect.Again next) new new_table held is = λ number request there. inr (init_number old is.sent number request held is.was there)
 way_until meaning setup old table octets m (effect.Identified next) new new_table held is = λ number request there. inr (init_number old is.sent number request held is.was there)
 
@@ -211,9 +216,9 @@ concluded_closes setup a table outcome.Closes child new new_table known keys at 
 concluded_closes setup a table (outcome.Establishes pair window) child new new_table known keys at was is =
     λ closed. absurd (established_at known keys at (sym was ∙ sym (ap (λ (x : Association). x.phase) is.content) ∙ closed))
 
-ending_closes : (ending : Bool) (a : Association) (table : Database) (moment : ℕ) (new : Association) (new_table : Database) (keys : Option KeyRecord) (at : ℕ) → ClosesIf ending a table moment new new_table → ClosesNow moment ending a new keys at
-ending_closes true a table moment new new_table keys at is = λ closed. inr (closed_now a new moment keys at is.content closed, refl)
-ending_closes false a table moment new new_table keys at is = λ closed. inl (sym (ap (λ (x : Association). x.phase) is.0) ∙ closed)
+ending_closes : (ending : Bool) (serials : List ℕ) (a : Association) (table : Database) (moment : ℕ) (new : Association) (new_table : Database) (keys : Option KeyRecord) (at : ℕ) → ClosesIf ending serials a table moment new new_table → ClosesNow moment ending a new keys at
+ending_closes true serials a table moment new new_table keys at is = λ closed. inr (closed_now a new moment keys at is.content closed, refl)
+ending_closes false serials a table moment new new_table keys at is = λ closed. inl (sym (ap (λ (x : Association). x.phase) is.0) ∙ closed)
 
 ends_too : (moment : ℕ) (closed ending : Bool) (old new : Association) (keys : Option KeyRecord) (at : ℕ) → closed ≡ ending → ClosesNow moment ending old new keys at → ClosesNow moment closed old new keys at
 ends_too moment closed ending old new keys at same is = subst (λ (b : Bool). ClosesNow moment b old new keys at) (sym same) is
@@ -234,16 +239,16 @@ way_closes meaning setup old table octets m (effect.Replied answered) new new_ta
     (concluded_closes setup (with_incoming old d.incoming) d.between (outcome_of d.decision) answered.child new new_table d.opened.keys keys at (ap established_of d.was) d.concluded)
 way_closes meaning setup old table octets m (effect.Replied answered) new new_table keys at (inr is) =
     let d = is.done in
-    ends_too setup.moment answered.closed (is_ending (verdict_on d.payloads)) (with_incoming old d.incoming) new keys at d.closed
-    (ending_closes (is_ending (verdict_on d.payloads)) (with_incoming old d.incoming) table setup.moment new new_table keys at d.concluded)
+    ends_too setup.moment answered.closed (is_closing_verdict (verdict_on table.pairs old.serial d.payloads)) (with_incoming old d.incoming) new keys at d.closed
+    (ending_closes (is_closing_verdict (verdict_on table.pairs old.serial d.payloads)) (gone_by (verdict_on table.pairs old.serial d.payloads)) (with_incoming old d.incoming) table setup.moment new new_table keys at d.concluded)
 way_closes meaning setup old table octets m (effect.Counted ended) new new_table keys at (inl is) =
     let d = is.done in
     ends_too setup.moment ended.closed (is_closing d.verdict) (with_outgoing old d.outgoing) new keys at d.closed
     (concluded_closes setup (with_outgoing old d.outgoing) table d.verdict ended.child new new_table d.sent.keys keys at (ap established_of d.was) d.concluded)
 way_closes meaning setup old table octets m (effect.Counted ended) new new_table keys at (inr is) =
     let d = is.done in
-    ends_too setup.moment ended.closed (is_rejected d.payloads) (with_outgoing old d.outgoing) new keys at d.closed
-    (ending_closes (is_rejected d.payloads) (with_outgoing old d.outgoing) table setup.moment new new_table keys at d.concluded)
+    ends_too setup.moment ended.closed (is_ended d.payloads d.request.purpose) (with_outgoing old d.outgoing) new keys at d.closed
+    (ending_closes (is_ended d.payloads d.request.purpose) (gone_with table.pairs old.serial d.request.purpose) (with_outgoing old d.outgoing) table setup.moment new new_table keys at d.concluded)
 way_closes meaning setup old table octets m (effect.Again next) new new_table keys at is = λ closed. absurd (init_closed _ keys at (sym (ap (λ (x : Association). x.phase) is.done.content) ∙ closed))
 way_closes meaning setup old table octets m (effect.Identified next) new new_table keys at is = λ closed. absurd (auth_closed _ keys at (sym (ap (λ (x : Association). x.phase) is.done.content) ∙ closed))
 
@@ -253,20 +258,20 @@ message_closes meaning setup old table octets m e new new_table keys at is = way
 
 -- ---- as an association asks, and begins
 
-pub probe_waits : (body_of : Keys → Octets → Octets → Octets → Octets) (setup : Setup) (old : Association) (octets : Octets) (new : Association) → IsSoundlyHeld old → Probes body_of setup old octets new
+pub probe_waits : (body_of : Keys → Octets → Octets → Octets → Octets) (setup : Setup) (order : Order) (old : Association) (octets : Octets) (new : Association) → IsSoundlyHeld old → Asks body_of setup order old octets new
     → KeepTimers setup.moment (Some octets) old new
-probe_waits body_of setup old octets new held is number found there =
-    elim (issued_put old.outgoing (new_request octets INFORMATIONAL setup.moment) is.outgoing number found is.issued (sym (ap (λ (x : Association). map.get x.outgoing.outstanding number) is.content) ∙ there)) [
+probe_waits body_of setup order old octets new held is number found there =
+    elim (issued_put old.outgoing (new_request octets (purpose_of order) setup.moment) is.outgoing number found is.issued (sym (ap (λ (x : Association). map.get x.outgoing.outstanding number) is.content) ∙ there)) [
       | inl before ↦ inl before
-      | inr (here, now) ↦ inr (goes_out octets INFORMATIONAL setup.moment old new number found
+      | inr (here, now) ↦ inr (goes_out octets (purpose_of order) setup.moment old new number found
           (inl (none_by (map.get old.outgoing.outstanding number) (λ request stood. let less = held.issued number request stood in omega (arith, here, less)))) now)
     ]
 
-pub probe_keeps : (body_of : Keys → Octets → Octets → Octets → Octets) (setup : Setup) (old : Association) (octets : Octets) (new : Association) (number : ℕ) (request : Request) → IsSoundlyHeld old → Probes body_of setup old octets new
+pub probe_keeps : (body_of : Keys → Octets → Octets → Octets → Octets) (setup : Setup) (order : Order) (old : Association) (octets : Octets) (new : Association) (number : ℕ) (request : Request) → IsSoundlyHeld old → Asks body_of setup order old octets new
     → map.get old.outgoing.outstanding number ≡ Some request → map.get new.outgoing.outstanding number ≡ Some request
-probe_keeps body_of setup old octets new number request held is there =
+probe_keeps body_of setup order old octets new number request held is there =
     let less = held.issued number request there in
-    let put = new_request octets INFORMATIONAL setup.moment in
+    let put = new_request octets (purpose_of order) setup.moment in
     elim (eqb_tells number old.outgoing.next) [
       | inl (one, same) ↦ absurd (omega (arith, same, less))
       | inr (none, apart) ↦ ap (λ (x : Association). map.get x.outgoing.outstanding number) is.content
@@ -280,7 +285,7 @@ pub begun_waits : (cipher : Cipher) (group : ℕ) (public_value : Octets → Oct
     → Begins cipher group public_value fresh moment beginning → map.get (begun serial beginning child).outgoing.outstanding number ≡ Some request
     → (beginning.octets ≡ request.octets) × (request.timer ≡ record { sent = moment; repeats = 0 })
 begun_waits cipher group public_value fresh moment serial beginning child number request is there =
-    elim (issued_put none_issued (new_request beginning.octets IKE_SA_INIT moment) beginning.outgoing number request is.issued there) [
+    elim (issued_put none_issued (new_request beginning.octets Begin moment) beginning.outgoing number request is.issued there) [
       | inl before ↦ absurd (none_first number request before)
       | inr (here, now) ↦ (ap (λ (r : Request). r.octets) now, sym (ap (λ (r : Request). r.timer) now))
     ]

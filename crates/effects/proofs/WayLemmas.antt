@@ -18,8 +18,9 @@ use Rattle.initial.specs.Answering.{AnswersAuth}
 use Rattle.initial.specs.Configs.{Setup}
 use Rattle.initial.specs.Ending.{EndsAuth}
 use Rattle.initial.specs.Reading.{waiting_of, BringsCookie, Continues, TellsIdentity}
-use Rattle.informational.specs.Answering.{AnswersInformational}
-use Rattle.informational.specs.Counting.{CountsInformational}
+use Rattle.deletions.specs.Deciding.{is_closing_verdict, verdict_on}
+use Rattle.informational.specs.Answering.{gone_by, AnswersInformational}
+use Rattle.informational.specs.Counting.{gone_with, is_ended, CountsInformational}
 use Rattle.effects.specs.Taking.{asker_of, prover_of, Does, DoesFurther, DoesRequest, DoesResponse, IsPassedOver, Meaning, Says, TakesMessage}
 use Rattle.initial.specs.declared.answering.Answered.{Answered}
 use Rattle.initial.specs.declared.ending.Ended.{Ended}

@@ -1,5 +1,5 @@
 -- The keys of an association are whole when they are derived, and stay so.
-use Rattle.std.proofs.Common.{◌≡◌, ◌==◌, ℕ, Bool, true, false, Option, Some, None, refl, sym, ap, subst, ◌∙◌}
+use Rattle.std.proofs.Common.{◌≡◌, ◌==◌, ℕ, Bool, true, false, Option, Some, None, refl, sym, ap, subst, ◌∙◌, List}
 use Rattle.base.specs.Octets.{Octets}
 use Rattle.wire.specs.Numbers.{INFORMATIONAL}
 use Rattle.wire.specs.declared.message.Message.{Message}
@@ -22,8 +22,9 @@ use Rattle.initial.specs.Answering.{outcome_of}
 use Rattle.initial.specs.Beginning.{Admits}
 use Rattle.initial.specs.Concluding.{ConcludesBy}
 use Rattle.initial.specs.Configs.{Setup}
-use Rattle.informational.specs.Answering.{is_ending, verdict_on}
-use Rattle.informational.specs.Counting.{is_rejected}
+use Rattle.deletions.specs.Deciding.{is_closing_verdict, verdict_on}
+use Rattle.informational.specs.Answering.{gone_by}
+use Rattle.informational.specs.Counting.{gone_with, is_ended}
 use Rattle.informational.specs.Orders.{ClosesIf}
 use Rattle.effects.specs.Lengths.{AreWholeKeys, HoldsWholeKeys}
 use Rattle.initial.specs.Reading.{Asker, Continues}
@@ -55,9 +56,9 @@ concluded_keys : (setup : Setup) (o : Outcome) (old : Association) (table : Data
 concluded_keys setup outcome.Closes old table child new new_table is = ap held_keys is.over.content
 concluded_keys setup (outcome.Establishes pair window) old table child new new_table is = ap held_keys is.content ∙ keys_established old.phase
 
-closed_if_keys : (ending : Bool) (old : Association) (table : Database) (moment : ℕ) (new : Association) (new_table : Database) → ClosesIf ending old table moment new new_table → held_keys new ≡ held_keys old
-closed_if_keys true old table moment new new_table is = ap held_keys is.content
-closed_if_keys false old table moment new new_table is = ap held_keys is.0
+closed_if_keys : (ending : Bool) (serials : List ℕ) (old : Association) (table : Database) (moment : ℕ) (new : Association) (new_table : Database) → ClosesIf ending serials old table moment new new_table → held_keys new ≡ held_keys old
+closed_if_keys true serials old table moment new new_table is = ap held_keys is.content
+closed_if_keys false serials old table moment new new_table is = ap held_keys is.0
 
 no_keys : (p : Phase) → keys_in p ≡ None → HoldsWholeKeys p
 no_keys p none keys is = absurd (cc)
@@ -85,7 +86,7 @@ passed_whole old table new new_table whole is = subst (λ (x : Association). Hol
 module _ (meaning : Meaning) (setup : Setup) (number : ℕ) (plain : Plain) (old : Association) (table : Database) (new : Association) (new_table : Database) (e : Effect) (whole : HoldsWholeKeys old.phase) where
   further_whole : (informational : Bool) → FurtherDone meaning setup number plain old table new new_table informational e → HoldsWholeKeys new.phase
   further_whole true is =
-      whole_still old.phase new.phase (closed_if_keys (is_ending (verdict_on is.answers.payloads)) (record old { incoming = is.answers.incoming }) table setup.moment new new_table is.answers.concluded) whole
+      whole_still old.phase new.phase (closed_if_keys (is_closing_verdict (verdict_on table.pairs old.serial is.answers.payloads)) (gone_by (verdict_on table.pairs old.serial is.answers.payloads)) (record old { incoming = is.answers.incoming }) table setup.moment new new_table is.answers.concluded) whole
   further_whole false is = passed_whole old table new new_table whole is.passed
 
   request_whole : (p : Phase) (exchange : ℕ) → RequestDone meaning setup number plain old table new new_table p exchange e → HoldsWholeKeys new.phase
@@ -101,7 +102,7 @@ module _ (meaning : Meaning) (setup : Setup) (number : ℕ) (plain : Plain) (old
   response_whole (phase.AuthSent p) is = whole_still old.phase new.phase (concluded_keys setup is.ends.verdict (record old { outgoing = is.ends.outgoing }) table is.ended.child new new_table is.ends.concluded) whole
   response_whole (phase.HalfOpen p) is = passed_whole old table new new_table whole is.passed
   response_whole (phase.Established p) is =
-      whole_still old.phase new.phase (closed_if_keys (is_rejected is.counts.payloads) (record old { outgoing = is.counts.outgoing }) table setup.moment new new_table is.counts.concluded) whole
+      whole_still old.phase new.phase (closed_if_keys (is_ended is.counts.payloads is.counts.request.purpose) (gone_with table.pairs old.serial is.counts.request.purpose) (record old { outgoing = is.counts.outgoing }) table setup.moment new new_table is.counts.concluded) whole
   response_whole (phase.Closed p at) is = passed_whole old table new new_table whole is.passed
 
 done_whole : KeyLaws → (meaning : Meaning) (setup : Setup) (old : Association) (table : Database) (octets : Octets) (m : Message) (r : Reception) (e : Effect) (new : Association) (new_table : Database)

@@ -21,6 +21,7 @@ use Rattle.association.specs.Receiving.{opened_by}
 use Rattle.association.specs.declared.phase.Association.{Association}
 use Rattle.association.specs.declared.phase.AuthSent.{AuthSent}
 use Rattle.association.specs.declared.phase.Phase.TheVariants as phase
+use Rattle.association.specs.declared.purpose.Purpose.TheVariants.{Identify}
 use Rattle.children.specs.Accepting.{KeepsToRequest}
 use Rattle.children.specs.Asking.{child_request, HasChildPayloads}
 use Rattle.children.specs.Pairs.{HasFewSelectors, IsChild}
@@ -105,7 +106,7 @@ pub record AsksForChild (meaning : Meaning) (setup : Setup) (octets : Octets) (n
   pub request : List Payload
   pub asks : HasChildPayloads request (child_request (asked_of sent.child))
   pub sealed : IsSealed meaning.body_of (keys_of new.role sent.keys) setup.fresh.seal (record { header = sent_header new.spi_i new.spi_r IKE_AUTH new.role false 1; payloads = request }) octets
-  pub kept : map.get new.outgoing.outstanding 1 ≡ Some (new_request octets IKE_AUTH setup.moment)
+  pub kept : map.get new.outgoing.outstanding 1 ≡ Some (new_request octets Identify setup.moment)
 
 -- the effect by which an initiator asks
 pub record IsAsking (e : Effect) : Type 0 where

@@ -82,7 +82,8 @@ first_ledger keys Responder = ledger_with keys Responder false after_number_0 no
 pub record Makes (keys : KeyRecord) (new : Ledger) : Type 0 where
   pub content : new ≡ first_ledger keys new.role
 
--- An open association issues the least number never issued, which lies in the peer's window and has 32 bits.
+-- An open association issues the least number never issued, which lies in the peer's window and has 32 bits. (That none
+-- goes out while one to delete the association waits is not seen here: moves know no payload.)
 pub record Issues (number : ℕ) (octets : Octets) (old new : Ledger) : Type 0 where
   pub least : number ≡ old.next
   pub in_window : (gap : ℕ) → IsGap old.answered gap → old.next < gap + old.window

@@ -25,7 +25,7 @@ use Rattle.effects.specs.Waiting.{AreIssued, TookFirstRequest, TookNoRequest, Su
 use Rattle.effects.specs.declared.taking.Effect.{Effect}
 use Rattle.effects.specs.declared.taking.Effect.TheVariants as effect
 
--- The exchanges whose requests take effect in a phase. It admits CREATE_CHILD_SA too, which is not known yet: then the two are one.
+-- The exchanges whose requests take effect in a phase. What a phase admits has CREATE_CHILD_SA too, whose requests are not known yet.
 abbrev pub takes_requests : Phase → ℕ → Bool
 takes_requests (HalfOpen opened) exchange = exchange == IKE_AUTH
 takes_requests (Established keys) exchange = exchange == INFORMATIONAL

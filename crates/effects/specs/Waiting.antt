@@ -1,32 +1,35 @@
--- What an end waits for in each phase, and what it took of the peer's requests before it has keys (RFC 7296 sections 1.2, 1.4 and 2.2).
+-- What an end waits for in each phase, and what it took of the peer's requests before IKE_AUTH is done (RFC 7296 sections 1.2, 1.4 and 2.2).
 use Rattle.std.specs.Prelude.{◌≡◌, ◌⊎◌, ◌<◌, ◌+◌, ℕ, true, Option, Some, None}
 use Rattle.std.specs.FinMap as map
 use Rattle.std.specs.FinSet as set
 use Rattle.std.specs.Ordering.{nat_cmp}
 use Rattle.base.specs.Octets.{Octets}
-use Rattle.wire.specs.Numbers.{IKE_AUTH, IKE_SA_INIT, INFORMATIONAL}
+use Rattle.wire.specs.Numbers.{INFORMATIONAL, IKE_AUTH, IKE_SA_INIT}
 use Rattle.exchange.specs.declared.headers.Role.TheVariants.{Initiator, Responder}
-use Rattle.requests.specs.Incoming.{after_number_0, no_requests}
+use Rattle.requests.specs.Incoming.{no_requests, after_number_0}
 use Rattle.requests.specs.Outgoing.{OwnRequests}
+use Rattle.association.specs.Purposes.{exchange_of}
 use Rattle.association.specs.declared.phase.Association.{Association}
 use Rattle.association.specs.declared.phase.InitSent as phase
 use Rattle.association.specs.declared.phase.Phase.{Phase}
 use Rattle.association.specs.declared.phase.Phase.TheVariants.{InitSent, AuthSent, HalfOpen, Established, Closed}
 use Rattle.association.specs.declared.phase.Request.{Request}
+use Rattle.association.specs.declared.purpose.Purpose.{Purpose}
+use Rattle.association.specs.declared.purpose.Purpose.TheVariants.{Begin, Identify}
 use Rattle.effects.specs.declared.taking.Effect.{Effect}
 use Rattle.effects.specs.declared.taking.Effect.TheVariants as effect
 
--- a request of this number and exchange may wait for its answer in the phase
-abbrev pub MayBeOutstanding : Phase → ℕ → ℕ → Type 0
-MayBeOutstanding (InitSent sent) number exchange = (number ≡ 0) × (exchange ≡ IKE_SA_INIT)
-MayBeOutstanding (AuthSent sent) number exchange = (number ≡ 1) × (exchange ≡ IKE_AUTH)
-MayBeOutstanding (HalfOpen opened) number exchange = ⊥
-MayBeOutstanding (Established keys) number exchange = exchange ≡ INFORMATIONAL
-MayBeOutstanding (Closed keys at) number exchange = ⊥
+-- a request of this number, which asks this, may wait for its answer in the phase
+abbrev pub MayBeOutstanding : Phase → ℕ → Purpose → Type 0
+MayBeOutstanding (InitSent sent) number asked = (number ≡ 0) × (asked ≡ Begin)
+MayBeOutstanding (AuthSent sent) number asked = (number ≡ 1) × (asked ≡ Identify)
+MayBeOutstanding (HalfOpen opened) number asked = ⊥
+MayBeOutstanding (Established keys) number asked = exchange_of asked ≡ INFORMATIONAL
+MayBeOutstanding (Closed keys at) number asked = ⊥
 
 -- no other waits
 abbrev pub SuitPhase : Phase → map.FinMap nat_cmp Request → Type 0
-SuitPhase p outstanding = (number : ℕ) (request : Request) → map.get outstanding number ≡ Some request → MayBeOutstanding p number request.exchange
+SuitPhase p outstanding = (number : ℕ) (request : Request) → map.get outstanding number ≡ Some request → MayBeOutstanding p number request.purpose
 
 -- this end began the association, took no request under it yet, and makes one at a time
 pub record TookNoRequest (a : Association) : Type 0 where

@@ -16,6 +16,7 @@ ghost use Rattle.association.specs.Closing.{HoldsSpi};
 ghost use Rattle.association.specs.FirstChildren.{FirstChildView};
 ghost use Rattle.association.specs.Phases.{keys_in, spi_in};
 ghost use Rattle.association.specs.Finding.{is_meant};
+ghost use Rattle.association.specs.Purposes.{exchange_of};
 ghost use Rattle.association.specs.Receiving.{opened_by, IsRepeating, Opening};
 ghost use Rattle.association.specs.declared.fault.MessageFault.TheVariants as why;
 ghost use Rattle.association.specs.declared.phase.HalfOpen.{HalfOpen};
@@ -39,8 +40,9 @@ ghost use Rattle.auth.specs.Proofs.{Accepts};
 ghost use Rattle.initial.specs.Answering.{AnswersAuth, Prover};
 ghost use Rattle.initial.specs.Beginning.{begun, Admits, Begins};
 ghost use Rattle.effects.specs.Children.{AsksForChild, IsAsking, MakesChild};
-ghost use Rattle.initial.specs.Configs.{IsConfig, Setup};
-ghost use Rattle.informational.specs.Probing.{Probes};
+ghost use Rattle.initial.specs.Configs.{Setup, IsConfig};
+ghost use Rattle.informational.specs.Asking.{Asks};
+ghost use Rattle.informational.specs.declared.ordering.Order.{Order};
 ghost use Rattle.moments.specs.Due.{is_over, SendsAgain};
 ghost use Rattle.moments.specs.Held.{IsClosedAt, IsInTime};
 ghost use Rattle.effects.specs.Moves.{ledger, moves_of, Close, Issue, KeepsReply, Lead, Make, Remove, WaitsWith};
@@ -72,6 +74,7 @@ use children::laws::{
     children_are_determined, pairs_are_children, pairs_have_few_selectors,
     responses_keep_to_their_offers, what_is_accepted_was_asked,
 };
+use deletions::laws::removals_are_determined;
 use exchange::laws::{
     ciphers_tell_lengths, ends_agree, sealed_messages_are_determined, what_counts_fits,
 };
@@ -314,6 +317,7 @@ pub fn effects_are_determined()
     children_are_determined();
     derived_keys_are_keys();
     endings_are_determined();
+    removals_are_determined();
     later_incoming_are_determined();
     later_outgoing_are_determined::<Request>();
     later_tables_are_determined();
@@ -324,15 +328,15 @@ pub fn effects_are_determined()
     sealed_messages_are_determined();
 }
 
-/// A request that asks whether the peer is there has at most 3000 octets, as all has that its association keeps to send again; and it
+/// A request of INFORMATIONAL of this end has at most 3000 octets, as all has that its association keeps to send again; and it
 /// goes out in one way, by what is held of the association, whatever room there is. Of the cipher it is asked that it tells lengths, as its
 /// law says, of the association that its keys are whole, as they stay ([`keys_stay_whole`]).
-pub fn probes_are_short_and_determined()
-    ensures kept { (body_of : Keys → Octets → Octets → Octets → Octets) (setup : Setup) (old : Association) (octets : Octets)
-        (new : Association) → KeepsShort old → Probes body_of setup old octets new → KeepsShort new × IsShort octets }
-    ensures determined { (body_of : Keys → Octets → Octets → Octets → Octets) (setup : Setup) (old other a b : Association)
+pub fn orders_are_short_and_determined()
+    ensures kept { (body_of : Keys → Octets → Octets → Octets → Octets) (setup : Setup) (order : Order) (old : Association) (octets : Octets)
+        (new : Association) → KeepsShort old → Asks body_of setup order old octets new → KeepsShort new × IsShort octets }
+    ensures determined { (body_of : Keys → Octets → Octets → Octets → Octets) (setup : Setup) (order : Order) (old other a b : Association)
         (one two : Octets) → TellsLengths body_of setup.fresh.seal → HoldsWholeKeys old.phase
-        → association_content old ≡ association_content other → Probes body_of setup old one a → Probes body_of setup other two b
+        → association_content old ≡ association_content other → Asks body_of setup order old one a → Asks body_of setup order other two b
         → (one ≡ two) × (association_content a ≡ association_content b) }
 {
     later_outgoing_are_determined::<Request>();
@@ -369,7 +373,7 @@ pub fn requests_take_effect()
 }
 
 /// What took effect is remembered: the peer's requests after a message follow those before it, their window is widened once, when IKE_AUTH
-/// is done, to the one that this end tells, and so is the window for this end's, to the one that the peer tells, which is 16 at most; and an
+/// is done, to the one that this end tells, and so is the window for this end's, to one of 16 at most; and an
 /// association that is half open was so before, by the same request with the same reply. What is kept stays sound, from the beginning on
 /// (RFC 7296, sections 2.1 to 2.3).
 pub fn requests_are_remembered()
@@ -400,8 +404,8 @@ pub fn requests_are_remembered()
         (request : Octets) (admitted : Admitted)
         → Admits cipher group public_value shared_secret fresh moment serial offer spi_i request admitted
         → IsSoundlyHeld admitted.association }
-    ensures probed { (body_of : Keys → Octets → Octets → Octets → Octets) (setup : Setup) (old : Association) (octets : Octets)
-        (new : Association) → IsSoundlyHeld old → Probes body_of setup old octets new → IsSoundlyHeld new }
+    ensures probed { (body_of : Keys → Octets → Octets → Octets → Octets) (setup : Setup) (order : Order) (old : Association) (octets : Octets)
+        (new : Association) → IsSoundlyHeld old → Asks body_of setup order old octets new → IsSoundlyHeld new }
 {
     later_incoming_follow();
     windows_are_read_again();
@@ -417,8 +421,8 @@ pub fn messages_make_moves()
         (effect : Effect) (new : Association) (new_table : Database) → IsSoundlyHeld old → IsConfig setup.config
         → TakesMessage meaning setup old table octets m effect new new_table
         → Lead (moves_of m.header.id (keys_in new.phase) effect) (ledger old) (ledger new) }
-    ensures probe { (body_of : Keys → Octets → Octets → Octets → Octets) (setup : Setup) (old : Association) (octets : Octets)
-        (new : Association) → Probes body_of setup old octets new
+    ensures probe { (body_of : Keys → Octets → Octets → Octets → Octets) (setup : Setup) (order : Order) (old : Association) (octets : Octets)
+        (new : Association) → Asks body_of setup order old octets new
         → Lead (Issue old.outgoing.next octets ∷ []) (ledger old) (ledger new) }
     ensures admitted { (cipher : Cipher) (group : ℕ) (public_value : Octets → Octets)
         (shared_secret : Octets → Octets → Option Octets) (fresh : Fresh) (moment serial : ℕ) (offer : OfferView) (spi_i : ℕ)
@@ -452,7 +456,7 @@ pub fn what_goes_out_again_is_kept()
         → TakesMessage meaning setup old table octets m (Repeated reply) new new_table
         → KeepsReply (ledger old) m.header.id reply }
     ensures request { (a : Association) (number : ℕ) (request : Request) → IsSoundlyHeld a
-        → map.get a.outgoing.outstanding number ≡ Some request → (request.exchange == IKE_SA_INIT) ≡ false
+        → map.get a.outgoing.outstanding number ≡ Some request → (exchange_of request.purpose == IKE_SA_INIT) ≡ false
         → WaitsWith (ledger a) number request.octets }
 {
     repeats_say_why();
@@ -472,9 +476,9 @@ pub fn messages_open()
         → OpensWhatItSeals meaning.body_of meaning.plain_of setup.fresh.seal → HoldsWholeKeys new.phase
         → TakesMessage meaning setup old table octets m (Identified next) new new_table
         → OpensAsMessage meaning.plain_of new new.role false 1 next }
-    ensures probe { (body_of : Keys → Octets → Octets → Octets → Octets) (plain_of : Opening) (setup : Setup) (old : Association)
+    ensures probe { (body_of : Keys → Octets → Octets → Octets → Octets) (plain_of : Opening) (setup : Setup) (order : Order) (old : Association)
         (octets : Octets) (new : Association) → OpensWhatItSeals body_of plain_of setup.fresh.seal → HoldsWholeKeys old.phase
-        → Probes body_of setup old octets new → OpensAsMessage plain_of new new.role false old.outgoing.next octets }
+        → Asks body_of setup order old octets new → OpensAsMessage plain_of new new.role false old.outgoing.next octets }
     ensures taken { (meaning : Meaning) (setup : Setup) (old : Association) (table : Database) (octets : Octets) (m : Message)
         (answered : Answered) (new : Association) (new_table : Database) → Spells m octets → is_meant m.header old ≡ true
         → TakesMessage meaning setup old table octets m (Replied answered) new new_table
@@ -510,8 +514,8 @@ pub fn nothing_comes_due()
         (request : Octets) (admitted : Admitted)
         → Admits cipher group public_value shared_secret fresh moment serial offer spi_i request admitted
         → IsInTime moment admitted.association }
-    ensures probed { (body_of : Keys → Octets → Octets → Octets → Octets) (setup : Setup) (old : Association) (octets : Octets)
-        (new : Association) → IsInTime setup.moment old → Probes body_of setup old octets new → IsInTime setup.moment new }
+    ensures probed { (body_of : Keys → Octets → Octets → Octets → Octets) (setup : Setup) (order : Order) (old : Association) (octets : Octets)
+        (new : Association) → IsInTime setup.moment old → Asks body_of setup order old octets new → IsInTime setup.moment new }
 {
     nothing_is_due_afterwards();
 }
@@ -538,11 +542,11 @@ pub fn requests_wait_on()
         → Begins cipher group public_value fresh moment beginning
         → map.get (begun serial beginning child).outgoing.outstanding number ≡ Some request
         → (beginning.octets ≡ request.octets) × (request.timer ≡ record { sent = moment; repeats = 0 }) }
-    ensures probed { (body_of : Keys → Octets → Octets → Octets → Octets) (setup : Setup) (old : Association) (octets : Octets)
-        (new : Association) → IsSoundlyHeld old → Probes body_of setup old octets new
+    ensures probed { (body_of : Keys → Octets → Octets → Octets → Octets) (setup : Setup) (order : Order) (old : Association) (octets : Octets)
+        (new : Association) → IsSoundlyHeld old → Asks body_of setup order old octets new
         → KeepTimers setup.moment (Some octets) old new }
-    ensures asked { (body_of : Keys → Octets → Octets → Octets → Octets) (setup : Setup) (old : Association) (octets : Octets)
-        (new : Association) (number : ℕ) (request : Request) → IsSoundlyHeld old → Probes body_of setup old octets new
+    ensures asked { (body_of : Keys → Octets → Octets → Octets → Octets) (setup : Setup) (order : Order) (old : Association) (octets : Octets)
+        (new : Association) (number : ℕ) (request : Request) → IsSoundlyHeld old → Asks body_of setup order old octets new
         → map.get old.outgoing.outstanding number ≡ Some request → map.get new.outgoing.outstanding number ≡ Some request }
 {}
 

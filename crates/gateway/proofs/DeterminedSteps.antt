@@ -12,6 +12,7 @@ use Rattle.ike.specs.Faults.{is_want_of_memory}
 use Rattle.ike.specs.Lengths.{HoldWholeKeys, IsTold}
 use Rattle.ike.specs.Machines.{Machine}
 use Rattle.ike.specs.Steps as ike
+use Rattle.ike.specs.declared.asking.Demand.TheVariants as demand
 use Rattle.ike.specs.declared.fault.IkeFault.{IkeFault}
 use Rattle.ike.specs.declared.output.Stepped.{Stepped}
 use Rattle.ike.specs.declared.output.Trace.{Trace}
@@ -149,7 +150,9 @@ module _ (laws : Laws) (meaning : Meaning) (entries : List Entry) (old other : M
       → SameDoing one two trace mark a b a_table b_table
   one_doing (input.Ike from octets fresh) told whole is also = one_ike (ike.Message from octets fresh) told whole is also
   one_doing (input.Start serial entry fresh) told whole is also = one_ike (ike.Start serial entry fresh) tt whole is also
-  one_doing (input.Probe serial fresh) told whole is also = one_ike (ike.Probe serial fresh) told whole is also
+  one_doing (input.Probe serial fresh) told whole is also = one_ike (ike.Order (demand.Probe serial) fresh) told whole is also
+  one_doing (input.DeleteChild serial fresh) told whole is also = one_ike (ike.Order (demand.DeleteChild serial) fresh) told whole is also
+  one_doing (input.DeleteIke serial fresh) told whole is also = one_ike (ike.Order (demand.DeleteIke serial) fresh) told whole is also
   one_doing (input.Secret secret) told whole is also = one_ike (ike.Secret secret) tt whole is also
   one_doing (input.Tick moment) told whole is also = one_ike (ike.Tick moment) tt whole is also
   one_doing (input.Esp octets) told whole is also = one_arrival octets is also
@@ -199,7 +202,9 @@ done_whole : IkeLaws → (meaning : Meaning) (entries : List Entry) (given : Inp
     → DoesInput meaning entries given old table s trace new new_table → HoldWholeKeys new.held
 done_whole laws meaning entries (input.Ike from octets fresh) old table s trace new new_table whole is = ike_whole laws meaning entries (ike.Message from octets fresh) old table s trace new new_table whole is
 done_whole laws meaning entries (input.Start serial entry fresh) old table s trace new new_table whole is = ike_whole laws meaning entries (ike.Start serial entry fresh) old table s trace new new_table whole is
-done_whole laws meaning entries (input.Probe serial fresh) old table s trace new new_table whole is = ike_whole laws meaning entries (ike.Probe serial fresh) old table s trace new new_table whole is
+done_whole laws meaning entries (input.Probe serial fresh) old table s trace new new_table whole is = ike_whole laws meaning entries (ike.Order (demand.Probe serial) fresh) old table s trace new new_table whole is
+done_whole laws meaning entries (input.DeleteChild serial fresh) old table s trace new new_table whole is = ike_whole laws meaning entries (ike.Order (demand.DeleteChild serial) fresh) old table s trace new new_table whole is
+done_whole laws meaning entries (input.DeleteIke serial fresh) old table s trace new new_table whole is = ike_whole laws meaning entries (ike.Order (demand.DeleteIke serial) fresh) old table s trace new new_table whole is
 done_whole laws meaning entries (input.Secret secret) old table s trace new new_table whole is = ike_whole laws meaning entries (ike.Secret secret) old table s trace new new_table whole is
 done_whole laws meaning entries (input.Tick moment) old table s trace new new_table whole is = ike_whole laws meaning entries (ike.Tick moment) old table s trace new new_table whole is
 done_whole laws meaning entries (input.Esp octets) old table s trace new new_table whole is = machine_whole old new is.0.machine whole

@@ -14,6 +14,7 @@ use Rattle.ike.specs.Machines.{Machine}
 use Rattle.ike.specs.Outputs.{no_trace, octets_in}
 use Rattle.ike.specs.Soundness.{IsSoundMachine}
 use Rattle.ike.specs.Steps as ike
+use Rattle.ike.specs.declared.asking.Demand.TheVariants as demand
 use Rattle.ike.specs.declared.output.IkeOutput.{IkeOutput}
 use Rattle.ike.specs.declared.output.IkeOutput.TheVariants as made
 use Rattle.ike.specs.declared.output.MadeChild.{MadeChild}
@@ -96,7 +97,9 @@ input_fits : (laws : SentLaws) (meaning : Meaning) (entries : List Entry) (given
     → IsSoundMachine old table → DoesInput meaning entries given old table s trace new new_table → FitsDatagram s
 input_fits laws meaning entries (input.Ike from octets fresh) old table s trace new new_table sound is = by_ike_fits laws meaning entries (ike.Message from octets fresh) old table s trace new new_table sound is
 input_fits laws meaning entries (input.Start serial entry fresh) old table s trace new new_table sound is = by_ike_fits laws meaning entries (ike.Start serial entry fresh) old table s trace new new_table sound is
-input_fits laws meaning entries (input.Probe serial fresh) old table s trace new new_table sound is = by_ike_fits laws meaning entries (ike.Probe serial fresh) old table s trace new new_table sound is
+input_fits laws meaning entries (input.Probe serial fresh) old table s trace new new_table sound is = by_ike_fits laws meaning entries (ike.Order (demand.Probe serial) fresh) old table s trace new new_table sound is
+input_fits laws meaning entries (input.DeleteChild serial fresh) old table s trace new new_table sound is = by_ike_fits laws meaning entries (ike.Order (demand.DeleteChild serial) fresh) old table s trace new new_table sound is
+input_fits laws meaning entries (input.DeleteIke serial fresh) old table s trace new new_table sound is = by_ike_fits laws meaning entries (ike.Order (demand.DeleteIke serial) fresh) old table s trace new new_table sound is
 input_fits laws meaning entries (input.Secret secret) old table s trace new new_table sound is = by_ike_fits laws meaning entries (ike.Secret secret) old table s trace new new_table sound is
 input_fits laws meaning entries (input.Tick moment) old table s trace new new_table sound is = by_ike_fits laws meaning entries (ike.Tick moment) old table s trace new new_table sound is
 input_fits laws meaning entries (input.Esp octets) old table s trace new new_table sound is =
@@ -155,7 +158,11 @@ input_few law meaning entries (input.Ike from octets fresh) old table s trace ne
 input_few law meaning entries (input.Start serial entry fresh) old table s trace new new_table is =
     few_by_ike law meaning entries (ike.Start serial entry fresh) old table s trace new new_table 0 (λ n e less. no_tick n 0 (outstanding_count old.held.associations) e less) is
 input_few law meaning entries (input.Probe serial fresh) old table s trace new new_table is =
-    few_by_ike law meaning entries (ike.Probe serial fresh) old table s trace new new_table 0 (λ n e less. no_tick n 0 (outstanding_count old.held.associations) e less) is
+    few_by_ike law meaning entries (ike.Order (demand.Probe serial) fresh) old table s trace new new_table 0 (λ n e less. no_tick n 0 (outstanding_count old.held.associations) e less) is
+input_few law meaning entries (input.DeleteChild serial fresh) old table s trace new new_table is =
+    few_by_ike law meaning entries (ike.Order (demand.DeleteChild serial) fresh) old table s trace new new_table 0 (λ n e less. no_tick n 0 (outstanding_count old.held.associations) e less) is
+input_few law meaning entries (input.DeleteIke serial fresh) old table s trace new new_table is =
+    few_by_ike law meaning entries (ike.Order (demand.DeleteIke serial) fresh) old table s trace new new_table 0 (λ n e less. no_tick n 0 (outstanding_count old.held.associations) e less) is
 input_few law meaning entries (input.Secret secret) old table s trace new new_table is =
     few_by_ike law meaning entries (ike.Secret secret) old table s trace new new_table 0 (λ n e less. no_tick n 0 (outstanding_count old.held.associations) e less) is
 input_few law meaning entries (input.Tick moment) old table s trace new new_table is =
@@ -194,7 +201,9 @@ input_made : (laws : MadeLaws) (meaning : Meaning) (entries : List Entry) (given
     → IsSoundTable table → IsSoundMachine old table → DoesInput meaning entries given old table s trace new new_table → FitsChild trace.child new_table.pairs
 input_made laws meaning entries (input.Ike from octets fresh) old table s trace new new_table st sm is = by_ike_made laws meaning entries (ike.Message from octets fresh) old table s trace new new_table st sm is
 input_made laws meaning entries (input.Start serial entry fresh) old table s trace new new_table st sm is = by_ike_made laws meaning entries (ike.Start serial entry fresh) old table s trace new new_table st sm is
-input_made laws meaning entries (input.Probe serial fresh) old table s trace new new_table st sm is = by_ike_made laws meaning entries (ike.Probe serial fresh) old table s trace new new_table st sm is
+input_made laws meaning entries (input.Probe serial fresh) old table s trace new new_table st sm is = by_ike_made laws meaning entries (ike.Order (demand.Probe serial) fresh) old table s trace new new_table st sm is
+input_made laws meaning entries (input.DeleteChild serial fresh) old table s trace new new_table st sm is = by_ike_made laws meaning entries (ike.Order (demand.DeleteChild serial) fresh) old table s trace new new_table st sm is
+input_made laws meaning entries (input.DeleteIke serial fresh) old table s trace new new_table st sm is = by_ike_made laws meaning entries (ike.Order (demand.DeleteIke serial) fresh) old table s trace new new_table st sm is
 input_made laws meaning entries (input.Secret secret) old table s trace new new_table st sm is = by_ike_made laws meaning entries (ike.Secret secret) old table s trace new new_table st sm is
 input_made laws meaning entries (input.Tick moment) old table s trace new new_table st sm is = by_ike_made laws meaning entries (ike.Tick moment) old table s trace new new_table st sm is
 input_made laws meaning entries (input.Esp octets) old table s trace new new_table st sm is = none_fits trace new_table.pairs is.0.traced

@@ -15,6 +15,7 @@ use Rattle.ike.specs.Machines.{association_of, Machine}
 use Rattle.ike.specs.Requests.{first_requests, IsHeldThrough}
 use Rattle.ike.specs.Soundness.{IsSoundMachine}
 use Rattle.ike.specs.Steps as ike
+use Rattle.ike.specs.declared.asking.Demand.TheVariants as demand
 use Rattle.ike.specs.declared.fault.IkeFault.{IkeFault}
 use Rattle.ike.specs.declared.output.Stepped.{Stepped}
 use Rattle.ike.specs.declared.output.Trace.{Trace}
@@ -145,7 +146,9 @@ pub does_way : {C : Type 0} (meaning : Meaning) (given : Input) (old : State C) 
     → DoesInput meaning old.entries given old.machine old.table s trace new.machine new.table → IkeWay meaning (for_ike given) old s new
 does_way {C} meaning (input.Ike from octets fresh) old s trace new is = ike_way meaning (ike.Message from octets fresh) old s trace new is
 does_way {C} meaning (input.Start serial entry fresh) old s trace new is = ike_way meaning (ike.Start serial entry fresh) old s trace new is
-does_way {C} meaning (input.Probe serial fresh) old s trace new is = ike_way meaning (ike.Probe serial fresh) old s trace new is
+does_way {C} meaning (input.Probe serial fresh) old s trace new is = ike_way meaning (ike.Order (demand.Probe serial) fresh) old s trace new is
+does_way {C} meaning (input.DeleteChild serial fresh) old s trace new is = ike_way meaning (ike.Order (demand.DeleteChild serial) fresh) old s trace new is
+does_way {C} meaning (input.DeleteIke serial fresh) old s trace new is = ike_way meaning (ike.Order (demand.DeleteIke serial) fresh) old s trace new is
 does_way {C} meaning (input.Secret secret) old s trace new is = ike_way meaning (ike.Secret secret) old s trace new is
 does_way {C} meaning (input.Tick moment) old s trace new is = ike_way meaning (ike.Tick moment) old s trace new is
 does_way {C} meaning (input.Esp octets) old s trace new is = elsewhere (record { is = refl; same = is.0.machine; said = subst IsOfPacket (sym is.1.output) (outcome_said is.1.outcome) })

@@ -7,6 +7,7 @@ use Rattle.sadb.specs.Database.{Database, IsAsBefore}
 use Rattle.effects.specs.Taking.{Meaning}
 use Rattle.ike.specs.Machines.{Machine}
 use Rattle.ike.specs.Steps as ike
+use Rattle.ike.specs.declared.asking.Demand.TheVariants as demand
 use Rattle.ike.specs.declared.output.IkeOutput.{IkeOutput}
 use Rattle.ike.specs.declared.output.IkeOutput.TheVariants as made
 use Rattle.ike.specs.declared.output.Trace.{Trace}
@@ -121,7 +122,11 @@ kept_by_refusal meaning entries (input.Ike from octets fresh) old table why trac
 kept_by_refusal meaning entries (input.Start serial entry fresh) old table why trace new new_table s =
     ike_kept meaning entries (ike.Start serial entry fresh) old table why trace new new_table s
 kept_by_refusal meaning entries (input.Probe serial fresh) old table why trace new new_table s =
-    ike_kept meaning entries (ike.Probe serial fresh) old table why trace new new_table s
+    ike_kept meaning entries (ike.Order (demand.Probe serial) fresh) old table why trace new new_table s
+kept_by_refusal meaning entries (input.DeleteChild serial fresh) old table why trace new new_table s =
+    ike_kept meaning entries (ike.Order (demand.DeleteChild serial) fresh) old table why trace new new_table s
+kept_by_refusal meaning entries (input.DeleteIke serial fresh) old table why trace new new_table s =
+    ike_kept meaning entries (ike.Order (demand.DeleteIke serial) fresh) old table why trace new new_table s
 kept_by_refusal meaning entries (input.Secret secret) old table why trace new new_table s =
     ike_kept meaning entries (ike.Secret secret) old table why trace new new_table s
 kept_by_refusal meaning entries (input.Tick moment) old table why trace new new_table s =

@@ -44,6 +44,8 @@ unfolding ticks_in
 ticks_by (input.Ike from octets fresh) = refl
 ticks_by (input.Start serial entry fresh) = refl
 ticks_by (input.Probe serial fresh) = refl
+ticks_by (input.DeleteChild serial fresh) = refl
+ticks_by (input.DeleteIke serial fresh) = refl
 ticks_by (input.Secret secret) = refl
 ticks_by (input.Tick moment) = refl
 ticks_by (input.Esp octets) = refl

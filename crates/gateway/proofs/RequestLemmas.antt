@@ -102,7 +102,7 @@ none_datagram given octets none is = subst (λ (g : Option ike.InputView). IsDat
 new_opens : (meaning : Meaning) (view : ike.InputView) (a : Association) (number : ℕ) → IsNewRequest meaning view a number → OpensAsRequest meaning view a number × LacksNumber a.incoming.in_effect number
 new_opens meaning (ike.Message from octets fresh) a number is = ((is.exchange, is.opens), is.fresh.not_in_effect)
 new_opens meaning (ike.Start serial entry fresh) a number is = absurd is
-new_opens meaning (ike.Probe serial fresh) a number is = absurd is
+new_opens meaning (ike.Order what fresh) a number is = absurd is
 new_opens meaning (ike.Secret secret) a number is = absurd is
 new_opens meaning (ike.Tick moment) a number is = absurd is
 
@@ -376,7 +376,7 @@ one_datagram : (given : Option ike.InputView) (one two : Octets) → IsDatagram 
 one_datagram None one two is also = absurd is
 one_datagram (Some (ike.Message from octets fresh)) one two is also = sym is ∙ also
 one_datagram (Some (ike.Start serial entry fresh)) one two is also = absurd is
-one_datagram (Some (ike.Probe serial fresh)) one two is also = absurd is
+one_datagram (Some (ike.Order what fresh)) one two is also = absurd is
 one_datagram (Some (ike.Secret secret)) one two is also = absurd is
 one_datagram (Some (ike.Tick moment)) one two is also = absurd is
 

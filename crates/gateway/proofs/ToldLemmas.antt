@@ -14,6 +14,7 @@ use Rattle.ike.specs.Machines.{keys_of_serial, Held, Machine}
 use Rattle.ike.specs.Outputs.{no_trace}
 use Rattle.ike.specs.Soundness.{IsSoundMachine}
 use Rattle.ike.specs.Steps as ike
+use Rattle.ike.specs.declared.asking.Demand.TheVariants as demand
 use Rattle.ike.specs.Tracing.{HoldsKeys, IsTraced}
 use Rattle.ike.specs.declared.output.IkeOutput.{IkeOutput}
 use Rattle.ike.specs.declared.output.IkeOutput.TheVariants as made
@@ -78,7 +79,9 @@ input_tells : TraceLaw → (meaning : Meaning) (entries : List Entry) (given : I
     → IsSoundTable table → IsSoundMachine old table → DoesInput meaning entries given old table s trace new new_table → TellsHeld trace new.held new_table
 input_tells law meaning entries (input.Ike from octets fresh) old table s trace new new_table st sm is = ike_tells law meaning entries (ike.Message from octets fresh) old table s trace new new_table st sm is
 input_tells law meaning entries (input.Start serial entry fresh) old table s trace new new_table st sm is = ike_tells law meaning entries (ike.Start serial entry fresh) old table s trace new new_table st sm is
-input_tells law meaning entries (input.Probe serial fresh) old table s trace new new_table st sm is = ike_tells law meaning entries (ike.Probe serial fresh) old table s trace new new_table st sm is
+input_tells law meaning entries (input.Probe serial fresh) old table s trace new new_table st sm is = ike_tells law meaning entries (ike.Order (demand.Probe serial) fresh) old table s trace new new_table st sm is
+input_tells law meaning entries (input.DeleteChild serial fresh) old table s trace new new_table st sm is = ike_tells law meaning entries (ike.Order (demand.DeleteChild serial) fresh) old table s trace new new_table st sm is
+input_tells law meaning entries (input.DeleteIke serial fresh) old table s trace new new_table st sm is = ike_tells law meaning entries (ike.Order (demand.DeleteIke serial) fresh) old table s trace new new_table st sm is
 input_tells law meaning entries (input.Secret secret) old table s trace new new_table st sm is = ike_tells law meaning entries (ike.Secret secret) old table s trace new new_table st sm is
 input_tells law meaning entries (input.Tick moment) old table s trace new new_table st sm is = ike_tells law meaning entries (ike.Tick moment) old table s trace new new_table st sm is
 input_tells law meaning entries (input.Esp octets) old table s trace new new_table st sm is = nothing_told trace new.held new_table is.0.traced

@@ -8,6 +8,7 @@ use Rattle.effects.specs.Taking.{Meaning}
 use Rattle.ike.specs.Machines.{Machine}
 use Rattle.ike.specs.Outputs.{no_trace}
 use Rattle.ike.specs.Steps as ike
+use Rattle.ike.specs.declared.asking.Demand.TheVariants as demand
 use Rattle.ike.specs.declared.fault.IkeFault.{IkeFault}
 use Rattle.ike.specs.declared.output.Stepped.{Stepped}
 use Rattle.ike.specs.declared.output.Trace.{Trace}
@@ -81,7 +82,11 @@ DoesInput meaning entries (input.Ike from octets fresh) old table said trace new
 DoesInput meaning entries (input.Start serial entry fresh) old table said trace new new_table =
     StepsIke meaning entries (ike.Start serial entry fresh) old table said trace new new_table
 DoesInput meaning entries (input.Probe serial fresh) old table said trace new new_table =
-    StepsIke meaning entries (ike.Probe serial fresh) old table said trace new new_table
+    StepsIke meaning entries (ike.Order (demand.Probe serial) fresh) old table said trace new new_table
+DoesInput meaning entries (input.DeleteChild serial fresh) old table said trace new new_table =
+    StepsIke meaning entries (ike.Order (demand.DeleteChild serial) fresh) old table said trace new new_table
+DoesInput meaning entries (input.DeleteIke serial fresh) old table said trace new new_table =
+    StepsIke meaning entries (ike.Order (demand.DeleteIke serial) fresh) old table said trace new new_table
 DoesInput meaning entries (input.Secret secret) old table said trace new new_table =
     StepsIke meaning entries (ike.Secret secret) old table said trace new new_table
 DoesInput meaning entries (input.Tick moment) old table said trace new new_table =

@@ -36,6 +36,17 @@ pub enum Input {
         ike: u32,
         fresh: Fresh,
     },
+    /// The order to delete the child with this serial (RFC 7296, section 1.4.1): from then on it carries nothing outward, and it goes with
+    /// the peer's answer.
+    DeleteChild {
+        child: u32,
+        fresh: Fresh,
+    },
+    /// The order to delete the IKE association with this serial, with all its children (RFC 7296, section 1.4.1).
+    DeleteIke {
+        ike: u32,
+        fresh: Fresh,
+    },
     /// The order to make cookies under another secret (RFC 7296, section 2.6).
     Secret {
         secret: [u8; 32],

@@ -8,7 +8,7 @@ ghost use Rattle.gateway.specs.Steps.{AdmitsPacket, DoesInput, ReceivesPacket, S
 
 use crate::{Input, Output, Reason, Traced};
 use ike::laws::{soundness_asks_for_reservations, what_is_due_comes_in_time};
-use ike::{Ike, IkeInput};
+use ike::{Demand, Ike, IkeInput};
 use policy::Policy;
 use sadb::Table;
 use std::alloc::Global;
@@ -69,7 +69,18 @@ pub(crate) fn take<'a, C: Sealer + Agreement + Proof>(
             step_ike(alloc, &order, ike, table, policy, caller)
         }
         Input::Probe { ike: asked, fresh } => {
-            let order = IkeInput::Probe { ike: *asked, fresh };
+            let what = Demand::Probe { ike: *asked };
+            let order = IkeInput::Order { what, fresh };
+            step_ike(alloc, &order, ike, table, policy, caller)
+        }
+        Input::DeleteChild { child, fresh } => {
+            let what = Demand::DeleteChild { child: *child };
+            let order = IkeInput::Order { what, fresh };
+            step_ike(alloc, &order, ike, table, policy, caller)
+        }
+        Input::DeleteIke { ike: asked, fresh } => {
+            let what = Demand::DeleteIke { ike: *asked };
+            let order = IkeInput::Order { what, fresh };
             step_ike(alloc, &order, ike, table, policy, caller)
         }
         Input::Secret { secret } => {

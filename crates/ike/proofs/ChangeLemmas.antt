@@ -1,5 +1,5 @@
 -- A step changes one association at most, and pairs of that one alone.
-use Rattle.std.proofs.Common.{◌≡◌, inl, inr, ℕ, Bool, true, false, ◌+◌, List, Some, ap, refl, subst, sym, ◌∙◌, arith}
+use Rattle.std.proofs.Common.{◌⊎◌, ◌≡◌, inl, inr, ℕ, Bool, true, false, ◌+◌, List, Some, ap, refl, subst, sym, ◌∙◌, arith}
 use Rattle.base.specs.Octets.{Octets}
 use Rattle.wire.specs.declared.message.Message.{Message}
 use Rattle.policy.specs.declared.entry.Entry.{Entry}
@@ -10,14 +10,17 @@ use Rattle.initial.specs.Configs.{Setup}
 use Rattle.effects.specs.Pairs.{LeavesPairs}
 use Rattle.effects.specs.Taking.{Meaning, KeepsIdentity, TakesMessage}
 use Rattle.effects.specs.declared.taking.Effect.{Effect}
+use Rattle.informational.specs.Ordering.{MarksFor}
+use Rattle.informational.specs.declared.ordering.Order.{Order}
+use Rattle.informational.specs.declared.ordering.Order.TheVariants as order
 use Rattle.ike.specs.Machines.{association_of, others_than, Held, Machine}
-use Rattle.ike.specs.Pairs.{ChangesOne}
+use Rattle.ike.specs.Pairs.{ChangesOne, IsOwnFor, MarksOne}
 use Rattle.ike.specs.Receiving.{with_next}
 use Rattle.ike.specs.Starting.{child_by}
 use Rattle.ike.specs.Steps.{is_tick, InputView, Steps}
 use Rattle.ike.specs.declared.output.Stepped.{Stepped}
 use Rattle.ike.proofs.SerialLemmas.{grown_found, grown_others, replaced_found, replaced_others}
-use Rattle.ike.proofs.ProbeLemmas.{changed_itself}
+use Rattle.ike.proofs.AskingLemmas.{changed_itself, probed_serial}
 use Rattle.ike.proofs.WayLemmas.{admitted, probed, rested, started, step_way, took, Takes, Way}
 
 -- what is known of a message's effect
@@ -33,6 +36,12 @@ all_left table ike =
 
 left_as : (table new_table : Database) (ike : ℕ) → new_table ≡ table → LeavesPairs table ike new_table
 left_as table new_table ike same = subst (λ (d : Database). LeavesPairs table ike d) (sym same) (all_left table ike)
+
+-- what an order leaves
+order_leaves : (o : Order) (table : Database) (ike : ℕ) (new : Database) → IsOwnFor o table.pairs ike → MarksFor o table new → LeavesPairs table ike new ⊎ MarksOne table ike new
+order_leaves order.Probe table ike new own is = inl (left_as table new ike is)
+order_leaves (order.DeleteChild child spi) table ike new own is = inr (record { serial = child; own = own; marked = is })
+order_leaves order.DeleteAssociation table ike new own is = inl (left_as table new ike is)
 
 reserved_left : (old between : Database) (ike spi : ℕ) (new : Database) → IsAsBefore old between → Reserves between spi new → LeavesPairs old ike new
 reserved_left old between ike spi new room is =
@@ -59,7 +68,7 @@ took_changes facts meaning setup octets old table stepped new new_table is =
           ∙ replaced_others old.associations is.place t.association t.changed t.association.serial t.there refl stays.serial;
       each = λ other apart. ap (λ (h : Held). association_of other h.associations) t.content
           ∙ replaced_found old.associations is.place t.association t.changed other t.there apart stays.serial;
-      pairs = facts.leaves meaning setup t.association table octets is.message t.effect t.changed new_table t.takes;
+      pairs = inl (facts.leaves meaning setup t.association table octets is.message t.effect t.changed new_table t.takes);
     }
 
 -- one more came, with the next serial
@@ -69,7 +78,7 @@ came_changes old b new table new_table serial content pairs =
       serial = old.next;
       others = ap (λ (h : Held). others_than old.next h.associations) content ∙ grown_others old.associations b old.next serial;
       each = λ other apart. ap (λ (h : Held). association_of other h.associations) content ∙ grown_found old.associations b other (λ e. apart (e ∙ serial));
-      pairs = pairs;
+      pairs = inl pairs;
     }
 
 clash : (b : Bool) → b ≡ true → b ≡ false → ⊥
@@ -83,7 +92,7 @@ way_changes facts meaning setup octets old table stepped new new_table (rested i
       serial = 0;
       others = ap (λ (h : Held). others_than 0 h.associations) is.same;
       each = λ other apart. ap (λ (h : Held). association_of other h.associations) is.same;
-      pairs = left_as table new_table 0 is.pairs;
+      pairs = inl (left_as table new_table 0 is.pairs);
     }
 way_changes facts meaning setup octets old table stepped new new_table (took is) = took_changes facts meaning setup octets old table stepped new new_table is
 way_changes facts meaning setup octets old table stepped new new_table (admitted is) =
@@ -97,7 +106,7 @@ way_changes facts meaning setup octets old table stepped new new_table (probed i
           ∙ replaced_others old.associations p.place p.association p.changed p.association.serial p.there refl stays.serial;
       each = λ other apart. ap (λ (h : Held). association_of other h.associations) p.content
           ∙ replaced_found old.associations p.place p.association p.changed other p.there apart stays.serial;
-      pairs = left_as table new_table p.association.serial is.pairs;
+      pairs = subst (λ n. LeavesPairs table n new_table ⊎ MarksOne table n new_table) (sym (probed_serial meaning.body_of setup is.ike old stepped new p)) (order_leaves p.order table is.ike new_table is.own is.marked);
     }
 way_changes facts meaning setup octets old table stepped new new_table (started is) =
     let s = is.starts in

@@ -19,13 +19,14 @@ use Rattle.association.specs.declared.phase.Association.{Association}
 use Rattle.initial.specs.Beginning.{begun, Admits, Begins}
 use Rattle.initial.specs.Configs.{Setup}
 use Rattle.effects.specs.Lengths.{HoldsWholeKeys, TellsLengths}
-use Rattle.informational.specs.Probing.{Probes}
+use Rattle.informational.specs.Asking.{Asks}
 use Rattle.moments.specs.Ticking.{Ticks}
 use Rattle.moments.specs.declared.ticking.Ticked.{Ticked}
 use Rattle.suite.specs.declared.keys.Keys.{Keys}
 use Rattle.effects.specs.Taking.{Meaning, TakesMessage}
 use Rattle.initial.specs.declared.beginning.Admitted.{Admitted}
 use Rattle.initial.specs.declared.beginning.Beginning.{Beginning}
+use Rattle.informational.specs.declared.ordering.Order.{Order}
 use Rattle.effects.specs.declared.taking.Effect.{Effect}
 
 -- of datagrams and messages
@@ -60,9 +61,9 @@ pub record TableLaws : Type 0 where
 
 -- of orders to ask whether the peer is there, and of moments
 pub record OrderLaws : Type 0 where
-  pub probe : (body_of : Keys → Octets → Octets → Octets → Octets) (setup : Setup) (old other a b : Association) (one two : Octets)
+  pub probe : (body_of : Keys → Octets → Octets → Octets → Octets) (setup : Setup) (order : Order) (old other a b : Association) (one two : Octets)
       → TellsLengths body_of setup.fresh.seal → HoldsWholeKeys old.phase → association_content old ≡ association_content other
-      → Probes body_of setup old one a → Probes body_of setup other two b → (one ≡ two) × (association_content a ≡ association_content b)
+      → Asks body_of setup order old one a → Asks body_of setup order other two b → (one ≡ two) × (association_content a ≡ association_content b)
   pub ticks : (now : ℕ) (old other a b : List Association) (table another a_table b_table : Database) (one two : Ticked)
       → map association_content old ≡ map association_content other → table_content table ≡ table_content another
       → Ticks now old table one a a_table → Ticks now other another two b b_table

@@ -26,7 +26,7 @@ use Rattle.ike.specs.declared.output.Stepped.{Stepped}
 use Rattle.ike.proofs.ContentLemmas.{same_answered, same_bad, same_length, same_list, same_next, same_serials}
 use Rattle.ike.proofs.DeterminedLaws.{Laws}
 use Rattle.ike.proofs.DeterminedSteps.{one_judgement, same_setup}
-use Rattle.ike.proofs.OrderLemmas.{moment_refused, one_probe_refusal, probe_or_refused}
+use Rattle.ike.proofs.OrderLemmas.{moment_refused, one_asking_refusal, asked_or_refused}
 
 -- ---- requests of IKE_SA_INIT
 
@@ -284,8 +284,8 @@ step_or_refused laws meaning entries (steps.Message from octets fresh) old other
     datagram_or_refused laws meaning (setup_at old entries fresh) old.cookies from octets old.held other.held (ap (λ (m : Machine). m.held) same) table stepped new.held new_table reason is.1 refuses
 step_or_refused laws meaning entries (Start ike place fresh) old other new table another new_table stepped reason same alike is also =
     start_or_refused laws meaning (setup_at old entries fresh) ike place old.held other.held table another stepped new.held new_table reason (ap (λ (m : Machine). m.held) same) alike is.1 also
-step_or_refused laws meaning entries (steps.Probe ike fresh) old other new table another new_table stepped reason same alike is also =
-    probe_or_refused meaning.body_of (setup_at old entries fresh) ike old.held other.held stepped new.held reason (ap (λ (m : Machine). m.held) same) is.1 also
+step_or_refused laws meaning entries (steps.Order what fresh) old other new table another new_table stepped reason same alike is also =
+    asked_or_refused meaning.body_of (setup_at old entries fresh) what old.held other.held table another stepped new.held new_table reason (ap (λ (m : Machine). m.held) same) alike is.1 also
 step_or_refused laws meaning entries (steps.Tick moment) old other new table another new_table stepped reason same alike is also = moment_refused reason also
 step_or_refused laws meaning entries (Secret secret) old other new table another new_table stepped reason same alike is also = secret_or_refused old other reason same is.left also
 
@@ -300,8 +300,8 @@ one_refusal laws meaning entries (steps.Message from octets fresh) old other tab
     one_datagram_refusal laws meaning (setup_at old entries fresh) old.cookies from octets old.held other.held (ap (λ (m : Machine). m.held) same) one two not_one not_two is refuses
 one_refusal laws meaning entries (Start ike place fresh) old other table another one two same alike not_one not_two is also =
     one_start_refusal entries fresh ike place old.held other.held table another one two (ap (λ (m : Machine). m.held) same) alike not_one not_two is also
-one_refusal laws meaning entries (steps.Probe ike fresh) old other table another one two same alike not_one not_two is also =
-    one_probe_refusal ike old.held other.held one two (ap (λ (m : Machine). m.held) same) not_one not_two is also
+one_refusal laws meaning entries (steps.Order what fresh) old other table another one two same alike not_one not_two is also =
+    one_asking_refusal what old.held other.held table another one two (ap (λ (m : Machine). m.held) same) alike not_one not_two is also
 one_refusal laws meaning entries (steps.Tick moment) old other table another one two same alike not_one not_two is also =
     absurd (clash (is_want_of_memory one) (moment_refused one is) not_one)
 one_refusal laws meaning entries (Secret secret) old other table another one two same alike not_one not_two is also = secret_refused old one is ∙ sym (secret_refused other two also)

@@ -10,7 +10,7 @@ use Rattle.suite.specs.declared.fresh.Fresh.{Fresh}
 use Rattle.suite.specs.declared.keys.Keys.{Keys}
 use Rattle.exchange.specs.declared.notices.Notice.{Notice}
 use Rattle.sadb.specs.Contents.{table_content}
-use Rattle.sadb.specs.Database.{Database}
+use Rattle.sadb.specs.Database.{Database, pair_at}
 use Rattle.sa_init.specs.Cookies.{changed, CookieSecrets}
 use Rattle.sa_init.specs.Judging.{Accepted, Answered, Full, Incomplete, IsJudgement, JudgementView, OfferView}
 use Rattle.sa_init.specs.Messages.{notice_message}
@@ -29,11 +29,18 @@ use Rattle.effects.specs.Taking.{Meaning}
 use Rattle.initial.specs.declared.beginning.Admitted.{Admitted}
 use Rattle.initial.specs.declared.beginning.Beginning.{Beginning}
 use Rattle.effects.specs.declared.taking.Effect.{Effect}
+use Rattle.informational.specs.Asking.{Asks}
+use Rattle.informational.specs.declared.ordering.Order.{Order}
+use Rattle.informational.specs.declared.ordering.Order.TheVariants as asked
+use Rattle.ike.specs.declared.asking.Demand.{Demand}
+use Rattle.ike.specs.declared.asking.Demand.TheVariants as demand
+use Rattle.sadb.specs.declared.pair.Pair.{Pair}
+use Rattle.ike.proofs.MarkLemmas.{marked_alike}
 use Rattle.ike.specs.Contents.{held_content, machine_content}
 use Rattle.ike.specs.Lengths.{HoldWholeKeys, IsTold}
 use Rattle.ike.specs.Machines.{half_open_count, has_serial, setup_at, Held, Machine}
 use Rattle.ike.specs.Outputs.{asking_step, half_open_step, plain_step, stepped_of}
-use Rattle.ike.specs.Probing.{ProbesAt}
+use Rattle.ike.specs.Asking.{AsksAt, AsksFor, AsksThat}
 use Rattle.effects.specs.Keeping.{kept_reply}
 use Rattle.ike.specs.Receiving.{is_answered, is_initial_request, is_sound_initial, sender_of, AdmitsNext, DoesJudgement, FailsToRead, IsJudged, PassesOver, ReadsDatagram, Repeats, SaysNotice, TakesAt, TakesDatagram, TakesFound, TakesNew, TakesOffer, TakesRead, TakesRequestAt, TakesSound}
 use Rattle.ike.specs.Starting.{child_by, protecting_entry, Starts}
@@ -259,15 +266,19 @@ module _ (laws : Laws) (meaning : Meaning) (setup : Setup) (old other : Held) (s
 same_place_of : (o : Option ℕ) (one two : ℕ) → o ≡ Some one → o ≡ Some two → one ≡ two
 same_place_of o one two is also = cc
 
-one_probing : Laws → (body_of : Keys → Octets → Octets → Octets → Octets) (setup : Setup) (ike : ℕ) (old other : Held) (one two : Stepped) (a b : Held) (table another a_table b_table : Database)
+one_probing : Laws → (body_of : Keys → Octets → Octets → Octets → Octets) (setup : Setup) (ike : ℕ) (order : Order) (old other : Held) (one two : Stepped) (a b : Held) (table another a_table b_table : Database)
     → TellsLengths body_of setup.fresh.seal → HoldWholeKeys old → held_content old ≡ held_content other → table_content table ≡ table_content another
-    → ProbesAt body_of setup ike old one a → ProbesAt body_of setup ike other two b → a_table ≡ table → b_table ≡ another → SameLeft one two a b a_table b_table
-one_probing laws body_of setup ike old other one two a b table another a_table b_table tells whole same alike is also same_table other_table =
+    → AsksThat body_of setup ike order old table one a a_table → AsksThat body_of setup ike order other another two b b_table → SameLeft one two a b a_table b_table
+one_probing laws body_of setup ike order old other one two a b table another a_table b_table tells whole same alike first second =
+    let is = first.asks in
+    let also = second.asks in
     let place : is.place ≡ also.place = same_place_of (position (has_serial ike) other.associations) is.place also.place (sym (same_first old.associations other.associations (same_list old other same) ike) ∙ is.first) also.first in
     let there : slice_get other.associations is.place ≡ Some also.association = subst (λ n. slice_get other.associations n ≡ Some also.association) (sym place) also.there in
     let association : association_content is.association ≡ association_content also.association =
     same_there old.associations other.associations (same_list old other same) is.place is.association also.association is.there there in
-    let did = laws.orders.probe body_of setup is.association also.association is.changed also.changed is.octets also.octets tells (whole is.place is.association is.there) association is.probes also.probes in
+    let did = laws.orders.probe body_of setup order is.association also.association is.changed also.changed is.octets also.octets tells (whole is.place is.association is.there) association
+    (subst (λ (o : Order). Asks body_of setup o is.association is.octets is.changed) first.ordered is.asks)
+    (subst (λ (o : Order). Asks body_of setup o also.association also.octets also.changed) second.ordered also.asks) in
     let number : is.association.outgoing.next ≡ also.association.outgoing.next = ap (λ (z : Association). z.outgoing.next) association in
     record {
       stepped = is.said ∙ ap (λ n. asking_step ike n is.octets) number ∙ ap (asking_step ike also.association.outgoing.next) did.0 ∙ sym also.said;
@@ -276,8 +287,23 @@ one_probing laws body_of setup ike old other one two a b table another a_table b
           ∙ same_after_change old other same is.place is.changed also.changed did.1
           ∙ ap (λ n. held_content (record other { associations = slice_set other.associations n also.changed })) place
           ∙ sym (ap held_content also.content);
-      table = ap table_content same_table ∙ alike ∙ sym (ap table_content other_table);
+      table = marked_alike order table another a_table b_table alike first.marked second.marked;
     }
+
+same_pair : (one other : Pair) → Some one ≡ Some other → one ≡ other
+same_pair one other same = cc
+
+one_asking : Laws → (body_of : Keys → Octets → Octets → Octets → Octets) (setup : Setup) (what : Demand) (old other : Held) (one two : Stepped) (a b : Held) (table another a_table b_table : Database)
+    → TellsLengths body_of setup.fresh.seal → HoldWholeKeys old → held_content old ≡ held_content other → table_content table ≡ table_content another
+    → AsksFor body_of setup what old table one a a_table → AsksFor body_of setup what other another two b b_table → SameLeft one two a b a_table b_table
+one_asking laws body_of setup (demand.Probe ike) old other one two a b table another a_table b_table tells whole same alike is also =
+    one_probing laws body_of setup ike asked.Probe old other one two a b table another a_table b_table tells whole same alike is also
+one_asking laws body_of setup (demand.DeleteChild serial) old other one two a b table another a_table b_table tells whole same alike is also =
+    let pairs : also.pair ≡ is.pair = same_pair also.pair is.pair (sym also.there ∙ sym (ap (λ (d : Database). pair_at d.pairs serial) alike) ∙ is.there) in
+    one_probing laws body_of setup is.pair.ike (asked.DeleteChild serial is.pair.inbound.association.spi) old other one two a b table another a_table b_table tells whole same alike is.asks
+    (subst (λ (p : Pair). AsksThat body_of setup p.ike (asked.DeleteChild serial p.inbound.association.spi) other another two b b_table) pairs also.asks)
+one_asking laws body_of setup (demand.DeleteIke ike) old other one two a b table another a_table b_table tells whole same alike is also =
+    one_probing laws body_of setup ike asked.DeleteAssociation old other one two a b table another a_table b_table tells whole same alike is also
 
 alike_after : (now : ℕ) (old other a b : Machine) → machine_content old ≡ machine_content other → a ≡ record old { moment = now; held = a.held } → b ≡ record other { moment = now; held = b.held } → held_content a.held ≡ held_content b.held
     → machine_content a ≡ machine_content b
@@ -338,11 +364,11 @@ one_step laws meaning entries (Start ike place fresh) old other a b table anothe
     subst (λ (s : Setup). Starts meaning s ike place other.held another two b.held b_table) (same_setup old other entries fresh same) also.1 in
     same_whole one two old other a b a_table b_table same is.0 also.0
     (one_start laws meaning (setup_at old entries fresh) old.held other.held (ap (λ (m : Machine). m.held) same) ike place table another one two a.held b.held a_table b_table alike is.1 starts)
-one_step laws meaning entries (steps.Probe ike fresh) old other a b table another a_table b_table one two told whole same alike is also =
-    let probes : ProbesAt meaning.body_of (setup_at old entries fresh) ike other.held two b.held =
-    subst (λ (s : Setup). ProbesAt meaning.body_of s ike other.held two b.held) (same_setup old other entries fresh same) also.1 in
+one_step laws meaning entries (steps.Order what fresh) old other a b table another a_table b_table one two told whole same alike is also =
+    let asks : AsksFor meaning.body_of (setup_at old entries fresh) what other.held another two b.held b_table =
+    subst (λ (s : Setup). AsksFor meaning.body_of s what other.held another two b.held b_table) (same_setup old other entries fresh same) also.1 in
     same_whole one two old other a b a_table b_table same is.0 also.0
-    (one_probing laws meaning.body_of (setup_at old entries fresh) ike old.held other.held one two a.held b.held table another a_table b_table told whole (ap (λ (m : Machine). m.held) same) alike is.1 probes is.2 also.2)
+    (one_asking laws meaning.body_of (setup_at old entries fresh) what old.held other.held one two a.held b.held table another a_table b_table told whole (ap (λ (m : Machine). m.held) same) alike is.1 asks)
 one_step laws meaning entries (steps.Tick moment) old other a b table another a_table b_table one two told whole same alike is also =
     one_moment laws moment old other a b table another a_table b_table one two same alike is also
 one_step laws meaning entries (Secret secret) old other a b table another a_table b_table one two told whole same alike is also = (

@@ -14,6 +14,7 @@ use Rattle.initial.specs.Configs.{Setup}
 use Rattle.effects.specs.Taking.{Meaning}
 use Rattle.effects.specs.declared.taking.Effect.{Effect}
 use Rattle.effects.specs.declared.taking.Effect.TheVariants as effect
+use Rattle.ike.proofs.WayLemmas.{asked_one}
 use Rattle.ike.specs.Children.{MakesFirstChild}
 use Rattle.ike.specs.Machines.{setup_at, Machine}
 use Rattle.ike.specs.Outputs.{plain_step}
@@ -55,7 +56,8 @@ few_selectors law meaning entries (steps.Message from octets fresh) old table st
     let few = few_by meaning (setup_at old entries fresh) first.was octets first.message first.effect first.makes.keys first.makes.pair first.makes.made in
     subst (λ (p : Pair). HasFewSelectors p) (same_pair first.makes.pair pair (sym first.makes.brings.there ∙ there)) few
 few_selectors law meaning entries (steps.Start ike place fresh) old table stepped new new_table made pair st sm is e there = absurd (no_child _ stepped made is.1.done.said e)
-few_selectors law meaning entries (steps.Probe ike fresh) old table stepped new new_table made pair st sm is e there =
-    absurd (none_made made (sym (ap (λ (s : Stepped). s.trace.child) is.1.said) ∙ e))
+few_selectors law meaning entries (steps.Order what fresh) old table stepped new new_table made pair st sm is e there =
+    let one = asked_one meaning (setup_at old entries fresh) what old.held table stepped new.held new_table is.1 in
+    absurd (none_made made (sym (ap (λ (s : Stepped). s.trace.child) one.probes.said) ∙ e))
 few_selectors law meaning entries (steps.Tick moment) old table stepped new new_table made pair st sm is e there = absurd (no_child _ stepped made is.takes.said e)
 few_selectors law meaning entries (steps.Secret secret) old table stepped new new_table made pair st sm is e there = absurd (no_child _ stepped made is.said e)

@@ -29,12 +29,12 @@ use Rattle.ike.specs.declared.fault.IkeFault.{IkeFault}
 use Rattle.ike.specs.declared.output.IkeOutput.TheVariants as output
 use Rattle.ike.specs.declared.output.Stepped.{Stepped}
 use Rattle.ike.proofs.DeterminedRefusals.{refused_is}
-use Rattle.ike.proofs.ProbeLemmas.{probed_stood}
+use Rattle.ike.proofs.AskingLemmas.{probed_stood}
 use Rattle.ike.proofs.RepeatLemmas.{none_passes, opened_of, same_octets_itself}
 use Rattle.ike.proofs.RequestLemmas.{finds_of, only_says, some_none, yes_no, Laws, Quiet}
 use Rattle.ike.proofs.SerialLemmas.{grown_found, grown_stands, replaced_found, same_one, sound_found}
 use Rattle.ike.proofs.TickLemmas.{found_at, ticked_stood, TicksHold}
-use Rattle.ike.proofs.WayLemmas.{admitted, datagram_way, probed, rested, started, step_way, took, Way}
+use Rattle.ike.proofs.WayLemmas.{admitted, datagram_way, probed, rested, started, step_way, took, Way, asked_one}
 
 -- ---- it comes again
 
@@ -96,7 +96,7 @@ step_repeats_first laws quiet meaning entries (steps.Message from octets fresh) 
           first_repeats old.held table f.place a opened stepped (position (is_answered opened.request) old.held.associations) meaning setup old.cookies from asked.message new.held sound.held f.there half refl sound_one
     ]) tt
 step_repeats_first laws quiet meaning entries (steps.Start ike place fresh) old table stepped new new_table serial a opened sound is stands half same = absurd same
-step_repeats_first laws quiet meaning entries (steps.Probe ike fresh) old table stepped new new_table serial a opened sound is stands half same = absurd same
+step_repeats_first laws quiet meaning entries (steps.Order what fresh) old table stepped new new_table serial a opened sound is stands half same = absurd same
 step_repeats_first laws quiet meaning entries (steps.Secret secret) old table stepped new new_table serial a opened sound is stands half same = absurd same
 step_repeats_first laws quiet meaning entries (steps.Tick moment) old table stepped new new_table serial a opened sound is stands half same = absurd same
 
@@ -169,8 +169,9 @@ step_admits laws ticks meaning entries (steps.Message from octets fresh) old tab
     record { request = by.0; said = by.1 }
 step_admits laws ticks meaning entries (steps.Start ike place fresh) old table stepped new new_table serial b opened sound is none there half =
     absurd (begun_opened old.held table _ _ new.held serial b opened sound.held refl refl is.1.done.content (record { none = none; there = there }) half)
-step_admits laws ticks meaning entries (steps.Probe ike fresh) old table stepped new new_table serial b opened sound is none there half =
-    let was = probed_stood meaning.body_of (setup_at old entries fresh) ike old.held stepped new.held is.1 table serial b sound.held there in
+step_admits laws ticks meaning entries (steps.Order what fresh) old table stepped new new_table serial b opened sound is none there half =
+    let one = asked_one meaning (setup_at old entries fresh) what old.held table stepped new.held new_table is.1 in
+    let was = probed_stood meaning.body_of (setup_at old entries fresh) one.ike old.held stepped new.held one.probes table serial b sound.held there in
     absurd (some_none was.was (sym none ∙ was.stood))
 step_admits laws ticks meaning entries (steps.Secret secret) old table stepped new new_table serial b opened sound is none there half =
     absurd (still_none old.held new.held serial b (ap (λ (m : Machine). m.held) is.content) (record { none = none; there = there }))
@@ -193,7 +194,7 @@ opens_unrefused laws meaning entries (steps.Message from octets fresh) machine t
           absurd (yes_no (is_initial_request o.message.header) (ap (λ (x : Message). is_initial_request x.header) (sym one) ∙ refused.initial) f.not_initial)
     ]
 opens_unrefused laws meaning entries (steps.Start ike place fresh) machine table reason serial a number sound stands opens is = absurd opens
-opens_unrefused laws meaning entries (steps.Probe ike fresh) machine table reason serial a number sound stands opens is = absurd opens
+opens_unrefused laws meaning entries (steps.Order what fresh) machine table reason serial a number sound stands opens is = absurd opens
 opens_unrefused laws meaning entries (steps.Secret secret) machine table reason serial a number sound stands opens is = absurd opens
 opens_unrefused laws meaning entries (steps.Tick moment) machine table reason serial a number sound stands opens is = absurd opens
 
@@ -209,7 +210,7 @@ first_unrefused meaning entries (steps.Message from octets fresh) machine table 
           (none_passes (is_answered octets) machine.held.associations refused.first f.place a f.there))
     ]
 first_unrefused meaning entries (steps.Start ike place fresh) machine table reason serial a opened stands half same is = absurd same
-first_unrefused meaning entries (steps.Probe ike fresh) machine table reason serial a opened stands half same is = absurd same
+first_unrefused meaning entries (steps.Order what fresh) machine table reason serial a opened stands half same is = absurd same
 first_unrefused meaning entries (steps.Secret secret) machine table reason serial a opened stands half same is = absurd same
 first_unrefused meaning entries (steps.Tick moment) machine table reason serial a opened stands half same is = absurd same
 

@@ -19,7 +19,8 @@ mod DeterminedRefusals
 mod WholeKeyLemmas
 mod ProvingLemmas
 mod TickLemmas
-mod ProbeLemmas
+mod AskingLemmas
+mod MarkLemmas
 mod OrderLemmas
 mod RequestLemmas
 mod InitialLemmas

@@ -1,29 +1,39 @@
 -- An order on an association is done or refused by what is held of it, and a refusal has one reason.
-use Rattle.std.proofs.Common.{◌≡◌, ℕ, ◌+◌, ◌≤◌, Bool, true, false, cond, ◌∷◌, [], List, map, Option, Some, None, ap, refl, subst, sym, ◌∙◌}
+use Rattle.std.proofs.Common.{◌≡◌, ◌⊎◌, inl, inr, ℕ, ◌+◌, ◌≤◌, Bool, true, false, cond, ◌∷◌, [], List, map, Option, Some, None, ap, refl, subst, sym, ◌∙◌}
+use Rattle.std.specs.FinMap as numbers
 use Rattle.std.specs.Option.{option_map}
 use Rattle.suite.specs.declared.keys.Keys.{Keys}
 use Rattle.base.specs.Octets.{Octets}
+use Rattle.sadb.specs.Contents.{table_content}
+use Rattle.sadb.specs.Database.{pair_at, Database}
+use Rattle.sadb.specs.declared.pair.Pair.{Pair}
+use Rattle.sadb.specs.declared.pair.State.{State}
+use Rattle.sadb.specs.declared.pair.State.TheVariants as state
 use Rattle.requests.specs.Contents.{outgoing_content}
 use Rattle.requests.specs.Numbers.{IsGap}
 use Rattle.requests.specs.Outgoing.{AreNumbersSpent, HasSameOwnRequests, IsBusy, MayIssue, OwnRequests}
 use Rattle.association.specs.Contents.{association_content}
+use Rattle.association.specs.Purposes.{AwaitsDeletion}
 use Rattle.association.specs.declared.phase.Association.{Association}
 use Rattle.association.specs.declared.phase.Request.{Request}
 use Rattle.initial.specs.Configs.{Setup}
 use Rattle.informational.specs.Orders.{IsEstablished, RefusesOrder}
-use Rattle.informational.specs.Probing.{Probes}
+use Rattle.informational.specs.Asking.{Asks}
 use Rattle.informational.specs.declared.fault.OrderFault.{OrderFault}
 use Rattle.informational.specs.declared.fault.OrderFault.TheVariants as order
+use Rattle.informational.specs.declared.ordering.Order.{Order}
 use Rattle.ike.specs.Contents.{held_content}
 use Rattle.ike.specs.Faults.{is_want_of_memory}
 use Rattle.ike.specs.Machines.{association_of, has_serial, Held}
-use Rattle.ike.specs.Probing.{fault_of_order, ProbesAt, RefusesOrderAt}
+use Rattle.ike.specs.Asking.{fault_of_order, AsksAt, AsksFor, RefusesAsking, RefusesAskingAt, RefusesChild, RefusesChildBy}
+use Rattle.ike.specs.declared.asking.Demand.{Demand}
+use Rattle.ike.specs.declared.asking.Demand.TheVariants as demand
 use Rattle.ike.specs.Ticking.{RefusesMoment}
 use Rattle.ike.specs.declared.fault.IkeFault.{IkeFault}
 use Rattle.ike.specs.declared.fault.IkeFault.TheVariants as fault
 use Rattle.ike.specs.declared.output.Stepped.{Stepped}
 use Rattle.ike.proofs.ContentLemmas.{same_list}
-use Rattle.ike.proofs.ProbeLemmas.{probed_first}
+use Rattle.ike.proofs.AskingLemmas.{probed_first}
 
 -- ---- by content
 
@@ -48,6 +58,19 @@ busy_as a b same is =
       is_gap = subst (λ (r : OwnRequests Request). IsGap r.answered is.gap) same is.is_gap;
       full = subst (λ (r : OwnRequests Request). is.gap + r.window ≤ r.next) same is.full;
     }
+
+deleting_as : (a b : OwnRequests Request) → outgoing_content a ≡ outgoing_content b → AwaitsDeletion a → AwaitsDeletion b
+deleting_as a b same is = record {
+  number = is.number;
+  request = is.request;
+  outstanding = sym (ap (λ (r : OwnRequests Request). numbers.get r.outstanding is.number) same) ∙ is.outstanding;
+  deletion = is.deletion;
+}
+
+-- so the peer takes no more requests, or none is taken any more
+full_as : (a b : OwnRequests Request) → outgoing_content a ≡ outgoing_content b → AwaitsDeletion a ⊎ IsBusy a → (¬ AwaitsDeletion b) → (¬ IsBusy b) → ⊥
+full_as a b same (inl deleting) none free = none (deleting_as a b same deleting)
+full_as a b same (inr busy) none free = free (busy_as a b same busy)
 
 spent_as : (a b : OwnRequests Request) → outgoing_content a ≡ outgoing_content b → AreNumbersSpent a → AreNumbersSpent b
 spent_as a b same is = subst (λ (r : OwnRequests Request). AreNumbersSpent r) same is
@@ -74,15 +97,15 @@ one_order a b same order.WrongPhase order.Busy is also = absurd (is.0 (establish
 one_order a b same order.WrongPhase order.NumbersSpent is also = absurd (is.0 (established_as b a (sym same) also.0.0))
 one_order a b same order.Busy order.WrongPhase is also = absurd (also.0 (established_as a b same is.0.0))
 one_order a b same order.Busy order.Busy is also = refl
-one_order a b same order.Busy order.NumbersSpent is also = absurd (also.0.1 (busy_as a.outgoing b.outgoing (same_outgoing a b same) is.0.1))
+one_order a b same order.Busy order.NumbersSpent is also = absurd (full_as a.outgoing b.outgoing (same_outgoing a b same) is.0.1 also.0.1 also.0.2)
 one_order a b same order.NumbersSpent order.WrongPhase is also = absurd (also.0 (established_as a b same is.0.0))
-one_order a b same order.NumbersSpent order.Busy is also = absurd (is.0.1 (busy_as b.outgoing a.outgoing (sym (same_outgoing a b same)) also.0.1))
+one_order a b same order.NumbersSpent order.Busy is also = absurd (full_as b.outgoing a.outgoing (sym (same_outgoing a b same)) also.0.1 is.0.1 is.0.2)
 one_order a b same order.NumbersSpent order.NumbersSpent is also = refl
 one_order a b same order.Memory two is also = absurd (memory_only true refl is.1)
 one_order a b same one order.Memory is also = absurd (memory_only true refl also.1)
 
 one_at : (o p : Option Association) (one two : IkeFault) → option_map association_content o ≡ option_map association_content p → is_want_of_memory one ≡ false → is_want_of_memory two ≡ false
-    → RefusesOrderAt o one → RefusesOrderAt p two → one ≡ two
+    → RefusesAskingAt o one → RefusesAskingAt p two → one ≡ two
 one_at None None one two same not_one not_two is also = is ∙ sym also
 one_at None (Some b) one two same not_one not_two is also = absurd cc
 one_at (Some a) None one two same not_one not_two is also = absurd cc
@@ -93,7 +116,7 @@ one_at (Some a) (Some b) one two same not_one not_two is also =
     ∙ sym also.2
 
 pub one_probe_refusal : (serial : ℕ) (old other : Held) (one two : IkeFault) → held_content old ≡ held_content other → is_want_of_memory one ≡ false → is_want_of_memory two ≡ false
-    → RefusesOrderAt (association_of serial old.associations) one → RefusesOrderAt (association_of serial other.associations) two → one ≡ two
+    → RefusesAskingAt (association_of serial old.associations) one → RefusesAskingAt (association_of serial other.associations) two → one ≡ two
 one_probe_refusal serial old other one two same not_one not_two is also =
     one_at (association_of serial old.associations) (association_of serial other.associations) one two (same_association serial old other same) not_one not_two is also
 
@@ -106,27 +129,61 @@ may_before old ready room may =
       not_spent = m.not_spent;
     }) may
 
-not_refused : (body_of : Keys → Octets → Octets → Octets → Octets) (setup : Setup) (a b : Association) (octets : Octets) (changed : Association) → association_content a ≡ association_content b
-    → Probes body_of setup a octets changed → (o : OrderFault) → RefusesOrder b o → is_want_of_memory (fault_of_order o) ≡ true
-not_refused body_of setup a b octets changed same is order.WrongPhase refuses = absurd (refuses (established_as a b same (record { keys = is.keys; is = is.established })))
-not_refused body_of setup a b octets changed same is order.Busy refuses =
-    absurd ((may_before a.outgoing is.issued.ready is.issued.prepared is.issued.issued.allowed).not_busy (busy_as b.outgoing a.outgoing (sym (same_outgoing a b same)) refuses.1))
-not_refused body_of setup a b octets changed same is order.NumbersSpent refuses =
-    absurd ((may_before a.outgoing is.issued.ready is.issued.prepared is.issued.issued.allowed).not_spent (spent_as b.outgoing a.outgoing (sym (same_outgoing a b same)) refuses.2))
-not_refused body_of setup a b octets changed same is order.Memory refuses = refl
+not_refused : (body_of : Keys → Octets → Octets → Octets → Octets) (setup : Setup) (order : Order) (a b : Association) (octets : Octets) (changed : Association) → association_content a ≡ association_content b
+    → Asks body_of setup order a octets changed → (o : OrderFault) → RefusesOrder b o → is_want_of_memory (fault_of_order o) ≡ true
+not_refused body_of setup o a b octets changed same is order.WrongPhase refuses = absurd (refuses (established_as a b same (record { keys = is.keys; is = is.established })))
+not_refused body_of setup o a b octets changed same is order.Busy refuses =
+    absurd (full_as b.outgoing a.outgoing (sym (same_outgoing a b same)) refuses.1 is.not_deleting (may_before a.outgoing is.issued.ready is.issued.prepared is.issued.issued.allowed).not_busy)
+not_refused body_of setup o a b octets changed same is order.NumbersSpent refuses =
+    absurd ((may_before a.outgoing is.issued.ready is.issued.prepared is.issued.issued.allowed).not_spent (spent_as b.outgoing a.outgoing (sym (same_outgoing a b same)) refuses.3))
+not_refused body_of setup o a b octets changed same is order.Memory refuses = refl
 
-done_or_not : (body_of : Keys → Octets → Octets → Octets → Octets) (setup : Setup) (a : Association) (p : Option Association) (octets : Octets) (changed : Association) (reason : IkeFault)
-    → Some (association_content a) ≡ option_map association_content p → Probes body_of setup a octets changed → RefusesOrderAt p reason → is_want_of_memory reason ≡ true
-done_or_not body_of setup a None octets changed reason same is refuses = absurd cc
-done_or_not body_of setup a (Some b) octets changed reason same is refuses =
+done_or_not : (body_of : Keys → Octets → Octets → Octets → Octets) (setup : Setup) (order : Order) (a : Association) (p : Option Association) (octets : Octets) (changed : Association) (reason : IkeFault)
+    → Some (association_content a) ≡ option_map association_content p → Asks body_of setup order a octets changed → RefusesAskingAt p reason → is_want_of_memory reason ≡ true
+done_or_not body_of setup o a None octets changed reason same is refuses = absurd cc
+done_or_not body_of setup o a (Some b) octets changed reason same is refuses =
     let alike : association_content a ≡ association_content b = cc in
-    ap is_want_of_memory refuses.2 ∙ not_refused body_of setup a b octets changed alike is refuses.0 refuses.1
+    ap is_want_of_memory refuses.2 ∙ not_refused body_of setup o a b octets changed alike is refuses.0 refuses.1
 
 pub probe_or_refused : (body_of : Keys → Octets → Octets → Octets → Octets) (setup : Setup) (serial : ℕ) (old other : Held) (stepped : Stepped) (new : Held) (reason : IkeFault) → held_content old ≡ held_content other
-    → ProbesAt body_of setup serial old stepped new → RefusesOrderAt (association_of serial other.associations) reason → is_want_of_memory reason ≡ true
+    → AsksAt body_of setup serial old stepped new → RefusesAskingAt (association_of serial other.associations) reason → is_want_of_memory reason ≡ true
 probe_or_refused body_of setup serial old other stepped new reason same is refuses =
-    done_or_not body_of setup is.association (association_of serial other.associations) is.octets is.changed reason
-    (sym (ap (option_map association_content) (probed_first body_of setup serial old stepped new is)) ∙ same_association serial old other same) is.probes refuses
+    done_or_not body_of setup is.order is.association (association_of serial other.associations) is.octets is.changed reason
+    (sym (ap (option_map association_content) (probed_first body_of setup serial old stepped new is)) ∙ same_association serial old other same) is.asks refuses
+
+-- ---- what is ordered
+
+same_pair : (one other : Pair) → Some one ≡ Some other → one ≡ other
+same_pair one other same = cc
+
+one_child_refusal : (state : State) (serial : ℕ) (old other : Held) (one two : IkeFault) → held_content old ≡ held_content other → is_want_of_memory one ≡ false → is_want_of_memory two ≡ false
+    → RefusesChildBy state (association_of serial old.associations) one → RefusesChildBy state (association_of serial other.associations) two → one ≡ two
+one_child_refusal state.Live serial old other one two same not_one not_two is also = one_probe_refusal serial old other one two same not_one not_two is also
+one_child_refusal state.Deleting serial old other one two same not_one not_two is also = is ∙ sym also
+
+one_named_refusal : (pair : Option Pair) (old other : Held) (one two : IkeFault) → held_content old ≡ held_content other → is_want_of_memory one ≡ false → is_want_of_memory two ≡ false
+    → RefusesChild pair old one → RefusesChild pair other two → one ≡ two
+one_named_refusal None old other one two same not_one not_two is also = is ∙ sym also
+one_named_refusal (Some pair) old other one two same not_one not_two is also = one_child_refusal pair.state pair.ike old other one two same not_one not_two is also
+
+pub one_asking_refusal : (what : Demand) (old other : Held) (table another : Database) (one two : IkeFault) → held_content old ≡ held_content other → table_content table ≡ table_content another
+    → is_want_of_memory one ≡ false → is_want_of_memory two ≡ false → RefusesAsking what old table one → RefusesAsking what other another two → one ≡ two
+one_asking_refusal (demand.Probe ike) old other table another one two same alike not_one not_two is also = one_probe_refusal ike old other one two same not_one not_two is also
+one_asking_refusal (demand.DeleteChild serial) old other table another one two same alike not_one not_two is also =
+    one_named_refusal (pair_at table.pairs serial) old other one two same not_one not_two is
+    (subst (λ (p : Option Pair). RefusesChild p other two) (sym (ap (λ (d : Database). pair_at d.pairs serial) alike)) also)
+one_asking_refusal (demand.DeleteIke ike) old other table another one two same alike not_one not_two is also = one_probe_refusal ike old other one two same not_one not_two is also
+
+pub asked_or_refused : (body_of : Keys → Octets → Octets → Octets → Octets) (setup : Setup) (what : Demand) (old other : Held) (table another : Database) (stepped : Stepped) (new : Held) (new_table : Database) (reason : IkeFault)
+    → held_content old ≡ held_content other → table_content table ≡ table_content another → AsksFor body_of setup what old table stepped new new_table → RefusesAsking what other another reason
+    → is_want_of_memory reason ≡ true
+asked_or_refused body_of setup (demand.Probe ike) old other table another stepped new new_table reason same alike is refuses = probe_or_refused body_of setup ike old other stepped new reason same is.asks refuses
+asked_or_refused body_of setup (demand.DeleteChild serial) old other table another stepped new new_table reason same alike is refuses =
+    let there : pair_at another.pairs serial ≡ Some is.pair = sym (ap (λ (d : Database). pair_at d.pairs serial) alike) ∙ is.there in
+    let by : RefusesChildBy is.pair.state (association_of is.pair.ike other.associations) reason = subst (λ (p : Option Pair). RefusesChild p other reason) there refuses in
+    probe_or_refused body_of setup is.pair.ike old other stepped new reason same is.asks.asks
+    (subst (λ (s : State). RefusesChildBy s (association_of is.pair.ike other.associations) reason) is.live by)
+asked_or_refused body_of setup (demand.DeleteIke ike) old other table another stepped new new_table reason same alike is refuses = probe_or_refused body_of setup ike old other stepped new reason same is.asks refuses
 
 pub moment_refused : (reason : IkeFault) → RefusesMoment reason → is_want_of_memory reason ≡ true
 moment_refused (fault.Unread f) is = absurd is

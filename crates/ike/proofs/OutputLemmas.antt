@@ -37,13 +37,13 @@ use Rattle.ike.specs.Steps.{InputView, Steps}
 use Rattle.ike.specs.Steps as steps
 use Rattle.ike.specs.declared.output.IkeOutput.TheVariants as output
 use Rattle.ike.specs.declared.output.Stepped.{Stepped}
-use Rattle.ike.proofs.ProbeLemmas.{changed_itself}
+use Rattle.ike.proofs.AskingLemmas.{changed_itself}
 use Rattle.ike.proofs.RepeatLemmas.{opened_of}
 use Rattle.ike.proofs.RequestLemmas.{and_left, below, finds_of, first_of, found_first, request_pair, some_none, still_same, takes_there, way_change, Change, Laws}
 use Rattle.ike.proofs.RequestLemmas.{asked, took_it, unchanged}
 use Rattle.ike.proofs.SerialLemmas.{grown_found, replaced_found, replaced_stands, same_one, sound_found}
 use Rattle.ike.proofs.TickLemmas.{ticked_stood, TicksHold}
-use Rattle.ike.proofs.WayLemmas.{admitted, datagram_way, probed, rested, started, took, Way}
+use Rattle.ike.proofs.WayLemmas.{admitted, datagram_way, probed, rested, started, took, Way, asked_one}
 
 -- what more is known of one message's effect
 pub record MoreLaws : Type 0 where
@@ -98,7 +98,7 @@ step_otherwise more meaning entries (steps.Message from octets fresh) old table 
           }))
     ]
 step_otherwise more meaning entries (steps.Start ike place fresh) old table stepped new new_table serial a number sound is stands opens = absurd opens
-step_otherwise more meaning entries (steps.Probe ike fresh) old table stepped new new_table serial a number sound is stands opens = absurd opens
+step_otherwise more meaning entries (steps.Order what fresh) old table stepped new new_table serial a number sound is stands opens = absurd opens
 step_otherwise more meaning entries (steps.Secret secret) old table stepped new new_table serial a number sound is stands opens = absurd opens
 step_otherwise more meaning entries (steps.Tick moment) old table stepped new new_table serial a number sound is stands opens = absurd opens
 
@@ -167,8 +167,9 @@ step_replied more meaning entries (steps.Message from octets fresh) old table st
 ]
 step_replied more meaning entries (steps.Start ike place fresh) old table stepped new new_table reply closed sound is said =
     let clash = sym (ap (λ (s : Stepped). s.output) is.1.done.said) ∙ said in absurd cc
-step_replied more meaning entries (steps.Probe ike fresh) old table stepped new new_table reply closed sound is said =
-    let clash = sym (ap (λ (s : Stepped). s.output) is.1.said) ∙ said in absurd cc
+step_replied more meaning entries (steps.Order what fresh) old table stepped new new_table reply closed sound is said =
+    let one = asked_one meaning (setup_at old entries fresh) what old.held table stepped new.held new_table is.1 in
+    let clash = sym (ap (λ (s : Stepped). s.output) one.probes.said) ∙ said in absurd cc
 step_replied more meaning entries (steps.Secret secret) old table stepped new new_table reply closed sound is said =
     let clash = sym (ap (λ (s : Stepped). s.output) is.said) ∙ said in absurd cc
 step_replied more meaning entries (steps.Tick moment) old table stepped new new_table reply closed sound is said =
@@ -279,7 +280,9 @@ step_repeats_only more meaning entries (steps.Message from octets fresh) old tab
   | inr read ↦ read_repeats more (is_initial_request read.message.header) meaning (setup_at old entries fresh) old.cookies from octets fresh read.message old.held table stepped new.held new_table reply sound.held read.spelled said read.done
 ]
 step_repeats_only more meaning entries (steps.Start ike place fresh) old table stepped new new_table reply sound is said = let clash = sym (ap (λ (s : Stepped). s.output) is.1.done.said) ∙ said in absurd cc
-step_repeats_only more meaning entries (steps.Probe ike fresh) old table stepped new new_table reply sound is said = let clash = sym (ap (λ (s : Stepped). s.output) is.1.said) ∙ said in absurd cc
+step_repeats_only more meaning entries (steps.Order what fresh) old table stepped new new_table reply sound is said =
+    let one = asked_one meaning (setup_at old entries fresh) what old.held table stepped new.held new_table is.1 in
+    let clash = sym (ap (λ (s : Stepped). s.output) one.probes.said) ∙ said in absurd cc
 step_repeats_only more meaning entries (steps.Secret secret) old table stepped new new_table reply sound is said = let clash = sym (ap (λ (s : Stepped). s.output) is.said) ∙ said in absurd cc
 step_repeats_only more meaning entries (steps.Tick moment) old table stepped new new_table reply sound is said = let clash = sym (ap (λ (s : Stepped). s.output) is.takes.said) ∙ said in absurd cc
 
@@ -301,8 +304,8 @@ step_window more ticks meaning entries (steps.Message from octets fresh) old tab
     way_window more meaning (setup_at old entries fresh) octets old.held table stepped new.held new_table serial a b sound.held held (datagram_way meaning (setup_at old entries fresh) old.cookies from octets old.held table stepped new.held new_table is.1)
 step_window more ticks meaning entries (steps.Start ike place fresh) old table stepped new new_table serial a b sound is held =
     way_window more meaning (setup_at old entries fresh) [] old.held table stepped new.held new_table serial a b sound.held held (started (record { ike = ike; place = place; starts = is.1 }))
-step_window more ticks meaning entries (steps.Probe ike fresh) old table stepped new new_table serial a b sound is held =
-    way_window more meaning (setup_at old entries fresh) [] old.held table stepped new.held new_table serial a b sound.held held (probed (record { ike = ike; probes = is.1; pairs = is.2 }))
+step_window more ticks meaning entries (steps.Order what fresh) old table stepped new new_table serial a b sound is held =
+    way_window more meaning (setup_at old entries fresh) [] old.held table stepped new.held new_table serial a b sound.held held (probed (asked_one meaning (setup_at old entries fresh) what old.held table stepped new.held new_table is.1))
 step_window more ticks meaning entries (steps.Secret secret) old table stepped new new_table serial a b sound is held =
     inl (ap (λ (x : Association). x.incoming.size) (still_same old.held new.held serial a b (ap (λ (m : Machine). m.held) is.content) held.before held.after))
 step_window more ticks meaning entries (steps.Tick moment) old table stepped new new_table serial a b sound is held =
@@ -387,8 +390,8 @@ step_gone laws leave meaning entries (steps.Message from octets fresh) old table
     absurd (way_keeps laws meaning (setup_at old entries fresh) octets old.held table stepped new.held new_table serial a sound.held stands none (datagram_way meaning (setup_at old entries fresh) old.cookies from octets old.held table stepped new.held new_table is.1))
 step_gone laws leave meaning entries (steps.Start ike place fresh) old table stepped new new_table serial a sound is stands none =
     absurd (way_keeps laws meaning (setup_at old entries fresh) [] old.held table stepped new.held new_table serial a sound.held stands none (started (record { ike = ike; place = place; starts = is.1 })))
-step_gone laws leave meaning entries (steps.Probe ike fresh) old table stepped new new_table serial a sound is stands none =
-    absurd (way_keeps laws meaning (setup_at old entries fresh) [] old.held table stepped new.held new_table serial a sound.held stands none (probed (record { ike = ike; probes = is.1; pairs = is.2 })))
+step_gone laws leave meaning entries (steps.Order what fresh) old table stepped new new_table serial a sound is stands none =
+    absurd (way_keeps laws meaning (setup_at old entries fresh) [] old.held table stepped new.held new_table serial a sound.held stands none (probed (asked_one meaning (setup_at old entries fresh) what old.held table stepped new.held new_table is.1)))
 step_gone laws leave meaning entries (steps.Secret secret) old table stepped new new_table serial a sound is stands none =
     absurd (some_none a (sym none ∙ ap (λ (m : Machine). association_of serial m.held.associations) is.content ∙ stands))
 step_gone laws leave meaning entries (steps.Tick moment) old table stepped new new_table serial a sound is stands none =

@@ -17,7 +17,7 @@ use Rattle.effects.specs.Proving.{ProvesByMessage}
 use Rattle.effects.specs.Taking.{Meaning, KeepsIdentity, TakesMessage}
 use Rattle.effects.specs.declared.taking.Effect.{Effect}
 use Rattle.ike.specs.Machines.{association_of, setup_at, Held, Machine}
-use Rattle.ike.specs.Probing.{ProbesAt}
+use Rattle.ike.specs.Asking.{AsksAt}
 use Rattle.ike.specs.Proving.{ProvedItself, WasKnown}
 use Rattle.ike.specs.Receiving.{with_next}
 use Rattle.ike.specs.Soundness.{AreSound, IsSoundMachine}
@@ -27,9 +27,9 @@ use Rattle.ike.specs.Steps as steps
 use Rattle.ike.specs.Ticking.{TakesHeld}
 use Rattle.ike.specs.declared.output.Stepped.{Stepped}
 use Rattle.ike.proofs.SerialLemmas.{grown_found, grown_stands, replaced_found, replaced_stands, same_one, sound_found}
-use Rattle.ike.proofs.ProbeLemmas.{probed_stood}
+use Rattle.ike.proofs.AskingLemmas.{probed_stood}
 use Rattle.ike.proofs.TickLemmas.{ticked_stood, TicksHold}
-use Rattle.ike.proofs.WayLemmas.{admitted, datagram_way, probed, rested, started, took, Takes, Way}
+use Rattle.ike.proofs.WayLemmas.{admitted, datagram_way, probed, rested, started, took, Takes, Way, asked_one}
 
 -- what is known of a message's effect
 pub record ProvingFacts : Type 0 where
@@ -113,7 +113,7 @@ took_known facts meaning setup octets old table stepped new new_table ike a keys
     ]
 
 probed_so : (meaning : Meaning) (setup : Setup) (serial : ℕ) (old : Held) (table : Database) (stepped : Stepped) (new : Held) (ike : ℕ) (a : Association) (keys : KeyRecord)
-    → AreSound old table → ProbesAt meaning.body_of setup serial old stepped new → association_of ike new.associations ≡ Some a → a.phase ≡ phase.Established keys → StoodSo ike keys old
+    → AreSound old table → AsksAt meaning.body_of setup serial old stepped new → association_of ike new.associations ≡ Some a → a.phase ≡ phase.Established keys → StoodSo ike keys old
 probed_so meaning setup serial old table stepped new ike a keys sound is stands established =
     let before = probed_stood meaning.body_of setup serial old stepped new is table ike a sound stands in
     record { was = before.was; stood = before.stood; established = sym before.phase_is ∙ established }
@@ -160,8 +160,9 @@ step_known facts held meaning entries (steps.Message from octets fresh) old tabl
 step_known facts held meaning entries (steps.Start order place fresh) old table stepped new new_table ike a keys sound is stands established =
     let stood = started_stood meaning (setup_at old entries fresh) order place old.held table stepped new.held new_table ike a keys sound.held is.1 stands established in
     record { was = stood.was; stood = stood.stood; known = inl stood.established }
-step_known facts held meaning entries (steps.Probe serial fresh) old table stepped new new_table ike a keys sound is stands established =
-    let stood = probed_so meaning (setup_at old entries fresh) serial old.held table stepped new.held ike a keys sound.held is.1 stands established in
+step_known facts held meaning entries (steps.Order what fresh) old table stepped new new_table ike a keys sound is stands established =
+    let one = asked_one meaning (setup_at old entries fresh) what old.held table stepped new.held new_table is.1 in
+    let stood = probed_so meaning (setup_at old entries fresh) one.ike old.held table stepped new.held ike a keys sound.held one.probes stands established in
     record { was = stood.was; stood = stood.stood; known = inl stood.established }
 step_known facts held meaning entries (steps.Tick moment) old table stepped new new_table ike a keys sound is stands established =
     let stood = passed_so held (max old.moment moment) old.held table new.held new_table stepped ike a keys sound.held is.takes stands established in

@@ -15,6 +15,7 @@ use Rattle.initial.specs.Configs.{Setup}
 use Rattle.effects.specs.Taking.{Meaning, TakesMessage}
 use Rattle.effects.specs.declared.taking.Effect.{Effect}
 use Rattle.effects.specs.declared.taking.Effect.TheVariants as effect
+use Rattle.ike.proofs.WayLemmas.{asked_one}
 use Rattle.ike.specs.Machines.{setup_at, Held, Machine}
 use Rattle.ike.specs.Outputs.{half_open_step, stepped_of, IsQuiet}
 use Rattle.ike.specs.Receiving.{is_answered, is_initial_request, is_sound_initial, DoesJudgement, TakesAt, TakesDatagram, TakesFound, TakesOffer, TakesRead, TakesRequestAt, TakesSound}
@@ -117,8 +118,9 @@ quiet_step facts meaning entries (steps.Message from octets fresh) old table ste
     (whole old new is.0 still.0, still.1)
 quiet_step facts meaning entries (steps.Start ike place fresh) old table stepped new new_table is quiet =
     absurd (quiet_like stepped _ is.1.done.said quiet)
-quiet_step facts meaning entries (steps.Probe ike fresh) old table stepped new new_table is quiet =
-    absurd (quiet_like stepped _ is.1.said quiet)
+quiet_step facts meaning entries (steps.Order what fresh) old table stepped new new_table is quiet =
+    let one = asked_one meaning (setup_at old entries fresh) what old.held table stepped new.held new_table is.1 in
+    absurd (quiet_like stepped _ one.probes.said quiet)
 quiet_step facts meaning entries (steps.Tick moment) old table stepped new new_table is quiet =
     absurd (quiet_like stepped _ is.takes.said quiet)
 quiet_step facts meaning entries (steps.Secret secret) old table stepped new new_table is quiet =

@@ -48,17 +48,17 @@ use Rattle.ike.specs.Requests.{ComesIntoEffect, HoldsInEffect, IsAnswered, IsHel
 use Rattle.ike.specs.Soundness.{AreSound, At, IsSound, IsSoundMachine}
 use Rattle.ike.specs.Steps.{InputView, Steps}
 use Rattle.ike.specs.Steps as steps
-use Rattle.ike.specs.Probing.{ProbesAt}
+use Rattle.ike.specs.Asking.{AsksAt}
 use Rattle.ike.specs.Ticking.{TakesHeld}
 use Rattle.ike.specs.declared.fault.IkeFault.TheVariants as fault
 use Rattle.ike.specs.declared.output.IkeOutput.{IkeOutput}
 use Rattle.ike.specs.declared.output.IkeOutput.TheVariants as output
 use Rattle.ike.specs.declared.output.Stepped.{Stepped}
-use Rattle.ike.proofs.ProbeLemmas.{changed_itself, changed_phase}
+use Rattle.ike.proofs.AskingLemmas.{changed_itself, changed_phase}
 use Rattle.ike.proofs.RepeatLemmas.{none_passes}
 use Rattle.ike.proofs.SerialLemmas.{grown_found, replaced_found, replaced_stands, same_one, sound_found}
 use Rattle.ike.proofs.TickLemmas.{found_at, on_concluded, on_half_open, ticked_stood, TicksHold}
-use Rattle.ike.proofs.WayLemmas.{admitted, datagram_way, probed, rested, started, step_way, took, Takes, Way}
+use Rattle.ike.proofs.WayLemmas.{admitted, datagram_way, probed, rested, started, step_way, took, Takes, Way, asked_one}
 
 -- what is known of one message's effect on one association
 pub record Laws : Type 0 where
@@ -208,7 +208,7 @@ way_change laws meaning setup octets old table stepped new new_table serial a b 
     elim (replaced_same old table p.place p.association p.changed new serial a b sound p.there stays.serial p.content held.before held.after) [
       | inl is_same ↦ unchanged is_same
       | inr (was, is_now) ↦ asked
-          (ap (λ (x : Association). x.incoming) is_now ∙ ap (λ (x : Association). x.incoming) p.probes.content ∙ ap (λ (x : Association). x.incoming) (sym was))
+          (ap (λ (x : Association). x.incoming) is_now ∙ ap (λ (x : Association). x.incoming) p.asks.content ∙ ap (λ (x : Association). x.incoming) (sym was))
           (ap (λ (x : Association). x.phase) is_now ∙ changed_phase meaning.body_of setup is.ike old stepped new p ∙ ap (λ (x : Association). x.phase) (sym was))
     ]
 
@@ -445,12 +445,12 @@ ticked_never ticks now old table new new_table stepped serial a b number sound t
     never a b number (was.on.incoming ∙ ap (λ (x : Association). x.incoming) (same_one was.was a (sym was.stood ∙ held.before))) comes
 
 probed_never : (meaning : Meaning) (setup : Setup) (ike : ℕ) (old : Held) (table : Database) (stepped : Stepped) (new : Held) (serial : ℕ) (a b : Association) (number : ℕ) → AreSound old table
-    → ProbesAt meaning.body_of setup ike old stepped new → IsHeldThrough serial old new a b → ComesIntoEffect number a b → ⊥
+    → AsksAt meaning.body_of setup ike old stepped new → IsHeldThrough serial old new a b → ComesIntoEffect number a b → ⊥
 probed_never meaning setup ike old table stepped new serial a b number sound p held comes =
     let stays = changed_itself meaning.body_of setup ike old stepped new p in
     elim (replaced_same old table p.place p.association p.changed new serial a b sound p.there stays.serial p.content held.before held.after) [
       | inl is_same ↦ never a b number (ap (λ (x : Association). x.incoming) is_same) comes
-      | inr (was, is_now) ↦ never a b number (ap (λ (x : Association). x.incoming) is_now ∙ ap (λ (x : Association). x.incoming) p.probes.content ∙ ap (λ (x : Association). x.incoming) (sym was)) comes
+      | inr (was, is_now) ↦ never a b number (ap (λ (x : Association). x.incoming) is_now ∙ ap (λ (x : Association). x.incoming) p.asks.content ∙ ap (λ (x : Association). x.incoming) (sym was)) comes
     ]
 
 pub step_brings : Laws → TicksHold → (meaning : Meaning) (entries : List Entry) (input : InputView) (old : Machine) (table : Database) (stepped : Stepped) (new : Machine) (new_table : Database)
@@ -463,8 +463,9 @@ step_brings laws ticks meaning entries (steps.Message from octets fresh) old tab
     (by.new_one, by.answered)
 step_brings laws ticks meaning entries (steps.Start ike place fresh) old table stepped new new_table serial a b number sound is held comes =
     absurd (never a b number (ap (λ (x : Association). x.incoming) (grown_same old.held table serial _ b new.held sound.held refl is.1.done.content a held.before held.after)) comes)
-step_brings laws ticks meaning entries (steps.Probe ike fresh) old table stepped new new_table serial a b number sound is held comes =
-    absurd (probed_never meaning (setup_at old entries fresh) ike old.held table stepped new.held serial a b number sound.held is.1 held comes)
+step_brings laws ticks meaning entries (steps.Order what fresh) old table stepped new new_table serial a b number sound is held comes =
+    let one = asked_one meaning (setup_at old entries fresh) what old.held table stepped new.held new_table is.1 in
+    absurd (probed_never meaning (setup_at old entries fresh) one.ike old.held table stepped new.held serial a b number sound.held one.probes held comes)
 step_brings laws ticks meaning entries (steps.Secret secret) old table stepped new new_table serial a b number sound is held comes =
     absurd (never a b number (ap (λ (x : Association). x.incoming) (still_same old.held new.held serial a b (ap (λ (m : Machine). m.held) is.content) held.before held.after)) comes)
 step_brings laws ticks meaning entries (steps.Tick moment) old table stepped new new_table serial a b number sound is held comes =
@@ -494,7 +495,7 @@ step_takes laws meaning entries (steps.Message from octets fresh) old table step
       in_effect = subst (λ n. HasNumber t.changed.incoming.in_effect n) o.number_is has;
     }
 step_takes laws meaning entries (steps.Start ike place fresh) old table stepped new new_table serial a number sound is stands new_one = absurd new_one
-step_takes laws meaning entries (steps.Probe ike fresh) old table stepped new new_table serial a number sound is stands new_one = absurd new_one
+step_takes laws meaning entries (steps.Order what fresh) old table stepped new new_table serial a number sound is stands new_one = absurd new_one
 step_takes laws meaning entries (steps.Secret secret) old table stepped new new_table serial a number sound is stands new_one = absurd new_one
 step_takes laws meaning entries (steps.Tick moment) old table stepped new new_table serial a number sound is stands new_one = absurd new_one
 
@@ -527,7 +528,7 @@ step_repeats laws quiet meaning entries (steps.Message from octets fresh) old ta
     only_says quiet meaning entries (steps.Message from octets fresh) old table stepped new new_table (output.Repeat reply) is
     (ap (λ (s : Stepped). s.output) (t.said ∙ ap (stepped_of t.association.serial o.message.header.id) repeated)) tt
 step_repeats laws quiet meaning entries (steps.Start ike place fresh) old table stepped new new_table serial a number reply sound is stands opens kept = absurd opens
-step_repeats laws quiet meaning entries (steps.Probe ike fresh) old table stepped new new_table serial a number reply sound is stands opens kept = absurd opens
+step_repeats laws quiet meaning entries (steps.Order what fresh) old table stepped new new_table serial a number reply sound is stands opens kept = absurd opens
 step_repeats laws quiet meaning entries (steps.Secret secret) old table stepped new new_table serial a number reply sound is stands opens kept = absurd opens
 step_repeats laws quiet meaning entries (steps.Tick moment) old table stepped new new_table serial a number reply sound is stands opens kept = absurd opens
 
@@ -547,6 +548,6 @@ step_forgets laws quiet meaning entries (steps.Message from octets fresh) old ta
     only_says quiet meaning entries (steps.Message from octets fresh) old table stepped new new_table (output.Dropped (fault.Message why.Forgotten)) is
     (ap (λ (s : Stepped). s.output) (t.said ∙ ap (stepped_of t.association.serial o.message.header.id) refused)) tt
 step_forgets laws quiet meaning entries (steps.Start ike place fresh) old table stepped new new_table serial a number sound is stands opens has none = absurd opens
-step_forgets laws quiet meaning entries (steps.Probe ike fresh) old table stepped new new_table serial a number sound is stands opens has none = absurd opens
+step_forgets laws quiet meaning entries (steps.Order what fresh) old table stepped new new_table serial a number sound is stands opens has none = absurd opens
 step_forgets laws quiet meaning entries (steps.Secret secret) old table stepped new new_table serial a number sound is stands opens has none = absurd opens
 step_forgets laws quiet meaning entries (steps.Tick moment) old table stepped new new_table serial a number sound is stands opens has none = absurd opens

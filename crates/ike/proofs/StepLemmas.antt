@@ -33,7 +33,7 @@ use Rattle.initial.specs.Configs.{IsConfig, Setup}
 use Rattle.initial.specs.Answering.{IsHalfOpen}
 use Rattle.initial.specs.Ending.{IsAuthSent}
 use Rattle.initial.specs.Reading.{IsInitSent}
-use Rattle.informational.specs.Probing.{Probes}
+use Rattle.informational.specs.Asking.{Asks}
 use Rattle.moments.specs.Holding.{HoldSome, HoldsNone}
 use Rattle.moments.specs.Ticking.{Ticks}
 use Rattle.moments.specs.declared.ticking.Ticked.{Ticked}
@@ -46,9 +46,13 @@ use Rattle.effects.specs.Lengths.{HoldsWholeKeys}
 use Rattle.effects.specs.Requests.{IsSoundlyHeld}
 use Rattle.initial.specs.declared.beginning.Admitted.{Admitted}
 use Rattle.initial.specs.declared.beginning.Beginning.{Beginning}
+use Rattle.informational.specs.declared.ordering.Order.{Order}
+use Rattle.informational.specs.Ordering.{MarksFor}
+use Rattle.ike.proofs.MarkLemmas.{marked_holds, marked_reserved}
+use Rattle.ike.proofs.WayLemmas.{asked_one}
 use Rattle.ike.specs.Machines.{half_open_count, is_bad_spi, own_spi, setup_at, Held, Machine, SERIAL_END}
 use Rattle.ike.specs.Receiving.{is_initial_request, is_sound_initial, is_answered, is_answered_phase, same_octets, with_next, AdmitsNext, CanMake, DoesJudgement, IsInitialRequest, TakesAt, TakesDatagram, TakesFound, TakesOffer, TakesRead, TakesRequestAt, TakesSound}
-use Rattle.ike.specs.Probing.{ProbesAt}
+use Rattle.ike.specs.Asking.{AsksAt}
 use Rattle.ike.specs.Soundness.{AreSound, At, IsSoundMachine}
 use Rattle.ike.specs.Ticking.{TakesHeld}
 use Rattle.ike.specs.Starting.{child_by, new_order_fault, order_fault_of, protecting_entry, Starts}
@@ -56,7 +60,7 @@ use Rattle.ike.specs.Steps.{InputView, Refuses, Steps}
 use Rattle.ike.specs.Steps as steps
 use Rattle.ike.specs.declared.fault.IkeFault.{IkeFault}
 use Rattle.ike.specs.declared.output.Stepped.{Stepped}
-use Rattle.ike.proofs.ProbeLemmas.{changed_itself, changed_phase}
+use Rattle.ike.proofs.AskingLemmas.{changed_itself, changed_phase}
 use Rattle.ike.proofs.RepeatLemmas.{none_passes, same_octets_itself}
 use Rattle.ike.proofs.TickLemmas.{ticked_sound}
 use Rattle.ike.proofs.CountLemmas.{count_grown, count_replaced, not_used, not_zero, weight_most}
@@ -96,8 +100,8 @@ pub record Laws : Type 0 where
 
 -- what is known of a probe, and of a moment
 pub record OrderLaws : Type 0 where
-  pub probed : (body_of : Keys → Octets → Octets → Octets → Octets) (setup : Setup) (old : Association) (octets : Octets) (new : Association) → KeepsShort old → Probes body_of setup old octets new → KeepsShort new × IsShort octets
-  pub probed_soundly : (body_of : Keys → Octets → Octets → Octets → Octets) (setup : Setup) (old : Association) (octets : Octets) (new : Association) → IsSoundlyHeld old → Probes body_of setup old octets new → IsSoundlyHeld new
+  pub probed : (body_of : Keys → Octets → Octets → Octets → Octets) (setup : Setup) (order : Order) (old : Association) (octets : Octets) (new : Association) → KeepsShort old → Asks body_of setup order old octets new → KeepsShort new × IsShort octets
+  pub probed_soundly : (body_of : Keys → Octets → Octets → Octets → Octets) (setup : Setup) (order : Order) (old : Association) (octets : Octets) (new : Association) → IsSoundlyHeld old → Asks body_of setup order old octets new → IsSoundlyHeld new
   pub held : (now : ℕ) (old : List Association) (table : Database) (ticked : Ticked) (new : List Association) (new_table : Database) → Ticks now old table ticked new new_table → HoldSome now old new
   pub reserved : (now : ℕ) (old : List Association) (table : Database) (ticked : Ticked) (new : List Association) (new_table : Database) (spi : ℕ)
       → HoldsNone now old spi → IsReserved table spi → Ticks now old table ticked new new_table → IsReserved new_table spi
@@ -389,8 +393,8 @@ same_spis : (a b : Association) → b.phase ≡ a.phase → held_by b ≡ held_b
 same_spis a b same = ap spi_in same
 
 probed_joins : (laws : OrderLaws) (body_of : Keys → Octets → Octets → Octets → Octets) (setup : Setup) (ike : ℕ) (old : Held) (table new_table : Database) (stepped : Stepped) (new : Held)
-    → AreSound old table → new_table ≡ table → (is : ProbesAt body_of setup ike old stepped new) → Joins old is.place is.changed old.next table new_table
-probed_joins laws body_of setup ike old table new_table stepped new sound same is =
+    → AreSound old table → (is : AsksAt body_of setup ike old stepped new) → MarksFor is.order table new_table → Joins old is.place is.changed old.next table new_table
+probed_joins laws body_of setup ike old table new_table stepped new sound is marked =
     let was = sound.each is.place is.association is.there in
     let stays = changed_itself body_of setup ike old stepped new is in
     let phase_is = changed_phase body_of setup ike old stepped new is in
@@ -404,25 +408,25 @@ probed_joins laws body_of setup ike old table new_table stepped new sound same i
         own = λ e. was.own (sym own ∙ e);
         initiator = λ w. stays.role ∙ was.initiator (waited_before is.association is.changed stays w);
         responder = λ h. stays.role ∙ was.responder (stays.half_open h);
-        reserved = subst (λ (d : Database). HoldsSpi (held_by is.changed) d) (sym same) (subst (λ o. HoldsSpi o table) (sym (same_spis is.association is.changed phase_is)) was.reserved);
-        short = (laws.probed body_of setup is.association is.octets is.changed was.short is.probes).0;
-        soundly = laws.probed_soundly body_of setup is.association is.octets is.changed was.soundly is.probes;
+        reserved = marked_holds is.order table new_table (held_by is.changed) marked (subst (λ o. HoldsSpi o table) (sym (same_spis is.association is.changed phase_is)) was.reserved);
+        short = (laws.probed body_of setup is.order is.association is.octets is.changed was.short is.asks).0;
+        soundly = laws.probed_soundly body_of setup is.order is.association is.octets is.changed was.soundly is.asks;
         asked = λ opened here. was.asked opened (opens opened here);
         whole = subst HoldsWholeKeys (sym phase_is) was.whole;
       };
       more = omega arith;
-      others = λ k c spi other there held reserved. subst (λ (d : Database). IsReserved d spi) (sym same) reserved;
+      others = λ k c spi other there held reserved. marked_reserved is.order table new_table spi marked reserved;
       before = λ k c less there. apart_before is.association is.changed c own stays opens none (sound.apart k is.place c is.association less there is.there);
       after = λ k c less there. apart_after is.association is.changed c own stays opens none (sound.apart is.place k is.association c less is.there there);
     }
 
 probed_sound : (laws : OrderLaws) (body_of : Keys → Octets → Octets → Octets → Octets) (setup : Setup) (ike : ℕ) (old : Held) (table new_table : Database) (stepped : Stepped) (new : Held)
-    → AreSound old table → new_table ≡ table → ProbesAt body_of setup ike old stepped new → AreSound new new_table
-probed_sound laws body_of setup ike old table new_table stepped new sound same is =
+    → AreSound old table → (is : AsksAt body_of setup ike old stepped new) → MarksFor is.order table new_table → AreSound new new_table
+probed_sound laws body_of setup ike old table new_table stepped new sound is marked =
     subst (λ (h : Held). AreSound h new_table) (sym is.content)
     (sound_replaced old is.place is.changed table new_table
     (count_replaced old.associations is.place is.association is.changed is.there (changed_itself body_of setup ike old stepped new is).half_open)
-    sound (probed_joins laws body_of setup ike old table new_table stepped new sound same is))
+    sound (probed_joins laws body_of setup ike old table new_table stepped new sound is marked))
 
 -- ---- a moment
 
@@ -439,8 +443,9 @@ step_held laws orders meaning entries (steps.Message from octets fresh) old tabl
     datagram_sound laws meaning (setup_at old entries fresh) old.cookies from octets old.held table stepped new.held new_table sound_table sound is.1
 step_held laws orders meaning entries (steps.Start ike place fresh) old table stepped new new_table sound_table sound is =
     start_sound laws meaning (setup_at old entries fresh) ike place old.held table stepped new.held new_table sound_table sound is.1
-step_held laws orders meaning entries (steps.Probe ike fresh) old table stepped new new_table sound_table sound is =
-    probed_sound orders meaning.body_of (setup_at old entries fresh) ike old.held table new_table stepped new.held sound is.2 is.1
+step_held laws orders meaning entries (steps.Order what fresh) old table stepped new new_table sound_table sound is =
+    let one = asked_one meaning (setup_at old entries fresh) what old.held table stepped new.held new_table is.1 in
+    probed_sound orders meaning.body_of (setup_at old entries fresh) one.ike old.held table new_table stepped new.held sound one.probes one.marked
 step_held laws orders meaning entries (steps.Tick moment) old table stepped new new_table sound_table sound is =
     passed_sound orders (max old.moment moment) old.held table new.held new_table stepped sound is.takes
 step_held laws orders meaning entries (steps.Secret secret) old table stepped new new_table sound_table sound is =
@@ -450,7 +455,7 @@ step_config : (meaning : Meaning) (entries : List Entry) (input : InputView) (ol
     → Steps meaning entries input old table stepped new new_table → new.config ≡ old.config
 step_config meaning entries (steps.Message from octets fresh) old table stepped new new_table is = ap (λ (m : Machine). m.config) is.0
 step_config meaning entries (steps.Start ike place fresh) old table stepped new new_table is = ap (λ (m : Machine). m.config) is.0
-step_config meaning entries (steps.Probe ike fresh) old table stepped new new_table is = ap (λ (m : Machine). m.config) is.0
+step_config meaning entries (steps.Order what fresh) old table stepped new new_table is = ap (λ (m : Machine). m.config) is.0
 step_config meaning entries (steps.Tick moment) old table stepped new new_table is = ap (λ (m : Machine). m.config) is.content
 step_config meaning entries (steps.Secret secret) old table stepped new new_table is = ap (λ (m : Machine). m.config) is.content
 

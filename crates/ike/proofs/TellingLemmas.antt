@@ -20,6 +20,7 @@ use Rattle.effects.specs.Moves.{and_closes, ledger, makes_and_issues, moves_of, 
 use Rattle.effects.specs.Requests.{IsSoundlyHeld}
 use Rattle.effects.specs.declared.taking.Effect.{Effect}
 use Rattle.effects.specs.declared.taking.Effect.TheVariants as effect
+use Rattle.association.specs.Purposes.{exchange_of}
 use Rattle.ike.specs.Machines.{association_of, Held}
 use Rattle.ike.specs.Moves.{ledger_at, IsKeyless, IsMadeBy, IsSentBy, SaysNoMore, TellsAgain, TellsClosed}
 use Rattle.ike.specs.Outputs.{asking_step, child_of, closed_serial as closed_if, half_open_step, plain_step, stepped_of}
@@ -284,7 +285,7 @@ pub record TickFacts : Type 0 where
   pub again : (now : ℕ) (old new : List Association) (table new_table : Database) (ticked : Ticked) → Ticks now old table ticked new new_table → All (IsOutstandingOf now old new) ticked.requests
   pub closed : (now : ℕ) (old : List Association) (table : Database) (ticked : Ticked) (new : List Association) (new_table : Database) → Ticks now old table ticked new new_table → ticked.closed ≡ flat_map (closed_of now) old
   pub sent : (now : ℕ) (old : List Association) (table : Database) (ticked : Ticked) (new : List Association) (new_table : Database) → Ticks now old table ticked new new_table → ticked.requests ≡ flat_map (sent_of now) old
-  pub waits : (a : Association) (number : ℕ) (request : Request) → IsSoundlyHeld a → map.get a.outgoing.outstanding number ≡ Some request → (request.exchange == IKE_SA_INIT) ≡ false → WaitsWith (ledger a) number request.octets
+  pub waits : (a : Association) (number : ℕ) (request : Request) → IsSoundlyHeld a → map.get a.outgoing.outstanding number ≡ Some request → (exchange_of request.purpose == IKE_SA_INIT) ≡ false → WaitsWith (ledger a) number request.octets
 
 not_false : (b : Bool) → not b ≡ true → b ≡ false
 not_false true is = absurd cc
@@ -296,7 +297,7 @@ pub resent_waits : (facts : TickFacts) (now : ℕ) (old : Held) (new : List Asso
 resent_waits facts now old new table r sound o sealed =
     let place = o.held_before in
     let held = slice_get_read old.associations (length old.associations) place.0 o.before refl place.1 (sym place.2) in
-    let other : (o.request.exchange == IKE_SA_INIT) ≡ false = not_false (o.request.exchange == IKE_SA_INIT) (sym (ap (λ (x : Resent). x.encrypted) o.resent) ∙ sealed) in
+    let other : (exchange_of o.request.purpose == IKE_SA_INIT) ≡ false = not_false (exchange_of o.request.purpose == IKE_SA_INIT) (sym (ap (λ (x : Resent). x.encrypted) o.resent) ∙ sealed) in
     facts.waits o.before r.number o.request (sound.each place.0 o.before held).soundly o.there other
 
 pub again_waits : (facts : TickFacts) (now : ℕ) (old : Held) (new : List Association) (table new_table : Database) (ticked : Ticked) (r : Resent) → AreSound old table → Ticks now old.associations table ticked new new_table

@@ -29,6 +29,7 @@ use Rattle.moments.specs.Held.{IsClosedAt}
 use Rattle.moments.specs.Holding.{HoldSome, HoldsNone, HoldsOn}
 use Rattle.moments.specs.Ticking.{HoldTheirSpis, Ticks}
 use Rattle.moments.specs.declared.ticking.Ticked.{Ticked}
+use Rattle.association.specs.declared.purpose.Purpose.{Purpose}
 use Rattle.ike.specs.Machines.{association_of, half_open_count, has_serial, own_spi, spi_by_role, Held, SERIAL_END}
 use Rattle.ike.specs.Soundness.{AreApart, AreSound, At, IsSound}
 use Rattle.ike.proofs.CountLemmas.{count_lighter, count_more}
@@ -197,8 +198,8 @@ on_soundly now a b on held = record {
   waits = elim on.phase [
     | inl stays ↦ (λ number request there.
         let was = on.requests number request there in
-        subst (λ (p : Phase). MayBeOutstanding p number request.exchange) (sym stays.1)
-        (subst (λ (e : ℕ). MayBeOutstanding a.phase number e) (sym was.exchange) (held.waits number was.was was.there)))
+        subst (λ (p : Phase). MayBeOutstanding p number request.purpose) (sym stays.1)
+        (subst (λ (asked : Purpose). MayBeOutstanding a.phase number asked) (sym was.purpose) (held.waits number was.was was.there)))
     | inr closes ↦ (λ number request there. absurd (none_waits number request (sym (ap (λ (r : OwnRequests Request). map.get r.outstanding number) closes.requests.content) ∙ there)))
   ];
   issued = λ number request there.

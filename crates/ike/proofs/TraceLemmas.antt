@@ -29,7 +29,7 @@ use Rattle.initial.specs.Configs.{Setup}
 use Rattle.effects.specs.Keeping.{child_in, octets_of_effect, HasKeys, IsShort, KeepsShort, KeyedBy}
 use Rattle.effects.specs.Pairs.{IsUnused}
 use Rattle.effects.specs.Taking.{Meaning, KeepsIdentity, TakesMessage}
-use Rattle.informational.specs.Probing.{Probes}
+use Rattle.informational.specs.Asking.{Asks}
 use Rattle.moments.specs.Due.{outstanding_count}
 use Rattle.moments.specs.Held.{IsOutstandingOf}
 use Rattle.moments.specs.Holding.{LeavesFewer}
@@ -40,10 +40,13 @@ use Rattle.initial.specs.declared.beginning.Admitted.{Admitted}
 use Rattle.initial.specs.declared.beginning.Beginning.{Beginning}
 use Rattle.effects.specs.declared.taking.Effect.{Effect}
 use Rattle.effects.specs.declared.taking.Effect.TheVariants as effect
+use Rattle.informational.specs.declared.ordering.Order.{Order}
+use Rattle.ike.specs.Pairs.{IsMarked}
+use Rattle.ike.proofs.MarkLemmas.{marked_pairs}
 use Rattle.ike.specs.Children.{AsksFirstChild, AsksNow, MakesFirstChild, WaitedBefore}
 use Rattle.ike.specs.Machines.{association_of, keys_of_serial, setup_at, Held, Machine}
 use Rattle.ike.specs.Outputs.{asking_step, child_of, half_open_step, octets_in, plain_step, stepped_of}
-use Rattle.ike.specs.Probing.{ProbesAt}
+use Rattle.ike.specs.Asking.{AsksAt}
 use Rattle.ike.specs.Receiving.{with_next}
 use Rattle.ike.specs.Soundness.{AreSound, At, IsSoundMachine}
 use Rattle.ike.specs.Starting.{child_by}
@@ -56,10 +59,10 @@ use Rattle.ike.specs.declared.output.IkeOutput.TheVariants as output
 use Rattle.ike.specs.declared.output.MadeChild.{MadeChild}
 use Rattle.ike.specs.declared.output.Mark.{Mark}
 use Rattle.ike.specs.declared.output.Stepped.{Stepped}
-use Rattle.ike.proofs.ProbeLemmas.{changed_itself, changed_phase, probed_serial, probed_stands, probed_stood}
+use Rattle.ike.proofs.AskingLemmas.{changed_itself, changed_phase, probed_serial, probed_stands, probed_stood}
 use Rattle.ike.proofs.TickLemmas.{on_keys, ticked_stood, TicksHold}
 use Rattle.ike.proofs.SerialLemmas.{grown_found, grown_keys, keys_of, last_there, none_next, replaced_found, set_there, sound_found}
-use Rattle.ike.proofs.WayLemmas.{admitted, datagram_way, probed, rested, started, step_way, took, AdmitsOne, GoesOut, PassesMoment, ProbesOne, StartsOne, Takes, Way}
+use Rattle.ike.proofs.WayLemmas.{admitted, datagram_way, probed, rested, started, step_way, took, AdmitsOne, GoesOut, PassesMoment, AsksOne, StartsOne, Takes, Way}
 
 -- what is known of requests that go out again
 abbrev pub TicksAgain : Type 0
@@ -69,7 +72,7 @@ TicksAgain = (now : ℕ) (old new : List Association) (table new_table : Databas
 
 -- what is known of what an association keeps
 pub record ShortFacts : Type 0 where
-  pub probed : (body_of : Keys → Octets → Octets → Octets → Octets) (setup : Setup) (old : Association) (octets : Octets) (new : Association) → KeepsShort old → Probes body_of setup old octets new → KeepsShort new × IsShort octets
+  pub probed : (body_of : Keys → Octets → Octets → Octets → Octets) (setup : Setup) (order : Order) (old : Association) (octets : Octets) (new : Association) → KeepsShort old → Asks body_of setup order old octets new → KeepsShort new × IsShort octets
   pub sent : (meaning : Meaning) (setup : Setup) (old : Association) (table : Database) (octets : Octets) (m : Message) (effect : Effect) (new : Association) (new_table : Database) (said : Octets)
       → KeepsShort old → TakesMessage meaning setup old table octets m effect new new_table → octets_of_effect effect ≡ Some said → IsShort said
   pub begins : (cipher : Cipher) (group : ℕ) (public_value : Octets → Octets) (fresh : Fresh) (moment serial : ℕ) (beginning : Beginning) (child : FirstChildView)
@@ -124,7 +127,7 @@ way_short facts meaning setup octets old table stepped new new_table sound (admi
     (sym (ap (λ (s : Stepped). octets_in s.output) a.said) ∙ e)
 way_short facts meaning setup octets old table stepped new new_table sound (probed is) =
     let p = is.probes in
-    λ o e. short_one p.octets o (facts.probed meaning.body_of setup p.association p.octets p.changed (sound.each p.place p.association p.there).short p.probes).1
+    λ o e. short_one p.octets o (facts.probed meaning.body_of setup p.order p.association p.octets p.changed (sound.each p.place p.association p.there).short p.asks).1
     (sym (ap (λ (s : Stepped). octets_in s.output) p.said) ∙ e)
 way_short facts meaning setup octets old table stepped new new_table sound (started is) =
     let s = is.starts in
@@ -375,12 +378,12 @@ took_come facts meaning setup octets old table stepped new new_table serial keys
 
 took_pairs : (facts : ToldFacts) (meaning : Meaning) (setup : Setup) (octets : Octets) (old : Held) (table : Database) (stepped : Stepped) (new : Held) (new_table : Database) (serial : ℕ) (pair : Pair)
     → (is : Takes meaning setup octets old table stepped new new_table) → pair_at new_table.pairs serial ≡ Some pair
-    → (pair_at table.pairs serial ≡ Some pair) ⊎ NamesChild (stepped_of is.takes.association.serial is.message.header.id is.takes.effect) serial
+    → (pair_at table.pairs serial ≡ Some pair) ⊎ NamesChild (stepped_of is.takes.association.serial is.message.header.id is.takes.effect) serial ⊎ IsMarked table serial pair
 took_pairs facts meaning setup octets old table stepped new new_table serial pair is there =
     let t = is.takes in
     elim (facts.told meaning setup t.association table octets is.message t.effect t.changed new_table serial pair t.takes there) [
       | inl before ↦ inl before
-      | inr told ↦ inr (child_names t.association.serial is.message.header.id t.effect serial told)
+      | inr told ↦ inr (inl (child_names t.association.serial is.message.header.id t.effect serial told))
     ]
 
 took_traced : (facts : ToldFacts) (meaning : Meaning) (setup : Setup) (octets : Octets) (old : Held) (table : Database) (stepped : Stepped) (new : Held) (new_table : Database)
@@ -452,14 +455,14 @@ keyed_of : (o : Option Association) (xs : List Association) (serial : ℕ) (keys
 keyed_of None xs serial keys stands has = absurd (none_out keys has)
 keyed_of (Some a) xs serial keys stands has = record { association = a; stands = stands; has = has }
 
-probed_had : (meaning : Meaning) (setup : Setup) (ike : ℕ) (old : Held) (table : Database) (stepped : Stepped) (new : Held) → ProbesAt meaning.body_of setup ike old stepped new → (serial : ℕ) (keys : KeyRecord)
+probed_had : (meaning : Meaning) (setup : Setup) (ike : ℕ) (old : Held) (table : Database) (stepped : Stepped) (new : Held) → AsksAt meaning.body_of setup ike old stepped new → (serial : ℕ) (keys : KeyRecord)
     → AreSound old table → keys_of_serial serial new.associations ≡ Some keys → keys_of_serial serial old.associations ≡ Some keys
 probed_had meaning setup ike old table stepped new is serial keys sound are =
     let k = keyed_of (association_of serial new.associations) new.associations serial keys refl are in
     let before = probed_stood meaning.body_of setup ike old stepped new is table serial k.association sound k.stands in
     ap keys_of before.stood ∙ ap keys_in (sym before.phase_is) ∙ k.has
 
-probed_has : (meaning : Meaning) (setup : Setup) (ike : ℕ) (old : Held) (table : Database) (stepped : Stepped) (new : Held) → ProbesAt meaning.body_of setup ike old stepped new → (serial : ℕ) (keys : KeyRecord)
+probed_has : (meaning : Meaning) (setup : Setup) (ike : ℕ) (old : Held) (table : Database) (stepped : Stepped) (new : Held) → AsksAt meaning.body_of setup ike old stepped new → (serial : ℕ) (keys : KeyRecord)
     → AreSound old table → keys_of_serial serial old.associations ≡ Some keys → keys_of_serial serial new.associations ≡ Some keys
 probed_has meaning setup ike old table stepped new is serial keys sound are =
     let stays = changed_itself meaning.body_of setup ike old stepped new is in
@@ -519,20 +522,26 @@ started_traced meaning setup old table stepped new new_table now is =
     ])
     (ap (λ (d : Database). d.pairs) s.done.reserved.content ∙ ap (λ (d : Database). d.pairs) s.room.content)
 
+-- a pair that was there, or is marked now
+named_or_marked : (stepped : Stepped) (table : Database) (serial : ℕ) (pair : Pair) → (pair_at table.pairs serial ≡ Some pair) ⊎ IsMarked table serial pair
+    → (pair_at table.pairs serial ≡ Some pair) ⊎ NamesChild stepped serial ⊎ IsMarked table serial pair
+named_or_marked stepped table serial pair (inl there) = inl there
+named_or_marked stepped table serial pair (inr marked) = inr (inr marked)
+
 -- an association that asks has keys, and all others have those that they had
 probed_traced : (meaning : Meaning) (setup : Setup) (old : Held) (table : Database) (stepped : Stepped) (new : Held) (new_table : Database)
-    → AreSound old table → ProbesOne meaning setup old table stepped new new_table → IsTraced old table stepped new new_table
+    → AreSound old table → AsksOne meaning setup old table stepped new new_table → IsTraced old table stepped new new_table
 probed_traced meaning setup old table stepped new new_table sound is =
     let p = is.probes in
     let stands = probed_stands meaning.body_of setup is.ike old stepped new p table sound in
-    let has : HasKeys p.changed.phase = record { keys = p.probes.keys; are = ap keys_in (changed_phase meaning.body_of setup is.ike old stepped new p ∙ p.probes.established) } in
+    let has : HasKeys p.changed.phase = record { keys = p.asks.keys; are = ap keys_in (changed_phase meaning.body_of setup is.ike old stepped new p ∙ p.asks.established) } in
     let traced : IsTraced old table (asking_step is.ike p.association.outgoing.next p.octets) new new_table = record {
       octets = λ mark e. refl;
       sent = λ mark e. holds_keys new is.ike mark.ike p.changed (mark_named _ mark e) stands has;
       keyed = λ other e. absurd (none_out other e);
       child = λ made e. absurd (none_out made e);
       keys = λ serial keys are. inl (probed_had meaning setup is.ike old table stepped new p serial keys sound are);
-      pairs = λ serial pair there. inl (subst (λ (d : Database). pair_at d.pairs serial ≡ Some pair) is.pairs there);
+      pairs = λ serial pair there. named_or_marked _ table serial pair (marked_pairs p.order table new_table serial pair is.marked there);
     } in
     subst (λ (s : Stepped). IsTraced old table s new new_table) (sym p.said) traced
 

@@ -1,5 +1,5 @@
 -- What a step did, by the ways in which it can do something.
-use Rattle.std.proofs.Common.{◌≡◌, ◌⊎◌, inl, inr, ℕ, Bool, true, false, [], List, Option, Some, None, Result, Ok, Err, ap, max, refl}
+use Rattle.std.proofs.Common.{◌≡◌, ◌⊎◌, inl, inr, ℕ, Bool, true, false, [], List, Option, Some, None, Result, Ok, Err, ap, max, refl, subst, sym}
 use Rattle.std.specs.List.{position, slice_get}
 use Rattle.base.specs.Octets.{Octets}
 use Rattle.wire.specs.Messages.{Spells}
@@ -17,8 +17,14 @@ use Rattle.effects.specs.Keeping.{kept_reply, IsShort}
 use Rattle.effects.specs.Taking.{Meaning}
 use Rattle.ike.specs.Machines.{setup_at, Held, Machine}
 use Rattle.ike.specs.Outputs.{plain_step}
-use Rattle.ike.specs.Receiving.{is_answered, is_initial_request, is_sound_initial, AdmitsNext, DoesJudgement, IsInitialRequest, PassesOver, TakesAt, TakesDatagram, TakesFound, TakesRead, TakesRequestAt, TakesSound}
-use Rattle.ike.specs.Probing.{ProbesAt}
+use Rattle.ike.specs.Receiving.{is_answered, is_initial_request, is_sound_initial, AdmitsNext, DoesJudgement, PassesOver, TakesAt, TakesDatagram, TakesFound, TakesRead, TakesRequestAt, TakesSound, IsInitialRequest}
+use Rattle.informational.specs.Ordering.{MarksFor}
+use Rattle.informational.specs.declared.ordering.Order.{Order}
+use Rattle.informational.specs.declared.ordering.Order.TheVariants as asked
+use Rattle.ike.specs.Asking.{AsksAt, AsksFor, AsksThat}
+use Rattle.ike.specs.Pairs.{IsOwnFor}
+use Rattle.ike.specs.declared.asking.Demand.{Demand}
+use Rattle.ike.specs.declared.asking.Demand.TheVariants as demand
 use Rattle.ike.specs.Starting.{Starts}
 use Rattle.ike.specs.Ticking.{TakesHeld}
 use Rattle.ike.specs.Steps.{is_tick, InputView, Steps}
@@ -75,11 +81,29 @@ pub record StartsOne (meaning : Meaning) (setup : Setup) (old : Held) (table : D
   pub place : ℕ
   pub starts : Starts meaning setup ike place old table stepped new new_table
 
--- an association asks whether the peer is there
-pub record ProbesOne (meaning : Meaning) (setup : Setup) (old : Held) (table : Database) (stepped : Stepped) (new : Held) (new_table : Database) : Type 0 where
+-- an association asks its peer something
+pub record AsksOne (meaning : Meaning) (setup : Setup) (old : Held) (table : Database) (stepped : Stepped) (new : Held) (new_table : Database) : Type 0 where
   pub ike : ℕ
-  pub probes : ProbesAt meaning.body_of setup ike old stepped new
-  pub pairs : new_table ≡ table
+  pub probes : AsksAt meaning.body_of setup ike old stepped new
+  pub own : IsOwnFor probes.order table.pairs ike
+  pub marked : MarksFor probes.order table new_table
+
+that_one : (meaning : Meaning) (setup : Setup) (ike : ℕ) (order : Order) (old : Held) (table : Database) (stepped : Stepped) (new : Held) (new_table : Database)
+    → IsOwnFor order table.pairs ike → AsksThat meaning.body_of setup ike order old table stepped new new_table → AsksOne meaning setup old table stepped new new_table
+that_one meaning setup ike order old table stepped new new_table own is = record {
+  ike = ike;
+  probes = is.asks;
+  own = subst (λ (o : Order). IsOwnFor o table.pairs ike) (sym is.ordered) own;
+  marked = subst (λ (o : Order). MarksFor o table new_table) (sym is.ordered) is.marked;
+}
+
+pub asked_one : (meaning : Meaning) (setup : Setup) (what : Demand) (old : Held) (table : Database) (stepped : Stepped) (new : Held) (new_table : Database)
+    → AsksFor meaning.body_of setup what old table stepped new new_table → AsksOne meaning setup old table stepped new new_table
+asked_one meaning setup (demand.Probe ike) old table stepped new new_table is = that_one meaning setup ike asked.Probe old table stepped new new_table tt is
+asked_one meaning setup (demand.DeleteChild child) old table stepped new new_table is =
+    that_one meaning setup is.pair.ike (asked.DeleteChild child is.pair.inbound.association.spi) old table stepped new new_table
+    (record { pair = is.pair; there = is.there; its = refl; live = is.live }) is.asks
+asked_one meaning setup (demand.DeleteIke ike) old table stepped new new_table is = that_one meaning setup ike asked.DeleteAssociation old table stepped new new_table tt is
 
 -- what is due at a moment is done
 pub record PassesMoment (input : InputView) (old : Held) (table : Database) (stepped : Stepped) (new : Held) (new_table : Database) : Type 0 where
@@ -92,7 +116,7 @@ pub data Way (meaning : Meaning) (setup : Setup) (octets : Octets) (old : Held) 
   took : Takes meaning setup octets old table stepped new new_table → Way meaning setup octets old table stepped new new_table
   admitted : AdmitsOne meaning setup octets old table stepped new new_table → Way meaning setup octets old table stepped new new_table
   started : StartsOne meaning setup old table stepped new new_table → Way meaning setup octets old table stepped new new_table
-  probed : ProbesOne meaning setup old table stepped new new_table → Way meaning setup octets old table stepped new new_table
+  probed : AsksOne meaning setup old table stepped new new_table → Way meaning setup octets old table stepped new new_table
 
 passed_way : (meaning : Meaning) (setup : Setup) (octets : Octets) (reason : IkeFault) (old : Held) (table : Database) (stepped : Stepped) (new : Held) (new_table : Database)
     → PassesOver reason old stepped new → new_table ≡ table → Way meaning setup octets old table stepped new new_table
@@ -171,8 +195,8 @@ step_way meaning entries (steps.Message from octets fresh) old table stepped new
     })
 step_way meaning entries (steps.Start ike place fresh) old table stepped new new_table is =
     inl (record { setup = setup_at old entries fresh; octets = []; way = started (record { ike = ike; place = place; starts = is.1 }) })
-step_way meaning entries (steps.Probe ike fresh) old table stepped new new_table is =
-    inl (record { setup = setup_at old entries fresh; octets = []; way = probed (record { ike = ike; probes = is.1; pairs = is.2 }) })
+step_way meaning entries (steps.Order what fresh) old table stepped new new_table is =
+    inl (record { setup = setup_at old entries fresh; octets = []; way = probed (asked_one meaning (setup_at old entries fresh) what old.held table stepped new.held new_table is.1) })
 step_way meaning entries (steps.Tick moment) old table stepped new new_table is =
     inr (record { now = max old.moment moment; ticks = refl; takes = is.takes })
 step_way meaning entries (steps.Secret secret) old table stepped new new_table is =

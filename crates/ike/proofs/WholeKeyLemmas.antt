@@ -22,6 +22,7 @@ use Rattle.initial.specs.declared.beginning.Admitted.{Admitted}
 use Rattle.initial.specs.declared.beginning.Beginning.{Beginning}
 use Rattle.initial.specs.declared.config.Config.{Config}
 use Rattle.effects.specs.declared.taking.Effect.{Effect}
+use Rattle.ike.proofs.WayLemmas.{asked_one}
 use Rattle.ike.specs.Lengths.{HoldWholeKeys}
 use Rattle.ike.specs.Machines.{new_machine, setup_at, Held, Machine}
 use Rattle.ike.specs.Receiving.{is_answered, is_initial_request, is_sound_initial, with_next, DoesJudgement, TakesDatagram, TakesFound, TakesOffer, TakesRead, TakesRequestAt, TakesSound}
@@ -30,7 +31,7 @@ use Rattle.ike.specs.Steps as steps
 use Rattle.ike.specs.Steps.{InputView, Start, Secret, Steps}
 use Rattle.ike.specs.declared.output.Stepped.{Stepped}
 use Rattle.ike.proofs.ListLemmas.{grown, replaced}
-use Rattle.ike.proofs.ProbeLemmas.{changed_phase}
+use Rattle.ike.proofs.AskingLemmas.{changed_phase}
 use Rattle.ike.proofs.TickLemmas.{on_keys, origin, TicksHold}
 
 -- what the laws of lower crates say of keys
@@ -109,10 +110,11 @@ stepped_whole laws meaning entries (steps.Message from octets fresh) old table s
     datagram laws meaning (setup_at old entries fresh) old.held whole new.held stepped old.cookies from octets table new_table is.1
 stepped_whole laws meaning entries (Start ike place fresh) old table stepped new new_table whole is =
     started laws meaning (setup_at old entries fresh) old.held whole new.held stepped ike place table new_table is.1
-stepped_whole laws meaning entries (steps.Probe ike fresh) old table stepped new new_table whole is =
-    let p = is.1 in
+stepped_whole laws meaning entries (steps.Order what fresh) old table stepped new new_table whole is =
+    let one = asked_one meaning (setup_at old entries fresh) what old.held table stepped new.held new_table is.1 in
+    let p = one.probes in
     subst HoldWholeKeys (sym p.content)
-    (after_change old.held p.place p.changed whole (subst HoldsWholeKeys (sym (changed_phase meaning.body_of (setup_at old entries fresh) ike old.held stepped new.held p)) (whole p.place p.association p.there)))
+    (after_change old.held p.place p.changed whole (subst HoldsWholeKeys (sym (changed_phase meaning.body_of (setup_at old entries fresh) one.ike old.held stepped new.held p)) (whole p.place p.association p.there)))
 stepped_whole laws meaning entries (steps.Tick moment) old table stepped new new_table whole is =
     let some = laws.held (max old.moment moment) old.held.associations table is.takes.ticked new.held.associations new_table is.takes.ticks in
     λ place b there.

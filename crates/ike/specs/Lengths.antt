@@ -6,7 +6,7 @@ use Rattle.effects.specs.Lengths.{HoldsWholeKeys, TellsLengths}
 use Rattle.effects.specs.Taking.{Meaning}
 use Rattle.ike.specs.Machines.{Held}
 use Rattle.ike.specs.Soundness.{At}
-use Rattle.ike.specs.Steps.{InputView, Message, Start, Probe, Secret, Tick}
+use Rattle.ike.specs.Steps.{InputView, Message, Start, Order, Secret, Tick}
 
 -- the keys of each association are whole
 abbrev pub HoldWholeKeys : Held → Type 0
@@ -16,6 +16,6 @@ HoldWholeKeys held = (place : ℕ) (a : Association) → At held place a → Hol
 abbrev pub IsTold : Meaning → InputView → Type 0
 IsTold meaning (Message from octets fresh) = AreOctets octets × TellsLengths meaning.body_of fresh.seal
 IsTold meaning (Start ike place fresh) = Unit {0}
-IsTold meaning (Probe ike fresh) = TellsLengths meaning.body_of fresh.seal
+IsTold meaning (Order what fresh) = TellsLengths meaning.body_of fresh.seal
 IsTold meaning (Secret secret) = Unit {0}
 IsTold meaning (Tick moment) = Unit {0}

@@ -3,7 +3,7 @@ pub mod Outputs
 pub mod Machines
 pub mod Receiving
 pub mod Starting
-pub mod Probing
+pub mod Asking
 pub mod Ticking
 pub mod Steps
 pub mod Soundness

@@ -18,8 +18,8 @@ use Rattle.effects.specs.Openings.{OpensAsMessage, OpensWhatItSeals}
 use Rattle.effects.specs.Taking.{Meaning}
 use Rattle.ike.specs.Machines.{association_of, Held}
 use Rattle.ike.specs.Outputs.{octets_in, reply_mark, request_mark}
+use Rattle.ike.specs.Steps.{is_tick, InputView, Message, Order, Secret, Start, Tick}
 use Rattle.ike.specs.Requests.{IsInitialDatagram}
-use Rattle.ike.specs.Steps.{is_tick, InputView, Message, Probe, Secret, Start, Tick}
 use Rattle.ike.specs.declared.output.IkeOutput.{IkeOutput}
 use Rattle.ike.specs.declared.output.IkeOutput.TheVariants as output
 use Rattle.ike.specs.declared.output.MadeChild.{MadeChild}
@@ -93,7 +93,7 @@ pub record SaysNoMore (old : Option Association) (stepped : Stepped) (serial : �
 abbrev pub OpensFresh : Meaning → InputView → Type 0
 OpensFresh meaning (Message from octets fresh) = OpensWhatItSeals meaning.body_of meaning.plain_of fresh.seal
 OpensFresh meaning (Start ike place fresh) = OpensWhatItSeals meaning.body_of meaning.plain_of fresh.seal
-OpensFresh meaning (Probe ike fresh) = OpensWhatItSeals meaning.body_of meaning.plain_of fresh.seal
+OpensFresh meaning (Order what fresh) = OpensWhatItSeals meaning.body_of meaning.plain_of fresh.seal
 OpensFresh meaning (Secret secret) = Unit {0}
 OpensFresh meaning (Tick moment) = Unit {0}
 
@@ -105,7 +105,7 @@ pub record HasSeal (fresh : Fresh) : Type 0 where
 abbrev pub HasFresh : InputView → Type 0
 HasFresh (Message from octets fresh) = HasSeal fresh
 HasFresh (Start ike place fresh) = HasSeal fresh
-HasFresh (Probe ike fresh) = HasSeal fresh
+HasFresh (Order what fresh) = HasSeal fresh
 HasFresh (Secret secret) = Unit {0}
 HasFresh (Tick moment) = Unit {0}
 

@@ -1,13 +1,42 @@
 -- What a step leaves of the associations, and of the pairs in the table (RFC 4301 section 4.4.2).
-use Rattle.std.specs.Prelude.{◌≡◌, ◌≢◌, ℕ}
-use Rattle.sadb.specs.Database.{Database}
+use Rattle.std.specs.Prelude.{◌≡◌, ◌≢◌, ◌⊎◌, ℕ, Some}
+use Rattle.sadb.specs.Database.{pair_at, Database, Marks, PairMap}
+use Rattle.sadb.specs.declared.pair.Pair.{Pair}
+use Rattle.sadb.specs.declared.pair.State.TheVariants.{Live, Deleting}
+use Rattle.informational.specs.declared.ordering.Order.{Order}
+use Rattle.informational.specs.declared.ordering.Order.TheVariants as order
 use Rattle.effects.specs.Pairs.{LeavesPairs}
 use Rattle.ike.specs.Machines.{association_of, others_than, Held}
 
--- One association at most is changed, comes or goes, and pairs of that one alone.
+-- a pair of this IKE association, which is Live
+pub record IsOwnLive (pairs : PairMap) (ike serial : ℕ) : Type 0 where
+  pub pair : Pair
+  pub there : pair_at pairs serial ≡ Some pair
+  pub its : pair.ike ≡ ike
+  pub live : pair.state ≡ Live
+
+-- it is marked as Deleting, and nothing else of the table is changed
+pub record MarksOne (old : Database) (ike : ℕ) (new : Database) : Type 0 where
+  pub serial : ℕ
+  pub own : IsOwnLive old.pairs ike serial
+  pub marked : Marks old serial new
+
+-- the pair with this serial was there, and is marked as Deleting
+pub record IsMarked (old : Database) (serial : ℕ) (pair : Pair) : Type 0 where
+  pub was : Pair
+  pub stood : pair_at old.pairs serial ≡ Some was
+  pub is : pair ≡ record was { state = Deleting }
+
+-- the child that an association asks to delete is its own, and Live
+abbrev pub IsOwnFor : Order → PairMap → ℕ → Type 0
+IsOwnFor order.Probe pairs ike = Unit {0}
+IsOwnFor (order.DeleteChild child spi) pairs ike = IsOwnLive pairs ike child
+IsOwnFor order.DeleteAssociation pairs ike = Unit {0}
+
+-- One association at most is changed, comes or goes, and pairs of that one alone: they are as they were, come or go, or one is marked.
 pub record ChangesOne (old new : Held) (table new_table : Database) : Type 0 where
   pub serial : ℕ
   -- all others stand as they stood, in their order
   pub others : others_than serial new.associations ≡ others_than serial old.associations
   pub each : (other : ℕ) → other ≢ serial → association_of other new.associations ≡ association_of other old.associations
-  pub pairs : LeavesPairs table serial new_table
+  pub pairs : LeavesPairs table serial new_table ⊎ MarksOne table serial new_table

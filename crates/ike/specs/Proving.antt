@@ -13,7 +13,7 @@ use Rattle.initial.specs.Configs.{Setup}
 use Rattle.effects.specs.Proving.{ProvesByRequest, ProvesByResponse}
 use Rattle.effects.specs.Taking.{Meaning}
 use Rattle.ike.specs.Machines.{association_of, setup_at, Machine}
-use Rattle.ike.specs.Steps.{InputView, Message, Start, Probe, Secret, Tick}
+use Rattle.ike.specs.Steps.{InputView, Message, Start, Order, Secret, Tick}
 
 -- the datagram is a message that opens under the association's keys, and what it opens to proves the configured peer
 pub record ProvedItself (meaning : Meaning) (setup : Setup) (octets : Octets) (was : Association) : Type 0 where
@@ -27,7 +27,7 @@ pub record ProvedItself (meaning : Meaning) (setup : Setup) (octets : Octets) (w
 abbrev pub ProvedBy : Meaning → List Entry → InputView → Machine → Association → Type 0
 ProvedBy meaning entries (Message from octets fresh) old was = ProvedItself meaning (setup_at old entries fresh) octets was
 ProvedBy meaning entries (Start ike place fresh) old was = ⊥
-ProvedBy meaning entries (Probe ike fresh) old was = ⊥
+ProvedBy meaning entries (Order what fresh) old was = ⊥
 ProvedBy meaning entries (Secret secret) old was = ⊥
 ProvedBy meaning entries (Tick moment) old was = ⊥
 

@@ -8,12 +8,13 @@ use Rattle.sa_init.specs.Cookies.{changed}
 use Rattle.effects.specs.Taking.{Meaning}
 use Rattle.ike.specs.Machines.{setup_at, Machine}
 use Rattle.ike.specs.Outputs.{plain_step}
-use Rattle.ike.specs.Probing.{ProbesAt, RefusesProbe}
+use Rattle.ike.specs.Asking.{AsksFor, RefusesAsking}
 use Rattle.ike.specs.Receiving.{RefusesDatagram, TakesDatagram}
 use Rattle.ike.specs.Starting.{RefusesStart, Starts}
 use Rattle.ike.specs.Ticking.{RefusesMoment, TakesMoment}
 use Rattle.ike.specs.declared.fault.IkeFault.{IkeFault}
 use Rattle.ike.specs.declared.fault.IkeFault.TheVariants.{NumbersSpent}
+use Rattle.ike.specs.declared.asking.Demand.{Demand}
 use Rattle.ike.specs.declared.input.IkeInput.{IkeInput}
 use Rattle.ike.specs.declared.input.IkeInput.TheVariants as input
 use Rattle.ike.specs.declared.output.IkeOutput.TheVariants.{Done}
@@ -23,14 +24,14 @@ use Rattle.ike.specs.declared.output.Stepped.{Stepped}
 pub data InputView : Type 0 where
   Message : Octets → Octets → Fresh → InputView
   Start : Option ℕ → ℕ → Fresh → InputView
-  Probe : ℕ → Fresh → InputView
+  Order : Demand → Fresh → InputView
   Secret : Octets → InputView
   Tick : ℕ → InputView
 
 abbrev pub input_view : IkeInput → InputView
 input_view (input.Message from octets fresh) = Message from octets.now fresh.now
 input_view (input.Start ike entry fresh) = Start ike entry fresh.now
-input_view (input.Probe ike fresh) = Probe ike fresh.now
+input_view (input.Order what fresh) = Order what fresh.now
 input_view (input.Secret secret) = Secret secret.now
 input_view (input.Tick moment) = Tick moment
 
@@ -60,8 +61,8 @@ Steps meaning entries (Message from octets fresh) old table stepped new new_tabl
     KeepsRest old new × TakesDatagram meaning (setup_at old entries fresh) old.cookies from octets old.held table stepped new.held new_table
 Steps meaning entries (Start ike place fresh) old table stepped new new_table =
     KeepsRest old new × Starts meaning (setup_at old entries fresh) ike place old.held table stepped new.held new_table
-Steps meaning entries (Probe ike fresh) old table stepped new new_table =
-    KeepsRest old new × ProbesAt meaning.body_of (setup_at old entries fresh) ike old.held stepped new.held × (new_table ≡ table)
+Steps meaning entries (Order what fresh) old table stepped new new_table =
+    KeepsRest old new × AsksFor meaning.body_of (setup_at old entries fresh) what old.held table stepped new.held new_table
 Steps meaning entries (Secret secret) old table stepped new new_table = ChangesSecret secret old table stepped new new_table
 Steps meaning entries (Tick moment) old table stepped new new_table = TakesMoment moment old table stepped new new_table
 
@@ -69,6 +70,6 @@ abbrev pub Refuses : Meaning → List Entry → InputView → Machine → Databa
 Refuses meaning entries (Message from octets fresh) old table reason =
     RefusesDatagram meaning (setup_at old entries fresh) old.cookies from octets old.held reason
 Refuses meaning entries (Start ike place fresh) old table reason = RefusesStart entries fresh ike place old.held table reason
-Refuses meaning entries (Probe ike fresh) old table reason = RefusesProbe ike old.held reason
+Refuses meaning entries (Order what fresh) old table reason = RefusesAsking what old.held table reason
 Refuses meaning entries (Secret secret) old table reason = RefusesSecret old reason
 Refuses meaning entries (Tick moment) old table reason = RefusesMoment reason

@@ -34,8 +34,9 @@ pub enum IkeFault {
     /// 32 associations are half open, or 128 are held; limits of this implementation.
     #[error("E34: too many associations are half open")]
     HalfOpenFull,
-    /// The association has as many requests waiting for an answer as the peer takes at once (RFC 7296, section 2.3).
-    #[error("E35: the peer's window is full")]
+    /// The association has as many requests waiting for an answer as the peer takes at once (RFC 7296, section 2.3), or one to delete
+    /// it.
+    #[error("E35: the peer's window is full, or the association is being deleted")]
     Busy,
     /// No serial, no version of the cookies' secrets, or no request number of the association is left.
     #[error("E36: the numbers are spent")]
@@ -108,7 +109,7 @@ impl From<TableFault> for IkeFault {
 
 impl From<OrderFault> for IkeFault {
     ghost use Rattle.std.specs.Prelude.{◌≡◌};
-    ghost use Rattle.ike.specs.Probing.{fault_of_order};
+    ghost use Rattle.ike.specs.Asking.{fault_of_order};
 
     ghost from_gives = { λ f e. e ≡ fault_of_order f };
 

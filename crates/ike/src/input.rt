@@ -1,5 +1,6 @@
 //! What is given to a step.
 
+use crate::Demand;
 use suite::Fresh;
 
 /// A datagram that came, or an order.
@@ -18,10 +19,9 @@ pub enum IkeInput<'a> {
         entry: u32,
         fresh: &'a Fresh,
     },
-    /// Ask the peer whether it is there, by an empty request of INFORMATIONAL under the association with this serial (RFC 7296,
-    /// section 2.4).
-    Probe {
-        ike: u32,
+    /// Ask the peer something under an association that stands.
+    Order {
+        what: Demand,
         fresh: &'a Fresh,
     },
     /// Make cookies under another secret (RFC 7296, section 2.6).

@@ -57,7 +57,7 @@ use children::laws::children_mirror;
 use effects::laws::{
     associations_stay_themselves, beginnings_are_determined, children_are_made_of_their_messages,
     effects_are_determined, keys_stay, messages_make_moves, messages_open, no_spi_comes,
-    nothing_comes_due, pairs_that_come_are_told, probes_are_short_and_determined, requests_wait_on,
+    nothing_comes_due, orders_are_short_and_determined, pairs_that_come_are_told, requests_wait_on,
     spis_stay_reserved, what_goes_out_again_is_kept, what_is_kept_is_short,
     what_is_passed_over_changes_nothing, what_is_sealed_opens, what_others_hold_stays,
 };
@@ -90,7 +90,7 @@ pub fn soundness_stays()
     associations_stay_themselves();
     what_is_kept_is_short();
     acceptance_is_limited();
-    probes_are_short_and_determined();
+    orders_are_short_and_determined();
     effects::laws::keys_stay_whole();
     effects::laws::requests_are_remembered();
     some_are_held_on();
@@ -108,7 +108,7 @@ pub fn what_is_sent_is_short()
         → All (λ (request : Resent). IsShort request.octets) ticked.requests }
 {
     what_is_kept_is_short();
-    probes_are_short_and_determined();
+    orders_are_short_and_determined();
     what_goes_out_again_is_outstanding();
 }
 
@@ -299,7 +299,7 @@ pub fn steps_are_determined()
 {
     beginnings_are_determined();
     effects_are_determined();
-    probes_are_short_and_determined();
+    orders_are_short_and_determined();
     ticks_are_determined();
     first_faults_are_determined();
     judgements_are_determined();

@@ -2,7 +2,8 @@
 //! datagram that came or an order.
 //!
 //! A step asks, in this order: which association a message is for, what it is to that association ([`association`]), and what its
-//! payloads do ([`initial`]). All that can be refused is made before anything is changed. What a step says beside its output, a
+//! payloads do ([`effects`], over [`initial`] and [`informational`]). An order begins an association, or asks the peer something under one
+//! that stands ([`Demand`]). All that can be refused is made before anything is changed. What a step says beside its output, a
 //! [`Trace`], is which message was sent under which keys, and which keys and which child were made.
 //!
 //! ```text
@@ -14,17 +15,18 @@
 //! ```
 #![tactic(auto)]
 
+mod asking;
 mod fault;
 mod held;
 mod input;
 pub mod laws;
 mod machine;
 mod output;
-mod probing;
 mod receiving;
 mod starting;
 mod ticking;
 
+pub use asking::Demand;
 pub use fault::IkeFault;
 pub use input::IkeInput;
 pub use machine::Ike;

@@ -9,9 +9,9 @@ ghost use Rattle.sa_init.specs.Cookies.{changed};
 ghost use Rattle.ike.specs.Soundness.{IsSoundMachine};
 ghost use Rattle.ike.specs.Steps.{input_view, Refuses, Steps};
 
+use crate::asking::ask;
 use crate::held::{Held, association_of};
 use crate::laws::soundness_stays;
-use crate::probing::probe;
 use crate::receiving::take_datagram;
 use crate::starting::start;
 use crate::ticking::take_moment;
@@ -89,9 +89,10 @@ impl Ike {
     /// of memory, but for a datagram whose length, length field or version is at fault.
     ///
     /// An order to start is refused, in this order: [`IkeFault::Unprotected`] (E23); for a further child E28 or E32; E25 where 128
-    /// associations are held, E36, E37; then E25 or E26 by the table; and for want of memory. The order to ask whether the peer is there
-    /// is refused, in this order: E28 where no association has the serial, E32 where it is not established, E35, E36, and for want of
-    /// memory. Another secret is refused by E36, and a moment for want of memory alone.
+    /// associations are held, E36, E37; then E25 or E26 by the table; and for want of memory. The orders to ask whether the peer is there,
+    /// and to delete a child or an association, are refused, in this order: E28 where no child or association has the serial, E32 where
+    /// the association is not established or the child is being deleted, E35 where the peer's window is full or the association is being
+    /// deleted, E36, and for want of memory. Another secret is refused by E36, and a moment for want of memory alone.
     ///
     /// What is refused changes nothing but the table's room.
     pub fn step<C: Sealer + Agreement + Proof>(
@@ -208,7 +209,7 @@ impl Ike {
                 };
                 start(alloc, &step, &mut self.held, table, *ike, *entry)
             }
-            IkeInput::Probe { ike, fresh } => {
+            IkeInput::Order { what, fresh } => {
                 let step = Step {
                     caller,
                     config: &self.config,
@@ -216,7 +217,7 @@ impl Ike {
                     fresh,
                     moment: self.moment,
                 };
-                probe(alloc, &step, &mut self.held, *ike)
+                ask(alloc, &step, &mut self.held, table, *what)
             }
             IkeInput::Secret(secret) => change_secret(&mut self.cookies, secret),
             IkeInput::Tick(moment) => {

@@ -1,13 +1,17 @@
--- The response to a request of INFORMATIONAL (RFC 7296 sections 1.4 and 2.21.3).
-use Rattle.std.specs.Prelude.{◌≡◌, ℕ, Bool, false, Option, Some, None, List}
+-- The response to a request of INFORMATIONAL (RFC 7296 sections 1.4, 1.4.1 and 2.21.3).
+use Rattle.std.specs.Prelude.{◌≡◌, ◌==◌, ◌||◌, ℕ, Bool, false, Option, Some, None, List, [], ◌∷◌, if◌then◌else◌}
 use Rattle.std.specs.List.{list_any}
 use Rattle.wire.specs.declared.payload.Payload.{Payload}
 use Rattle.exchange.specs.Notices.{is_invalid_syntax}
 use Rattle.exchange.specs.declared.sealed.Plain.{Plain}
 use Rattle.requests.specs.Outgoing.{CountsAnswer, OwnRequests}
-use Rattle.sadb.specs.Database.{Database}
+use Rattle.sadb.specs.Database.{pair_at, Database, PairMap}
+use Rattle.sadb.specs.declared.pair.Pair.{Pair}
+use Rattle.association.specs.Purposes.{asks_to_end}
 use Rattle.association.specs.declared.phase.Association.{Association}
 use Rattle.association.specs.declared.phase.Request.{Request}
+use Rattle.association.specs.declared.purpose.Purpose.{Purpose}
+use Rattle.association.specs.declared.purpose.Purpose.TheVariants as purpose
 use Rattle.initial.specs.Concluding.{with_outgoing}
 use Rattle.initial.specs.Configs.{Setup}
 use Rattle.initial.specs.Deciding.{IsRead}
@@ -26,7 +30,24 @@ pub record IsRejectedBy (plain : Plain) (rejected : Bool) : Type 0 where
   pub read : IsRead plain payloads
   pub told : rejected ≡ is_rejected payloads
 
--- The response is counted, and the association stays as it is or is closed.
+-- The association ends by it, or by the answer to this end's request to delete it (section 1.4.1).
+abbrev pub is_ended : Option (List Payload) → Purpose → Bool
+is_ended payloads asked = is_rejected payloads || asks_to_end asked
+
+-- the pair with this serial goes, if it is there and of this IKE association
+abbrev pub if_its_own : Option Pair → ℕ → ℕ → List ℕ
+if_its_own None ike child = []
+if_its_own (Some pair) ike child = if pair.ike == ike then child ∷ [] else []
+
+-- the pairs that go with the answer: that of the child which this end asked to delete (section 1.4.1)
+abbrev pub gone_with : PairMap → ℕ → Purpose → List ℕ
+gone_with pairs ike purpose.Begin = []
+gone_with pairs ike purpose.Identify = []
+gone_with pairs ike purpose.Probe = []
+gone_with pairs ike (purpose.DeleteChild child) = if_its_own (pair_at pairs child) ike child
+gone_with pairs ike purpose.DeleteAssociation = []
+
+-- The response is counted, and the association is closed, or the pair goes whose deletion it answers.
 pub record CountsInformational (setup : Setup) (old : Association) (table : Database) (number : ℕ) (plain : Plain) (ended : Ended) (new : Association) (new_table : Database) : Type 0 where
   pub payloads : Option (List Payload)
   pub read : IsRead plain payloads
@@ -34,5 +55,5 @@ pub record CountsInformational (setup : Setup) (old : Association) (table : Data
   pub outgoing : OwnRequests Request
   pub counted : CountsAnswer old.outgoing number request outgoing
   pub child : ended.child ≡ None
-  pub closed : ended.closed ≡ is_rejected payloads
-  pub concluded : ClosesIf (is_rejected payloads) (with_outgoing old outgoing) table setup.moment new new_table
+  pub closed : ended.closed ≡ is_ended payloads request.purpose
+  pub concluded : ClosesIf (is_ended payloads request.purpose) (gone_with table.pairs old.serial request.purpose) (with_outgoing old outgoing) table setup.moment new new_table

@@ -1,5 +1,6 @@
 pub mod Orders
-pub mod Probing
+pub mod Ordering
+pub mod Asking
 pub mod Answering
 pub mod Counting
 pub mod Faults

@@ -1,13 +1,15 @@
 -- What is asked of an association before a request of INFORMATIONAL goes out under its keys, and after one was answered (RFC 7296
 -- sections 1.4, 2.2 and 2.3).
-use Rattle.std.specs.Prelude.{◌≡◌, ℕ, Bool, true, false}
+use Rattle.std.specs.Prelude.{◌≡◌, ◌⊎◌, ℕ, Bool, true, false, List, All}
 use Rattle.requests.specs.Outgoing.{AreNumbersSpent, IsBusy, MayIssue}
 use Rattle.suite.specs.declared.key_record.KeyRecord.{KeyRecord}
-use Rattle.sadb.specs.Database.{Database}
+use Rattle.sadb.specs.Database.{BelongsTo, Database}
 use Rattle.association.specs.Closing.{Closes}
+use Rattle.association.specs.Purposes.{AwaitsDeletion}
 use Rattle.association.specs.declared.phase.Association.{Association}
 use Rattle.association.specs.declared.phase.Phase.{Phase}
 use Rattle.association.specs.declared.phase.Phase.TheVariants as phase
+use Rattle.deletions.specs.Removing.{RemovesNamed}
 use Rattle.informational.specs.declared.fault.OrderFault.{OrderFault}
 use Rattle.informational.specs.declared.fault.OrderFault.TheVariants.{WrongPhase, Busy, NumbersSpent, Memory}
 
@@ -16,14 +18,20 @@ pub record IsEstablished (p : Phase) : Type 0 where
   pub keys : KeyRecord
   pub is : p ≡ phase.Established keys
 
--- why an order on an association is refused, each where those before it don't apply
+-- why an order on an association is refused, each where those before it don't apply; none is taken while a request of this end to delete the
+-- association waits for its answer
 abbrev pub RefusesOrder : Association → OrderFault → Type 0
 RefusesOrder a WrongPhase = ¬ IsEstablished a.phase
-RefusesOrder a Busy = IsEstablished a.phase × IsBusy a.outgoing
-RefusesOrder a NumbersSpent = IsEstablished a.phase × (¬ IsBusy a.outgoing) × AreNumbersSpent a.outgoing
-RefusesOrder a Memory = IsEstablished a.phase × MayIssue a.outgoing
+RefusesOrder a Busy = IsEstablished a.phase × (AwaitsDeletion a.outgoing ⊎ IsBusy a.outgoing)
+RefusesOrder a NumbersSpent = IsEstablished a.phase × (¬ AwaitsDeletion a.outgoing) × (¬ IsBusy a.outgoing) × AreNumbersSpent a.outgoing
+RefusesOrder a Memory = IsEstablished a.phase × (¬ AwaitsDeletion a.outgoing) × MayIssue a.outgoing
 
--- the association is closed at this moment, or all is left as it is
-abbrev pub ClosesIf : Bool → Association → Database → ℕ → Association → Database → Type 0
-ClosesIf true old table moment new new_table = Closes old table moment new new_table
-ClosesIf false old table moment new new_table = (new ≡ old) × (new_table ≡ table)
+-- the pairs with these serials go, which are this IKE association's
+pub record RemovesOwn (ike : ℕ) (serials : List ℕ) (old new : Database) : Type 0 where
+  pub its_own : All (BelongsTo old.pairs ike) serials
+  pub removed : RemovesNamed old serials new
+
+-- the association is closed at this moment, with all its pairs; or it stays as it is, and of its pairs those with these serials go
+abbrev pub ClosesIf : Bool → List ℕ → Association → Database → ℕ → Association → Database → Type 0
+ClosesIf true serials old table moment new new_table = Closes old table moment new new_table
+ClosesIf false serials old table moment new new_table = (new ≡ old) × RemovesOwn old.serial serials table new_table

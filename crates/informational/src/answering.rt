@@ -1,55 +1,36 @@
 //! The answer to a request.
-ghost use Rattle.std.specs.Prelude.{◌≡◌, IfOk, IfErr, [], ◌∷◌};
-ghost use Rattle.exchange.specs.Headers.{keys_of};
-ghost use Rattle.exchange.specs.Notices.{payload_of_notice, FitsNotice};
-ghost use Rattle.exchange.specs.Sealed.{CanBeSealed, IsSealed};
-ghost use Rattle.requests.specs.Incoming.{IsFreshRequest};
-ghost use Rattle.auth.specs.Fitting.{FitWithin};
-ghost use Rattle.initial.specs.Answering.{reply_message};
-ghost use Rattle.informational.specs.Answering.{is_ending, payloads_of_verdict, AnswersInformational, IsVerdictOn};
-ghost use Rattle.informational.specs.Orders.{IsEstablished};
-ghost use Rattle.initial.specs.Configs.{setup_of};
+ghost use Rattle.std.specs.Prelude.{◌≡◌, IfOk, IfErr};
 ghost use Rattle.wire.specs.Numbers.{INFORMATIONAL};
+ghost use Rattle.exchange.specs.Headers.{keys_of};
+ghost use Rattle.exchange.specs.Sealed.{IsSealed};
+ghost use Rattle.requests.specs.Incoming.{IsFreshRequest};
+ghost use Rattle.initial.specs.Answering.{reply_message};
+ghost use Rattle.initial.specs.Configs.{setup_of};
+ghost use Rattle.deletions.specs.Answering.{payloads_of_verdict};
+ghost use Rattle.deletions.specs.Deciding.{is_closing_verdict, IsSoundVerdict};
+ghost use Rattle.informational.specs.Answering.{gone_by, AnswersInformational};
+ghost use Rattle.informational.specs.Orders.{ClosesIf, IsEstablished};
 
 use association::{Association, Phase};
 use base::Items;
-use exchange::laws::{notices_fit, short_messages_can_be_sent};
-use exchange::{Notice, Plain, sent_header, unknown_critical};
-use initial::{Answered, Step, read_chain, sealed};
+use deletions::laws::what_is_decided_can_be_removed;
+use deletions::{Verdict, answer_payloads, decide, remove_named};
+use exchange::laws::short_messages_can_be_sent;
+use exchange::{Plain, sent_header};
+use initial::{Answered, Step, sealed};
 use sadb::Table;
 use std::alloc::{AllocError, Global};
 use suite::{KeyRecord, Sealer};
+use wire::Message;
 use wire::numbers::INFORMATIONAL;
-use wire::{Message, Payload};
 
-/// What is made of a request.
-#[derive(Clone, Copy, Debug, PartialEq, Eq)]
-enum Verdict {
-    /// It is not in the grammar.
-    BadSyntax,
-    /// A payload of this type is marked as critical and not known.
-    Unsupported { kind: u8 },
-    /// It is understood, and nothing is asked for.
-    Understood,
-}
-
-impl Verdict {
-    // Whether it ends the association.
-    fn is_ending(self) -> bool
-        ensures { result ≡ is_ending self }
-    {
-        match self {
-            Verdict::BadSyntax => true,
-            Verdict::Unsupported { .. } => false,
-            Verdict::Understood => false,
-        }
-    }
-}
-
-/// Answers a request of INFORMATIONAL at an established association (RFC 7296, section 1.4), by the payloads that it opened to.
+/// Answers a request of INFORMATIONAL at an established association (RFC 7296, sections 1.4 and 1.4.1), by the payloads that it opened to
+/// and what [`deletions::decide`] makes of them.
 ///
-/// The answer is INVALID_SYNTAX, and the association is closed, where the payloads are not in the grammar; it is
-/// UNSUPPORTED_CRITICAL_PAYLOAD where one that is not known is marked as critical (section 2.5); and otherwise it is empty.
+/// The answer is INVALID_SYNTAX, and the association is closed, where the payloads are not in the grammar or name more than 512 SPIs; it
+/// is UNSUPPORTED_CRITICAL_PAYLOAD where one that is not known is marked as critical (section 2.5). Where the association is deleted it is
+/// closed, and the answer is empty. Otherwise the Live pairs that are named go, and the answer names the SPIs of the other direction; it
+/// is empty where none goes. A pair that is Deleting stays until the request of this end is answered, and isn't named.
 ///
 /// The caller asks only at an established association, where the request is fresh. An error is for want of memory alone, and changes
 /// nothing.
@@ -70,16 +51,14 @@ pub fn answer<C: Sealer>(
     let Phase::Established(keys) = &association.phase else {
         unreachable!();
     };
-    let verdict = judge(alloc, plain)?;
-    let octets = make_reply(alloc, step, association, keys, number, verdict)?;
+    let verdict = decide(alloc, plain, association.serial, table)?;
+    let octets = make_reply(alloc, step, association, table, keys, number, &verdict)?;
     let kept = Items::from_slice(alloc, octets.as_slice())?;
     association.incoming.prepare()?;
     // From here on nothing can be refused.
     association.incoming.take(number, kept);
-    let closed = verdict.is_ending();
-    if closed {
-        association.close(table, step.moment);
-    }
+    let closed = verdict.is_closing();
+    conclude(association, table, &verdict, step.moment);
     Ok(Answered {
         octets,
         child: None,
@@ -87,31 +66,21 @@ pub fn answer<C: Sealer>(
     })
 }
 
-fn judge(alloc: Global, plain: &Plain) -> Result<Verdict, AllocError>
-    ensures { IfOk result (IsVerdictOn plain.now) }
-{
-    match read_chain(alloc, plain)? {
-        None => Ok(Verdict::BadSyntax),
-        Some(payloads) => Ok(match unknown_critical(payloads.as_slice()) {
-            Some(kind) => Verdict::Unsupported { kind },
-            None => Verdict::Understood,
-        }),
-    }
-}
-
 fn make_reply<C: Sealer>(
     alloc: Global,
     step: &Step<'_, C>,
     association: &Association,
+    table: &Table,
     keys: &KeyRecord,
     number: u32,
-    verdict: Verdict,
+    verdict: &Verdict,
 ) -> Result<Items<u8>, AllocError>
+    requires { IsSoundVerdict table.now.pairs association.now.serial verdict.now }
     ensures { IfOk result (IsSealed C.body_of (keys_of association.now.role keys.now) step.now.fresh.now.seal
-        (reply_message association.now INFORMATIONAL number (payloads_of_verdict verdict))) }
+        (reply_message association.now INFORMATIONAL number (payloads_of_verdict verdict.now))) }
 {
     short_messages_can_be_sent();
-    let payloads = reply_payloads(alloc, verdict)?;
+    let payloads = answer_payloads(alloc, verdict)?;
     let role = association.role;
     let message = Message {
         header: sent_header(
@@ -127,26 +96,18 @@ fn make_reply<C: Sealer>(
     sealed(alloc, step.caller, role, keys, &message, &step.fresh.seal)
 }
 
-fn reply_payloads(alloc: Global, verdict: Verdict) -> Result<Items<Payload>, AllocError>
-    ensures payloads { IfOk result (λ payloads. payloads ≡ payloads_of_verdict verdict) }
-    ensures fits { IfOk result (FitWithin 2840) }
+// The association is closed, or the pairs go that a request names.
+fn conclude(association: &mut Association, table: &mut Table, verdict: &Verdict, moment: u64)
+    requires established { IsEstablished association.old.phase }
+    requires sound { IsSoundVerdict table.old.pairs association.old.serial verdict.now }
+    ensures { ClosesIf (is_closing_verdict verdict.now) (gone_by verdict.now)
+        association.old table.old moment association.new table.new }
 {
+    what_is_decided_can_be_removed();
     match verdict {
-        Verdict::BadSyntax => lone_notice(alloc, Notice::InvalidSyntax),
-        Verdict::Unsupported { kind } => {
-            lone_notice(alloc, Notice::UnsupportedCriticalPayload { kind })
-        }
-        Verdict::Understood => Ok(Items::new(alloc)),
+        Verdict::BadSyntax => association.close(table, moment),
+        Verdict::Unsupported { .. } => remove_named(table, &[]),
+        Verdict::Closes => association.close(table, moment),
+        Verdict::Deletes(deleted) => remove_named(table, deleted.serials.as_slice()),
     }
-}
-
-fn lone_notice(alloc: Global, notice: Notice) -> Result<Items<Payload>, AllocError>
-    ensures payloads { IfOk result (λ payloads. payloads ≡ payload_of_notice notice ∷ []) }
-    ensures fits { IfOk result (FitWithin 2840) }
-{
-    notices_fit();
-    notice.fits();
-    let mut payloads = Items::new(alloc);
-    payloads.push(notice.payload(alloc)?)?;
-    Ok(payloads)
 }

@@ -1,18 +1,20 @@
 //! The response to a request of this end.
 ghost use Rattle.std.specs.Prelude.{◌≡◌, IfOk, IfErr};
 ghost use Rattle.requests.specs.Outgoing.{IsOutstanding};
-ghost use Rattle.informational.specs.Counting.{CountsInformational, IsRejectedBy};
-ghost use Rattle.informational.specs.Orders.{IsEstablished};
+ghost use Rattle.informational.specs.Counting.{gone_with, CountsInformational, IsRejectedBy};
+ghost use Rattle.informational.specs.Orders.{ClosesIf, IsEstablished, RemovesOwn};
 ghost use Rattle.initial.specs.Configs.{setup_of};
 
-use association::Association;
+use association::{Association, Purpose};
+use deletions::remove_named;
 use exchange::{Plain, has_invalid_syntax};
 use initial::{Ended, Step, read_chain};
 use sadb::Table;
 use std::alloc::{AllocError, Global};
 
-/// Counts the response to a request of INFORMATIONAL (RFC 7296, section 1.4), by the payloads that it opened to. The association is
-/// closed where it has a notice INVALID_SYNTAX (section 2.21.3).
+/// Counts the response to a request of INFORMATIONAL (RFC 7296, sections 1.4 and 1.4.1), by the payloads that it opened to. The association
+/// is closed where it has a notice INVALID_SYNTAX (section 2.21.3), or answers a request to delete it; the pair of a child goes whose
+/// deletion it answers. What else it says is nothing to that.
 ///
 /// The caller asks only at an established association, where a request of this number is outstanding. An error is for want of memory
 /// alone, and changes nothing.
@@ -30,12 +32,11 @@ pub fn count<C>(
         association.old table.old number plain.now ended association.new table.new) }
     ensures refused { IfErr result (λ _. (association.new ≡ association.old) × (table.new ≡ table.old)) }
 {
-    let closed = is_rejected(alloc, plain)?;
+    let rejected = is_rejected(alloc, plain)?;
     // From here on nothing can be refused.
-    let _ = association.outgoing.count(number);
-    if closed {
-        association.close(table, step.moment);
-    }
+    let request = association.outgoing.count(number);
+    let closed = rejected || request.purpose.asks_to_end();
+    conclude(association, table, closed, request.purpose, step.moment);
     Ok(Ended {
         child: None,
         closed,
@@ -49,5 +50,37 @@ fn is_rejected(alloc: Global, plain: &Plain) -> Result<bool, AllocError>
     match read_chain(alloc, plain)? {
         None => Ok(false),
         Some(payloads) => Ok(has_invalid_syntax(payloads.as_slice())),
+    }
+}
+
+// The association is closed, or the pair goes that this end asked to delete.
+fn conclude(
+    association: &mut Association,
+    table: &mut Table,
+    closed: bool,
+    purpose: Purpose,
+    moment: u64,
+)
+    requires { IsEstablished association.old.phase }
+    ensures { ClosesIf closed (gone_with table.old.pairs association.old.serial purpose)
+        association.old table.old moment association.new table.new }
+{
+    if closed {
+        association.close(table, moment);
+    } else {
+        remove_deleted(table, association.serial, purpose);
+    }
+}
+
+// The pair of a child goes that this end asked to delete, if it is of this association.
+fn remove_deleted(table: &mut Table, ike: u32, purpose: Purpose)
+    ensures { RemovesOwn ike (gone_with table.old.pairs ike purpose) table.old table.new }
+{
+    match purpose {
+        Purpose::DeleteChild { child } => match table.get(child) {
+            Some(pair) if pair.ike == ike => remove_named(table, &[child]),
+            _ => remove_named(table, &[]),
+        },
+        _ => remove_named(table, &[]),
     }
 }

@@ -11,8 +11,8 @@ pub enum OrderFault {
     /// The association is not established.
     #[error("E32: the association is in another phase")]
     WrongPhase,
-    /// So many requests wait for an answer as the peer takes at once (RFC 7296, section 2.3).
-    #[error("E35: the peer's window is full")]
+    /// So many requests wait for an answer as the peer takes at once (RFC 7296, section 2.3), or one to delete the association does.
+    #[error("E35: the peer's window is full, or the association is being deleted")]
     Busy,
     /// All request numbers of the association were issued (RFC 7296, section 2.2).
     #[error("E36: the numbers are spent")]

@@ -1,22 +1,25 @@
-//! The exchange INFORMATIONAL (RFC 7296, section 1.4) at one association that is established: a request of the peer is answered, the
-//! response to one of this end is counted, and an empty request goes out to ask whether the peer is there.
+//! The exchange INFORMATIONAL (RFC 7296, sections 1.4 and 1.4.1) at one association that is established: a request of the peer is
+//! answered, with the deletions that it asks for, the response to one of this end is counted, and a request goes out to ask whether the
+//! peer is there, to delete a child, or to delete the association.
 //!
-//! Which association a message is for, whether its number is fresh and what it opens to, [`association`] tells; each call here makes all
-//! that it needs before it changes anything. A request with Delete payloads is answered as if it had none: deletions are not known yet.
+//! Which association a message is for, whether its number is fresh and what it opens to, [`association`] tells; what Delete payloads ask
+//! for, [`deletions`]. Each call here makes all that it needs before it changes anything.
 //!
 //! ```text
-//! send(probe(alloc, &step, &mut association)?.octets);
+//! send(ask(alloc, &step, &mut association, &mut table, Order::Probe)?.octets);
 //! let answered = answer(alloc, &step, &mut association, &mut table, number, &plain)?;
 //! send(answered.octets);
 //! ```
 #![tactic(auto)]
 
 mod answering;
+mod asking;
 mod counting;
 mod fault;
-mod probing;
+mod ordering;
 
 pub use answering::answer;
+pub use asking::{Issued, ask};
 pub use counting::count;
 pub use fault::OrderFault;
-pub use probing::{Probed, probe};
+pub use ordering::Order;

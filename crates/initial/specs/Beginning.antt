@@ -2,7 +2,6 @@
 use Rattle.std.specs.Prelude.{◌≡◌, ℕ, Option, None}
 use Rattle.base.specs.Octets.{Octets}
 use Rattle.wire.specs.Messages.{SpellsPlainly}
-use Rattle.wire.specs.Numbers.{IKE_SA_INIT}
 use Rattle.suite.specs.declared.fresh.Fresh.{Fresh}
 use Rattle.suite.specs.declared.key_record.KeyRecord.{KeyRecord}
 use Rattle.suite.specs.declared.sealer.Cipher.{Cipher}
@@ -16,6 +15,7 @@ use Rattle.sa_init.specs.declared.answers.Agreed.{Agreed}
 use Rattle.association.specs.FirstChildren.{FirstChildView}
 use Rattle.association.specs.declared.phase.Association.{Association}
 use Rattle.association.specs.declared.phase.Phase.TheVariants as phase
+use Rattle.association.specs.declared.purpose.Purpose.TheVariants.{Begin}
 use Rattle.initial.specs.Issuing.{new_request, IssuesNext}
 use Rattle.initial.specs.declared.beginning.Admitted.{Admitted}
 use Rattle.initial.specs.declared.beginning.Beginning.{Beginning}
@@ -23,7 +23,7 @@ use Rattle.initial.specs.declared.beginning.Beginning.{Beginning}
 -- The first request of an initiator, with what is fresh, and kept under number 0.
 pub record Begins (cipher : Cipher) (group : ℕ) (public_value : Octets → Octets) (fresh : Fresh) (moment : ℕ) (beginning : Beginning) : Type 0 where
   pub spelled : SpellsPlainly (request_message cipher group (public_value fresh.secret) fresh.spi None fresh.nonce) beginning.octets
-  pub issued : IssuesNext none_issued (new_request beginning.octets IKE_SA_INIT moment) beginning.outgoing
+  pub issued : IssuesNext none_issued (new_request beginning.octets Begin moment) beginning.outgoing
   pub spi : beginning.spi_i ≡ fresh.spi
   pub secret : beginning.secret ≡ fresh.secret
   pub nonce_is : beginning.nonce ≡ fresh.nonce

@@ -3,10 +3,11 @@ use Rattle.std.specs.Prelude.{ℕ}
 use Rattle.base.specs.Octets.{Octets}
 use Rattle.requests.specs.Outgoing.{HasSameOwnRequests, IssuesRequest, OwnRequests}
 use Rattle.association.specs.declared.phase.Request.{Request}
+use Rattle.association.specs.declared.purpose.Purpose.{Purpose}
 
 -- a request that goes out for the first time at this moment
-abbrev pub new_request : Octets → ℕ → ℕ → Request
-new_request octets exchange moment = record { octets = octets; exchange = exchange; timer = record { sent = moment; repeats = 0 } }
+abbrev pub new_request : Octets → Purpose → ℕ → Request
+new_request octets purpose moment = record { octets = octets; purpose = purpose; timer = record { sent = moment; repeats = 0 } }
 
 -- one more request is outstanding, of the next number
 pub record IssuesNext (old : OwnRequests Request) (request : Request) (new : OwnRequests Request) : Type 0 where

@@ -3,7 +3,7 @@ use Rattle.std.specs.Prelude.{◌≡◌, ◌+◌, ◌<◌, ℕ, false, Option, S
 use Rattle.std.specs.FinMap as map
 use Rattle.base.specs.Octets.{Octets}
 use Rattle.wire.specs.Messages.{SpellsPlainly}
-use Rattle.wire.specs.Numbers.{IKE_AUTH, IKE_SA_INIT}
+use Rattle.wire.specs.Numbers.{IKE_AUTH}
 use Rattle.wire.specs.declared.message.Message.{Message}
 use Rattle.suite.specs.declared.key_record.KeyRecord.{KeyRecord}
 use Rattle.suite.specs.declared.keys.Keys.{Keys}
@@ -26,6 +26,7 @@ use Rattle.auth.specs.Proofs.{proving_of}
 use Rattle.auth.specs.Requests.{auth_request}
 use Rattle.children.specs.Asking.{child_request}
 use Rattle.initial.specs.Configs.{Setup}
+use Rattle.association.specs.declared.purpose.Purpose.TheVariants.{Begin, Identify}
 use Rattle.initial.specs.Issuing.{new_request, IssuesNext}
 use Rattle.initial.specs.declared.reading.Continued.{Continued}
 use Rattle.initial.specs.declared.reading.Continued.TheVariants as continued
@@ -48,7 +49,7 @@ waiting_of spi_i sent = record { spi_i = spi_i; secret = sent.secret; nonce = se
 pub record BringsCookie (asker : Asker) (moment : ℕ) (old : Association) (sent : InitSent) (number : ℕ) (cookie : Octets) (octets : Octets) (new : Association) : Type 0 where
   pub spelled : SpellsPlainly (request_message asker.cipher asker.group (asker.public_value sent.secret) old.spi_i (Some cookie) sent.nonce) octets
   pub was : Request
-  pub replaced : ReplacesRequest old.outgoing number was (new_request octets IKE_SA_INIT moment) new.outgoing
+  pub replaced : ReplacesRequest old.outgoing number was (new_request octets Begin moment) new.outgoing
   pub content : new ≡ record old {
     outgoing = new.outgoing;
     phase = phase.InitSent (record sent { cookie = Some cookie; cookies_taken = sent.cookies_taken + 1 });
@@ -67,7 +68,7 @@ pub record TellsIdentity (asker : Asker) (setup : Setup) (old : Association) (se
   pub request : Request
   pub outstanding : map.get old.outgoing.outstanding number ≡ Some request
   pub sealed : IsSealed asker.body_of (keys_of old.role keys) setup.fresh.seal (identity_message asker.own_method asker.proof_of setup old sent m.header.spi_r keys request.octets) octets
-  pub issued : IssuesNext number_0_answered (new_request octets IKE_AUTH setup.moment) new.outgoing
+  pub issued : IssuesNext number_0_answered (new_request octets Identify setup.moment) new.outgoing
   pub content : new ≡ record old {
     spi_r = m.header.spi_r;
     outgoing = new.outgoing;

@@ -6,14 +6,13 @@ ghost use Rattle.initial.specs.Beginning.{begun, half_open, Admits, Begins};
 
 use crate::Step;
 use crate::issuing::{issued, new_request};
-use association::{Association, FirstChild, HalfOpen, InitSent, Phase, Request};
+use association::{Association, FirstChild, HalfOpen, InitSent, Phase, Purpose, Request};
 use base::Items;
 use exchange::Role;
 use requests::{Incoming, Outgoing};
 use sa_init::{Agreed, Offer, answer, request};
 use std::alloc::{AllocError, Global};
 use suite::{Agreement, Sealer};
-use wire::numbers::IKE_SA_INIT;
 
 /// The first request of an initiator, made before its child has an SPI.
 #[derive(Drop)]
@@ -49,7 +48,7 @@ pub fn begin<C: Sealer + Agreement>(
     let kept = Items::from_slice(alloc, octets.as_slice())?;
     let outgoing = issued(
         Outgoing::new(alloc),
-        new_request(kept, IKE_SA_INIT, step.moment),
+        new_request(kept, Purpose::Begin, step.moment),
     )?;
     Ok(Beginning {
         octets,

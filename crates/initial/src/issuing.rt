@@ -2,18 +2,18 @@
 ghost use Rattle.std.specs.Prelude.{◌≡◌, IfOk};
 ghost use Rattle.initial.specs.Issuing.{new_request, IssuesNext};
 
-use association::Request;
+use association::{Purpose, Request};
 use base::Items;
 use requests::{Outgoing, Timer};
 use std::alloc::AllocError;
 
 /// A request that goes out for the first time at this moment.
-pub fn new_request(octets: Items<u8>, exchange: u8, moment: u64) -> Request
-    ensures { result ≡ new_request octets exchange moment }
+pub fn new_request(octets: Items<u8>, purpose: Purpose, moment: u64) -> Request
+    ensures { result ≡ new_request octets purpose moment }
 {
     Request {
         octets,
-        exchange,
+        purpose,
         timer: Timer::started(moment),
     }
 }

@@ -19,7 +19,7 @@ ghost use Rattle.exchange.specs.declared.headers.Role.TheVariants.{Initiator};
 use crate::Step;
 use crate::issuing::{issued, new_request};
 use crate::sealing::sealed;
-use association::{Association, AuthSent, FirstChild, InitSent, Phase};
+use association::{Association, AuthSent, FirstChild, InitSent, Phase, Purpose};
 use auth::laws::what_is_sent_fits;
 use auth::{Proving, request};
 use base::Items;
@@ -32,7 +32,7 @@ use sa_init::{Response, Waiting, read};
 use std::alloc::{AllocError, Global};
 use std::mem;
 use suite::{Agreement, KeyRecord, Proof, Sealer};
-use wire::numbers::{IKE_AUTH, IKE_SA_INIT};
+use wire::numbers::IKE_AUTH;
 use wire::{Message, Payload};
 
 /// What an initiator does about the response to IKE_SA_INIT.
@@ -87,7 +87,7 @@ pub fn read_response<C: Sealer + Agreement + Proof>(
         Ok(Response::Cookie(cookie)) => {
             let again = request_again(alloc, step, association.spi_i, sent, cookie)?;
             // From here on nothing can be refused.
-            let request = new_request(again.kept, IKE_SA_INIT, step.moment);
+            let request = new_request(again.kept, Purpose::Begin, step.moment);
             let _ = association.outgoing.replace(number, request);
             carry(association, again.cookie);
             Ok(Continued::Again(again.octets))
@@ -107,7 +107,7 @@ pub fn read_response<C: Sealer + Agreement + Proof>(
             let response = Items::from_slice(alloc, octets)?;
             let outgoing = issued(
                 Outgoing::after_initial(alloc),
-                new_request(kept, IKE_AUTH, step.moment),
+                new_request(kept, Purpose::Identify, step.moment),
             )?;
             // From here on nothing can be refused.
             association.spi_r = message.header.spi_r;

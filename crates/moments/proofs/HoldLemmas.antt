@@ -23,9 +23,9 @@ same_octets : (now : ℕ) (due : Bool) (r : Request) → (if due then record r {
 same_octets now true r = refl
 same_octets now false r = refl
 
-same_exchange : (now : ℕ) (due : Bool) (r : Request) → (if due then record r { timer = record { sent = now; repeats = r.timer.repeats + 1 } } else r).exchange ≡ r.exchange
-same_exchange now true r = refl
-same_exchange now false r = refl
+same_purpose : (now : ℕ) (due : Bool) (r : Request) → (if due then record r { timer = record { sent = now; repeats = r.timer.repeats + 1 } } else r).purpose ≡ r.purpose
+same_purpose now true r = refl
+same_purpose now false r = refl
 
 sent_was : (now number : ℕ) (a : Association) (request : Request) (o : Option Request) → map.get a.outgoing.outstanding number ≡ o → option_map (after_sending now) o ≡ Some request → WasOutstanding a number request
 sent_was now number a request None there e = absurd cc
@@ -35,7 +35,7 @@ sent_was now number a request (Some was) there e =
       was = was;
       there = there;
       octets = ap (λ (r : Request). r.octets) (sym is) ∙ same_octets now (is_due now was) was;
-      exchange = ap (λ (r : Request). r.exchange) (sym is) ∙ same_exchange now (is_due now was) was;
+      purpose = ap (λ (r : Request). r.purpose) (sym is) ∙ same_purpose now (is_due now was) was;
     }
 
 sends_on : (now : ℕ) (a b : Association) → has_failed now a ≡ false → SendsAgain now a b → HoldsOn now a b

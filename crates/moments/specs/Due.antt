@@ -5,6 +5,7 @@ use Rattle.std.specs.List.{filter, list_any, sum_by}
 use Rattle.std.specs.Option.{option_map}
 use Rattle.wire.specs.Numbers.{IKE_SA_INIT}
 use Rattle.requests.specs.Timers.{due_from, waits}
+use Rattle.association.specs.Purposes.{exchange_of}
 use Rattle.association.specs.declared.phase.Association.{Association}
 use Rattle.association.specs.declared.phase.Phase.{Phase}
 use Rattle.association.specs.declared.phase.Phase.TheVariants.{HalfOpen, Closed}
@@ -46,7 +47,7 @@ has_failed now a = list_any (λ e. is_unanswered now e.1) (outstanding_of a)
 
 -- a request of this number as it goes out again, the same octets (section 2.1)
 abbrev pub resent : Association → ℕ × Request → Resent
-resent a e = record { ike = a.serial; number = e.0; encrypted = not (e.1.exchange == IKE_SA_INIT); octets = e.1.octets }
+resent a e = record { ike = a.serial; number = e.0; encrypted = not (exchange_of e.1.purpose == IKE_SA_INIT); octets = e.1.octets }
 
 -- all that are due, by rising number
 abbrev pub due_of : ℕ → Association → List Resent

@@ -9,12 +9,12 @@ use Rattle.association.specs.declared.phase.Request.{Request}
 use Rattle.moments.specs.Due.{has_failed}
 use Rattle.moments.specs.Held.{IsClosedAt}
 
--- a request of these octets and this exchange was outstanding under this number
+-- a request of these octets and this purpose was outstanding under this number
 pub record WasOutstanding (a : Association) (number : ℕ) (request : Request) : Type 0 where
   pub was : Request
   pub there : map.get a.outgoing.outstanding number ≡ Some was
   pub octets : request.octets ≡ was.octets
-  pub exchange : request.exchange ≡ was.exchange
+  pub purpose : request.purpose ≡ was.purpose
 
 -- it stays in its phase, or is closed at this moment
 abbrev pub StaysOrCloses : ℕ → Association → Association → Type 0

@@ -5,7 +5,7 @@ ghost use Rattle.moments.specs.Passing.{one_due, RestartsAt};
 ghost use Rattle.requests.specs.Outgoing.{IsOutstanding};
 
 use crate::Resent;
-use association::{Association, Phase, Request};
+use association::{Association, Phase, Purpose, Request};
 use base::Items;
 use requests::{Due, Outgoing, Timer};
 use std::alloc::{AllocError, Global};
@@ -91,7 +91,7 @@ fn resent(
     Ok(Resent {
         ike: association.serial,
         number,
-        encrypted: request.exchange != IKE_SA_INIT,
+        encrypted: request.purpose.exchange() != IKE_SA_INIT,
         octets: Items::from_slice(alloc, request.octets.as_slice())?,
     })
 }
@@ -115,7 +115,7 @@ fn restart(alloc: Global, outgoing: &mut Outgoing<Request>, number: u32, now: u6
 {
     let nothing = Request {
         octets: Items::new(alloc),
-        exchange: 0,
+        purpose: Purpose::Probe,
         timer: Timer::started(now),
     };
     let request = outgoing.replace(number, nothing);

@@ -4,7 +4,7 @@ use association::MessageFault;
 use base::Items;
 use caller::ScriptCaller;
 use gateway::End;
-use ike::{Ike, IkeFault, IkeInput, IkeOutput};
+use ike::{Demand, Ike, IkeFault, IkeInput, IkeOutput};
 use mac::icv;
 use policy::Policy;
 use sadb::Table;
@@ -187,8 +187,9 @@ fn with_foreign_spis(octets: &[u8], alloc: Global) -> Result<Vec<u8>, AllocError
 /// A's probe under its second association.
 fn probe(alloc: Global, a: &mut Side) -> Result<Items<u8>, Fail> {
     let fresh = fresh(30);
-    let probe = IkeInput::Probe {
-        ike: 2,
+    let what = Demand::Probe { ike: 2 };
+    let probe = IkeInput::Order {
+        what,
         fresh: &fresh,
     };
     sent(a.step(alloc, &probe)?)

@@ -3,7 +3,7 @@ ghost use Rattle.std.specs.Prelude.{◌≡◌, All, None};
 ghost use Rattle.std.specs.Bool.{OnFalse, OnTrue};
 ghost use Rattle.association.specs.Phases.{spi_in};
 
-use association::{Association, HalfOpen, Phase, Request};
+use association::{Association, HalfOpen, Phase, Purpose, Request};
 use base::Items;
 use exchange::Role;
 use moments::{Ticked, tick};
@@ -12,7 +12,6 @@ use sadb::Table;
 use std::alloc::{AllocError, Global};
 use std::test::Fail;
 use suite::{KeyRecord, Nonce};
-use wire::numbers::{IKE_SA_INIT, INFORMATIONAL};
 
 fn keys() -> KeyRecord {
     KeyRecord {
@@ -58,17 +57,17 @@ fn association(alloc: Global, serial: u32, phase: Phase) -> Association {
     }
 }
 
-/// A request is under way from now on, with its exchange and the timer that it has.
+/// A request is under way from now on, with what it asks for and the timer that it has.
 fn issue(
     alloc: Global,
     association: &mut Association,
-    exchange: u8,
+    purpose: Purpose,
     timer: Timer,
 ) -> Result<(), Fail> {
     association.outgoing.prepare()?;
     association.outgoing.issue(Request {
-        octets: Items::from_slice(alloc, &[exchange, 8, 9])?,
-        exchange,
+        octets: Items::from_slice(alloc, &[purpose.exchange(), 8, 9])?,
+        purpose,
         timer,
     });
     Ok(())
@@ -78,7 +77,7 @@ fn issue(
 fn established(alloc: Global, timers: &[Timer]) -> Result<Vec<Association>, Fail> {
     let mut first = association(alloc, 1, Phase::Established(keys()));
     for timer in timers {
-        issue(alloc, &mut first, INFORMATIONAL, *timer)?;
+        issue(alloc, &mut first, Purpose::Probe, *timer)?;
     }
     let mut all = Vec::new(alloc);
     all.push(first)?;
@@ -232,7 +231,7 @@ fn the_same_octets_go_out_in_order(rt: HostRuntime) -> Result<(), Fail> {
     let alloc = rt.alloc();
     let mut associations = established(alloc, &[timer(0, 0), timer(500, 0), timer(0, 0)])?;
     let mut other = association(alloc, 2, Phase::Established(keys()));
-    issue(alloc, &mut other, IKE_SA_INIT, timer(0, 0))?;
+    issue(alloc, &mut other, Purpose::Begin, timer(0, 0))?;
     associations.push(other)?;
     let ticked = told(alloc, &mut associations, 1000)?;
     let expected = [

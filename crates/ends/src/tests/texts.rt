@@ -131,7 +131,11 @@ fn faults_of_ike(rt: HostRuntime) -> Result<(), Fail> {
             34,
             "E34: too many associations are half open",
         ),
-        (IkeFault::Busy, 35, "E35: the peer's window is full"),
+        (
+            IkeFault::Busy,
+            35,
+            "E35: the peer's window is full, or the association is being deleted",
+        ),
         (IkeFault::NumbersSpent, 36, "E36: the numbers are spent"),
         (
             IkeFault::BadFresh,

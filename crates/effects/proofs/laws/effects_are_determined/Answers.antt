@@ -29,6 +29,7 @@ returns c =
         released = tables.released;
         installed = tables.installed;
         added = children.added;
+        gone = c.removals_are_determined.ensures;
         ended = c.endings_are_determined.ensures;
       };
       receptions = record { one = c.receptions_are_determined.ensures; by_content = c.receptions_go_by_content.ensures };

@@ -1,4 +1,5 @@
 //! Scripts played over readers and writers in memory.
+mod deletions;
 mod failures;
 mod probes;
 mod refusals;

@@ -39,6 +39,16 @@ pub enum Act {
         side: Side,
         ike: u32,
     },
+    /// `delete END CHILD`: a child is to be deleted.
+    Delete {
+        side: Side,
+        child: u32,
+    },
+    /// `close END IKE`: an IKE association is to be deleted, with its children.
+    Close {
+        side: Side,
+        ike: u32,
+    },
     /// `tick END MOMENT`: the time at an end, in milliseconds.
     Tick {
         side: Side,
@@ -171,6 +181,16 @@ fn read_act(alloc: Global, name: &[u8], words: &mut Words) -> Result<Act, LineFa
             let side = read_side(words)?;
             let ike = words.number(u64::from(u32::MAX))? as u32;
             Ok(Act::Probe { side, ike })
+        }
+        b"delete" => {
+            let side = read_side(words)?;
+            let child = words.number(u64::from(u32::MAX))? as u32;
+            Ok(Act::Delete { side, child })
+        }
+        b"close" => {
+            let side = read_side(words)?;
+            let ike = words.number(u64::from(u32::MAX))? as u32;
+            Ok(Act::Close { side, ike })
         }
         b"tick" => {
             let side = read_side(words)?;

@@ -36,6 +36,8 @@ impl Ends {
         match act {
             Act::Start { side, entry } => self.start(side, entry),
             Act::Probe { side, ike } => self.probe(side, ike),
+            Act::Delete { side, child } => self.delete(side, child),
+            Act::Close { side, ike } => self.close(side, ike),
             Act::Tick { side, moment } => self.give(side, Input::Tick { moment }),
             Act::Secret { side, secret } => self.give(side, Input::Secret { secret }),
             Act::Deliver(delivery) => self.deliver(delivery),
@@ -60,6 +62,16 @@ impl Ends {
     fn probe(&mut self, side: Side, ike: u32) -> Result<String, LineFault> {
         let fresh = fresh(self.alloc, self.input)?;
         self.give(side, Input::Probe { ike, fresh })
+    }
+
+    fn delete(&mut self, side: Side, child: u32) -> Result<String, LineFault> {
+        let fresh = fresh(self.alloc, self.input)?;
+        self.give(side, Input::DeleteChild { child, fresh })
+    }
+
+    fn close(&mut self, side: Side, ike: u32) -> Result<String, LineFault> {
+        let fresh = fresh(self.alloc, self.input)?;
+        self.give(side, Input::DeleteIke { ike, fresh })
     }
 
     fn deliver(&mut self, delivery: Delivery) -> Result<String, LineFault> {

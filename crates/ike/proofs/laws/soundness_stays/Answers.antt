@@ -19,7 +19,7 @@ returns c =
       admits_whole = c.keys_stay_whole.ensures.admitted;
       room = c.acceptance_is_limited.ensures.room;
     }) (record {
-      probed = c.probes_are_short_and_determined.ensures.kept;
+      probed = c.orders_are_short_and_determined.ensures.kept;
       probed_soundly = c.requests_are_remembered.ensures.probed;
       held = c.some_are_held_on.ensures.held;
       reserved = c.some_are_held_on.ensures.reserved;

@@ -2,7 +2,7 @@ use Rattle.std.proofs.Common.{ap, slice_set, subst, sym, Ok}
 use Rattle.children.specs.declared.fault.ChildFault.{ChildFault}
 use Rattle.ike.specs.Machines.{Held}
 use Rattle.ike.specs.Receiving.{WantsFound}
-use Rattle.ike.proofs.ProbeLemmas.{err_and}
+use Rattle.ike.proofs.AskingLemmas.{err_and}
 use Rattle.ike.proofs.WantLemmas.{read_there, wants_there}
 use Rattle.ike.proofs.receiving.take_at.Goals as goal
 

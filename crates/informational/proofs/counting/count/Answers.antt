@@ -1,35 +1,28 @@
-use Rattle.std.proofs.Common.{refl, subst, sym, ◌∙◌}
+use Rattle.std.proofs.Common.{◌≡◌, ◌||◌, ap, refl, subst, sym, ◌∙◌}
+use Rattle.association.specs.Purposes.{asks_to_end}
 use Rattle.initial.specs.Concluding.{with_outgoing}
+use Rattle.informational.specs.Counting.{gone_with, is_ended}
 use Rattle.informational.specs.Orders.{ClosesIf}
+use Rattle.informational.proofs.counting.count.Goals.{then-rejected, else-rejected}
 use Rattle.informational.proofs.counting.count.Goals as goal
 
-pub returns-then-closed-clause-counted : goal.returns-then-closed-clause-counted
-returns-then-closed-clause-counted g c =
-    let told = c.in_ok-closed.ensures in
+pub returns-clause-counted : goal.returns-clause-counted
+returns-clause-counted g c =
+    let told = c.in_ok-rejected.ensures in
+    let asked = c.count-request.result.purpose in
+    let a = with_outgoing c.args.association.now c.count-request.new.self in
+    let closed : c.if-rejected.closed ≡ is_ended told.payloads asked = elim c.if-rejected.branch [
+      | then-rejected w ↦ w.closed-is ∙ w.if-rejected.true ∙ ap (λ b. b || asks_to_end asked) (sym w.if-rejected.true ∙ told.told)
+      | else-rejected w ↦ w.closed-is ∙ w.asks_to_end-closed.ensures ∙ ap (λ b. b || asks_to_end asked) (sym w.if-rejected.false ∙ told.told)
+    ] in
     record {
       payloads = told.payloads;
       read = told.read;
-      request = c.count.result;
-      outgoing = c.count.new.self;
-      counted = c.count.ensures;
+      request = c.count-request.result;
+      outgoing = c.count-request.new.self;
+      counted = c.count-request.ensures;
       child = refl;
-      closed = told.told;
-      concluded = subst (λ b. ClosesIf b (with_outgoing c.args.association.now c.count.new.self) c.args.table.now c.args.step.now.moment c.close.new.self c.close.new.table)
-          (sym c.if-closed.true ∙ told.told) c.close.ensures;
-    }
-
-pub returns-else-closed-clause-counted : goal.returns-else-closed-clause-counted
-returns-else-closed-clause-counted g c =
-    let told = c.in_ok-closed.ensures in
-    let a = with_outgoing c.args.association.now c.count.new.self in
-    record {
-      payloads = told.payloads;
-      read = told.read;
-      request = c.count.result;
-      outgoing = c.count.new.self;
-      counted = c.count.ensures;
-      child = refl;
-      closed = told.told;
-      concluded = subst (λ b. ClosesIf b a c.args.table.now c.args.step.now.moment a c.args.table.now)
-          (sym c.if-closed.false ∙ told.told) (refl, refl);
+      closed = closed;
+      concluded = subst (λ b. ClosesIf b (gone_with c.args.table.now.pairs c.args.association.now.serial asked) a c.args.table.now c.args.step.now.moment c.conclude.new.association c.conclude.new.table)
+          closed c.conclude.ensures;
     }

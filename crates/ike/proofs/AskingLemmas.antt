@@ -1,7 +1,7 @@
--- What the order to ask whether the peer is there leaves of the association that asks.
+-- What an order that asks the peer something leaves of the association that asks.
 use Rattle.std.proofs.Common.{◌≡◌, inl, inr, ℕ, zero, suc, ◌+◌, ◌<◌, ◌≤◌, ◌∷◌, [], Bool, true, false, cond, not, length, List, Option, Some, None, arith, ap, refl, subst, sym, ◌∙◌}
 use Rattle.std.specs.List.{find, list_any, position, position_or_len, slice_get}
-use Rattle.std.specs.Prelude.{◌==◌, ◌||◌, slice_index_or, IfErr, IsErrAnd, Result, Ok, Err}
+use Rattle.std.specs.Prelude.{◌==◌, ◌||◌, slice_index_or, IfErr, IfOk, IsErrAnd, Result, Ok, Err}
 use Rattle.std.proofs.lemmas.Bool.Decides.{eqb_tells}
 use Rattle.std.proofs.lemmas.Grind.{common_steps}
 use Rattle.std.proofs.lemmas.List.Quantifiers.{position-Some}
@@ -16,11 +16,12 @@ use Rattle.association.specs.declared.phase.Association.{Association}
 use Rattle.association.specs.declared.phase.Request.{Request}
 use Rattle.initial.specs.Concluding.{with_outgoing}
 use Rattle.initial.specs.Configs.{Setup}
-use Rattle.informational.specs.Probing.{Probes}
+use Rattle.informational.specs.Asking.{Asks}
 use Rattle.informational.specs.declared.fault.OrderFault.{OrderFault}
 use Rattle.effects.specs.Taking.{KeepsIdentity}
+use Rattle.informational.specs.declared.ordering.Order.{Order}
 use Rattle.ike.specs.Machines.{association_of, has_serial, Held}
-use Rattle.ike.specs.Probing.{fault_of_order, ProbesAt, RefusesOrderAt, RefusesProbe, RefusesThere}
+use Rattle.ike.specs.Asking.{fault_of_order, AsksAt, RefusesAskingAt, RefusesThere}
 use Rattle.ike.specs.declared.fault.IkeFault.{IkeFault}
 use Rattle.ike.specs.declared.fault.IkeFault.TheVariants as fault
 use Rattle.ike.specs.Soundness.{AreSound}
@@ -30,7 +31,7 @@ use Rattle.ike.proofs.SerialLemmas.{replaced_found, replaced_stands, same_one, s
 itself : (a : Association) (outgoing : OwnRequests Request) → KeepsIdentity a (with_outgoing a outgoing)
 itself a outgoing = record { serial = refl; role = refl; spi_i = refl; spi_r = inl refl; waiting = λ w. w; asking = λ s. inr s; half_open = λ h. h }
 
-module _ (body_of : Keys → Octets → Octets → Octets → Octets) (setup : Setup) (a : Association) (octets : Octets) (b : Association) (is : Probes body_of setup a octets b) where
+module _ (body_of : Keys → Octets → Octets → Octets → Octets) (setup : Setup) (order : Order) (a : Association) (octets : Octets) (b : Association) (is : Asks body_of setup order a octets b) where
   pub probed_itself : KeepsIdentity a b
   probed_itself = subst (λ x. KeepsIdentity a x) (sym is.content) (itself a is.outgoing)
 
@@ -58,7 +59,7 @@ tested n m is = elim (eqb_tells n m) [
   | inr (no_it_is_not, apart) ↦ let clash : true ≡ false = sym is ∙ no_it_is_not in cc
 ]
 
-module _ (body_of : Keys → Octets → Octets → Octets → Octets) (setup : Setup) (ike : ℕ) (old : Held) (stepped : Stepped) (new : Held) (is : ProbesAt body_of setup ike old stepped new) where
+module _ (body_of : Keys → Octets → Octets → Octets → Octets) (setup : Setup) (ike : ℕ) (old : Held) (stepped : Stepped) (new : Held) (is : AsksAt body_of setup ike old stepped new) where
   first_one : Some (slice_index_or old.associations is.place is.association) ≡ Some is.association
   first_one = sym (slice_get-get_or old.associations is.place is.association (position-Some (has_serial ike) old.associations is.place is.association is.first).0) ∙ is.there
 
@@ -70,10 +71,10 @@ module _ (body_of : Keys → Octets → Octets → Octets → Octets) (setup : S
       ∙ (position-Some (has_serial ike) old.associations is.place is.association is.first).1)
 
   pub changed_itself : KeepsIdentity is.association is.changed
-  changed_itself = probed_itself body_of setup is.association is.octets is.changed is.probes
+  changed_itself = probed_itself body_of setup is.order is.association is.octets is.changed is.asks
 
   pub changed_phase : is.changed.phase ≡ is.association.phase
-  changed_phase = probed_phase body_of setup is.association is.octets is.changed is.probes
+  changed_phase = probed_phase body_of setup is.order is.association is.octets is.changed is.asks
 
   -- the first with the serial
   pub probed_first : association_of ike old.associations ≡ Some is.association
@@ -149,12 +150,17 @@ pub err_and : {T E : Type 0} (r : Result T E) (P Q : E → Type 0) → IsErrAnd 
 err_and {T} {E} (Ok x) P Q is more = tt
 err_and {T} {E} (Err e) P Q is more = more e is
 
-pub refused_order : (ike place : ℕ) (held : Held) (o : OrderFault) (reason : IkeFault) → position (has_serial ike) held.associations ≡ Some place → RefusesThere place held o → reason ≡ fault_of_order o → RefusesProbe ike held reason
-refused_order ike place held o reason first is same =
-    subst (λ (x : Option Association). RefusesOrderAt x reason) (sym (found_first ike held.associations place is.association first is.there)) (o, is.refuses, same)
+-- and so of what an answer is
+pub ok_and : {T E : Type 0} (r : Result T E) (P Q : T → Type 0) → IfOk r P → ((x : T) → P x → Q x) → IfOk r Q
+ok_and {T} {E} (Ok x) P Q is more = more x is
+ok_and {T} {E} (Err e) P Q is more = tt
 
-pub refused_none : (ike : ℕ) (held : Held) (reason : IkeFault) → position (has_serial ike) held.associations ≡ None → reason ≡ fault.Message UnknownAssociation → RefusesProbe ike held reason
-refused_none ike held reason none same = subst (λ (x : Option Association). RefusesOrderAt x reason) (sym (found_none ike held.associations none)) same
+pub refused_order : (ike place : ℕ) (held : Held) (o : OrderFault) (reason : IkeFault) → position (has_serial ike) held.associations ≡ Some place → RefusesThere place held o → reason ≡ fault_of_order o → RefusesAskingAt (association_of ike held.associations) reason
+refused_order ike place held o reason first is same =
+    subst (λ (x : Option Association). RefusesAskingAt x reason) (sym (found_first ike held.associations place is.association first is.there)) (o, is.refuses, same)
+
+pub refused_none : (ike : ℕ) (held : Held) (reason : IkeFault) → position (has_serial ike) held.associations ≡ None → reason ≡ fault.Message UnknownAssociation → RefusesAskingAt (association_of ike held.associations) reason
+refused_none ike held reason none same = subst (λ (x : Option Association). RefusesAskingAt x reason) (sym (found_none ike held.associations none)) same
 
 pub none_of : (o : Option ℕ) → ((x : ℕ) → o ≡ Some x → ⊥) → o ≡ None
 none_of None never = refl

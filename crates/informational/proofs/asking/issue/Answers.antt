@@ -1,7 +1,7 @@
 use Rattle.std.proofs.Common.{ap, subst, ◌∙◌}
 use Rattle.requests.specs.Outgoing.{IssuesRequest, OwnRequests}
 use Rattle.association.specs.declared.phase.Request.{Request}
-use Rattle.informational.proofs.probing.issue.Goals as goal
+use Rattle.informational.proofs.asking.issue.Goals as goal
 
 -- Making room changes no number.
 pub returns-in-Ok-clause-issued : goal.returns-in-Ok-clause-issued

@@ -1,5 +1,5 @@
 use Rattle.effects.proofs.ProbeLemmas.{one_probe, probe_short}
-use Rattle.effects.proofs.laws.probes_are_short_and_determined.Goals as goal
+use Rattle.effects.proofs.laws.orders_are_short_and_determined.Goals as goal
 
 pub returns-clause-kept : goal.returns-clause-kept
 returns-clause-kept c = probe_short

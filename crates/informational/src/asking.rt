@@ -1,20 +1,24 @@
-//! The question whether the peer is there.
+//! A request of this end.
 ghost use Rattle.std.specs.Prelude.{◌≡◌, IfOk, IfErr};
 ghost use Rattle.wire.specs.Numbers.{INFORMATIONAL};
 ghost use Rattle.requests.specs.Outgoing.{MayIssue};
+ghost use Rattle.association.specs.Purposes.{AwaitsDeletion};
+ghost use Rattle.informational.specs.Asking.{request_message, Asks};
+ghost use Rattle.informational.specs.Ordering.{IsOfLive, MarksFor};
 ghost use Rattle.informational.specs.Orders.{IsEstablished, RefusesOrder};
-ghost use Rattle.informational.specs.Probing.{request_message, Probes};
 ghost use Rattle.initial.specs.Concluding.{with_outgoing};
 ghost use Rattle.initial.specs.Configs.{setup_of};
 ghost use Rattle.initial.specs.Issuing.{new_request, IssuesNext};
 
-use crate::OrderFault;
-use association::{Association, Phase};
+use crate::ordering::payloads_of;
+use crate::{Order, OrderFault};
+use association::{Association, Phase, Purpose};
 use base::Items;
 use exchange::laws::short_messages_can_be_sent;
 use exchange::sent_header;
 use initial::{Step, new_request, sealed};
 use requests::RequestFault;
+use sadb::Table;
 use std::alloc::{AllocError, Global};
 use suite::Sealer;
 use wire::Message;
@@ -22,31 +26,42 @@ use wire::numbers::INFORMATIONAL;
 
 /// A request that goes out.
 #[derive(Debug, Drop)]
-pub struct Probed {
+pub struct Issued {
     /// Its number.
     pub number: u32,
+    /// The datagram.
     pub octets: Items<u8>,
 }
 
-/// Makes an empty request of INFORMATIONAL (RFC 7296, sections 1.4 and 2.4), which waits for its answer from then on.
+/// Makes a request of INFORMATIONAL (RFC 7296, sections 1.4, 1.4.1 and 2.4), which waits for its answer from then on. The pair of a child
+/// that is to be deleted is Deleting from then on, and goes with the answer.
 ///
-/// Refused, in this order: [`OrderFault::WrongPhase`] where the association is not established, [`OrderFault::Busy`] where the peer takes
-/// no more requests at once, [`OrderFault::NumbersSpent`] where no number is left, [`OrderFault::Memory`]. What is refused changes
-/// nothing.
-pub fn probe<C: Sealer>(
+/// Refused, in this order: [`OrderFault::WrongPhase`] where the association is not established, [`OrderFault::Busy`] where a request to
+/// delete it waits for its answer or the peer takes no more requests at once, [`OrderFault::NumbersSpent`] where no number is left,
+/// [`OrderFault::Memory`]. What is refused changes nothing.
+///
+/// The caller asks to delete a child only where its pair is there, and Live.
+pub fn ask<C: Sealer>(
     alloc: Global,
     step: &Step<'_, C>,
     association: &mut Association,
-) -> Result<Probed, OrderFault>
-    ensures probed { IfOk result (λ probed. Probes C.body_of (setup_of step.now) association.old probed.octets association.new) }
-    ensures number { IfOk result (λ probed. probed.number ≡ association.old.outgoing.next) }
-    ensures refused { IfErr result (λ fault. RefusesOrder association.old fault × (association.new ≡ association.old)) }
+    table: &mut Table,
+    order: Order,
+) -> Result<Issued, OrderFault>
+    requires live { IsOfLive order table.old.pairs }
+    ensures asked { IfOk result (λ issued.
+        Asks C.body_of (setup_of step.now) order association.old issued.octets association.new) }
+    ensures number { IfOk result (λ issued. issued.number ≡ association.old.outgoing.next) }
+    ensures marked { IfOk result (λ _. MarksFor order table.old table.new) }
+    ensures refused { IfErr result (λ fault.
+        RefusesOrder association.old fault × (association.new ≡ association.old) × (table.new ≡ table.old)) }
 {
     let Phase::Established(keys) = &association.phase else {
         return Err(OrderFault::WrongPhase);
     };
     short_messages_can_be_sent();
     let number = may_issue(association)?;
+    let payloads = payloads_of(alloc, order)?;
     let role = association.role;
     let message = Message {
         header: sent_header(
@@ -57,12 +72,13 @@ pub fn probe<C: Sealer>(
             false,
             number,
         ),
-        payloads: Items::new(alloc),
+        payloads,
     };
     let octets = sealed(alloc, step.caller, role, keys, &message, &step.fresh.seal)?;
     let kept = Items::from_slice(alloc, octets.as_slice())?;
-    issue(association, kept, step.moment)?;
-    Ok(Probed { number, octets })
+    issue(association, kept, order.purpose(), step.moment)?;
+    mark(table, order);
+    Ok(Issued { number, octets })
 }
 
 // The number that the next request is to have.
@@ -70,8 +86,12 @@ fn may_issue(association: &Association) -> Result<u32, OrderFault>
     requires { IsEstablished association.now.phase }
     ensures number { IfOk result (λ number. number ≡ association.now.outgoing.next) }
     ensures allowed { IfOk result (λ _. MayIssue association.now.outgoing) }
+    ensures not_deleting { IfOk result (λ _. ¬ AwaitsDeletion association.now.outgoing) }
     ensures refused { IfErr result (RefusesOrder association.now) }
 {
+    if association.is_deleting() {
+        return Err(OrderFault::Busy);
+    }
     match association.outgoing.may_issue() {
         Ok(number) => Ok(number),
         Err(RequestFault::Busy) => Err(OrderFault::Busy),
@@ -82,10 +102,15 @@ fn may_issue(association: &Association) -> Result<u32, OrderFault>
 }
 
 // One more request waits for its answer, under the next number.
-fn issue(association: &mut Association, octets: Items<u8>, moment: u64) -> Result<(), AllocError>
+fn issue(
+    association: &mut Association,
+    octets: Items<u8>,
+    purpose: Purpose,
+    moment: u64,
+) -> Result<(), AllocError>
     requires { MayIssue association.old.outgoing }
     ensures issued { IfOk result (λ _.
-        IssuesNext association.old.outgoing (new_request octets INFORMATIONAL moment) association.new.outgoing) }
+        IssuesNext association.old.outgoing (new_request octets purpose moment) association.new.outgoing) }
     ensures content { IfOk result (λ _. association.new ≡ with_outgoing association.old association.new.outgoing) }
     ensures refused { IfErr result (λ _. association.new ≡ association.old) }
 {
@@ -93,10 +118,22 @@ fn issue(association: &mut Association, octets: Items<u8>, moment: u64) -> Resul
         Ok(_) => {
             association
                 .outgoing
-                .issue(new_request(octets, INFORMATIONAL, moment));
+                .issue(new_request(octets, purpose, moment));
             Ok(())
         }
         // The number may be issued, so the fault is want of memory.
         Err(_) => Err(AllocError),
+    }
+}
+
+// The pair of a child that is to be deleted carries nothing outward any more.
+fn mark(table: &mut Table, order: Order)
+    requires { IsOfLive order table.old.pairs }
+    ensures { MarksFor order table.old table.new }
+{
+    match order {
+        Order::Probe => {}
+        Order::DeleteChild { child, .. } => table.mark(child),
+        Order::DeleteAssociation => {}
     }
 }

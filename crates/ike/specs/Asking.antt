@@ -1,0 +1,101 @@
+-- The orders that ask the peer something under an association that stands: whether it is there, or that a child or the association is
+-- deleted (RFC 7296 sections 1.4, 1.4.1 and 2.4).
+use Rattle.std.specs.Prelude.{◌≡◌, ℕ, Option, Some, None, slice_get, slice_set}
+use Rattle.std.specs.List.{position}
+use Rattle.base.specs.Octets.{Octets}
+use Rattle.suite.specs.declared.keys.Keys.{Keys}
+use Rattle.sadb.specs.Database.{pair_at, Database}
+use Rattle.sadb.specs.declared.pair.Pair.{Pair}
+use Rattle.sadb.specs.declared.pair.State.{State}
+use Rattle.sadb.specs.declared.pair.State.TheVariants.{Live, Deleting}
+use Rattle.children.specs.declared.fault.ChildFault.TheVariants as child
+use Rattle.association.specs.declared.fault.MessageFault.TheVariants.{UnknownAssociation, WrongPhase}
+use Rattle.association.specs.declared.phase.Association.{Association}
+use Rattle.initial.specs.Configs.{Setup}
+use Rattle.informational.specs.Asking.{Asks}
+use Rattle.informational.specs.Ordering.{MarksFor}
+use Rattle.informational.specs.Orders.{RefusesOrder}
+use Rattle.informational.specs.declared.asking.Issued.{Issued}
+use Rattle.informational.specs.declared.fault.OrderFault.{OrderFault}
+use Rattle.informational.specs.declared.fault.OrderFault.TheVariants as order
+use Rattle.informational.specs.declared.ordering.Order.{Order}
+use Rattle.informational.specs.declared.ordering.Order.TheVariants as asked
+use Rattle.ike.specs.Machines.{association_of, has_serial, Held}
+use Rattle.ike.specs.Outputs.{asking_step}
+use Rattle.ike.specs.declared.asking.Demand.{Demand}
+use Rattle.ike.specs.declared.asking.Demand.TheVariants.{Probe, DeleteChild, DeleteIke}
+use Rattle.ike.specs.declared.fault.IkeFault.{IkeFault}
+use Rattle.ike.specs.declared.fault.IkeFault.TheVariants as fault
+use Rattle.ike.specs.declared.output.Stepped.{Stepped}
+
+-- the association with this serial asks something, and no other is changed
+pub record AsksAt (body_of : Keys → Octets → Octets → Octets → Octets) (setup : Setup) (ike : ℕ) (old : Held) (stepped : Stepped) (new : Held) : Type 0 where
+  pub order : Order
+  pub place : ℕ
+  pub first : position (has_serial ike) old.associations ≡ Some place
+  pub association : Association
+  pub there : slice_get old.associations place ≡ Some association
+  pub octets : Octets
+  pub changed : Association
+  pub asks : Asks body_of setup order association octets changed
+  pub said : stepped ≡ asking_step ike association.outgoing.next octets
+  pub content : new ≡ record old { associations = slice_set old.associations place changed }
+
+-- it asks this; the pair of a child that is to be deleted is Deleting from then on
+pub record AsksThat (body_of : Keys → Octets → Octets → Octets → Octets) (setup : Setup) (ike : ℕ) (order : Order) (old : Held) (table : Database) (stepped : Stepped) (new : Held) (new_table : Database) : Type 0 where
+  pub asks : AsksAt body_of setup ike old stepped new
+  pub ordered : asks.order ≡ order
+  pub marked : MarksFor order table new_table
+
+-- the association of a child that is there, and Live, asks that it is deleted, by the SPI under which this end receives
+pub record DeletesChild (body_of : Keys → Octets → Octets → Octets → Octets) (setup : Setup) (serial : ℕ) (old : Held) (table : Database) (stepped : Stepped) (new : Held) (new_table : Database) : Type 0 where
+  pub pair : Pair
+  pub there : pair_at table.pairs serial ≡ Some pair
+  pub live : pair.state ≡ Live
+  pub asks : AsksThat body_of setup pair.ike (asked.DeleteChild serial pair.inbound.association.spi) old table stepped new new_table
+
+abbrev pub AsksFor : (Keys → Octets → Octets → Octets → Octets) → Setup → Demand → Held → Database → Stepped → Held → Database → Type 0
+AsksFor body_of setup (Probe ike) old table stepped new new_table = AsksThat body_of setup ike asked.Probe old table stepped new new_table
+AsksFor body_of setup (DeleteChild serial) old table stepped new new_table = DeletesChild body_of setup serial old table stepped new new_table
+AsksFor body_of setup (DeleteIke ike) old table stepped new new_table = AsksThat body_of setup ike asked.DeleteAssociation old table stepped new new_table
+
+-- the association at this place asks this, and no other is changed; only private contracts cite this and the next
+pub record AsksThere (body_of : Keys → Octets → Octets → Octets → Octets) (setup : Setup) (place : ℕ) (order : Order) (old : Held) (table : Database) (issued : Issued) (new : Held) (new_table : Database) : Type 0 where
+  pub association : Association
+  pub there : slice_get old.associations place ≡ Some association
+  pub changed : Association
+  pub asks : Asks body_of setup order association issued.octets changed
+  pub number : issued.number ≡ association.outgoing.next
+  pub content : new ≡ record old { associations = slice_set old.associations place changed }
+  pub marked : MarksFor order table new_table
+
+pub record RefusesThere (place : ℕ) (old : Held) (o : OrderFault) : Type 0 where
+  pub association : Association
+  pub there : slice_get old.associations place ≡ Some association
+  pub refuses : RefusesOrder association o
+
+abbrev pub fault_of_order : OrderFault → IkeFault
+fault_of_order order.WrongPhase = fault.Message WrongPhase
+fault_of_order order.Busy = fault.Busy
+fault_of_order order.NumbersSpent = fault.NumbersSpent
+fault_of_order order.Memory = fault.Memory child.Message
+
+-- there is no such association, or it refuses the order
+abbrev pub RefusesAskingAt : Option Association → IkeFault → Type 0
+RefusesAskingAt None reason = reason ≡ fault.Message UnknownAssociation
+RefusesAskingAt (Some a) reason = (o : OrderFault) × (RefusesOrder a o) × (reason ≡ fault_of_order o)
+
+-- by the state of the child's pair: what is being deleted is not deleted again
+abbrev pub RefusesChildBy : State → Option Association → IkeFault → Type 0
+RefusesChildBy Live a reason = RefusesAskingAt a reason
+RefusesChildBy Deleting a reason = reason ≡ fault.Message WrongPhase
+
+-- there is no such child, or the order on its association is refused
+abbrev pub RefusesChild : Option Pair → Held → IkeFault → Type 0
+RefusesChild None old reason = reason ≡ fault.Message UnknownAssociation
+RefusesChild (Some pair) old reason = RefusesChildBy pair.state (association_of pair.ike old.associations) reason
+
+abbrev pub RefusesAsking : Demand → Held → Database → IkeFault → Type 0
+RefusesAsking (Probe ike) old table reason = RefusesAskingAt (association_of ike old.associations) reason
+RefusesAsking (DeleteChild serial) old table reason = RefusesChild (pair_at table.pairs serial) old reason
+RefusesAsking (DeleteIke ike) old table reason = RefusesAskingAt (association_of ike old.associations) reason

@@ -1,0 +1,149 @@
+//! The orders that ask the peer something under an association that stands.
+ghost use Rattle.std.specs.Prelude.{◌≡◌, ◌<◌, Some, IfOk, IfErr, length};
+ghost use Rattle.std.specs.List.{position};
+ghost use Rattle.initial.specs.Configs.{setup_of};
+ghost use Rattle.informational.specs.Ordering.{IsOfLive};
+ghost use Rattle.ike.specs.Asking.{AsksFor, AsksThat, AsksThere, RefusesAsking, RefusesAskingAt, RefusesThere};
+ghost use Rattle.ike.specs.Machines.{association_of, has_serial};
+ghost use Rattle.ike.specs.Outputs.{asking_step};
+
+use crate::held::Held;
+use crate::{IkeFault, IkeOutput, Mark, Stepped, Trace};
+use association::{Association, MessageFault};
+use base::Items;
+use informational::{Issued, Order, OrderFault};
+use initial::Step;
+use sadb::{State, Table};
+use std::alloc::Global;
+use suite::Sealer;
+
+/// What is asked of the peer of an association that stands.
+#[derive(Clone, Copy, Debug, PartialEq, Eq)]
+pub enum Demand {
+    /// Whether it is there, under the association with this serial, by an empty request of INFORMATIONAL (RFC 7296, section 2.4).
+    Probe { ike: u32 },
+    /// To delete the child with this serial: its pair carries nothing outward any more, and goes with the peer's answer (section 1.4.1).
+    DeleteChild { child: u32 },
+    /// To delete the association with this serial, with all its children: it is closed by the peer's answer (section 1.4.1).
+    DeleteIke { ike: u32 },
+}
+
+/// Asks the peer what is ordered.
+pub(crate) fn ask<C: Sealer>(
+    alloc: Global,
+    step: &Step<'_, C>,
+    held: &mut Held,
+    table: &mut Table,
+    what: Demand,
+) -> Result<Stepped, IkeFault>
+    ensures asked { IfOk result (λ stepped.
+        AsksFor C.body_of (setup_of step.now) what held.old table.old stepped held.new table.new) }
+    ensures refused { IfErr result (λ reason. RefusesAsking what held.old table.old reason
+        × (held.new ≡ held.old) × (table.new ≡ table.old)) }
+{
+    match what {
+        Demand::Probe { ike } => ask_by(alloc, step, held, table, ike, Order::Probe),
+        Demand::DeleteChild { child } => delete_child(alloc, step, held, table, child),
+        Demand::DeleteIke { ike } => ask_by(
+            alloc,
+            step,
+            held,
+            table,
+            ike,
+            Order::DeleteAssociation,
+        ),
+    }
+}
+
+// Asks the peer to delete a child.
+fn delete_child<C: Sealer>(
+    alloc: Global,
+    step: &Step<'_, C>,
+    held: &mut Held,
+    table: &mut Table,
+    child: u32,
+) -> Result<Stepped, IkeFault>
+    ensures asked { IfOk result (λ stepped.
+        AsksFor C.body_of (setup_of step.now) (Demand.DeleteChild child) held.old table.old stepped held.new table.new) }
+    ensures refused { IfErr result (λ reason. RefusesAsking (Demand.DeleteChild child) held.old table.old reason
+        × (held.new ≡ held.old) × (table.new ≡ table.old)) }
+{
+    let Some(pair) = table.get(child) else {
+        return Err(IkeFault::Message(MessageFault::UnknownAssociation));
+    };
+    let ike = pair.ike;
+    let spi = pair.inbound.spi();
+    match pair.state {
+        State::Live => {
+            let order = Order::DeleteChild { child, spi };
+            ask_by(alloc, step, held, table, ike, order)
+        }
+        State::Deleting => Err(IkeFault::Message(MessageFault::WrongPhase)),
+    }
+}
+
+// Asks the peer of the association with this serial what is ordered.
+fn ask_by<C: Sealer>(
+    alloc: Global,
+    step: &Step<'_, C>,
+    held: &mut Held,
+    table: &mut Table,
+    ike: u32,
+    order: Order,
+) -> Result<Stepped, IkeFault>
+    requires live { IsOfLive order table.old.pairs }
+    ensures asked { IfOk result (λ stepped.
+        AsksThat C.body_of (setup_of step.now) ike order held.old table.old stepped held.new table.new) }
+    ensures refused { IfErr result (λ reason. RefusesAskingAt (association_of ike held.old.associations) reason
+        × (held.new ≡ held.old) × (table.new ≡ table.old)) }
+{
+    let Some(place) = place_of(ike, held.associations()) else {
+        return Err(IkeFault::Message(MessageFault::UnknownAssociation));
+    };
+    let Issued { number, octets } = ask_at(alloc, step, held, table, place, order)?;
+    Ok(asking(ike, number, octets))
+}
+
+fn ask_at<C: Sealer>(
+    alloc: Global,
+    step: &Step<'_, C>,
+    held: &mut Held,
+    table: &mut Table,
+    place: usize,
+    order: Order,
+) -> Result<Issued, OrderFault>
+    requires within { place < length held.old.associations }
+    requires live { IsOfLive order table.old.pairs }
+    ensures asked { IfOk result (λ issued.
+        AsksThere C.body_of (setup_of step.now) place order held.old table.old issued held.new table.new) }
+    ensures refused { IfErr result (λ fault.
+        RefusesThere place held.old fault × (held.new ≡ held.old) × (table.new ≡ table.old)) }
+{
+    let association = &mut held.associations[place];
+    let issued = informational::ask(alloc, step, association, table, order)?;
+    Ok(issued)
+}
+
+// The place of the association with this serial.
+fn place_of(serial: u32, associations: &[Association]) -> Option<usize>
+    ensures { result ≡ position (has_serial serial) associations.now }
+{
+    associations.iter().position(|a| a.serial == serial)
+}
+
+fn asking(ike: u32, number: u32, octets: Items<u8>) -> Stepped
+    ensures { result ≡ asking_step ike number octets }
+{
+    Stepped {
+        output: IkeOutput::Request { ike, octets },
+        trace: Trace {
+            sent: Some(Mark {
+                ike,
+                response: false,
+                number,
+            }),
+            keyed: None,
+            child: None,
+        },
+    }
+}
