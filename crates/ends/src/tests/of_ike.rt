@@ -1,4 +1,6 @@
 //! The machine of one end by its own step: requests whose numbers and SPIs no script writes.
+mod deletions;
+
 use crate::tests::gateways::sample::{config, fresh, policy};
 use association::MessageFault;
 use base::Items;

@@ -5,7 +5,7 @@ use std::process::Abort;
 use std::test::Fail;
 
 /// What an association and its first child print where both ends have a window of four.
-const ESTABLISHED_WIDE: &str =
+pub const ESTABLISHED_WIDE: &str =
     "request 1 ike 1 length 148\nreply 2 length 148\nrequest 3 ike 1 length 214\nreply 4 length 206\ncounted ike 1 child 1\n";
 
 #[test]
