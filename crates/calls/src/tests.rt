@@ -1,3 +1,5 @@
+mod asserts;
+mod faults;
 mod of_auth;
 mod of_caller;
 mod of_children;

@@ -2,9 +2,11 @@
 ghost use Rattle.std.specs.Prelude.{◌≡◌, ◌≤◌, ◌+◌, ◌++◌, [], length, IfOk};
 ghost use Rattle.suite.specs.Callers.{FitsPayload};
 
+use crate::tests::asserts::{holds, same};
 use base::Items;
 use caller::ScriptCaller;
 use std::alloc::{AllocError, Global};
+use std::process::Abort;
 use std::test::Fail;
 use suite::{Agreement, Cipher, Keys, Proof, Sealer};
 
@@ -100,41 +102,60 @@ fn seals_and_opens(rt: HostRuntime) -> Result<(), Fail> {
         &mut body,
         &mut opened,
     )?;
-    assert_eq!(rt; opened.as_slice(), b"\xeeplain".as_slice());
-    assert_eq!(rt; told, 22);
+    same(&rt, opened.as_slice(), b"\xeeplain".as_slice());
+    same(&rt, told, 22);
     // As Python's module `hmac` computes it.
     let wanted: [u8; 22] = [
         0x70, 0x6c, 0x61, 0x69, 0x6e, 0x00, 0xf4, 0x01, 0x5b, 0x0f, 0x95, 0x30, 0x76, 0xfd, 0xeb,
         0xbd, 0x31, 0x8c, 0x4b, 0xa2, 0x33, 0x2b,
     ];
-    assert_eq!(rt; body.as_slice(), wanted.as_slice());
+    same(&rt, body.as_slice(), wanted.as_slice());
+    Ok(())
+}
+
+// Finds that a body doesn't open so.
+fn refuses(
+    rt: &impl Abort,
+    keys: &Keys,
+    head: &[u8],
+    body: &[u8],
+    opened: &mut Vec<u8>,
+) -> Result<(), Fail> {
+    holds(rt, !ScriptCaller.open(keys, head, body, opened)?);
+    Ok(())
+}
+
+// Finds that a body doesn't open with any octet damaged.
+fn refuses_damaged(
+    rt: &impl Abort,
+    alloc: Global,
+    body: &[u8],
+    opened: &mut Vec<u8>,
+) -> Result<(), Fail> {
+    for place in 0..body.len() {
+        let mut damaged = body.to_vec(alloc)?;
+        if let Some(octet) = damaged.get_mut(place) {
+            *octet ^= 1;
+        }
+        refuses(rt, &KEYS, b"head", &damaged, opened)?;
+    }
     Ok(())
 }
 
 #[test]
 fn opens_nothing_else(rt: HostRuntime) -> Result<(), Fail> {
-    let alloc = rt.alloc();
-    let mut body = Vec::new(alloc);
-    let mut opened = Vec::new(alloc);
+    let mut body = Vec::new(rt.alloc());
+    let mut opened = Vec::new(rt.alloc());
     ScriptCaller.seal(&KEYS, b"head", b"plain", &[0; 16], &mut body)?;
-    assert!(rt; !ScriptCaller.open(&KEYS, b"heap", &body, &mut opened)?);
+    refuses(&rt, &KEYS, b"heap", &body, &mut opened)?;
     let other = Keys {
         encryption: [1; 32],
         integrity: [3; 32],
     };
-    assert!(rt; !ScriptCaller.open(&other, b"head", &body, &mut opened)?);
-    for place in 0..body.len() {
-        let mut damaged = body.as_slice().to_vec(alloc)?;
-        if let Some(octet) = damaged.get_mut(place) {
-            *octet ^= 1;
-        }
-        assert!(rt;
-            !ScriptCaller.open(&KEYS, b"head", &damaged, &mut opened)?,
-            "at {place}"
-        );
-    }
-    assert!(rt; !ScriptCaller.open(&KEYS, b"head", &[0; 16], &mut opened)?);
-    assert!(rt; opened.is_empty());
+    refuses(&rt, &other, b"head", &body, &mut opened)?;
+    refuses_damaged(&rt, rt.alloc(), &body, &mut opened)?;
+    refuses(&rt, &KEYS, b"head", &[0; 16], &mut opened)?;
+    holds(&rt, opened.is_empty());
     Ok(())
 }
 
@@ -143,59 +164,62 @@ fn opens_nothing_else(rt: HostRuntime) -> Result<(), Fail> {
 fn a_refusal_leaves_out_as_it_was(rt: HostRuntime) {
     let mut out = Vec::new(rt.alloc());
     match ScriptCaller.seal(&KEYS, b"head", b"plain", &[0; 16], &mut out) {
-        Ok(()) => assert_eq!(rt; out.len(), 22),
-        Err(_) => assert!(rt; out.is_empty()),
+        Ok(()) => same(&rt, out.len(), 22),
+        Err(_) => holds(&rt, out.is_empty()),
     }
 }
 
 #[test]
 fn agrees_on_a_secret(rt: HostRuntime) -> Result<(), Fail> {
     let (at_a, at_b) = agreed(&ScriptCaller, rt.alloc(), &[0x0f; 32], &[0x33; 32])?;
-    assert_eq!(rt; at_a.ok_or("none")?.as_slice(), [0x3c; 32].as_slice());
-    assert_eq!(rt; at_b.ok_or("none")?.as_slice(), [0x3c; 32].as_slice());
-    assert!(rt;
+    same(&rt, at_a.ok_or("none")?.as_slice(), [0x3c; 32].as_slice());
+    same(&rt, at_b.ok_or("none")?.as_slice(), [0x3c; 32].as_slice());
+    holds(
+        &rt,
         ScriptCaller
             .shared(rt.alloc(), &[1; 32], &[2; 31])?
-            .is_none()
+            .is_none(),
     );
     Ok(())
+}
+
+// What proves "octets", as Python's module `hmac` computes it.
+fn proof_of_octets() -> [u8; 32] {
+    [
+        0x3a, 0xba, 0x61, 0x0c, 0x27, 0xa4, 0x90, 0xcb, 0xac, 0xce, 0xc8, 0xad, 0xa7, 0xb1, 0x43,
+        0xa2, 0x36, 0x90, 0x55, 0x64, 0x40, 0x93, 0x5a, 0x97, 0xe0, 0x88, 0xc0, 0xb4, 0x30, 0xd2,
+        0x60, 0x58,
+    ]
+}
+
+// Whether octets are proved so by the peer of type 2 and data "a".
+fn accepts(alloc: Global, method: u8, octets: &[u8], proof: &[u8]) -> Result<bool, AllocError> {
+    ScriptCaller.check(alloc, 2, b"a", method, octets, proof)
 }
 
 #[test]
 fn proves_and_checks(rt: HostRuntime) -> Result<(), Fail> {
     let alloc = rt.alloc();
     let proof = proved(&ScriptCaller, alloc, b"octets")?;
-    // As Python's module `hmac` computes it.
-    let wanted: [u8; 32] = [
-        0x3a, 0xba, 0x61, 0x0c, 0x27, 0xa4, 0x90, 0xcb, 0xac, 0xce, 0xc8, 0xad, 0xa7, 0xb1, 0x43,
-        0xa2, 0x36, 0x90, 0x55, 0x64, 0x40, 0x93, 0x5a, 0x97, 0xe0, 0x88, 0xc0, 0xb4, 0x30, 0xd2,
-        0x60, 0x58,
-    ];
-    assert_eq!(rt; proof.as_slice(), wanted.as_slice());
-    assert!(rt; checks(&ScriptCaller, alloc, b"octets", proof.as_slice())?);
-    let rows: [(u8, &[u8], bool); 3] = [
-        (2, b"octets", true),
-        (1, b"octets", false),
-        (2, b"octet", false),
-    ];
-    for (method, octets, right) in rows {
-        assert_eq!(rt;
-            ScriptCaller.check(alloc, 2, b"a", method, octets, proof.as_slice())?,
-            right
-        );
-    }
+    same(&rt, proof.as_slice(), proof_of_octets().as_slice());
+    let proof = proof.as_slice();
+    holds(&rt, checks(&ScriptCaller, alloc, b"octets", proof)?);
+    holds(&rt, accepts(alloc, 2, b"octets", proof)?);
+    holds(&rt, !accepts(alloc, 1, b"octets", proof)?);
+    holds(&rt, !accepts(alloc, 2, b"octet", proof)?);
     Ok(())
 }
 
 #[test]
 fn names_its_parts(rt: HostRuntime) {
     let (cipher, group, method) = names(&ScriptCaller);
-    assert_eq!(rt;
+    same(
+        &rt,
         cipher,
         Cipher {
             id: 65001,
-            key_length: None
-        }
+            key_length: None,
+        },
     );
-    assert_eq!(rt; (group, method), (65002, 2));
+    same(&rt, (group, method), (65002, 2));
 }

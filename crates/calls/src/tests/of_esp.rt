@@ -1,5 +1,4 @@
 mod extended;
-mod faults;
 mod fixture;
 mod laws;
 mod lists;

@@ -1,5 +1,4 @@
 mod block;
-mod fault;
+mod fixture;
 mod plain;
 mod recovery;
-mod window;

@@ -1,5 +1,4 @@
 mod changes;
-mod faults;
 mod fixture;
 mod laws;
 mod limits;

@@ -1,4 +1,3 @@
-mod faults;
 mod fixture;
 mod memory;
 mod outward;

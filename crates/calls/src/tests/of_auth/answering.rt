@@ -1,6 +1,7 @@
 ghost use Rattle.auth.specs.Windows.{IsWindow};
 
 use super::parts::{are_of_types, auth, child, critical, has_proof, identity};
+use crate::tests::asserts::same;
 use auth::{ChildAnswer, Proving, answer, is_accepted};
 use caller::ScriptCaller;
 use exchange::Notice;
@@ -93,10 +94,11 @@ fn established_answers(alloc: Global) -> Result<[bool; 5], AllocError> {
 // RFC 7296, sections 1.2 and 2.15.
 #[test]
 fn what_is_sent_and_accepted(rt: HostRuntime) -> Result<(), Fail> {
-    assert_eq!(rt; answers(rt.alloc())?, [true; 3]);
-    assert_eq!(rt;
+    same(&rt, answers(rt.alloc())?, [true; 3]);
+    same(
+        &rt,
         established_answers(rt.alloc())?,
-        [true, false, false, true, false]
+        [true, false, false, true, false],
     );
     Ok(())
 }

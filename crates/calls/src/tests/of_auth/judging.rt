@@ -3,6 +3,7 @@ ghost use Rattle.auth.specs.Windows.{IsWindow};
 use super::parts::{
     are_of_types, auth, child, critical, has_proof, identity, request_behind, request_of, selector,
 };
+use crate::tests::asserts::same;
 use auth::{Asked, Judgement, Proving, judge};
 use base::Items;
 use caller::ScriptCaller;
@@ -156,7 +157,7 @@ fn refusals(alloc: Global) -> Result<[u16; 8], AllocError> {
 // RFC 7296, sections 1.2 and 2.15.
 #[test]
 fn what_is_sent_and_asked(rt: HostRuntime) -> Result<(), Fail> {
-    assert_eq!(rt; requests(rt.alloc())?, [true; 5]);
+    same(&rt, requests(rt.alloc())?, [true; 5]);
     Ok(())
 }
 
@@ -164,6 +165,6 @@ fn what_is_sent_and_asked(rt: HostRuntime) -> Result<(), Fail> {
 // before that UNSUPPORTED_CRITICAL_PAYLOAD, 1 (section 2.5).
 #[test]
 fn what_is_refused(rt: HostRuntime) -> Result<(), Fail> {
-    assert_eq!(rt; refusals(rt.alloc())?, [24, 24, 0, 24, 24, 7, 7, 1]);
+    same(&rt, refusals(rt.alloc())?, [24, 24, 0, 24, 24, 7, 7, 1]);
     Ok(())
 }

@@ -1,3 +1,4 @@
+use crate::tests::asserts::{holds, same};
 use auth::{peer_window, window_notice};
 use base::Items;
 use std::alloc::{AllocError, Global};
@@ -60,10 +61,11 @@ fn is_noticed(alloc: Global) -> Result<bool, AllocError> {
 // RFC 7296, section 2.3.
 #[test]
 fn what_is_told_and_read(rt: HostRuntime) -> Result<(), Fail> {
-    assert_eq!(rt;
+    same(
+        &rt,
         windows_told(rt.alloc())?,
-        [1, 1, 4, 16, 16, 16, 1, 1, 1, 3]
+        [1, 1, 4, 16, 16, 16, 1, 1, 1, 3],
     );
-    assert!(rt; is_noticed(rt.alloc())?);
+    holds(&rt, is_noticed(rt.alloc())?);
     Ok(())
 }

@@ -2,6 +2,7 @@
 use super::fixture::{
     OWN, START, Suite, asked, elsewhere, far, is_pair, lower_half, message, near, proposal, setting,
 };
+use crate::tests::asserts::{holds, same};
 use base::{Items, Selector};
 use children::{ChildFault, accept};
 use sadb::Pair;
@@ -34,11 +35,37 @@ fn are_accepted(alloc: Global, ts_i: &[Selector], ts_r: &[Selector]) -> Result<b
     Ok(pair_by(alloc, answer.as_slice(), true)?.is_some())
 }
 
+/// The place of the first answer of these that is not judged as it is to be: with extended numbers offered or not, a proposal's number, its SPI and its suite.
+fn each_accepted(
+    alloc: Global,
+    rows: &[(bool, u8, u32, Suite)],
+    wanted: bool,
+) -> Result<Option<usize>, Fail> {
+    for ((extended, number, spi, suite), place) in rows.iter().zip(0..) {
+        if is_accepted(alloc, *extended, *number, *spi, *suite)? != wanted {
+            return Ok(Some(place));
+        }
+    }
+    Ok(None)
+}
+
 #[test]
 fn accepts_what_was_offered(rt: HostRuntime) -> Result<(), Fail> {
-    assert!(rt; is_accepted(rt.alloc(), true, 1, START, Suite::Plain)?);
-    assert!(rt; is_accepted(rt.alloc(), true, 1, START, Suite::Extended)?);
-    assert!(rt; is_accepted(rt.alloc(), false, 1, START, Suite::Plain)?);
+    let offered = [
+        (true, 1, START, Suite::Plain),
+        (true, 1, START, Suite::Extended),
+        (false, 1, START, Suite::Plain),
+    ];
+    same(&rt, each_accepted(rt.alloc(), &offered, true)?, None);
+    // The number is another, or the SPI one of those that are reserved (RFC 4303, section 2.1). Then transforms that were not
+    // offered.
+    let others = [
+        (true, 2, START, Suite::Plain),
+        (true, 1, 255, Suite::Plain),
+        (true, 1, START, Suite::Sha1),
+        (false, 1, START, Suite::Extended),
+    ];
+    same(&rt, each_accepted(rt.alloc(), &others, false)?, None);
     Ok(())
 }
 
@@ -51,26 +78,18 @@ fn makes_the_pair_of_the_answer(rt: HostRuntime) -> Result<(), Fail> {
     Ok(())
 }
 
-// The number is another, or the SPI one of those that are reserved (RFC 4303, section 2.1).
-#[test]
-fn declines_other_proposals(rt: HostRuntime) -> Result<(), Fail> {
-    assert!(rt; !is_accepted(rt.alloc(), true, 2, START, Suite::Plain)?);
-    assert!(rt; !is_accepted(rt.alloc(), true, 1, 255, Suite::Plain)?);
-    Ok(())
-}
-
-#[test]
-fn declines_transforms_that_were_not_offered(rt: HostRuntime) -> Result<(), Fail> {
-    assert!(rt; !is_accepted(rt.alloc(), true, 1, START, Suite::Sha1)?);
-    assert!(rt; !is_accepted(rt.alloc(), false, 1, START, Suite::Extended)?);
-    Ok(())
+/// Whether any answer with such selectors is accepted that differ from what was offered.
+fn others_accepted(alloc: Global) -> Result<[bool; 3], Fail> {
+    Ok([
+        are_accepted(alloc, &[near()], &[])?,
+        are_accepted(alloc, &[near(), elsewhere()], &[far()])?,
+        are_accepted(alloc, &[far()], &[near()])?,
+    ])
 }
 
 #[test]
 fn declines_other_selectors(rt: HostRuntime) -> Result<(), Fail> {
-    assert!(rt; !are_accepted(rt.alloc(), &[near()], &[])?);
-    assert!(rt; !are_accepted(rt.alloc(), &[near(), elsewhere()], &[far()])?);
-    assert!(rt; !are_accepted(rt.alloc(), &[far()], &[near()])?);
+    same(&rt, others_accepted(rt.alloc())?, [false; 3]);
     Ok(())
 }
 
@@ -86,6 +105,6 @@ fn with_another(alloc: Global) -> Result<Items<Payload>, Fail> {
 #[test]
 fn declines_two_sa_payloads(rt: HostRuntime) -> Result<(), Fail> {
     let answer = with_another(rt.alloc())?;
-    assert!(rt; pair_by(rt.alloc(), answer.as_slice(), true)?.is_none());
+    holds(&rt, pair_by(rt.alloc(), answer.as_slice(), true)?.is_none());
     Ok(())
 }

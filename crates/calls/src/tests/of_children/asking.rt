@@ -1,21 +1,22 @@
 //! What is asked.
-use super::fixture::{OWN, Suite, are, asked, far, message, near, proposal, request};
+use super::fixture::{OWN, Suite, asked, far, message, near, proposal, request};
+use crate::tests::asserts::same;
+use std::alloc::Global;
+use std::process::Abort;
 use std::test::Fail;
 
-#[test]
-fn asks_for_extended_numbers_first(rt: HostRuntime) -> Result<(), Fail> {
-    let proposal = proposal(rt.alloc(), 1, OWN, Suite::Either)?;
-    let wanted = message(rt.alloc(), proposal, &[near()], &[far()])?;
-    let payloads = request(rt.alloc(), &asked(OWN, true))?;
-    are(&rt, payloads.as_slice(), wanted.as_slice());
+/// Finds that an initiator proposes this, where extended numbers are allowed or not.
+fn asks_for(rt: &impl Abort, alloc: Global, suite: Suite, extended: bool) -> Result<(), Fail> {
+    let proposal = proposal(alloc, 1, OWN, suite)?;
+    let wanted = message(alloc, proposal, &[near()], &[far()])?;
+    let payloads = request(alloc, &asked(OWN, extended))?;
+    same(rt, payloads.as_slice(), wanted.as_slice());
     Ok(())
 }
 
+// Extended numbers stand first where they are allowed.
 #[test]
-fn asks_for_plain_numbers(rt: HostRuntime) -> Result<(), Fail> {
-    let proposal = proposal(rt.alloc(), 1, OWN, Suite::Plain)?;
-    let wanted = message(rt.alloc(), proposal, &[near()], &[far()])?;
-    let payloads = request(rt.alloc(), &asked(OWN, false))?;
-    are(&rt, payloads.as_slice(), wanted.as_slice());
-    Ok(())
+fn asks_for_its_numbers(rt: HostRuntime) -> Result<(), Fail> {
+    asks_for(&rt, rt.alloc(), Suite::Either, true)?;
+    asks_for(&rt, rt.alloc(), Suite::Plain, false)
 }

@@ -2,6 +2,7 @@
 //! from functions without a contract, so that a test is proved without them.
 ghost use Rattle.replay.specs.Window.{IsBlockCount};
 
+use crate::tests::asserts::same;
 use base::{Items, Range, Selector};
 use children::{Asked, Response, Setting, ask, install, respond};
 use exchange::{ChildOffer, ChildPayloads};
@@ -181,16 +182,11 @@ pub fn reply(
     Ok(payloads)
 }
 
-/// Finds the same payloads.
-pub fn are(rt: &impl Abort, payloads: &[Payload], wanted: &[Payload]) {
-    assert_eq!(rt; payloads, wanted);
-}
-
 /// Finds a pair of these SPIs, inward and outward, and of one selector of each side.
 pub fn is_pair(rt: &impl Abort, pair: &Pair, spis: (u32, u32), local: Selector, remote: Selector) {
-    assert_eq!(rt; (pair.inbound.spi(), pair.outbound.spi()), spis);
-    assert_eq!(rt; pair.local.as_slice(), [local].as_slice());
-    assert_eq!(rt; pair.remote.as_slice(), [remote].as_slice());
+    same(rt, (pair.inbound.spi(), pair.outbound.spi()), spis);
+    same(rt, pair.local.as_slice(), [local].as_slice());
+    same(rt, pair.remote.as_slice(), [remote].as_slice());
 }
 
 /// Finds such a pair under the first of these SPIs.

@@ -1,8 +1,8 @@
 //! What is answered, and the pair that is made and added.
 use super::fixture::{
-    START, Suite, are, elsewhere, far, has_pair, lower_half, message, near, one, proposal, reply,
-    table,
+    START, Suite, elsewhere, far, has_pair, lower_half, message, near, one, proposal, reply, table,
 };
+use crate::tests::asserts::same;
 use base::{Items, Selector};
 use exchange::{ChildOffer, Notice};
 use sadb::Table;
@@ -58,7 +58,7 @@ fn refuse(
     let payloads = plain(alloc, suite, ts_r, table)?;
     let mut wanted = Items::new(alloc);
     wanted.push(notice.payload(alloc)?)?;
-    are(rt, payloads.as_slice(), wanted.as_slice());
+    same(rt, payloads.as_slice(), wanted.as_slice());
     Ok(())
 }
 
@@ -109,7 +109,7 @@ fn answers_the_last_of_two(rt: HostRuntime) -> Result<(), Fail> {
     let mut table = table(rt.alloc());
     let payloads = chosen(rt.alloc(), Suite::Either, true, &mut table)?;
     let wanted = narrowed(rt.alloc(), START, Suite::Extended)?;
-    are(&rt, payloads.as_slice(), wanted.as_slice());
+    same(&rt, payloads.as_slice(), wanted.as_slice());
     has_pair(&rt, &table, (START, 0x301), far(), lower_half())
 }
 
@@ -120,6 +120,6 @@ fn answers_with_plain_numbers(rt: HostRuntime) -> Result<(), Fail> {
     plain(rt.alloc(), Suite::Plain, far(), &mut table)?;
     let payloads = chosen(rt.alloc(), Suite::Either, false, &mut table)?;
     let wanted = narrowed(rt.alloc(), START + 1, Suite::Plain)?;
-    are(&rt, payloads.as_slice(), wanted.as_slice());
+    same(&rt, payloads.as_slice(), wanted.as_slice());
     has_pair(&rt, &table, (START + 1, 0x301), far(), lower_half())
 }

@@ -3,6 +3,7 @@ ghost use Rattle.std.specs.Prelude.{IfSome};
 ghost use Rattle.sadb.specs.Database.{IsFor, IsThere};
 
 use super::fixture::{START, asked, far, has_pair, lower_half, reply, request, setting, table};
+use crate::tests::asserts::same;
 use children::{Asked, accept};
 use exchange::{ChildOffer, only_sa, only_ts_i, only_ts_r};
 use sadb::{Pair, Table};
@@ -65,7 +66,7 @@ fn connect(rt: &impl Abort, alloc: Global, ends: &mut Ends, extended: bool) -> R
         extended,
         &mut ends.responder,
     )?;
-    assert_eq!(rt; pair.inbound.spi(), spi.number());
+    assert!(rt; pair.inbound.spi() == spi.number());
     Ok(ends.initiator.install(spi, pair))
 }
 
@@ -111,7 +112,7 @@ fn cross(
 ) -> Result<(), Fail> {
     let mut packet = Vec::new(alloc);
     seal(from, from_spi, &mut packet)?;
-    assert_eq!(rt; open(to, to_spi, &packet)?, b"abc".as_slice());
+    same(rt, open(to, to_spi, &packet)?, b"abc".as_slice());
     Ok(())
 }
 
@@ -137,8 +138,8 @@ fn packets_cross(rt: HostRuntime) -> Result<(), Fail> {
 #[test]
 fn pairs_mirror_each_other(rt: HostRuntime) -> Result<(), Fail> {
     let mut ends = Ends::new(rt.alloc());
-    assert_eq!(rt; connect(&rt, rt.alloc(), &mut ends, true)?, 1);
-    assert_eq!(rt; connect(&rt, rt.alloc(), &mut ends, true)?, 2);
+    same(&rt, connect(&rt, rt.alloc(), &mut ends, true)?, 1);
+    same(&rt, connect(&rt, rt.alloc(), &mut ends, true)?, 2);
     has_pair(
         &rt,
         &ends.initiator,

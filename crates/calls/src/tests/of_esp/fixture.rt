@@ -2,30 +2,37 @@
 ghost use Rattle.std.specs.Prelude.{◌≡◌, ◌≤◌, IsTrue, ◌↔◌, All, length, take};
 ghost use Rattle.byteorder.specs.Endian.{big_bytes};
 
+use crate::tests::asserts::same;
 use esp::{Answer, EspFault, Inbound, ListFault, Opened, Outbound};
 use replay::PlainWindow;
 use std::alloc::{AllocError, Global};
 use std::process::Abort;
+use std::test::Fail;
 
 pub const SPI: u32 = 256;
 
 pub const KEY: [u8; 32] = [0x0b; 32];
 
 /// An IPv4 packet from 10.0.0.1 to 10.1.0.1 that is a header alone.
-pub const INNER: [u8; 20] = [
-    0x45, 0x00, 0x00, 0x14, 0x00, 0x00, 0x00, 0x00, 0x40, 0x01, 0x00, 0x00, 0x0a, 0x00, 0x00, 0x01,
-    0x0a, 0x01, 0x00, 0x01,
-];
+pub fn inner() -> [u8; 20] {
+    [
+        0x45, 0x00, 0x00, 0x14, 0x00, 0x00, 0x00, 0x00, 0x40, 0x01, 0x00, 0x00, 0x0a, 0x00, 0x00,
+        0x01, 0x0a, 0x01, 0x00, 0x01,
+    ]
+}
 
 /// The next header of an IPv4 packet.
 pub const IPV4: u8 = 4;
 
-/// The packet with number 1 that carries [`INNER`], without extended numbers.
-pub const FIRST: [u8; 48] = [
-    0x00, 0x00, 0x01, 0x00, 0x00, 0x00, 0x00, 0x01, 0x45, 0x00, 0x00, 0x14, 0x00, 0x00, 0x00, 0x00,
-    0x40, 0x01, 0x00, 0x00, 0x0a, 0x00, 0x00, 0x01, 0x0a, 0x01, 0x00, 0x01, 0x01, 0x02, 0x02, 0x04,
-    0x8c, 0x57, 0x5e, 0xcd, 0x82, 0xb0, 0x4c, 0x86, 0xd2, 0xe6, 0xc1, 0x81, 0x15, 0xf2, 0xb5, 0x2d,
-];
+/// The packet with number 1 that carries [`inner`], without extended numbers.
+pub fn first() -> [u8; 48] {
+    [
+        0x00, 0x00, 0x01, 0x00, 0x00, 0x00, 0x00, 0x01, 0x45, 0x00, 0x00, 0x14, 0x00, 0x00, 0x00,
+        0x00, 0x40, 0x01, 0x00, 0x00, 0x0a, 0x00, 0x00, 0x01, 0x0a, 0x01, 0x00, 0x01, 0x01, 0x02,
+        0x02, 0x04, 0x8c, 0x57, 0x5e, 0xcd, 0x82, 0xb0, 0x4c, 0x86, 0xd2, 0xe6, 0xc1, 0x81, 0x15,
+        0xf2, 0xb5, 0x2d,
+    ]
+}
 
 /// A sender without extended numbers that sealed its last packet with this number.
 pub fn sender(last: u64) -> Outbound {
@@ -35,6 +42,18 @@ pub fn sender(last: u64) -> Outbound {
 /// A sender with extended numbers that sealed its last packet with this number.
 pub fn extended_sender(last: u64) -> Outbound {
     Outbound::new(SPI, &KEY, true, last)
+}
+
+/// The packet in which a sender carries [`inner`], which is to have this number.
+pub fn sealed(
+    rt: &impl Abort,
+    alloc: Global,
+    mut sender: Outbound,
+    number: u64,
+) -> Result<Vec<u8>, Fail> {
+    let mut packet = Vec::new(alloc);
+    same(rt, sender.seal(IPV4, &inner(), &mut packet)?, number);
+    Ok(packet)
 }
 
 /// A receiver with a window of 64 numbers, which is handed only packets of its SPI.
@@ -54,6 +73,34 @@ impl Receiver {
     pub fn open<'a>(&mut self, rt: &impl Abort, packet: &'a [u8]) -> Result<Opened<'a>, EspFault> {
         assert!(rt; is_ours(packet));
         self.inbound.open(packet)
+    }
+
+    /// Finds that a packet is refused so.
+    pub fn refuses(&mut self, rt: &impl Abort, packet: &[u8], fault: EspFault) {
+        same(rt, self.open(rt, packet).err(), Some(fault));
+    }
+
+    /// Finds what a packet carries.
+    pub fn opens(
+        &mut self,
+        rt: &impl Abort,
+        packet: &[u8],
+        number: u64,
+        next: u8,
+        payload: &[u8],
+    ) -> Result<(), Fail> {
+        let wanted = Opened {
+            number,
+            next,
+            payload,
+        };
+        same(rt, self.open(rt, packet)?, wanted);
+        Ok(())
+    }
+
+    /// Finds that a packet carries [`inner`] under this number.
+    pub fn opens_inner(&mut self, rt: &impl Abort, packet: &[u8], number: u64) -> Result<(), Fail> {
+        self.opens(rt, packet, number, IPV4, &inner())
     }
 
     pub fn open_all(

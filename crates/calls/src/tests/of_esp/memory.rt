@@ -1,6 +1,7 @@
 //! Runs that pass whether an allocation fails or not: what was refused for want of memory left everything as it was. Each is
 //! to be run with every allocation failing in turn.
-use crate::tests::of_esp::fixture::{FIRST, INNER, IPV4, Receiver, damaged, packet, sender};
+use super::fixture::{IPV4, Receiver, damaged, first, inner, packet, sender};
+use crate::tests::asserts::{holds, same};
 use esp::{Answer, EspFault, ListFault};
 use std::alloc::{AllocError, Global};
 
@@ -11,21 +12,21 @@ fn sealing_without_memory(rt: HostRuntime) {
     let mut last: u64 = 0;
     for _ in 0..40 {
         let before = out.len();
-        match sender.seal(IPV4, &INNER, &mut out) {
+        match sender.seal(IPV4, &inner(), &mut out) {
             Ok(number) => {
-                assert_eq!(rt; Some(number), last.checked_add(1));
+                same(&rt, Some(number), last.checked_add(1));
                 last = number;
-                assert_eq!(rt; out.len(), before + 48);
+                same(&rt, out.len(), before + 48);
             }
             Err(fault) => {
-                assert_eq!(rt; fault, EspFault::Memory);
-                assert_eq!(rt; out.len(), before);
+                same(&rt, fault, EspFault::Memory);
+                same(&rt, out.len(), before);
             }
         }
     }
     // No more than one allocation fails.
-    assert!(rt; last >= 39);
-    assert!(rt; out.as_slice().starts_with(&FIRST));
+    holds(&rt, last >= 39);
+    holds(&rt, out.as_slice().starts_with(&first()));
 }
 
 // The receiver's window grows, and may want memory for it; what it refused opens at the next try.
@@ -38,9 +39,17 @@ fn opening_without_memory(rt: HostRuntime) {
         };
         if receiver.open(&rt, &sealed).err() == Some(EspFault::Memory) {
             let opened = receiver.open(&rt, &sealed);
-            assert_eq!(rt; opened.map(|opened| opened.number), Ok(u64::from(number)));
+            same(
+                &rt,
+                opened.map(|opened| opened.number),
+                Ok(u64::from(number)),
+            );
         }
-        assert_eq!(rt; receiver.open(&rt, &sealed).err(), Some(EspFault::Replayed));
+        same(
+            &rt,
+            receiver.open(&rt, &sealed).err(),
+            Some(EspFault::Replayed),
+        );
     }
 }
 
@@ -66,12 +75,12 @@ fn a_list_without_memory(rt: HostRuntime) {
     let mut receiver = Receiver::new(rt.alloc(), false);
     let mut out = Vec::new(rt.alloc());
     if let Err(ListFault::NoRoom(done)) = receiver.open_all(&rt, &packets, &mut out) {
-        assert_eq!(rt; out.len(), done);
+        same(&rt, out.len(), done);
         assert!(rt; done < 5);
         let rest = packets.as_slice();
-        assert_eq!(rt; receiver.open_all(&rt, &rest[done..], &mut out), Ok(()));
+        same(&rt, receiver.open_all(&rt, &rest[done..], &mut out), Ok(()));
     }
-    assert_eq!(rt; out.len(), 5);
+    assert!(rt; out.len() == 5);
     let mut wanted = [
         up(1),
         Answer::Refused(EspFault::BadIcv),
@@ -84,10 +93,13 @@ fn a_list_without_memory(rt: HostRuntime) {
         wanted[0] = out[0];
         wanted[2] = up(1);
     }
-    assert_eq!(rt; out.as_slice(), wanted.as_slice());
+    same(&rt, out.as_slice(), wanted.as_slice());
     for packet in &packets {
         let repeated = receiver.open(&rt, packet).err();
-        assert!(rt; matches!(repeated, Some(EspFault::Replayed | EspFault::BadIcv)));
+        holds(
+            &rt,
+            matches!(repeated, Some(EspFault::Replayed | EspFault::BadIcv)),
+        );
     }
 }
 

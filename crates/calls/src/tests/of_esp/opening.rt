@@ -1,28 +1,36 @@
-use crate::tests::of_esp::fixture::{FIRST, INNER, IPV4, Receiver, damaged, packet, sender};
+use super::fixture::{IPV4, Receiver, damaged, first, inner, packet, sealed, sender};
+use crate::tests::asserts::{same, same_at};
 use esp::{EspFault, Opened};
 use std::alloc::{AllocError, Global};
+use std::process::Abort;
 use std::test::Fail;
 
 #[test]
 fn opens_a_packet_once(rt: HostRuntime) -> Result<(), Fail> {
     let mut receiver = Receiver::new(rt.alloc(), false);
-    let mut packet = Vec::new(rt.alloc());
-    assert_eq!(rt; sender(6).seal(IPV4, &INNER, &mut packet)?, 7);
-    let opened = receiver.open(&rt, &packet)?;
-    assert_eq!(rt; opened.number, 7);
-    assert_eq!(rt; opened.next, IPV4);
-    assert_eq!(rt; opened.payload, INNER.as_slice());
-    assert_eq!(rt; receiver.open(&rt, &packet).err(), Some(EspFault::Replayed));
-    Ok(())
+    let packet = sealed(&rt, rt.alloc(), sender(6), 7)?;
+    receiver.opens_inner(&rt, &packet, 7)?;
+    receiver.refuses(&rt, &packet, EspFault::Replayed);
+    // And what another program sealed.
+    let mut receiver = Receiver::new(rt.alloc(), false);
+    receiver.opens_inner(&rt, &first(), 1)
 }
 
-#[test]
-fn opens_what_another_sealed(rt: HostRuntime) -> Result<(), Fail> {
-    let mut receiver = Receiver::new(rt.alloc(), false);
-    let opened = receiver.open(&rt, &FIRST)?;
-    assert_eq!(rt; opened.number, 1);
-    assert_eq!(rt; opened.next, IPV4);
-    assert_eq!(rt; opened.payload, INNER.as_slice());
+/// Finds that packets of so many octets, which are 0 behind the SPI, are refused so.
+fn refuses_lengths(
+    rt: &impl Abort,
+    alloc: Global,
+    receiver: &mut Receiver,
+    lengths: &[usize],
+    fault: EspFault,
+) -> Result<(), Fail> {
+    for octets in lengths {
+        let mut packet = b"\0\0\x01\0".to_vec(alloc)?;
+        packet.extend_from_slice(&vec![in alloc; 0; *octets]?)?;
+        packet.truncate(*octets);
+        same(rt, packet.len(), *octets);
+        same_at(rt, *octets, receiver.open(rt, &packet).err(), Some(fault));
+    }
     Ok(())
 }
 
@@ -30,30 +38,12 @@ fn opens_what_another_sealed(rt: HostRuntime) -> Result<(), Fail> {
 #[test]
 fn refuses_other_lengths(rt: HostRuntime) -> Result<(), Fail> {
     let mut receiver = Receiver::new(rt.alloc(), false);
-    for octets in [
+    let bad = [
         0, 1, 3, 4, 8, 24, 26, 27, 29, 30, 31, 16_665, 16_666, 16_667, 16_668, 20_000,
-    ] {
-        let zeros = vec![in rt.alloc(); 0; octets]?;
-        let mut packet = b"\0\0\x01\0".to_vec(rt.alloc())?;
-        packet.extend_from_slice(&zeros)?;
-        packet.truncate(octets);
-        assert_eq!(rt; packet.len(), octets);
-        assert_eq!(rt;
-            receiver.open(&rt, &packet).err(),
-            Some(EspFault::BadLength),
-            "{octets} octets"
-        );
-    }
-    for octets in [28, 32, 16_664] {
-        let mut packet = b"\0\0\x01\0".to_vec(rt.alloc())?;
-        packet.extend_from_slice(&vec![in rt.alloc(); 0; octets - 4]?)?;
-        assert_eq!(rt;
-            receiver.open(&rt, &packet).err(),
-            Some(EspFault::BadNumber),
-            "{octets} octets"
-        );
-    }
-    Ok(())
+    ];
+    refuses_lengths(&rt, rt.alloc(), &mut receiver, &bad, EspFault::BadLength)?;
+    let good = [28, 32, 16_664];
+    refuses_lengths(&rt, rt.alloc(), &mut receiver, &good, EspFault::BadNumber)
 }
 
 /// So many octets of payload under so many of padding, up to the next header.
@@ -67,35 +57,64 @@ fn padded(alloc: Global, payload: usize, pad: u8) -> Result<Vec<u8>, AllocError>
     Ok(contents)
 }
 
+/// Finds that packets under these numbers, of so many octets of payload and of padding, have so many octets and open.
+fn opens_padded(
+    rt: &impl Abort,
+    alloc: Global,
+    receiver: &mut Receiver,
+    rows: &[(u32, usize, u8, usize)],
+) -> Result<(), Fail> {
+    for (number, payload, pad, octets) in rows {
+        let packet = packet(alloc, *number, &padded(alloc, *payload, *pad)?, &[])?;
+        same(rt, packet.len(), *octets);
+        let wanted = vec![in alloc; 0x5a; *payload]?;
+        receiver.opens(rt, &packet, u64::from(*number), IPV4, &wanted)?;
+    }
+    Ok(())
+}
+
 #[test]
 fn opens_every_padding_that_aligns(rt: HostRuntime) -> Result<(), Fail> {
     let mut receiver = Receiver::new(rt.alloc(), false);
-    for ((payload, pad, octets), number) in [
-        (0, 2, 28),
-        (2, 0, 28),
-        (20, 6, 52),
-        (0, 254, 280),
-        (3, 255, 284),
-        (16_384, 2, 16_412),
-        (16_384, 254, 16_664),
-        (16_638, 0, 16_664),
-    ]
-    .into_iter()
-    .zip(1..)
-    {
-        let packet = packet(rt.alloc(), number, &padded(rt.alloc(), payload, pad)?, &[])?;
-        assert_eq!(rt; packet.len(), octets);
-        let opened = receiver.open(&rt, &packet)?;
-        assert_eq!(rt; opened.number, u64::from(number));
-        assert_eq!(rt; opened.next, IPV4);
-        assert_eq!(rt;
-            opened.payload,
-            vec![in rt.alloc(); 0x5a; payload]?.as_slice()
+    let rows = [
+        (1, 0, 2, 28),
+        (2, 2, 0, 28),
+        (3, 20, 6, 52),
+        (4, 0, 254, 280),
+        (5, 3, 255, 284),
+        (6, 16_384, 2, 16_412),
+        (7, 16_384, 254, 16_664),
+        (8, 16_638, 0, 16_664),
+    ];
+    opens_padded(&rt, rt.alloc(), &mut receiver, &rows)?;
+    let long = packet(rt.alloc(), 9, &padded(rt.alloc(), 16_388, 254)?, &[])?;
+    same(&rt, long.len(), 16_668);
+    receiver.refuses(&rt, &long, EspFault::BadLength);
+    Ok(())
+}
+
+/// Finds that packets of these contents, numbered from 1 on, are refused for their padding, and then as repeated.
+fn refuses_padding(
+    rt: &impl Abort,
+    alloc: Global,
+    receiver: &mut Receiver,
+    cases: &[&[u8]],
+) -> Result<(), Fail> {
+    for (contents, number) in cases.iter().zip(1..) {
+        let packet = packet(alloc, number, contents, &[])?;
+        same_at(
+            rt,
+            number,
+            receiver.open(rt, &packet).err(),
+            Some(EspFault::BadPadding),
+        );
+        same_at(
+            rt,
+            number,
+            receiver.open(rt, &packet).err(),
+            Some(EspFault::Replayed),
         );
     }
-    let long = packet(rt.alloc(), 9, &padded(rt.alloc(), 16_388, 254)?, &[])?;
-    assert_eq!(rt; long.len(), 16_668);
-    assert_eq!(rt; receiver.open(&rt, &long).err(), Some(EspFault::BadLength));
     Ok(())
 }
 
@@ -117,18 +136,24 @@ fn refuses_bad_padding_and_keeps_the_number(rt: HostRuntime) -> Result<(), Fail>
         &[1, 2, 255, 4],
         &[9, 1, 2, 3, 5, 5, 5, 4],
     ];
-    for (contents, number) in cases.into_iter().zip(1..) {
-        let packet = packet(rt.alloc(), number, contents, &[])?;
-        assert_eq!(rt;
-            receiver.open(&rt, &packet).err(),
-            Some(EspFault::BadPadding),
-            "{contents:?}"
-        );
-        assert_eq!(rt;
-            receiver.open(&rt, &packet).err(),
-            Some(EspFault::Replayed),
-            "{contents:?}"
-        );
+    refuses_padding(&rt, rt.alloc(), &mut receiver, &cases)
+}
+
+/// Finds that packets of these contents, numbered from 1 on, hand up this next header and this payload.
+fn hands_up(
+    rt: &impl Abort,
+    alloc: Global,
+    receiver: &mut Receiver,
+    cases: &[(&[u8], u8, &[u8])],
+) -> Result<(), Fail> {
+    for ((contents, next, payload), number) in cases.iter().zip(1..) {
+        let packet = packet(alloc, number, contents, &[])?;
+        let wanted = Opened {
+            number: u64::from(number),
+            next: *next,
+            payload,
+        };
+        same(rt, receiver.open(rt, &packet)?, wanted);
     }
     Ok(())
 }
@@ -143,15 +168,24 @@ fn hands_up_what_stands_before_the_padding(rt: HostRuntime) -> Result<(), Fail> 
         (&[1, 2, 0, 255], 255, &[1, 2]),
         (&[9, 8, 7, 6, 1, 2, 3, 4, 5, 6, 6, 41], 41, &[9, 8, 7, 6]),
     ];
-    for ((contents, next, payload), number) in cases.into_iter().zip(1..) {
-        let packet = packet(rt.alloc(), number, contents, &[])?;
-        assert_eq!(rt;
-            receiver.open(&rt, &packet)?,
-            Opened {
-                number: u64::from(number),
-                next,
-                payload
-            }
+    hands_up(&rt, rt.alloc(), &mut receiver, &cases)
+}
+
+/// Finds that a packet with a damaged octet at any of these places is refused.
+fn refuses_damaged(
+    rt: &impl Abort,
+    alloc: Global,
+    receiver: &mut Receiver,
+    packet: &[u8],
+    places: &[usize],
+) -> Result<(), Fail> {
+    for place in places {
+        let wrong = damaged(alloc, packet, *place)?;
+        same_at(
+            rt,
+            *place,
+            receiver.open(rt, &wrong).err(),
+            Some(EspFault::BadIcv),
         );
     }
     Ok(())
@@ -161,18 +195,50 @@ fn hands_up_what_stands_before_the_padding(rt: HostRuntime) -> Result<(), Fail> 
 #[test]
 fn refuses_each_damaged_octet(rt: HostRuntime) -> Result<(), Fail> {
     let mut receiver = Receiver::new(rt.alloc(), false);
-    let mut packet = Vec::new(rt.alloc());
-    assert_eq!(rt; sender(7).seal(IPV4, &INNER, &mut packet)?, 8);
-    for place in [4, 7, 8, 27, 28, 29, 30, 31, 32, 40, 47] {
-        let wrong = damaged(rt.alloc(), &packet, place)?;
-        assert_eq!(rt;
-            receiver.open(&rt, &wrong).err(),
-            Some(EspFault::BadIcv),
-            "octet {place}"
+    let packet = sealed(&rt, rt.alloc(), sender(7), 8)?;
+    let places = [4, 7, 8, 27, 28, 29, 30, 31, 32, 40, 47];
+    refuses_damaged(&rt, rt.alloc(), &mut receiver, &packet, &places)?;
+    receiver.opens_inner(&rt, &packet, 8)?;
+    receiver.refuses(&rt, &packet, EspFault::Replayed);
+    Ok(())
+}
+
+/// The contents of a packet whose padding is wrong.
+const BAD: [u8; 4] = [0, 0, 2, 4];
+
+/// Finds how such packets are refused where their check value is wrong, too, and that an octet more makes their length wrong.
+fn refuses_wrong(
+    rt: &impl Abort,
+    alloc: Global,
+    receiver: &mut Receiver,
+    rows: &[(u32, EspFault)],
+) -> Result<(), Fail> {
+    for (number, fault) in rows {
+        let right = packet(alloc, *number, &BAD, &[])?;
+        let mut wrong = damaged(alloc, &right, 27)?;
+        same_at(rt, *number, receiver.open(rt, &wrong).err(), Some(*fault));
+        wrong.push(0)?;
+        same_at(
+            rt,
+            *number,
+            receiver.open(rt, &wrong).err(),
+            Some(EspFault::BadLength),
         );
     }
-    assert_eq!(rt; receiver.open(&rt, &packet)?.number, 8);
-    assert_eq!(rt; receiver.open(&rt, &packet).err(), Some(EspFault::Replayed));
+    Ok(())
+}
+
+/// Finds how such packets are refused where their check value is right.
+fn refuses_right(
+    rt: &impl Abort,
+    alloc: Global,
+    receiver: &mut Receiver,
+    rows: &[(u32, EspFault)],
+) -> Result<(), Fail> {
+    for (number, fault) in rows {
+        let right = packet(alloc, *number, &BAD, &[])?;
+        same_at(rt, *number, receiver.open(rt, &right).err(), Some(*fault));
+    }
     Ok(())
 }
 
@@ -180,12 +246,9 @@ fn refuses_each_damaged_octet(rt: HostRuntime) -> Result<(), Fail> {
 #[test]
 fn refuses_in_order(rt: HostRuntime) -> Result<(), Fail> {
     let mut receiver = Receiver::new(rt.alloc(), false);
-    let mut top = Vec::new(rt.alloc());
-    assert_eq!(rt; sender(99).seal(IPV4, &INNER, &mut top)?, 100);
-    assert_eq!(rt; receiver.open(&rt, &top)?.number, 100);
-
-    let bad = [0, 0, 2, 4];
-    for (number, fault) in [
+    let top = sealed(&rt, rt.alloc(), sender(99), 100)?;
+    receiver.opens_inner(&rt, &top, 100)?;
+    let wrong = [
         (0, EspFault::BadNumber),
         (1, EspFault::Old),
         (36, EspFault::Old),
@@ -193,23 +256,9 @@ fn refuses_in_order(rt: HostRuntime) -> Result<(), Fail> {
         (100, EspFault::Replayed),
         (101, EspFault::BadIcv),
         (u32::MAX, EspFault::BadIcv),
-    ] {
-        let right = packet(rt.alloc(), number, &bad, &[])?;
-        let wrong = damaged(rt.alloc(), &right, 27)?;
-        assert_eq!(rt;
-            receiver.open(&rt, &wrong).err(),
-            Some(fault),
-            "number {number}"
-        );
-        let mut longer = wrong;
-        longer.push(0)?;
-        assert_eq!(rt;
-            receiver.open(&rt, &longer).err(),
-            Some(EspFault::BadLength),
-            "number {number}"
-        );
-    }
-    for (number, fault) in [
+    ];
+    refuses_wrong(&rt, rt.alloc(), &mut receiver, &wrong)?;
+    let right = [
         (0, EspFault::BadNumber),
         (36, EspFault::Old),
         (37, EspFault::BadPadding),
@@ -217,13 +266,6 @@ fn refuses_in_order(rt: HostRuntime) -> Result<(), Fail> {
         (100, EspFault::Replayed),
         (101, EspFault::BadPadding),
         (37, EspFault::Old),
-    ] {
-        let right = packet(rt.alloc(), number, &bad, &[])?;
-        assert_eq!(rt;
-            receiver.open(&rt, &right).err(),
-            Some(fault),
-            "number {number}"
-        );
-    }
-    Ok(())
+    ];
+    refuses_right(&rt, rt.alloc(), &mut receiver, &right)
 }

@@ -1,36 +1,47 @@
 //! What is sealed. The expected check values are those that Python's module `hmac` computes.
-use crate::tests::of_esp::fixture::{FIRST, INNER, IPV4, extended_sender, sender};
-use esp::EspFault;
+use super::fixture::{IPV4, extended_sender, first, inner, sealed, sender};
+use crate::tests::asserts::{holds, same, same_at};
+use esp::{EspFault, Outbound};
+use std::alloc::Global;
+use std::process::Abort;
 use std::test::Fail;
 
-#[test]
-fn seals_the_worked_packet(rt: HostRuntime) -> Result<(), Fail> {
-    let mut sender = sender(0);
-    let mut out = Vec::new(rt.alloc());
-    assert_eq!(rt; sender.seal(IPV4, &INNER, &mut out)?, 1);
-    assert_eq!(rt; out.as_slice(), FIRST.as_slice());
-    Ok(())
+/// The packet with number 2 that carries [`inner`].
+fn second() -> [u8; 48] {
+    [
+        0x00, 0x00, 0x01, 0x00, 0x00, 0x00, 0x00, 0x02, 0x45, 0x00, 0x00, 0x14, 0x00, 0x00, 0x00,
+        0x00, 0x40, 0x01, 0x00, 0x00, 0x0a, 0x00, 0x00, 0x01, 0x0a, 0x01, 0x00, 0x01, 0x01, 0x02,
+        0x02, 0x04, 0x39, 0x73, 0x87, 0x4d, 0xd1, 0x1d, 0x94, 0xc2, 0x4f, 0x14, 0x60, 0x80, 0x0c,
+        0x95, 0xd2, 0x85,
+    ]
 }
 
 // A packet is appended, and covers none of the octets before it.
 #[test]
-fn appends_the_next_packet(rt: HostRuntime) -> Result<(), Fail> {
+fn seals_and_appends(rt: HostRuntime) -> Result<(), Fail> {
     let mut sender = sender(0);
     let mut out = Vec::new(rt.alloc());
-    assert_eq!(rt; sender.seal(IPV4, &INNER, &mut out)?, 1);
-    assert_eq!(rt; sender.seal(IPV4, &INNER, &mut out)?, 2);
-    let (first, second) = out.as_slice().split_at_checked(48).ok_or("too short")?;
-    assert_eq!(rt; first, FIRST.as_slice());
-    assert_eq!(rt;
-        second,
-        [
-            0x00, 0x00, 0x01, 0x00, 0x00, 0x00, 0x00, 0x02, 0x45, 0x00, 0x00, 0x14, 0x00, 0x00,
-            0x00, 0x00, 0x40, 0x01, 0x00, 0x00, 0x0a, 0x00, 0x00, 0x01, 0x0a, 0x01, 0x00, 0x01,
-            0x01, 0x02, 0x02, 0x04, 0x39, 0x73, 0x87, 0x4d, 0xd1, 0x1d, 0x94, 0xc2, 0x4f, 0x14,
-            0x60, 0x80, 0x0c, 0x95, 0xd2, 0x85,
-        ]
-        .as_slice()
-    );
+    same(&rt, sender.seal(IPV4, &inner(), &mut out)?, 1);
+    same(&rt, out.as_slice(), first().as_slice());
+    same(&rt, sender.seal(IPV4, &inner(), &mut out)?, 2);
+    let (one, other) = out.as_slice().split_at_checked(48).ok_or("too short")?;
+    same(&rt, one, first().as_slice());
+    same(&rt, other, second().as_slice());
+    Ok(())
+}
+
+/// Finds how long a packet with so many octets 5a is, that they stand in it behind number 1, and what stands behind them.
+fn pads(rt: &impl Abort, alloc: Global, rows: &[(usize, usize, &[u8])]) -> Result<(), Fail> {
+    for (octets, length, end) in rows {
+        let payload = vec![in alloc; 0x5a; *octets]?;
+        let mut out = Vec::new(alloc);
+        same(rt, sender(0).seal(IPV4, &payload, &mut out)?, 1);
+        same_at(rt, *octets, out.len(), *length);
+        let mut wanted = b"\0\0\x01\0\0\0\0\x01".to_vec(alloc)?;
+        wanted.extend_from_slice(&payload)?;
+        wanted.extend_from_slice(end)?;
+        same_at(rt, *octets, out.as_slice(), wanted.as_slice());
+    }
     Ok(())
 }
 
@@ -69,21 +80,7 @@ fn pads_with_the_least_padding(rt: HostRuntime) -> Result<(), Fail> {
             b"\x01\x02\x02\x04\xff\x1c\xdc\x0d\xac\x5b\x1d\xf6\xea\x33\x73\xcc\x75\xd8\x50\xad",
         ),
     ];
-    for (octets, length, end) in cases {
-        let payload = vec![in rt.alloc(); 0x5a; octets]?;
-        let mut out = Vec::new(rt.alloc());
-        assert_eq!(rt; sender(0).seal(IPV4, &payload, &mut out)?, 1);
-        assert_eq!(rt; out.len(), length, "{octets} octets");
-        let rest = out
-            .as_slice()
-            .strip_prefix(b"\0\0\x01\0\0\0\0\x01")
-            .ok_or("another head")?;
-        let rest = rest
-            .strip_prefix(payload.as_slice())
-            .ok_or("another payload")?;
-        assert_eq!(rt; rest, end, "{octets} octets");
-    }
-    Ok(())
+    pads(&rt, rt.alloc(), &cases)
 }
 
 #[test]
@@ -91,55 +88,47 @@ fn refuses_a_longer_payload(rt: HostRuntime) -> Result<(), Fail> {
     let mut sender = sender(0);
     let payload = vec![in rt.alloc(); 0x5a; 16_385]?;
     let mut out = vec![in rt.alloc(); 1, 2, 3]?;
-    assert_eq!(rt;
-        sender.seal(IPV4, &payload, &mut out),
-        Err(EspFault::PayloadSize)
-    );
-    assert_eq!(rt; out.as_slice(), [1, 2, 3].as_slice());
+    let refused = sender.seal(IPV4, &payload, &mut out);
+    same(&rt, refused, Err(EspFault::PayloadSize));
+    same(&rt, out.as_slice(), &[1, 2, 3]);
     out.clear();
-    assert_eq!(rt; sender.seal(IPV4, &INNER, &mut out)?, 1);
-    assert_eq!(rt; out.as_slice(), FIRST.as_slice());
+    same(&rt, sender.seal(IPV4, &inner(), &mut out)?, 1);
+    same(&rt, out.as_slice(), first().as_slice());
     Ok(())
 }
 
-// The last number is used, and then every payload is refused, however long.
+/// Finds that a sender's next number is its last, after which every payload is refused, however long.
+fn ends_with(rt: &impl Abort, alloc: Global, mut sender: Outbound, most: u64) -> Result<(), Fail> {
+    let long = vec![in alloc; 0x5a; 16_385]?;
+    let mut out = Vec::new(alloc);
+    same(rt, sender.seal(IPV4, &inner(), &mut out)?, most);
+    same(rt, out.len(), 48);
+    let refused = sender.seal(IPV4, &inner(), &mut out);
+    same_at(rt, most, refused, Err(EspFault::Exhausted));
+    let refused = sender.seal(IPV4, &long, &mut out);
+    same_at(rt, most, refused, Err(EspFault::Exhausted));
+    same(rt, out.len(), 48);
+    Ok(())
+}
+
 #[test]
 fn uses_up_the_numbers(rt: HostRuntime) -> Result<(), Fail> {
-    let long = vec![in rt.alloc(); 0x5a; 16_385]?;
-    for (mut sender, most) in [
-        (sender(4_294_967_294), 4_294_967_295),
-        (extended_sender(u64::MAX - 1), u64::MAX),
-    ] {
-        let mut out = Vec::new(rt.alloc());
-        assert_eq!(rt; sender.seal(IPV4, &INNER, &mut out)?, most);
-        assert_eq!(rt; out.len(), 48);
-        assert_eq!(rt;
-            sender.seal(IPV4, &INNER, &mut out),
-            Err(EspFault::Exhausted),
-            "after {most}"
-        );
-        assert_eq!(rt;
-            sender.seal(IPV4, &long, &mut out),
-            Err(EspFault::Exhausted),
-            "after {most}"
-        );
-        assert_eq!(rt; out.len(), 48);
-    }
-    Ok(())
+    ends_with(&rt, rt.alloc(), sender(4_294_967_294), 4_294_967_295)?;
+    ends_with(&rt, rt.alloc(), extended_sender(u64::MAX - 1), u64::MAX)
 }
 
 #[test]
 fn goes_on_above_32_bits_if_extended(rt: HostRuntime) -> Result<(), Fail> {
     let mut out = Vec::new(rt.alloc());
-    assert_eq!(rt;
-        sender(4_294_967_295).seal(IPV4, &INNER, &mut out),
-        Err(EspFault::Exhausted)
-    );
-    assert!(rt; out.is_empty());
-    assert_eq!(rt;
-        extended_sender(4_294_967_295).seal(IPV4, &INNER, &mut out)?,
-        4_294_967_296
-    );
-    assert_eq!(rt; out.len(), 48);
+    let refused = sender(4_294_967_295).seal(IPV4, &inner(), &mut out);
+    same(&rt, refused, Err(EspFault::Exhausted));
+    holds(&rt, out.is_empty());
+    let sealed = sealed(
+        &rt,
+        rt.alloc(),
+        extended_sender(4_294_967_295),
+        4_294_967_296,
+    )?;
+    same(&rt, sealed.len(), 48);
     Ok(())
 }

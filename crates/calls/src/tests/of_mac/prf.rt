@@ -1,4 +1,5 @@
 // Expected values are those of Python's modules `hmac` and `hashlib`.
+use crate::tests::asserts::{holds, same, same_at};
 use mac::{MacFault, cookie, prf_plus};
 use sha2::{Digest, Sha256};
 use std::process::Abort;
@@ -35,8 +36,8 @@ fn expect(rt: &impl Abort, count: usize, wanted: &[u8]) -> Result<(), Fail> {
     let mut joined = [0xee; 8160];
     prf_plus(KEY, &[SEED], &mut whole[..count])?;
     prf_plus(KEY, &parts, &mut joined[..count])?;
-    assert_eq!(rt; &whole[..count], wanted, "{count} octets");
-    assert_eq!(rt; &joined[..count], wanted, "{count} octets");
+    same_at(rt, count, &whole[..count], wanted);
+    same_at(rt, count, &joined[..count], wanted);
     Ok(())
 }
 
@@ -53,15 +54,16 @@ fn beginnings_of_one_output(rt: HostRuntime) -> Result<(), Fail> {
 fn all_255_blocks(rt: HostRuntime) -> Result<(), Fail> {
     let mut out = [0; 8160];
     prf_plus(KEY, &[SEED], &mut out)?;
-    assert!(rt; out.starts_with(&FIRST));
+    holds(&rt, out.starts_with(&FIRST));
     let digest: [u8; 32] = Sha256::digest(&out);
-    assert_eq!(rt;
+    same(
+        &rt,
         digest,
         [
             0xc3, 0xb7, 0x9c, 0x37, 0x60, 0x72, 0xa3, 0x54, 0x84, 0x68, 0x32, 0x00, 0xaa, 0x1c,
             0x9a, 0x14, 0xf2, 0xce, 0x90, 0x07, 0x42, 0xdf, 0x3b, 0x6d, 0xde, 0x04, 0x08, 0x4f,
             0xad, 0x2e, 0xb4, 0x90,
-        ]
+        ],
     );
     Ok(())
 }
@@ -74,13 +76,14 @@ fn a_key_longer_than_a_block_of_the_hash(rt: HostRuntime) -> Result<(), Fail> {
     }
     let mut out = [0; 33];
     prf_plus(&key, &[SEED], &mut out)?;
-    assert_eq!(rt;
+    same(
+        &rt,
         out,
         [
             0x4f, 0xc4, 0xe1, 0x41, 0x2f, 0x7e, 0xfe, 0x48, 0xaf, 0x12, 0xc3, 0x0d, 0xc3, 0x53,
             0xeb, 0xc7, 0x7a, 0x0e, 0x65, 0xf0, 0xc6, 0x51, 0xcd, 0x88, 0x13, 0x3a, 0xc7, 0xd2,
             0x16, 0x19, 0x68, 0x9b, 0xd2,
-        ]
+        ],
     );
     Ok(())
 }
@@ -88,54 +91,53 @@ fn a_key_longer_than_a_block_of_the_hash(rt: HostRuntime) -> Result<(), Fail> {
 #[test]
 fn no_more_than_255_blocks(rt: HostRuntime) {
     let mut out = [0xee; 8161];
-    assert_eq!(rt; prf_plus(KEY, &[SEED], &mut out), Err(MacFault::TooMuch));
-    assert!(rt; out.iter().all(|octet| *octet == 0xee));
-}
-
-#[test]
-fn names_the_fault(rt: HostRuntime) -> Result<(), Fail> {
-    assert_eq!(rt; MacFault::TooMuch.code(), 11);
-    let text = format!(in rt.alloc(); "{}", MacFault::TooMuch)?;
-    assert_eq!(rt; text.as_str(), "E11: prf+ gives no more than 8160 octets");
-    Ok(())
+    same(
+        &rt,
+        prf_plus(KEY, &[SEED], &mut out),
+        Err(MacFault::TooMuch),
+    );
+    holds(&rt, out.iter().all(|octet| *octet == 0xee));
 }
 
 #[test]
 fn cookies(rt: HostRuntime) {
-    assert_eq!(rt;
+    same(
+        &rt,
         cookie(
             0x0102_0304,
             &[7; 32],
             &[0, 1, 2, 3, 4, 5, 6, 7, 8, 9, 10, 11, 12, 13, 14, 15],
             &[192, 0, 2, 1],
-            0x0102_0304_0506_0708
+            0x0102_0304_0506_0708,
         ),
         [
             0x01, 0x02, 0x03, 0x04, 0x83, 0x66, 0x8e, 0x7c, 0x21, 0x16, 0x9c, 0x3c, 0x33, 0x15,
             0xad, 0x0a, 0x34, 0xc6, 0x7f, 0xce, 0x82, 0x5e, 0xa1, 0x56, 0x57, 0x5f, 0xf4, 0x52,
             0x25, 0xab, 0x93, 0x7a, 0xf0, 0xca, 0xba, 0x01,
-        ]
+        ],
     );
-    assert_eq!(rt;
+    same(
+        &rt,
         cookie(
             u32::MAX,
             &[0; 32],
             &[0xaa; 256],
             &[0x20, 1, 0x0d, 0xb8, 0, 0, 0, 0, 0, 0, 0, 0, 0, 0, 0, 1],
-            u64::MAX
+            u64::MAX,
         ),
         [
             0xff, 0xff, 0xff, 0xff, 0xd0, 0x60, 0x51, 0xaf, 0x20, 0xd2, 0x66, 0xdc, 0x16, 0x2c,
             0x29, 0xdb, 0x7a, 0xde, 0x8b, 0xa1, 0xec, 0xff, 0x8a, 0x80, 0xf2, 0xb0, 0xce, 0x77,
             0x93, 0x9b, 0x47, 0x33, 0x40, 0x2d, 0xe3, 0x8b,
-        ]
+        ],
     );
-    assert_eq!(rt;
+    same(
+        &rt,
         cookie(1, &[0; 32], &[], &[], 0),
         [
             0x00, 0x00, 0x00, 0x01, 0x2c, 0x34, 0xce, 0x1d, 0xf2, 0x3b, 0x83, 0x8c, 0x5a, 0xbf,
             0x2a, 0x7f, 0x64, 0x37, 0xcc, 0xa3, 0xd3, 0x06, 0x7e, 0xd5, 0x09, 0xff, 0x25, 0xf1,
             0x1d, 0xf6, 0xb1, 0x1b, 0x58, 0x2b, 0x51, 0xeb,
-        ]
+        ],
     );
 }

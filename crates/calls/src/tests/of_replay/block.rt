@@ -1,16 +1,41 @@
+use super::fixture::{accept, judges, offer};
+use crate::tests::asserts::{same, same_at};
 use replay::Judgement::{Fresh, Old, Taken, Zero};
 use replay::{BlockWindow, Judgement, PlainWindow, ReplayFault, Window, is_block_count};
 use std::alloc::Global;
 use std::process::Abort;
 use std::test::Fail;
 
-/// Takes a number that is fresh, through the trait alone, and answers how it was judged.
-fn accept<W: Window>(window: &mut W, n: u64) -> Result<Judgement, ReplayFault> {
-    let judgement = window.judge(n);
-    if let Fresh = judgement {
-        window.take(n)?;
+#[test]
+fn seven_counts_of_blocks(rt: HostRuntime) {
+    let counts = [2, 4, 8, 16, 32, 64, 128];
+    for m in 0..=300 {
+        same_at(&rt, m, is_block_count(m), counts.contains(&m));
     }
-    Ok(judgement)
+}
+
+/// A window of so many blocks, if that is a count of blocks.
+fn window_of(alloc: Global, blocks: u32) -> Result<BlockWindow, Fail> {
+    if !is_block_count(blocks) {
+        return Err(Fail::new("no count of blocks"));
+    }
+    Ok(BlockWindow::new(alloc, blocks)?)
+}
+
+/// Finds how windows of so many blocks that take some numbers judge others.
+fn judges_behind(
+    rt: &impl Abort,
+    alloc: Global,
+    rows: &[(u32, &[u64], &[(u64, Judgement)])],
+) -> Result<(), Fail> {
+    for (blocks, taken, judged) in rows {
+        let mut window = window_of(alloc, *blocks)?;
+        for n in *taken {
+            offer(rt, &mut window, *n, Fresh)?;
+        }
+        judges(rt, &window, judged);
+    }
+    Ok(())
 }
 
 #[test]
@@ -53,23 +78,7 @@ fn judges_the_worked_numbers(rt: HostRuntime) -> Result<(), Fail> {
             ],
         ),
     ];
-    for (blocks, taken, judged) in rows {
-        if !is_block_count(blocks) {
-            return Err(Fail::new("no count of blocks"));
-        }
-        let mut window = BlockWindow::new(rt.alloc(), blocks)?;
-        for n in taken {
-            assert_eq!(rt;
-                accept(&mut window, *n)?,
-                Fresh,
-                "{blocks} blocks, taking {n}"
-            );
-        }
-        for (n, judgement) in judged {
-            assert_eq!(rt; window.judge(*n), *judgement, "{blocks} blocks, at {n}");
-        }
-    }
-    Ok(())
+    judges_behind(&rt, rt.alloc(), &rows)
 }
 
 // To be run with its one allocation failing, too.
@@ -77,33 +86,34 @@ fn judges_the_worked_numbers(rt: HostRuntime) -> Result<(), Fail> {
 fn is_made_whole_or_refused(rt: HostRuntime) {
     match BlockWindow::new(rt.alloc(), 128) {
         Ok(window) => {
-            assert_eq!(rt; window.size(), 8128);
-            assert_eq!(rt; window.top(), 0);
-            assert_eq!(rt; window.judge(1), Fresh);
+            same(&rt, window.size(), 8128);
+            same(&rt, window.top(), 0);
+            same(&rt, window.judge(1), Fresh);
         }
-        Err(fault) => assert_eq!(rt; fault, ReplayFault::Memory),
+        Err(fault) => same(&rt, fault, ReplayFault::Memory),
     }
+}
+
+/// Finds that a window of so many blocks spans so many numbers and forgets none of them.
+fn remembers(rt: &impl Abort, alloc: Global, blocks: u32, size: u64) -> Result<(), Fail> {
+    let mut window = window_of(alloc, blocks)?;
+    same(rt, window.size(), size);
+    let next = size.wrapping_add(1);
+    offer(rt, &mut window, 1, Fresh)?;
+    offer(rt, &mut window, size, Fresh)?;
+    judges(rt, &window, &[(1, Taken)]);
+    offer(rt, &mut window, next, Fresh)?;
+    judges(rt, &window, &[(1, Old)]);
+    offer(rt, &mut window, 2, Fresh)?;
+    judges(rt, &window, &[(2, Taken), (size, Taken), (next, Taken)]);
+    Ok(())
 }
 
 #[test]
 fn larger_windows_remember_their_whole_span(rt: HostRuntime) -> Result<(), Fail> {
-    for (blocks, size) in [(16, 960), (32, 1984), (64, 4032)] {
-        if !is_block_count(blocks) {
-            return Err(Fail::new("no count of blocks"));
-        }
-        let mut window = BlockWindow::new(rt.alloc(), blocks)?;
-        assert_eq!(rt; window.size(), size);
-        assert_eq!(rt; accept(&mut window, 1)?, Fresh);
-        assert_eq!(rt; accept(&mut window, size)?, Fresh);
-        assert_eq!(rt; window.judge(1), Taken, "{blocks} blocks");
-        assert_eq!(rt; accept(&mut window, size + 1)?, Fresh);
-        assert_eq!(rt; window.judge(1), Old, "{blocks} blocks");
-        assert_eq!(rt; accept(&mut window, 2)?, Fresh);
-        for n in [2, size, size + 1] {
-            assert_eq!(rt; window.judge(n), Taken, "{blocks} blocks, at {n}");
-        }
-    }
-    Ok(())
+    remembers(&rt, rt.alloc(), 16, 960)?;
+    remembers(&rt, rt.alloc(), 32, 1984)?;
+    remembers(&rt, rt.alloc(), 64, 4032)
 }
 
 /// Offers one number to both windows.
@@ -114,8 +124,8 @@ fn agree_at<A: Window, B: Window>(
     n: u64,
 ) -> Result<(), ReplayFault> {
     let judgement = accept(first, n)?;
-    assert_eq!(rt; accept(second, n)?, judgement, "at {n}");
-    assert_eq!(rt; first.top(), second.top(), "after {n}");
+    same_at(rt, n, accept(second, n)?, judgement);
+    same_at(rt, n, first.top(), second.top());
     Ok(())
 }
 
@@ -132,7 +142,7 @@ fn agree_over(
     }
     let mut ring = BlockWindow::new(alloc, blocks)?;
     let mut plain = PlainWindow::new(alloc, blocks);
-    assert_eq!(rt; ring.size(), plain.size());
+    same(rt, ring.size(), plain.size());
     let mut stop: u64 = 0;
     for _ in 0..rounds {
         for step in steps {
@@ -161,33 +171,22 @@ fn around(stop: u64, size: u64) -> [u64; 9] {
     ]
 }
 
+/// Compares windows of so many blocks on several ways up.
+fn agree_on_each(rt: &impl Abort, alloc: Global, blocks: u32) -> Result<(), Fail> {
+    let round = 64 * u64::from(blocks);
+    let near = [64, round.saturating_sub(64), round, round + 64];
+    let far = [round.saturating_sub(1), 1, round + 1, 63, 65, 10 * round, 1];
+    let end = [u64::MAX - 3 * round, round, 7, round, 60, 61];
+    agree_over(rt, alloc, blocks, &[1], 600)?;
+    agree_over(rt, alloc, blocks, &[3, 61, 2, 5], 60)?;
+    agree_over(rt, alloc, blocks, &near, 8)?;
+    agree_over(rt, alloc, blocks, &far, 8)?;
+    agree_over(rt, alloc, blocks, &end, 2)
+}
+
 #[test]
 fn answers_as_the_plain_window(rt: HostRuntime) -> Result<(), Fail> {
-    for blocks in [2, 4, 8] {
-        let round = 64 * u64::from(blocks);
-        agree_over(&rt, rt.alloc(), blocks, &[1], 600)?;
-        agree_over(&rt, rt.alloc(), blocks, &[3, 61, 2, 5], 60)?;
-        agree_over(
-            &rt,
-            rt.alloc(),
-            blocks,
-            &[64, round - 64, round, round + 64],
-            8,
-        )?;
-        agree_over(
-            &rt,
-            rt.alloc(),
-            blocks,
-            &[round - 1, 1, round + 1, 63, 65, 10 * round, 1],
-            8,
-        )?;
-        agree_over(
-            &rt,
-            rt.alloc(),
-            blocks,
-            &[u64::MAX - 3 * round, round, 7, round, 60, 61],
-            2,
-        )?;
-    }
-    Ok(())
+    agree_on_each(&rt, rt.alloc(), 2)?;
+    agree_on_each(&rt, rt.alloc(), 4)?;
+    agree_on_each(&rt, rt.alloc(), 8)
 }

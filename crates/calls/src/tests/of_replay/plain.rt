@@ -1,28 +1,25 @@
+use super::fixture::{accept, judges, offer};
+use crate::tests::asserts::{holds, same};
 use replay::Judgement::{Fresh, Old, Taken, Zero};
-use replay::{Judgement, PlainWindow, ReplayFault, Window};
+use replay::{PlainWindow, ReplayFault, Window};
+use std::process::Abort;
 use std::test::Fail;
 
-/// Takes a number that is fresh, through the trait alone, and answers how it was judged.
-fn accept<W: Window>(window: &mut W, n: u64) -> Result<Judgement, ReplayFault> {
-    let judgement = window.judge(n);
-    if let Fresh = judgement {
-        window.take(n)?;
-    }
-    Ok(judgement)
+/// Finds that a new window's span moves with the numbers that it takes.
+fn moves(rt: &impl Abort, window: &mut PlainWindow) -> Result<(), ReplayFault> {
+    same(rt, (window.size(), window.top()), (64, 0));
+    offer(rt, window, 64, Fresh)?;
+    judges(rt, window, &[(1, Fresh)]);
+    offer(rt, window, 65, Fresh)?;
+    let rows = [(2, Fresh), (1, Old), (65, Taken), (0, Zero), (66, Fresh)];
+    judges(rt, window, &rows);
+    same(rt, window.top(), 65);
+    Ok(())
 }
 
 #[test]
 fn moves_its_span(rt: HostRuntime) -> Result<(), Fail> {
-    let mut window = PlainWindow::new(rt.alloc(), 2);
-    assert_eq!(rt; window.size(), 64);
-    assert_eq!(rt; window.top(), 0);
-    assert_eq!(rt; accept(&mut window, 64)?, Fresh);
-    assert_eq!(rt; window.judge(1), Fresh);
-    assert_eq!(rt; accept(&mut window, 65)?, Fresh);
-    for (n, judgement) in [(2, Fresh), (1, Old), (65, Taken), (0, Zero), (66, Fresh)] {
-        assert_eq!(rt; window.judge(n), judgement, "at {n}");
-    }
-    assert_eq!(rt; window.top(), 65);
+    moves(&rt, &mut PlainWindow::new(rt.alloc(), 2))?;
     Ok(())
 }
 
@@ -41,11 +38,11 @@ fn taken(window: &PlainWindow) -> u32 {
 fn knows_no_more_numbers_than_it_spans(rt: HostRuntime) -> Result<(), Fail> {
     let mut window = PlainWindow::new(rt.alloc(), 2);
     for n in 1..=200 {
-        assert_eq!(rt; accept(&mut window, n)?, Fresh, "at {n}");
-        assert_eq!(rt; accept(&mut window, n)?, Taken, "at {n} again");
-        assert!(rt; taken(&window) <= 64);
+        offer(&rt, &mut window, n, Fresh)?;
+        offer(&rt, &mut window, n, Taken)?;
+        holds(&rt, taken(&window) <= 64);
     }
-    assert_eq!(rt; taken(&window), 64);
+    same(&rt, taken(&window), 64);
     Ok(())
 }
 
@@ -56,12 +53,12 @@ fn a_refusal_leaves_the_window(rt: HostRuntime) {
         let top = window.top();
         match accept(&mut window, n) {
             Ok(judgement) => {
-                assert_eq!(rt; judgement, Fresh);
-                assert_eq!(rt; window.judge(n), Taken);
+                same(&rt, judgement, Fresh);
+                same(&rt, window.judge(n), Taken);
             }
             Err(ReplayFault::Memory) => {
-                assert_eq!(rt; window.judge(n), Fresh);
-                assert_eq!(rt; window.top(), top);
+                same(&rt, window.judge(n), Fresh);
+                same(&rt, window.top(), top);
             }
         }
     }

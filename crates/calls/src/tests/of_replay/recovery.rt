@@ -1,3 +1,4 @@
+use crate::tests::asserts::same_at;
 use replay::{recover, recovers_one_number};
 use std::process::Abort;
 
@@ -13,7 +14,7 @@ fn recovers_the_worked_numbers(rt: HostRuntime) {
         (u64::MAX, 0, None),
         (u64::MAX, u32::MAX, Some(u64::MAX)),
     ] {
-        assert_eq!(rt; recover(top, 64, low), number, "top {top}, low half {low}");
+        same_at(&rt, (top, low), recover(top, 64, low), number);
     }
 }
 
@@ -49,10 +50,11 @@ fn agrees_at(rt: &impl Abort, top: u64, window: u64) {
             edge.wrapping_add(step).wrapping_sub(3),
             step.wrapping_sub(4),
         ] {
-            assert_eq!(rt;
+            same_at(
+                rt,
+                (top, window, low),
                 recover(top, window, low),
                 search(top, window, low),
-                "top {top}, window {window}, low half {low}"
             );
         }
     }

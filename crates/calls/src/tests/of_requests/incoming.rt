@@ -2,6 +2,7 @@
 use super::draws::Draws;
 use super::fixture::accept;
 use super::plain::{PlainIncoming, Said};
+use crate::tests::asserts::{holds_at, same_at};
 use requests::{Incoming, Judgement};
 use std::alloc::Global;
 use std::process::Abort;
@@ -28,18 +29,22 @@ fn offer(
     reply: u32,
 ) -> Result<(), Fail> {
     let judged = plain.judge(number);
-    assert_eq!(rt; said(incoming, number), judged, "at {number}");
+    same_at(rt, number, said(incoming, number), judged);
     let taken = accept(incoming, alloc, number, &reply.to_be_bytes())?;
-    assert_eq!(rt; taken, judged == Said::Fresh, "at {number}");
+    same_at(rt, number, taken, judged == Said::Fresh);
     if taken {
         plain.take(number, reply)?;
     }
-    assert_eq!(rt;
-        said(incoming, number),
-        plain.judge(number),
-        "after {number}"
-    );
+    same_at(rt, number, said(incoming, number), plain.judge(number));
     Ok(())
+}
+
+/// Compares what both say of the numbers from this one on.
+fn same_near(rt: &impl Abort, incoming: &Incoming, plain: &PlainIncoming, near: u32) {
+    for step in 0..40 {
+        let number = near.saturating_add(step);
+        same_at(rt, number, said(incoming, number), plain.judge(number));
+    }
 }
 
 /// Offers numbers round the gap, and at the end of a round compares all near it.
@@ -56,10 +61,7 @@ fn agree(
         let number = near.saturating_add(draws.below(40));
         offer(rt, alloc, incoming, plain, number, round)?;
         if round % 16 == 0 {
-            for step in 0..40 {
-                let number = near.saturating_add(step);
-                assert_eq!(rt; said(incoming, number), plain.judge(number), "at {number}");
-            }
+            same_near(rt, incoming, plain, near);
         }
     }
     Ok(())
@@ -78,17 +80,9 @@ fn agree_at(rt: &impl Abort, alloc: Global, size: u8) -> Result<(), Fail> {
 }
 
 #[test]
-fn agrees_at_size_1(rt: HostRuntime) -> Result<(), Fail> {
-    agree_at(&rt, rt.alloc(), 1)
-}
-
-#[test]
-fn agrees_at_size_4(rt: HostRuntime) -> Result<(), Fail> {
-    agree_at(&rt, rt.alloc(), 4)
-}
-
-#[test]
-fn agrees_at_size_16(rt: HostRuntime) -> Result<(), Fail> {
+fn agrees_at_each_size(rt: HostRuntime) -> Result<(), Fail> {
+    agree_at(&rt, rt.alloc(), 1)?;
+    agree_at(&rt, rt.alloc(), 4)?;
     agree_at(&rt, rt.alloc(), 16)
 }
 
@@ -112,9 +106,10 @@ fn take_all(
     numbers: &[u32],
 ) -> Result<(), Fail> {
     for number in numbers {
-        assert!(rt;
+        holds_at(
+            rt,
+            number,
             accept(incoming, alloc, *number, &number.to_be_bytes())?,
-            "at {number}"
         );
     }
     Ok(())
@@ -123,7 +118,7 @@ fn take_all(
 /// Compares what is said of some numbers.
 fn all_said(rt: &impl Abort, incoming: &Incoming, rows: &[(u32, Said)]) {
     for (number, expected) in rows {
-        assert_eq!(rt; said(incoming, *number), *expected, "at {number}");
+        same_at(rt, number, said(incoming, *number), *expected);
     }
 }
 

@@ -1,6 +1,7 @@
 //! Runs that pass whether an allocation fails or not: what was refused for want of memory left everything as it was. Each is to
 //! be run with every allocation failing in turn.
 use super::fixture::{accept, issue};
+use crate::tests::asserts::{holds_at, same};
 use requests::{Incoming, Judgement, Outgoing, RequestFault};
 use std::alloc::Global;
 use std::process::Abort;
@@ -9,14 +10,16 @@ use std::process::Abort;
 fn taking_without_memory(rt: HostRuntime) {
     let mut incoming = Incoming::new(rt.alloc());
     for number in 0..20 {
-        assert!(rt;
+        holds_at(
+            &rt,
+            number,
             matches!(incoming.judge(number), Judgement::Fresh),
-            "at {number}"
         );
         while_refused(&rt, rt.alloc(), &mut incoming, number);
-        assert!(rt;
+        holds_at(
+            &rt,
+            number,
             matches!(incoming.judge(number), Judgement::Repeat(_)),
-            "at {number}"
         );
     }
 }
@@ -26,12 +29,13 @@ fn while_refused(rt: &impl Abort, alloc: Global, incoming: &mut Incoming, number
     for _ in 0..3 {
         match accept(incoming, alloc, number, &[1, 2, 3]) {
             Ok(taken) => {
-                assert!(rt; taken, "at {number}");
+                holds_at(rt, number, taken);
                 return;
             }
-            Err(_) => assert!(rt;
+            Err(_) => holds_at(
+                rt,
+                number,
                 matches!(incoming.judge(number), Judgement::Fresh),
-                "at {number}"
             ),
         }
     }
@@ -45,15 +49,15 @@ fn issuing_without_memory(rt: HostRuntime) {
     for request in 0..30 {
         match issue(&mut outgoing, request) {
             Ok(number) => {
-                assert_eq!(rt; number, next);
+                same(&rt, number, next);
                 next = next.wrapping_add(1);
             }
-            Err(RequestFault::Memory) => assert_eq!(rt; outgoing.may_issue(), Ok(next)),
+            Err(RequestFault::Memory) => same(&rt, outgoing.may_issue(), Ok(next)),
             Err(fault) => {
-                assert_eq!(rt; fault, RequestFault::Busy);
-                assert_eq!(rt; next, 16);
+                same(&rt, fault, RequestFault::Busy);
+                same(&rt, next, 16);
             }
         }
     }
-    assert_eq!(rt; next, 16);
+    same(&rt, next, 16);
 }

@@ -2,6 +2,7 @@
 use super::draws::Draws;
 use super::fixture::{count, issue, replace, withdraw};
 use super::plain::PlainOutgoing;
+use crate::tests::asserts::{holds, same, same_at};
 use requests::{Outgoing, RequestFault};
 use std::alloc::Global;
 use std::process::Abort;
@@ -15,16 +16,16 @@ fn issue_both(
     request: u32,
 ) -> Result<(), Fail> {
     match outgoing.may_issue() {
-        Ok(number) => assert_eq!(rt; u64::from(number), plain.next),
-        Err(fault) => assert_eq!(rt; Some(fault), plain.refusal()),
+        Ok(number) => same(rt, u64::from(number), plain.next),
+        Err(fault) => same(rt, Some(fault), plain.refusal()),
     }
     match issue(outgoing, request) {
         Ok(number) => {
-            assert_eq!(rt; u64::from(number), plain.next);
-            assert!(rt; plain.refusal().is_none());
+            same(rt, u64::from(number), plain.next);
+            holds(rt, plain.refusal().is_none());
             plain.issue(number, request)?;
         }
-        Err(fault) => assert_eq!(rt; Some(fault), plain.refusal()),
+        Err(fault) => same(rt, Some(fault), plain.refusal()),
     }
     Ok(())
 }
@@ -34,15 +35,53 @@ fn same_outstanding(rt: &impl Abort, outgoing: &Outgoing<u32>, plain: &PlainOutg
     let mut last: Option<u32> = None;
     for (number, request) in &plain.outstanding {
         let found = outgoing.after(last).map(|next| (next.0, *next.1));
-        assert_eq!(rt; found, Some((*number, *request)));
-        assert_eq!(rt; outgoing.get(*number).copied(), Some(*request));
+        same(rt, found, Some((*number, *request)));
+        same(rt, outgoing.get(*number).copied(), Some(*request));
         last = Some(*number);
     }
-    assert!(rt; outgoing.after(last).is_none());
-    assert_eq!(rt;
+    holds(rt, outgoing.after(last).is_none());
+    same(
+        rt,
         outgoing.any(|request| *request % 3 == 0),
-        plain.outstanding.values().any(|request| *request % 3 == 0)
+        plain.outstanding.values().any(|request| *request % 3 == 0),
     );
+}
+
+/// Puts another request in the place of one of both, if it is outstanding, and compares the answers.
+fn replace_both(
+    rt: &impl Abort,
+    outgoing: &mut Outgoing<u32>,
+    plain: &mut PlainOutgoing,
+    number: u32,
+    request: u32,
+) -> Result<(), Fail> {
+    let was = plain.outstanding.get(&number).copied();
+    same_at(rt, number, replace(outgoing, number, request), was);
+    if was.is_some() {
+        plain.outstanding.insert(number, request)?;
+    }
+    Ok(())
+}
+
+/// Does one of the three things to both, as the draws have it.
+fn change_both(
+    rt: &impl Abort,
+    outgoing: &mut Outgoing<u32>,
+    plain: &mut PlainOutgoing,
+    draws: &mut Draws,
+    round: u32,
+) -> Result<(), Fail> {
+    let near = u32::try_from(plain.next)?.saturating_sub(18);
+    let number = near.saturating_add(draws.below(20));
+    match draws.below(4) {
+        0 | 1 => issue_both(rt, outgoing, plain, round),
+        2 => {
+            let wanted = plain.count(number)?;
+            same_at(rt, number, count(outgoing, number), wanted);
+            Ok(())
+        }
+        _ => replace_both(rt, outgoing, plain, number, round),
+    }
 }
 
 /// A long mixed list at one window.
@@ -55,84 +94,57 @@ fn agree_at(rt: &impl Abort, alloc: Global, window: u8) -> Result<(), Fail> {
     }
     let mut draws = Draws::new(u64::from(window));
     for round in 0..400 {
-        let near = u32::try_from(plain.next)?.saturating_sub(18);
-        let number = near.saturating_add(draws.below(20));
-        match draws.below(4) {
-            0 | 1 => issue_both(rt, &mut outgoing, &mut plain, round)?,
-            2 => assert_eq!(rt;
-                count(&mut outgoing, number),
-                plain.count(number)?,
-                "at {number}"
-            ),
-            _ => {
-                let was = plain.outstanding.get(&number).copied();
-                assert_eq!(rt; replace(&mut outgoing, number, round), was, "at {number}");
-                if was.is_some() {
-                    plain.outstanding.insert(number, round)?;
-                }
-            }
-        }
+        change_both(rt, &mut outgoing, &mut plain, &mut draws, round)?;
         same_outstanding(rt, &outgoing, &plain);
     }
     Ok(())
 }
 
 #[test]
-fn agrees_at_window_1(rt: HostRuntime) -> Result<(), Fail> {
-    agree_at(&rt, rt.alloc(), 1)
-}
-
-#[test]
-fn agrees_at_window_4(rt: HostRuntime) -> Result<(), Fail> {
-    agree_at(&rt, rt.alloc(), 4)
-}
-
-#[test]
-fn agrees_at_window_16(rt: HostRuntime) -> Result<(), Fail> {
+fn agrees_at_each_window(rt: HostRuntime) -> Result<(), Fail> {
+    agree_at(&rt, rt.alloc(), 1)?;
+    agree_at(&rt, rt.alloc(), 4)?;
     agree_at(&rt, rt.alloc(), 16)
 }
 
 #[test]
-fn the_peers_window_is_the_one_that_counts(rt: HostRuntime) -> Result<(), Fail> {
+fn the_peers_window_is_the_one_that_counts(rt: HostRuntime) {
     let mut outgoing: Outgoing<u32> = Outgoing::after_initial(rt.alloc());
-    assert_eq!(rt; issue(&mut outgoing, 10), Ok(1));
-    assert_eq!(rt; issue(&mut outgoing, 20), Err(RequestFault::Busy));
+    same(&rt, issue(&mut outgoing, 10), Ok(1));
+    same(&rt, issue(&mut outgoing, 20), Err(RequestFault::Busy));
     outgoing.invariants_hold();
     outgoing.set_window(16);
     for number in 2..17 {
-        assert_eq!(rt; issue(&mut outgoing, 20), Ok(number));
+        same(&rt, issue(&mut outgoing, 20), Ok(number));
     }
-    assert_eq!(rt; issue(&mut outgoing, 30), Err(RequestFault::Busy));
+    same(&rt, issue(&mut outgoing, 30), Err(RequestFault::Busy));
     // The window begins at the least unanswered number.
-    assert_eq!(rt; count(&mut outgoing, 3), Some(20));
-    assert_eq!(rt; outgoing.may_issue(), Err(RequestFault::Busy));
-    assert_eq!(rt; count(&mut outgoing, 1), Some(10));
-    assert_eq!(rt; issue(&mut outgoing, 30), Ok(17));
-    Ok(())
+    same(&rt, count(&mut outgoing, 3), Some(20));
+    same(&rt, outgoing.may_issue(), Err(RequestFault::Busy));
+    same(&rt, count(&mut outgoing, 1), Some(10));
+    same(&rt, issue(&mut outgoing, 30), Ok(17));
 }
 
 #[test]
-fn what_is_given_up_stays_unanswered(rt: HostRuntime) -> Result<(), Fail> {
+fn what_is_given_up_stays_unanswered(rt: HostRuntime) {
     let mut outgoing: Outgoing<u32> = Outgoing::new(rt.alloc());
-    assert_eq!(rt; issue(&mut outgoing, 10), Ok(0));
+    same(&rt, issue(&mut outgoing, 10), Ok(0));
     outgoing.give_up();
-    assert!(rt; outgoing.after(None).is_none());
-    assert_eq!(rt; count(&mut outgoing, 0), None);
-    assert_eq!(rt; outgoing.may_issue(), Err(RequestFault::Busy));
-    Ok(())
+    holds(&rt, outgoing.after(None).is_none());
+    same(&rt, count(&mut outgoing, 0), None);
+    same(&rt, outgoing.may_issue(), Err(RequestFault::Busy));
 }
 
 #[test]
-fn one_of_two_is_withdrawn(rt: HostRuntime) -> Result<(), Fail> {
+fn one_of_two_is_withdrawn(rt: HostRuntime) {
     let mut outgoing: Outgoing<u32> = Outgoing::new(rt.alloc());
     outgoing.set_window(2);
-    assert_eq!(rt; issue(&mut outgoing, 10), Ok(0));
-    assert_eq!(rt; issue(&mut outgoing, 20), Ok(1));
-    assert_eq!(rt; withdraw(&mut outgoing, 0), Some(10));
-    assert_eq!(rt; withdraw(&mut outgoing, 0), None);
-    assert_eq!(rt; count(&mut outgoing, 0), None);
-    assert_eq!(rt; count(&mut outgoing, 1), Some(20));
+    same(&rt, issue(&mut outgoing, 10), Ok(0));
+    same(&rt, issue(&mut outgoing, 20), Ok(1));
+    same(&rt, withdraw(&mut outgoing, 0), Some(10));
+    same(&rt, withdraw(&mut outgoing, 0), None);
+    same(&rt, count(&mut outgoing, 0), None);
+    same(&rt, count(&mut outgoing, 1), Some(20));
     // Number 0 was never answered, so the window doesn't move.
-    assert_eq!(rt; outgoing.may_issue(), Err(RequestFault::Busy));
-    Ok(())
+    same(&rt, outgoing.may_issue(), Err(RequestFault::Busy));
 }

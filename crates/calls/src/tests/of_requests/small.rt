@@ -1,7 +1,7 @@
-//! The timer at the moments of its schedule, and the refusals' numbers.
-use requests::{Due, RequestFault, Timer};
+//! The timer at the moments of its schedule.
+use crate::tests::asserts::same_at;
+use requests::{Due, Timer};
 use std::process::Abort;
-use std::test::Fail;
 
 /// Sends again where that is due.
 fn told(timer: &mut Timer, now: u64) -> Due {
@@ -15,7 +15,7 @@ fn told(timer: &mut Timer, now: u64) -> Due {
 fn follows(rt: &impl Abort, rows: &[(u64, Due)], started: u64) {
     let mut timer = Timer::started(started);
     for (now, due) in rows {
-        assert_eq!(rt; told(&mut timer, *now), *due, "at {now}");
+        same_at(rt, now, told(&mut timer, *now), *due);
     }
 }
 
@@ -62,22 +62,4 @@ fn moments_near_the_last(rt: HostRuntime) {
         &[(0, Due::Nothing), (u64::MAX, Due::Nothing)],
         u64::MAX,
     );
-}
-
-#[test]
-fn names_each_fault(rt: HostRuntime) -> Result<(), Fail> {
-    for (fault, code, text) in [
-        (RequestFault::Memory, 10, "E10: no memory"),
-        (RequestFault::Busy, 35, "E35: the peer's window is full"),
-        (
-            RequestFault::NumbersSpent,
-            36,
-            "E36: the request numbers are spent",
-        ),
-    ] {
-        assert_eq!(rt; fault.code(), code);
-        let printed = format!(in rt.alloc(); "{fault}")?;
-        assert_eq!(rt; printed.as_str(), text);
-    }
-    Ok(())
 }

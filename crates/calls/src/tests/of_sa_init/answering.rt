@@ -2,6 +2,7 @@
 ghost use Rattle.sa_init.specs.Fitting.{IsSpelled};
 
 use super::fixture::{FRESH, NONCE, SECRET, SENDER, decoded, ke, nonce, proposal};
+use crate::tests::asserts::{holds, same};
 use caller::ScriptCaller;
 use mac::hmac;
 use sa_init::laws::accepted_offers_fit;
@@ -45,8 +46,8 @@ fn agreed(alloc: Global) -> Result<Agreed, Fail> {
 #[test]
 fn answers(rt: HostRuntime) -> Result<(), Fail> {
     let agreed = agreed(rt.alloc())?;
-    assert_eq!(rt; agreed.octets.len(), 148);
-    assert_eq!(rt; hmac(b"test", &[agreed.octets.as_slice()]), ANSWER);
+    same(&rt, agreed.octets.len(), 148);
+    same(&rt, hmac(b"test", &[agreed.octets.as_slice()]), ANSWER);
     let keys = &agreed.record;
     let hash = hmac(
         b"test",
@@ -60,7 +61,7 @@ fn answers(rt: HostRuntime) -> Result<(), Fail> {
             &keys.sk_pr,
         ],
     );
-    assert_eq!(rt; hash, KEYS);
+    same(&rt, hash, KEYS);
     Ok(())
 }
 
@@ -85,7 +86,7 @@ fn keys_read(alloc: Global, octets: &[u8], carried: Option<&[u8]>) -> Result<Key
 fn both_ends_have_one_record(rt: HostRuntime) -> Result<(), Fail> {
     let agreed = agreed(rt.alloc())?;
     let keys = keys_read(rt.alloc(), agreed.octets.as_slice(), None)?;
-    assert!(rt; keys == agreed.record);
+    holds(&rt, keys == agreed.record);
     Ok(())
 }
 
@@ -110,8 +111,8 @@ fn chooses_the_second_proposal(rt: HostRuntime) -> Result<(), Fail> {
     ) else {
         return Err("not accepted")?;
     };
-    assert_eq!(rt; (offer.chosen.place, offer.chosen.number), (1, 2));
-    assert_eq!(rt; offer.public, SECRET.as_slice());
-    assert_eq!(rt; offer.nonce, NONCE.as_slice());
+    same(&rt, (offer.chosen.place, offer.chosen.number), (1, 2));
+    same(&rt, offer.public, SECRET.as_slice());
+    same(&rt, offer.nonce, NONCE.as_slice());
     Ok(())
 }

@@ -1,5 +1,6 @@
 // What is judged and what is read, case by case.
 use super::fixture::{GROUP, NONCE, SECRET, SENDER, decoded, ke, nonce, push_parts, sa};
+use crate::tests::asserts::{holds, same};
 use caller::ScriptCaller;
 use exchange::{Notice, returned_cookie};
 use sa_init::{Cookies, Judgement, Response, Waiting, judge, read, refuse};
@@ -58,11 +59,11 @@ fn asks_for_cookies_from_the_ninth_on(rt: HostRuntime) -> Result<(), Fail> {
     let cookies = cookies()?;
     let mut plain = Items::new(alloc);
     push_parts(alloc, &mut plain, GROUP)?;
-    assert_eq!(rt; judged(plain.as_slice(), &cookies, 7, 7), "accepted");
-    assert_eq!(rt; judged(plain.as_slice(), &cookies, 8, 8), "cookie");
-    assert_eq!(rt; judged(plain.as_slice(), &cookies, 32, 128), "cookie");
+    same(&rt, judged(plain.as_slice(), &cookies, 7, 7), "accepted");
+    same(&rt, judged(plain.as_slice(), &cookies, 8, 8), "cookie");
+    same(&rt, judged(plain.as_slice(), &cookies, 32, 128), "cookie");
     let right = with_cookie(alloc, &made(&cookies))?;
-    assert_eq!(rt; judged(right.as_slice(), &cookies, 8, 8), "accepted");
+    same(&rt, judged(right.as_slice(), &cookies, 8, 8), "accepted");
     Ok(())
 }
 
@@ -74,10 +75,14 @@ fn cookies_of_two_secrets_are_right(rt: HostRuntime) -> Result<(), Fail> {
     before.change(&PREVIOUS)?;
     let previous = with_cookie(alloc, &made(&before))?;
     let cookies = cookies()?;
-    assert_eq!(rt; judged(previous.as_slice(), &cookies, 31, 31), "accepted");
-    assert_eq!(rt; judged(oldest.as_slice(), &cookies, 8, 8), "cookie");
+    same(
+        &rt,
+        judged(previous.as_slice(), &cookies, 31, 31),
+        "accepted",
+    );
+    same(&rt, judged(oldest.as_slice(), &cookies, 8, 8), "cookie");
     // Where none is asked for, a wrong one doesn't matter.
-    assert_eq!(rt; judged(oldest.as_slice(), &cookies, 7, 7), "accepted");
+    same(&rt, judged(oldest.as_slice(), &cookies, 7, 7), "accepted");
     Ok(())
 }
 
@@ -86,9 +91,9 @@ fn turns_away_where_it_is_full(rt: HostRuntime) -> Result<(), Fail> {
     let alloc = rt.alloc();
     let cookies = cookies()?;
     let right = with_cookie(alloc, &made(&cookies))?;
-    assert_eq!(rt; judged(right.as_slice(), &cookies, 32, 32), "full");
-    assert_eq!(rt; judged(right.as_slice(), &cookies, 0, 128), "full");
-    assert_eq!(rt; judged(right.as_slice(), &cookies, 31, 127), "accepted");
+    same(&rt, judged(right.as_slice(), &cookies, 32, 32), "full");
+    same(&rt, judged(right.as_slice(), &cookies, 0, 128), "full");
+    same(&rt, judged(right.as_slice(), &cookies, 31, 127), "accepted");
     Ok(())
 }
 
@@ -99,17 +104,25 @@ fn refuses_what_is_not_whole(rt: HostRuntime) -> Result<(), Fail> {
     let mut payloads = Items::new(alloc);
     payloads.push(sa(alloc)?)?;
     payloads.push(nonce(alloc)?)?;
-    assert_eq!(rt; judged(payloads.as_slice(), &cookies, 0, 0), "incomplete");
+    same(
+        &rt,
+        judged(payloads.as_slice(), &cookies, 0, 0),
+        "incomplete",
+    );
     payloads.push(ke(alloc, GROUP)?)?;
-    assert_eq!(rt; judged(payloads.as_slice(), &cookies, 0, 0), "accepted");
+    same(&rt, judged(payloads.as_slice(), &cookies, 0, 0), "accepted");
     payloads.push(nonce(alloc)?)?;
-    assert_eq!(rt; judged(payloads.as_slice(), &cookies, 0, 0), "incomplete");
+    same(
+        &rt,
+        judged(payloads.as_slice(), &cookies, 0, 0),
+        "incomplete",
+    );
     payloads.push(Payload::Unknown {
         kind: 77,
         critical: true,
         data: Items::new(alloc),
     })?;
-    assert_eq!(rt; judged(payloads.as_slice(), &cookies, 0, 0), "critical");
+    same(&rt, judged(payloads.as_slice(), &cookies, 0, 0), "critical");
     Ok(())
 }
 
@@ -119,7 +132,7 @@ fn declines_another_group(rt: HostRuntime) -> Result<(), Fail> {
     let cookies = cookies()?;
     let mut payloads = Items::new(alloc);
     push_parts(alloc, &mut payloads, 14)?;
-    assert_eq!(rt; judged(payloads.as_slice(), &cookies, 0, 0), "declined");
+    same(&rt, judged(payloads.as_slice(), &cookies, 0, 0), "declined");
     Ok(())
 }
 
@@ -160,11 +173,11 @@ fn is_heeded(
 #[test]
 fn brings_cookies_back(rt: HostRuntime) -> Result<(), Fail> {
     let alloc = rt.alloc();
-    assert!(rt; is_heeded(alloc, 0, None, 0)?);
-    assert!(rt; is_heeded(alloc, 0, Some(&[6; 36]), 3)?);
+    holds(&rt, is_heeded(alloc, 0, None, 0)?);
+    holds(&rt, is_heeded(alloc, 0, Some(&[6; 36]), 3)?);
     // the same as before, a fifth one, and one from a responder that names an SPI
-    assert!(rt; !is_heeded(alloc, 0, Some(&[5; 36]), 1)?);
-    assert!(rt; !is_heeded(alloc, 0, Some(&[6; 36]), 4)?);
-    assert!(rt; !is_heeded(alloc, 2, None, 0)?);
+    holds(&rt, !is_heeded(alloc, 0, Some(&[5; 36]), 1)?);
+    holds(&rt, !is_heeded(alloc, 0, Some(&[6; 36]), 4)?);
+    holds(&rt, !is_heeded(alloc, 2, None, 0)?);
     Ok(())
 }

@@ -4,6 +4,7 @@ ghost use Rattle.std.specs.Prelude.{◌≤◌, length};
 ghost use Rattle.std.specs.Option.{ForSome};
 
 use super::fixture::{NONCE, SECRET};
+use crate::tests::asserts::same;
 use caller::ScriptCaller;
 use exchange::Notice;
 use mac::hmac;
@@ -39,19 +40,15 @@ fn requested(alloc: Global, cookie: Option<&[u8]>) -> Result<([u8; 32], usize), 
     Ok((hmac(b"test", &[octets.as_slice()]), octets.len()))
 }
 
+// Without a cookie, and with one.
 #[test]
 fn requests(rt: HostRuntime) -> Result<(), Fail> {
-    let (hash, length) = requested(rt.alloc(), None)?;
-    assert_eq!(rt; length, 148);
-    assert_eq!(rt; hash, PLAIN);
-    Ok(())
-}
-
-#[test]
-fn requests_with_a_cookie(rt: HostRuntime) -> Result<(), Fail> {
-    let (hash, length) = requested(rt.alloc(), Some(&[5; 36]))?;
-    assert_eq!(rt; length, 192);
-    assert_eq!(rt; hash, WITH_COOKIE);
+    same(&rt, requested(rt.alloc(), None)?, (PLAIN, 148));
+    same(
+        &rt,
+        requested(rt.alloc(), Some(&[5; 36]))?,
+        (WITH_COOKIE, 192),
+    );
     Ok(())
 }
 
@@ -59,9 +56,9 @@ fn requests_with_a_cookie(rt: HostRuntime) -> Result<(), Fail> {
 fn refuses_with_a_cookie(rt: HostRuntime) -> Result<(), Fail> {
     let cookies = Cookies::new(&[0x11; 32]);
     let octets = cookies.make(&NONCE, &[192, 0, 2, 1], 1);
-    assert_eq!(rt; octets, COOKIE);
+    same(&rt, octets, COOKIE);
     let answer = refuse(rt.alloc(), 1, &Notice::Cookie { octets })?;
-    assert_eq!(rt; answer.len(), 72);
-    assert_eq!(rt; hmac(b"test", &[answer.as_slice()]), ASKING);
+    same(&rt, answer.len(), 72);
+    same(&rt, hmac(b"test", &[answer.as_slice()]), ASKING);
     Ok(())
 }

@@ -3,6 +3,7 @@ use super::fixture::{
     Network, START, flow_to, install, is_live, is_there, pair, release, reserve, with_serial,
 };
 use super::plain::Plain;
+use crate::tests::asserts::{holds, same, same_at};
 use sadb::{State, Table};
 use std::alloc::{AllocError, Global};
 use std::process::Abort;
@@ -78,7 +79,7 @@ impl Both {
     /// Marks the pair at a place, if it is Live.
     fn mark(&mut self, rt: &impl Abort, place: usize) {
         if let Some(entry) = self.plain.get(place) {
-            assert_eq!(rt; is_live(&self.table, entry.serial), entry.live);
+            same(rt, is_live(&self.table, entry.serial), entry.live);
             if is_live(&self.table, entry.serial) {
                 self.table.mark(entry.serial);
                 self.plain.mark(place);
@@ -133,9 +134,9 @@ fn a_thousand_changes(rt: HostRuntime) -> Result<(), Fail> {
     }
     let entries = both.plain.entries();
     // So that something was compared.
-    assert!(rt; entries.len() > 50);
-    assert!(rt; entries.iter().any(|entry| entry.live));
-    assert!(rt; entries.iter().any(|entry| !entry.live));
+    holds(&rt, entries.len() > 50);
+    holds(&rt, entries.iter().any(|entry| entry.live));
+    holds(&rt, entries.iter().any(|entry| !entry.live));
     Ok(())
 }
 
@@ -151,7 +152,7 @@ fn the_last_live_pair_carries_a_flow(rt: HostRuntime) -> Result<(), Fail> {
     ] {
         let spi = reserve(&mut table)?;
         let pair = pair(rt.alloc(), spi.number(), network).ok_or("no memory")?;
-        assert_eq!(rt; table.install(spi, pair), wanted);
+        same(&rt, table.install(spi, pair), wanted);
     }
     for (third, marked, wanted) in [
         (1, None, Some(4)),
@@ -165,13 +166,13 @@ fn the_last_live_pair_carries_a_flow(rt: HostRuntime) -> Result<(), Fail> {
         if let Some(serial) = marked {
             assert!(rt; is_live(&table, serial));
             table.mark(serial);
-            assert!(rt; !is_live(&table, serial));
+            holds(&rt, !is_live(&table, serial));
             let found = with_serial(&table, serial).ok_or("not by its serial")?;
-            assert_eq!(rt; found.state, State::Deleting);
+            same(&rt, found.state, State::Deleting);
             let found = table.inbound(found.inbound.spi()).ok_or("not by its SPI")?;
-            assert_eq!(rt; found.serial, serial);
+            same(&rt, found.serial, serial);
         }
-        assert_eq!(rt; table.outbound(&flow_to(third)), wanted, "network {third}");
+        same_at(&rt, third, table.outbound(&flow_to(third)), wanted);
     }
     Ok(())
 }

@@ -19,7 +19,7 @@ pub const KEY: [u8; 32] = [0x0b; 32];
 pub const PEER_KEY: [u8; 32] = [0x0c; 32];
 
 /// What a pair carries, from 10.0.0.0 to 10.0.0.255.
-#[derive(Clone, Copy, Debug, PartialEq, Eq)]
+#[derive(Clone, Copy)]
 pub enum Network {
     /// To 10.1.N.0 to 10.1.N.255.
     One(u8),

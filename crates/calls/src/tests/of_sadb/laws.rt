@@ -1,6 +1,7 @@
 ghost use Rattle.std.specs.Prelude.{◌≡◌, ◌≢◌, IfOk};
 
 use super::fixture::START;
+use crate::tests::asserts::same;
 use sadb::laws::{
     an_spi_names_one_pair, answers_are_determined, later_tables_follow, mirroring_is_symmetric,
     mirrors_exist, no_spi_is_given_twice, room_stays,
@@ -45,7 +46,7 @@ fn prepared(table: &mut Table) -> Result<(u32, u32), TableFault>
 #[test]
 fn numbers_that_differ_and_agree(rt: HostRuntime) -> Result<(), Fail> {
     let mut table = Table::new(rt.alloc(), START);
-    assert_eq!(rt; reserved_twice(&mut table)?, (START, START + 1));
-    assert_eq!(rt; prepared(&mut table)?, (START + 2, START + 2));
+    same(&rt, reserved_twice(&mut table)?, (START, START + 1));
+    same(&rt, prepared(&mut table)?, (START + 2, START + 2));
     Ok(())
 }

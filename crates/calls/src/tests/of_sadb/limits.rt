@@ -3,6 +3,7 @@ ghost use Rattle.std.specs.Prelude.{ℕ};
 ghost use Rattle.sadb.specs.Database.{IsReserved};
 
 use super::fixture::{Network, START, is_there, pair, reserve};
+use crate::tests::asserts::{holds, same};
 use sadb::{Table, TableFault};
 use std::alloc::Global;
 use std::process::Abort;
@@ -19,21 +20,21 @@ fn add(alloc: Global, table: &mut Table) -> Result<u32, Fail> {
 fn refuses(rt: &impl Abort, table: &mut Table, fault: TableFault)
     ensures { (spi : ℕ) → IsReserved table.old spi → IsReserved table.new spi }
 {
-    assert_eq!(rt; table.prepare(), Err(fault));
-    assert_eq!(rt; reserve(table).err(), Some(fault));
+    same(rt, table.prepare(), Err(fault));
+    same(rt, reserve(table).err(), Some(fault));
 }
 
 #[test]
 fn holds_1024_pairs(rt: HostRuntime) -> Result<(), Fail> {
     let mut table = Table::new(rt.alloc(), START);
     for serial in 1..=1024 {
-        assert_eq!(rt; add(rt.alloc(), &mut table)?, serial);
+        same(&rt, add(rt.alloc(), &mut table)?, serial);
     }
     refuses(&rt, &mut table, TableFault::Full);
     assert!(rt; is_there(&table, 500));
     table.remove(500);
-    assert_eq!(rt; table.prepare(), Ok(START + 1024));
-    assert_eq!(rt; add(rt.alloc(), &mut table)?, 1025);
+    same(&rt, table.prepare(), Ok(START + 1024));
+    same(&rt, add(rt.alloc(), &mut table)?, 1025);
     refuses(&rt, &mut table, TableFault::Full);
     Ok(())
 }
@@ -42,16 +43,16 @@ fn holds_1024_pairs(rt: HostRuntime) -> Result<(), Fail> {
 fn counts_reserved_spis_too(rt: HostRuntime) -> Result<(), Fail> {
     let mut table = Table::new(rt.alloc(), START);
     for serial in 1..=1000 {
-        assert_eq!(rt; add(rt.alloc(), &mut table)?, serial);
+        same(&rt, add(rt.alloc(), &mut table)?, serial);
     }
     for place in 1000..1023 {
-        assert_eq!(rt; reserve(&mut table)?.number(), START + place);
+        same(&rt, reserve(&mut table)?.number(), START + place);
     }
     let last = reserve(&mut table)?;
-    assert_eq!(rt; last.number(), START + 1023);
+    same(&rt, last.number(), START + 1023);
     refuses(&rt, &mut table, TableFault::Full);
     table.release(last);
-    assert_eq!(rt; reserve(&mut table)?.number(), START + 1024);
+    same(&rt, reserve(&mut table)?.number(), START + 1024);
     refuses(&rt, &mut table, TableFault::Full);
     Ok(())
 }
@@ -60,7 +61,7 @@ fn counts_reserved_spis_too(rt: HostRuntime) -> Result<(), Fail> {
 fn use_up(rt: &impl Abort, table: &mut Table, first: u32, count: u32) -> Result<(), Fail> {
     for place in 0..count {
         let spi = reserve(table)?;
-        assert_eq!(rt; Some(spi.number()), first.checked_add(place));
+        same(rt, Some(spi.number()), first.checked_add(place));
         table.release(spi);
     }
     Ok(())
@@ -71,7 +72,7 @@ fn gives_65_536_spis(rt: HostRuntime) -> Result<(), Fail> {
     let mut table = Table::new(rt.alloc(), 256);
     use_up(&rt, &mut table, 256, 65_536)?;
     refuses(&rt, &mut table, TableFault::Spent);
-    assert!(rt; table.after(0).is_none());
+    holds(&rt, table.after(0).is_none());
     Ok(())
 }
 
@@ -80,12 +81,16 @@ fn gives_the_greatest_spi(rt: HostRuntime) -> Result<(), Fail> {
     let mut table = Table::new(rt.alloc(), 0xffff_0000);
     use_up(&rt, &mut table, 0xffff_0000, 65_535)?;
     let last = reserve(&mut table)?;
-    assert_eq!(rt; last.number(), u32::MAX);
+    assert!(rt; last.number() == u32::MAX);
     let pair = pair(rt.alloc(), u32::MAX, Network::Every).ok_or("no memory")?;
     let serial = table.install(last, pair);
-    assert_eq!(rt; serial, 1);
+    same(&rt, serial, 1);
     refuses(&rt, &mut table, TableFault::Spent);
-    assert_eq!(rt; table.inbound(u32::MAX).map(|pair| pair.serial), Some(1));
+    same(
+        &rt,
+        table.inbound(u32::MAX).map(|pair| pair.serial),
+        Some(1),
+    );
     Ok(())
 }
 
@@ -94,7 +99,7 @@ fn gives_the_greatest_spi(rt: HostRuntime) -> Result<(), Fail> {
 fn is_full_and_spent(rt: HostRuntime) -> Result<(), Fail> {
     let mut table = Table::new(rt.alloc(), START);
     use_up(&rt, &mut table, START, 65_536 - 1024)?;
-    assert_eq!(rt; add(rt.alloc(), &mut table)?, 1);
+    same(&rt, add(rt.alloc(), &mut table)?, 1);
     for _ in 1..1024 {
         reserve(&mut table)?;
     }

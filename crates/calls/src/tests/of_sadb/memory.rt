@@ -2,6 +2,7 @@
 //! to be run with every allocation failing in turn.
 use super::fixture::{Network, START, is_live, is_there, pair, reserve};
 use super::plain::Plain;
+use crate::tests::asserts::{holds, same};
 use esp::EspFault;
 use sadb::{Table, TableFault};
 
@@ -13,13 +14,13 @@ fn reserving_without_memory(rt: HostRuntime) {
     for _ in 0..100 {
         match table.reserve() {
             Ok(spi) => {
-                assert_eq!(rt; spi.number(), next);
+                same(&rt, spi.number(), next);
                 next = next.wrapping_add(1);
             }
-            Err(fault) => assert_eq!(rt; fault, TableFault::Memory),
+            Err(fault) => same(&rt, fault, TableFault::Memory),
         }
-        assert!(rt; table.inbound(next).is_none());
-        assert!(rt; table.after(0).is_none());
+        holds(&rt, table.inbound(next).is_none());
+        holds(&rt, table.after(0).is_none());
     }
 }
 
@@ -39,19 +40,19 @@ fn installing_without_memory(rt: HostRuntime) {
             continue;
         };
         if let Err(fault) = table.prepare() {
-            assert_eq!(rt; fault, TableFault::Memory);
+            same(&rt, fault, TableFault::Memory);
             plain.agrees(&rt, &table);
             continue;
         }
-        assert_eq!(rt; table.prepare(), Ok(wanted));
+        same(&rt, table.prepare(), Ok(wanted));
         plain.agrees(&rt, &table);
         let Ok(spi) = reserve(&mut table) else {
             panic!(rt; "refused although there was room");
         };
-        assert_eq!(rt; spi.number(), wanted);
+        assert!(rt; spi.number() == wanted);
         let serial = table.install(spi, pair);
         plain.give(&rt, wanted);
-        assert!(rt; plain.install(&rt, serial, wanted, network).is_ok());
+        holds(&rt, plain.install(&rt, serial, wanted, network).is_ok());
         plain.agrees(&rt, &table);
         let place = usize::from(round / 2);
         if let Some(entry) = plain.get(place) {
@@ -80,8 +81,8 @@ fn sealing_without_memory(rt: HostRuntime) {
     let Ok(spi) = reserve(&mut table) else {
         return;
     };
-    assert_eq!(rt; spi.number(), START);
-    assert_eq!(rt; table.install(spi, pair), 1);
+    assert!(rt; spi.number() == START);
+    same(&rt, table.install(spi, pair), 1);
     let mut out = Vec::new(alloc);
     let mut last: u64 = 0;
     for _ in 0..40 {
@@ -89,13 +90,13 @@ fn sealing_without_memory(rt: HostRuntime) {
         assert!(rt; is_there(&table, 1));
         match table.seal(1, 4, b"abcd", &mut out) {
             Ok(number) => {
-                assert_eq!(rt; Some(number), last.checked_add(1));
+                same(&rt, Some(number), last.checked_add(1));
                 last = number;
-                assert_eq!(rt; out.len().checked_sub(before), Some(32));
+                same(&rt, out.len().checked_sub(before), Some(32));
             }
             Err(fault) => {
-                assert_eq!(rt; fault, EspFault::Memory);
-                assert_eq!(rt; out.len(), before);
+                same(&rt, fault, EspFault::Memory);
+                same(&rt, out.len(), before);
             }
         }
     }

@@ -1,10 +1,10 @@
 //! The pairs of one IKE association: found one after the other, by what they send under, and removed together.
 use super::fixture::{KEY, PEER_KEY, START, here, install, receiver, reserve};
+use crate::tests::asserts::same;
 use base::Items;
 use esp::Outbound;
 use sadb::{Pair, Table};
 use std::alloc::Global;
-use std::process::Abort;
 use std::test::Fail;
 
 /// Adds a pair of an IKE association that sends under an SPI.
@@ -27,28 +27,18 @@ fn filled(alloc: Global) -> Result<Table, Fail> {
     Ok(table)
 }
 
-/// Compares the next pair of an IKE association.
-fn has_next(rt: &impl Abort, table: &Table, ike: u32, serial: u32, next: Option<u32>) {
-    assert_eq!(rt; table.next_of(ike, serial), next);
-}
-
-/// Compares the pair that sends under an SPI.
-fn has_sender(rt: &impl Abort, table: &Table, ike: u32, spi: u32, sender: Option<u32>) {
-    assert_eq!(rt; table.sender_under(ike, spi), sender);
-}
-
 #[test]
 fn pairs_of_an_association(rt: HostRuntime) -> Result<(), Fail> {
     let table = filled(rt.alloc())?;
-    has_next(&rt, &table, 7, 0, Some(1));
-    has_next(&rt, &table, 7, 1, Some(3));
-    has_next(&rt, &table, 7, 3, Some(4));
-    has_next(&rt, &table, 7, 4, None);
-    has_next(&rt, &table, 9, 0, None);
-    has_next(&rt, &table, 8, u32::MAX, None);
-    has_sender(&rt, &table, 7, 1000, Some(1));
-    has_sender(&rt, &table, 7, 2000, Some(3));
-    has_sender(&rt, &table, 8, 2000, None);
+    same(&rt, table.next_of(7, 0), Some(1));
+    same(&rt, table.next_of(7, 1), Some(3));
+    same(&rt, table.next_of(7, 3), Some(4));
+    same(&rt, table.next_of(7, 4), None);
+    same(&rt, table.next_of(9, 0), None);
+    same(&rt, table.next_of(8, u32::MAX), None);
+    same(&rt, table.sender_under(7, 1000), Some(1));
+    same(&rt, table.sender_under(7, 2000), Some(3));
+    same(&rt, table.sender_under(8, 2000), None);
     Ok(())
 }
 
@@ -56,9 +46,9 @@ fn pairs_of_an_association(rt: HostRuntime) -> Result<(), Fail> {
 fn pairs_removed_together(rt: HostRuntime) -> Result<(), Fail> {
     let mut table = filled(rt.alloc())?;
     table.remove_all_of(7);
-    has_next(&rt, &table, 7, 0, None);
-    has_next(&rt, &table, 8, 0, Some(2));
-    has_sender(&rt, &table, 8, 1000, Some(2));
-    assert_eq!(rt; table.after(2).map(|pair| pair.serial), None);
+    same(&rt, table.next_of(7, 0), None);
+    same(&rt, table.next_of(8, 0), Some(2));
+    same(&rt, table.sender_under(8, 1000), Some(2));
+    same(&rt, table.after(2).map(|pair| pair.serial), None);
     Ok(())
 }

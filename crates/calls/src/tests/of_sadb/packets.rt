@@ -2,6 +2,7 @@
 use super::fixture::{
     KEY, Network, PEER_KEY, START, here, is_for, is_live, is_there, pair_of, receiver, reserve,
 };
+use crate::tests::asserts::{holds, same};
 use esp::{EspFault, Opened, Outbound};
 use sadb::Table;
 use std::alloc::Global;
@@ -64,7 +65,7 @@ impl Ends {
 
         let inbound = receiver(alloc, far.number(), &PEER_KEY).ok_or("no memory")?;
         let pair = pair_of(alloc, inbound, to_near, network.remote(), here()).ok_or("no memory")?;
-        assert_eq!(rt; self.far.install(far, pair), serial);
+        same(rt, self.far.install(far, pair), serial);
         Ok(serial)
     }
 }
@@ -94,7 +95,7 @@ fn open<'a>(
 
 /// Finds that opening a packet by a pair is refused so.
 fn is_refused(rt: &impl Abort, table: &mut Table, serial: u32, packet: &[u8], fault: EspFault) {
-    assert_eq!(rt; open(rt, table, serial, packet).err(), Some(fault));
+    same(rt, open(rt, table, serial, packet).err(), Some(fault));
 }
 
 /// Finds that opening a packet by a pair gives this number and payload, and that its repeat is refused.
@@ -107,9 +108,9 @@ fn is_opened_once(
     payload: &[u8],
 ) -> Result<(), Fail> {
     let opened = open(rt, table, serial, packet)?;
-    assert_eq!(rt; opened.number, number);
-    assert_eq!(rt; opened.next, IPV4);
-    assert_eq!(rt; opened.payload, payload);
+    same(rt, opened.number, number);
+    same(rt, opened.next, IPV4);
+    same(rt, opened.payload, payload);
     is_refused(rt, table, serial, packet, EspFault::Replayed);
     Ok(())
 }
@@ -125,14 +126,14 @@ fn crosses(
     payload: &[u8],
 ) -> Result<(), Fail> {
     let mut packet = Vec::new(alloc);
-    assert_eq!(rt; seal(rt, from, serial, payload, &mut packet)?, number);
+    same(rt, seal(rt, from, serial, payload, &mut packet)?, number);
     is_opened_once(rt, to, serial, &packet, number, payload)
 }
 
 /// Two tables with a pair and its mirror under the serial 1.
 fn connected(rt: &impl Abort, alloc: Global) -> Result<Ends, Fail> {
     let mut ends = Ends::new(alloc);
-    assert_eq!(rt; ends.connect(rt, alloc, Network::Every, 0)?, 1);
+    same(rt, ends.connect(rt, alloc, Network::Every, 0)?, 1);
     Ok(ends)
 }
 
@@ -140,8 +141,8 @@ fn connected(rt: &impl Abort, alloc: Global) -> Result<Ends, Fail> {
 fn seals_the_packet_of_another_tool(rt: HostRuntime) -> Result<(), Fail> {
     let mut ends = connected(&rt, rt.alloc())?;
     let mut packet = Vec::new(rt.alloc());
-    assert_eq!(rt; seal(&rt, &mut ends.far, 1, &inner(), &mut packet)?, 1);
-    assert_eq!(rt; packet.as_slice(), first().as_slice());
+    same(&rt, seal(&rt, &mut ends.far, 1, &inner(), &mut packet)?, 1);
+    same(&rt, packet.as_slice(), first().as_slice());
     is_opened_once(&rt, &mut ends.near, 1, &packet, 1, &inner())
 }
 
@@ -175,7 +176,7 @@ fn refuses_what_was_damaged(rt: HostRuntime) -> Result<(), Fail> {
 #[test]
 fn leaves_other_pairs_alone(rt: HostRuntime) -> Result<(), Fail> {
     let mut ends = connected(&rt, rt.alloc())?;
-    assert_eq!(rt; ends.connect(&rt, rt.alloc(), Network::Every, 0)?, 2);
+    same(&rt, ends.connect(&rt, rt.alloc(), Network::Every, 0)?, 2);
     for number in 1..=3 {
         crosses(
             &rt,
@@ -203,13 +204,13 @@ fn a_deleting_pair_opens(rt: HostRuntime) -> Result<(), Fail> {
 fn refuses_to_seal(rt: HostRuntime) -> Result<(), Fail> {
     let mut ends = connected(&rt, rt.alloc())?;
     let most = u64::from(u32::MAX);
-    assert_eq!(rt; ends.connect(&rt, rt.alloc(), Network::Every, most)?, 2);
+    same(&rt, ends.connect(&rt, rt.alloc(), Network::Every, most)?, 2);
     let long = vec![in rt.alloc(); 0x5a; 16_385]?;
     let mut out = Vec::new(rt.alloc());
     let refused = seal(&rt, &mut ends.near, 1, &long, &mut out);
-    assert_eq!(rt; refused, Err(EspFault::PayloadSize));
+    same(&rt, refused, Err(EspFault::PayloadSize));
     let refused = seal(&rt, &mut ends.near, 2, &long, &mut out);
-    assert_eq!(rt; refused, Err(EspFault::Exhausted));
-    assert!(rt; out.is_empty());
+    same(&rt, refused, Err(EspFault::Exhausted));
+    holds(&rt, out.is_empty());
     crosses(&rt, rt.alloc(), &mut ends.near, &mut ends.far, 1, 1, b"abc")
 }

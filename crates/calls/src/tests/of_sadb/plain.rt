@@ -1,11 +1,12 @@
 //! A table once more, as a plain list of its pairs in the order in which they came.
 use super::fixture::{Network, START, flow_to};
+use crate::tests::asserts::{holds, same, same_at};
 use sadb::{State, Table};
 use std::alloc::{AllocError, AllocFailed, Global};
 use std::process::Abort;
 
 /// What the list says of one pair.
-#[derive(Clone, Copy, Debug, PartialEq, Eq)]
+#[derive(Clone, Copy)]
 pub struct Entry {
     pub serial: u32,
     pub spi: u32,
@@ -42,7 +43,7 @@ impl Plain {
 
     /// Notes an SPI, which is to be the next one.
     pub fn give(&mut self, rt: &impl Abort, spi: u32) {
-        assert_eq!(rt; spi, self.spi);
+        same(rt, spi, self.spi);
         self.spi = self.spi.wrapping_add(1);
     }
 
@@ -54,7 +55,7 @@ impl Plain {
         spi: u32,
         network: Network,
     ) -> Result<(), AllocFailed<Entry>> {
-        assert_eq!(rt; serial, self.serial);
+        same(rt, serial, self.serial);
         self.serial = self.serial.wrapping_add(1);
         self.entries.push(Entry {
             serial,
@@ -104,10 +105,11 @@ impl Plain {
     /// Compares a table's answer for each SPI from this one to two that come next.
     pub fn agrees_from(&self, rt: &impl Abort, table: &Table, first: u32) {
         for spi in first..self.spi.saturating_add(2) {
-            assert_eq!(rt;
+            same_at(
+                rt,
+                spi,
                 table.inbound(spi).map(|pair| pair.serial),
                 self.inbound(spi),
-                "SPI {spi}"
             );
         }
     }
@@ -117,25 +119,27 @@ impl Plain {
         // Reserved or gone of late, and never given.
         self.agrees_from(rt, table, self.spi.saturating_sub(8));
         for third in 0..5 {
-            assert_eq!(rt;
+            same_at(
+                rt,
+                third,
                 table.outbound(&flow_to(third)),
                 self.outbound(third),
-                "network {third}"
             );
         }
         let mut serial = 0;
         for entry in &self.entries {
             let found = table.after(serial);
-            assert_eq!(rt;
+            same_at(
+                rt,
+                serial,
                 found.map(|pair| (pair.serial, pair.inbound.spi(), pair.state == State::Live)),
                 Some((entry.serial, entry.spi, entry.live)),
-                "after {serial}"
             );
             let held = table.inbound(entry.spi);
-            assert_eq!(rt; held.map(|pair| pair.serial), Some(entry.serial));
+            same(rt, held.map(|pair| pair.serial), Some(entry.serial));
             serial = entry.serial;
         }
-        assert!(rt; table.after(serial).is_none());
+        holds(rt, table.after(serial).is_none());
     }
 }
 

@@ -39,7 +39,7 @@ pub fn ipv6() -> [u8; 40] {
 }
 
 /// The networks behind the two ends.
-#[derive(Clone, Copy, Debug, PartialEq, Eq)]
+#[derive(Clone, Copy)]
 pub struct Networks {
     pub near: Range,
     pub far: Range,

@@ -1,5 +1,6 @@
 //! Packets that go out, and those that come in unprotected, by what the policy says of them.
 use super::fixture::{Ends, Networks, ipv4, ipv6, policy};
+use crate::tests::asserts::same;
 use policy::Action;
 use std::alloc::Global;
 use std::test::Fail;
@@ -41,26 +42,45 @@ fn out_under(alloc: Global, action: Action, packet: &[u8]) -> Result<Way, Fail> 
 #[test]
 fn goes_by_the_policy(rt: HostRuntime) -> Result<(), Fail> {
     let alloc = rt.alloc();
-    assert_eq!(rt; out_under(alloc, Action::Protect, &ipv4())?, Way::Sealed);
-    assert_eq!(rt; out_under(alloc, Action::Bypass, &ipv4())?, Way::Clear);
-    assert_eq!(rt; out_under(alloc, Action::Discard, &ipv4())?, Way::Discarded);
+    same(
+        &rt,
+        out_under(alloc, Action::Protect, &ipv4())?,
+        Way::Sealed,
+    );
+    same(&rt, out_under(alloc, Action::Bypass, &ipv4())?, Way::Clear);
+    same(
+        &rt,
+        out_under(alloc, Action::Discard, &ipv4())?,
+        Way::Discarded,
+    );
     // No entry has points of IPv6.
-    assert_eq!(rt; out_under(alloc, Action::Bypass, &ipv6())?, Way::Discarded);
-    assert_eq!(rt; out_under(alloc, Action::Bypass, &[])?, Way::Dropped(21));
+    same(
+        &rt,
+        out_under(alloc, Action::Bypass, &ipv6())?,
+        Way::Discarded,
+    );
+    same(
+        &rt,
+        out_under(alloc, Action::Bypass, &[])?,
+        Way::Dropped(21),
+    );
     Ok(())
 }
 
+/// What becomes of the packet of IPv4 at these ends.
+fn out_at(alloc: Global, ends: Option<Ends>) -> Result<Way, Fail> {
+    let mut ends = ends.ok_or("no memory")?;
+    Ok(way_out(send(alloc, &mut ends.near, &ends.policy, &ipv4())?))
+}
+
+// Without a pair, and with one whose numbers are exhausted.
 #[test]
 fn what_is_to_be_protected_does_not_go_in_the_clear(rt: HostRuntime) -> Result<(), Fail> {
     let alloc = rt.alloc();
-    let mut ends = Ends::new(alloc, Networks::ipv4()).ok_or("no memory")?;
-    let way = way_out(send(alloc, &mut ends.near, &ends.policy, &ipv4())?);
-    assert_eq!(rt; way, Way::Dropped(28));
-    let mut ends = Ends::connected(alloc, Networks::ipv4(), u64::from(u32::MAX)).ok_or(
-        "no memory",
-    )?;
-    let way = way_out(send(alloc, &mut ends.near, &ends.policy, &ipv4())?);
-    assert_eq!(rt; way, Way::Dropped(12));
+    let without = Ends::new(alloc, Networks::ipv4());
+    same(&rt, out_at(alloc, without)?, Way::Dropped(28));
+    let exhausted = Ends::connected(alloc, Networks::ipv4(), u64::from(u32::MAX));
+    same(&rt, out_at(alloc, exhausted)?, Way::Dropped(12));
     Ok(())
 }
 
@@ -72,17 +92,30 @@ fn inward() -> [u8; 20] {
     packet
 }
 
+/// What becomes of such a packet that comes in where the near end does this with what goes between the networks.
+fn in_under(alloc: Global, action: Action, packet: &[u8]) -> Result<Way, Fail> {
+    let policy = policy(alloc, Networks::ipv4(), action).ok_or("no memory")?;
+    Ok(way_in(admit(&policy, packet)))
+}
+
 #[test]
 fn comes_in_by_the_policy(rt: HostRuntime) -> Result<(), Fail> {
     let alloc = rt.alloc();
-    for (action, packet, way) in [
-        (Action::Bypass, inward(), Way::Clear),
-        (Action::Protect, inward(), Way::Discarded),
-        (Action::Discard, inward(), Way::Discarded),
-        (Action::Bypass, ipv4(), Way::Discarded),
-    ] {
-        let policy = policy(alloc, Networks::ipv4(), action).ok_or("no memory")?;
-        assert_eq!(rt; way_in(admit(&policy, &packet)), way);
-    }
+    same(&rt, in_under(alloc, Action::Bypass, &inward())?, Way::Clear);
+    same(
+        &rt,
+        in_under(alloc, Action::Protect, &inward())?,
+        Way::Discarded,
+    );
+    same(
+        &rt,
+        in_under(alloc, Action::Discard, &inward())?,
+        Way::Discarded,
+    );
+    same(
+        &rt,
+        in_under(alloc, Action::Bypass, &ipv4())?,
+        Way::Discarded,
+    );
     Ok(())
 }

@@ -1,5 +1,6 @@
 //! ESP packets from one end to the other.
 use super::fixture::{Ends, Networks, ipv4, ipv6, refusal, seal};
+use crate::tests::asserts::same;
 use std::alloc::Global;
 use std::process::Abort;
 use std::test::Fail;
@@ -22,16 +23,17 @@ fn crosses(
     else {
         panic!(rt; "not sealed");
     };
-    assert_eq!(rt; (child, number, octets.len()), (1, 1, length));
+    same(rt, (child, number, octets.len()), (1, 1, length));
     let up = Arrival::Up {
         child: 1,
         number: 1,
         packet,
     };
-    assert_eq!(rt; receive(&mut ends.far, octets.as_slice()), up);
-    assert_eq!(rt;
+    same(rt, receive(&mut ends.far, octets.as_slice()), up);
+    same(
+        rt,
         refusal(receive(&mut ends.far, octets.as_slice())),
-        Some(16)
+        Some(16),
     );
     Ok(())
 }
@@ -52,8 +54,8 @@ fn comes(
 ) -> Result<(), Fail> {
     let mut ends = Ends::connected(alloc, Networks::ipv4(), 0).ok_or("no memory")?;
     let octets = seal(alloc, &mut ends.near, next, payload)?;
-    assert_eq!(rt; refusal(receive(&mut ends.far, &octets)), code);
-    assert_eq!(rt; refusal(receive(&mut ends.far, &octets)), Some(16));
+    same(rt, refusal(receive(&mut ends.far, &octets)), code);
+    same(rt, refusal(receive(&mut ends.far, &octets)), Some(16));
     Ok(())
 }
 
@@ -109,7 +111,7 @@ fn a_dummy_says_nothing(rt: HostRuntime) -> Result<(), Fail> {
         child: 1,
         number: 1,
     };
-    assert_eq!(rt; receive(&mut ends.far, &octets), dummy);
+    same(&rt, receive(&mut ends.far, &octets), dummy);
     Ok(())
 }
 
@@ -123,7 +125,7 @@ fn what_reaches_no_pair_is_dropped(rt: HostRuntime) -> Result<(), Fail> {
         (&[0, 0, 16, 0], 28),
         (&[0, 0, 32, 1, 0, 0], 28),
     ] {
-        assert_eq!(rt; refusal(receive(&mut ends.far, packet)), Some(code));
+        same(&rt, refusal(receive(&mut ends.far, packet)), Some(code));
     }
     Ok(())
 }

@@ -1,0 +1,52 @@
+//! Assertions whose proof is found once. An `assert_eq!` that stands in a test costs that test's proof some seconds, and a call of one of
+//! these a tenth of one.
+ghost use Rattle.std.specs.Prelude.{IsTrue};
+
+use std::alloc::Global;
+use std::fmt::{Debug, Display};
+use std::process::Abort;
+use std::test::Fail;
+
+/// Finds what was wanted.
+pub fn same<T: PartialEq + Debug + Drop>(rt: &impl Abort, found: T, wanted: T) {
+    assert_eq!(rt; found, wanted);
+}
+
+/// Finds what was wanted at a place, which a failure names.
+pub fn same_at<P: Debug + Drop, T: PartialEq + Debug + Drop>(
+    rt: &impl Abort,
+    place: P,
+    found: T,
+    wanted: T,
+) {
+    assert_eq!(rt; found, wanted, "at {place:?}");
+}
+
+/// Finds that something holds.
+pub fn holds(rt: &impl Abort, fact: bool)
+    ensures { IsTrue fact }
+{
+    assert!(rt; fact);
+}
+
+/// Finds that something holds at a place, which a failure names.
+pub fn holds_at<P: Debug + Drop>(rt: &impl Abort, place: P, fact: bool)
+    ensures { IsTrue fact }
+{
+    assert!(rt; fact, "at {place:?}");
+}
+
+/// Finds that a fault has this number, and is printed so.
+pub fn named<F: Display + Drop>(
+    rt: &impl Abort,
+    alloc: Global,
+    code: u8,
+    number: u8,
+    fault: F,
+    text: &str,
+) -> Result<(), Fail> {
+    same(rt, code, number);
+    let printed = format!(in alloc; "{fault}")?;
+    same(rt, printed.as_str(), text);
+    Ok(())
+}

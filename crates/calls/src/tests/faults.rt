@@ -1,0 +1,145 @@
+//! The number and the text of each fault that a call answers.
+use super::asserts::named;
+use esp::{EspFault, ListFault};
+use mac::MacFault;
+use policy::InnerFault;
+use replay::ReplayFault;
+use requests::RequestFault;
+use sadb::TableFault;
+use std::alloc::Global;
+use std::process::Abort;
+use std::test::Fail;
+use traffic::PacketFault;
+
+fn names_of_mac(rt: &impl Abort, alloc: Global) -> Result<(), Fail> {
+    let fault = MacFault::TooMuch;
+    named(
+        rt,
+        alloc,
+        fault.code(),
+        11,
+        fault,
+        "E11: prf+ gives no more than 8160 octets",
+    )
+}
+
+fn names_of_replay(rt: &impl Abort, alloc: Global) -> Result<(), Fail> {
+    let fault = ReplayFault::Memory;
+    named(
+        rt,
+        alloc,
+        fault.code(),
+        20,
+        fault,
+        "E20: no memory for the replay window",
+    )
+}
+
+fn names_of_requests(rt: &impl Abort, alloc: Global) -> Result<(), Fail> {
+    for (fault, number, text) in [
+        (RequestFault::Memory, 10, "E10: no memory"),
+        (RequestFault::Busy, 35, "E35: the peer's window is full"),
+        (
+            RequestFault::NumbersSpent,
+            36,
+            "E36: the request numbers are spent",
+        ),
+    ] {
+        named(rt, alloc, fault.code(), number, fault, text)?;
+    }
+    Ok(())
+}
+
+fn names_of_esp(rt: &impl Abort, alloc: Global) -> Result<(), Fail> {
+    for (fault, number, text) in [
+        (
+            EspFault::Exhausted,
+            12,
+            "E12: the sequence numbers are exhausted",
+        ),
+        (
+            EspFault::PayloadSize,
+            13,
+            "E13: the payload has more than 16384 octets",
+        ),
+        (
+            EspFault::BadLength,
+            14,
+            "E14: the packet's length is not that of a packet",
+        ),
+        (
+            EspFault::Old,
+            15,
+            "E15: the number lies below the replay window",
+        ),
+        (EspFault::Replayed, 16, "E16: the number was taken already"),
+        (
+            EspFault::BadNumber,
+            17,
+            "E17: the packet has no sequence number",
+        ),
+        (EspFault::BadIcv, 18, "E18: the check value is wrong"),
+        (EspFault::BadPadding, 19, "E19: the padding is wrong"),
+        (EspFault::Memory, 20, "E20: no memory"),
+    ] {
+        named(rt, alloc, fault.code(), number, fault, text)?;
+    }
+    let fault = ListFault::NoRoom(3);
+    named(
+        rt,
+        alloc,
+        fault.code(),
+        38,
+        fault,
+        "E38: no room for an answer after 3 packets",
+    )
+}
+
+fn names_of_sadb(rt: &impl Abort, alloc: Global) -> Result<(), Fail> {
+    for (fault, number, text) in [
+        (TableFault::Full, 25, "E25: the table is full"),
+        (TableFault::Spent, 26, "E26: the inbound SPIs are spent"),
+        (TableFault::Memory, 27, "E27: no memory"),
+    ] {
+        named(rt, alloc, fault.code(), number, fault, text)?;
+    }
+    Ok(())
+}
+
+fn names_of_traffic(rt: &impl Abort, alloc: Global) -> Result<(), Fail> {
+    for (fault, number, text) in [
+        (
+            PacketFault::UnknownAssociation,
+            28,
+            "E28: no association is there for the packet",
+        ),
+        (
+            PacketFault::Esp(EspFault::Exhausted),
+            12,
+            "E12: the sequence numbers are exhausted",
+        ),
+        (
+            PacketFault::Inner(InnerFault::Fragment),
+            22,
+            "E22: a fragment of a packet",
+        ),
+        (
+            PacketFault::OutsideSelectors,
+            23,
+            "E23: the packet is outside the selectors of its association",
+        ),
+    ] {
+        named(rt, alloc, fault.code(), number, fault, text)?;
+    }
+    Ok(())
+}
+
+#[test]
+fn names_each_fault(rt: HostRuntime) -> Result<(), Fail> {
+    names_of_mac(&rt, rt.alloc())?;
+    names_of_replay(&rt, rt.alloc())?;
+    names_of_requests(&rt, rt.alloc())?;
+    names_of_esp(&rt, rt.alloc())?;
+    names_of_sadb(&rt, rt.alloc())?;
+    names_of_traffic(&rt, rt.alloc())
+}
