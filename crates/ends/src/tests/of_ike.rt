@@ -1,5 +1,5 @@
 //! The machine of one end by its own step: requests whose numbers and SPIs no script writes.
-mod deletions;
+mod deleting;
 
 use crate::tests::gateways::sample::{config, fresh, policy};
 use association::MessageFault;

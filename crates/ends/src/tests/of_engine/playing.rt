@@ -1,5 +1,5 @@
 //! Scripts played over readers and writers in memory.
-mod deletions;
+mod deleting;
 mod failures;
 mod probes;
 mod refusals;
