@@ -1,0 +1,11 @@
+mod NumberLemmas
+mod TableLemmas
+mod ChangeLemmas
+mod WindowLemmas
+mod StepLemmas
+mod AnswerLemmas
+mod TrailLemmas
+mod SameLemmas
+mod HistoryLemmas
+mod PromiseLemmas
+mod WorkedLemmas

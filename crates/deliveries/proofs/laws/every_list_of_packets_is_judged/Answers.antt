@@ -1,0 +1,14 @@
+use Rattle.deliveries.proofs.PromiseLemmas.{packets_are_judged}
+use Rattle.deliveries.proofs.StepLemmas.{PacketFacts}
+use Rattle.deliveries.proofs.laws.every_list_of_packets_is_judged.Goals as goal
+
+pub returns : goal.returns
+returns c =
+    let facts : PacketFacts = record {
+      up = c.a_packet_takes_one_number.ensures.up;
+      dummy = c.a_packet_takes_one_number.ensures.dummy;
+      after = c.a_packet_takes_one_number.ensures.refused_after_judging;
+      before = c.a_packet_takes_one_number.ensures.refused_before;
+      inbound = c.answers_are_determined.ensures.inbound;
+    } in
+    packets_are_judged facts

@@ -1,0 +1,5 @@
+pub mod Passages
+pub mod Numbers
+pub mod Arrivals
+pub mod Promises
+pub mod Worked
