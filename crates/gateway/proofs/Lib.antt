@@ -9,4 +9,6 @@ mod ToldLemmas
 mod HistoryLemmas
 mod RequestLemmas
 mod MomentLemmas
+mod DeliveryLemmas
+mod WorkedLemmas
 mod PromiseLemmas

@@ -1,6 +1,5 @@
 -- What is due comes with the first moment that reaches it, over a run.
-use Rattle.std.proofs.Common.{◌≡◌, ◌⊎◌, inl, inr, ℕ, ◌∷◌, [], Bool, true, false, List, Option, Some, None, max, ap, refl, subst, sym, ◌∙◌}
-use Rattle.std.specs.List.{slice_get}
+use Rattle.std.proofs.Common.{◌≡◌, inl, inr, ℕ, Bool, true, false, List, Option, Some, None, max, ap, refl, subst, sym, ◌∙◌}
 use Rattle.policy.specs.declared.entry.Entry.{Entry}
 use Rattle.sadb.specs.Database.{Database}
 use Rattle.effects.specs.Taking.{Meaning}
@@ -14,15 +13,14 @@ use Rattle.ike.specs.declared.fault.IkeFault.{IkeFault}
 use Rattle.ike.specs.declared.output.IkeOutput.{IkeOutput}
 use Rattle.ike.specs.declared.output.IkeOutput.TheVariants as made
 use Rattle.ike.specs.declared.output.Stepped.{Stepped}
-use Rattle.gateway.specs.Histories.{IsPassage, IsTrail, Passage}
+use Rattle.gateway.specs.Histories.{IsTrail, Passage}
 use Rattle.gateway.specs.Moments.{is_moment, tells_moment, Brings, BringsNone, MomentsComeInTime}
 use Rattle.gateway.specs.Outputs.{said_by_ike, wants_memory, Clear, Counted, Discarded, Done, Dropped, Dummy, Refused, Repeat, Reply, Request, Said, Sealed, Ticked, Up}
 use Rattle.gateway.specs.Requests.{for_ike}
 use Rattle.gateway.specs.States.{State}
-use Rattle.gateway.specs.declared.fault.Reason.TheVariants as reason
 use Rattle.gateway.specs.declared.input.Input.{Input}
 use Rattle.gateway.specs.declared.input.Input.TheVariants as input
-use Rattle.gateway.proofs.HistoryLemmas.{answered, at_place, elsewhere, passage_way, refused, IkeRefusal, IkeStep, IkeWay, IsOfPacket}
+use Rattle.gateway.proofs.HistoryLemmas.{answered, at_place, elsewhere, passage_way, refused, IkeWay, IsOfPacket}
 
 -- what is known of a step of the machine
 pub record MomentFacts : Type 0 where

@@ -6,13 +6,14 @@ use Rattle.gateway.specs.Runs.{Runs, StepsAs}
 use Rattle.gateway.specs.States.{State}
 use Rattle.gateway.specs.declared.input.Input.{Input}
 use Rattle.gateway.specs.declared.output.Output.{Output}
+use Rattle.gateway.proofs.DeliveryLemmas.{packets_kept, DeliveryFacts}
 use Rattle.gateway.proofs.HistoryLemmas.{told}
 use Rattle.gateway.proofs.MomentLemmas.{moments_kept, MomentFacts}
 use Rattle.gateway.proofs.RequestLemmas.{repeats_kept, requests_kept, RefusalLaw, RequestFacts}
 
-pub keeps_promises : {C : Type 0} (facts : RequestFacts) (changes_nothing : RefusalLaw C) (moments : MomentFacts) (meaning_of : C → Meaning) (is : List Input) (os : List Output) (old new : State C)
+pub keeps_promises : {C : Type 0} (facts : RequestFacts) (changes_nothing : RefusalLaw C) (moments : MomentFacts) (packets : DeliveryFacts) (meaning_of : C → Meaning) (is : List Input) (os : List Output) (old new : State C)
     → Runs (StepsAs meaning_of) is os old new → KeepsPromises meaning_of is os old new
-keeps_promises {C} facts changes_nothing moments meaning_of is os old new run =
+keeps_promises {C} facts changes_nothing moments packets meaning_of is os old new run =
     let t = told meaning_of is os old new run in
     record {
       passages = t.passages;
@@ -20,4 +21,5 @@ keeps_promises {C} facts changes_nothing moments meaning_of is os old new run =
       requests = requests_kept facts changes_nothing meaning_of old new t.passages t.history.trail;
       repeats = repeats_kept facts changes_nothing meaning_of old new t.passages t.history.trail;
       moments = moments_kept moments meaning_of old new t.passages t.history.trail;
+      packets = packets_kept packets meaning_of old new t.passages t.history.trail;
     }

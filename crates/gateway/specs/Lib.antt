@@ -11,4 +11,6 @@ pub mod Lengths
 pub mod Histories
 pub mod Requests
 pub mod Moments
+pub mod Packets
 pub mod Promises
+pub mod Worked

@@ -3,15 +3,17 @@ use Rattle.std.specs.Prelude.{List}
 use Rattle.effects.specs.Taking.{Meaning}
 use Rattle.gateway.specs.Histories.{IsHistory, Passage}
 use Rattle.gateway.specs.Moments.{MomentsComeInTime}
+use Rattle.gateway.specs.Packets.{PacketsAreDelivered}
 use Rattle.gateway.specs.Requests.{RepeatsAreAnswered, RequestsTakeEffect}
 use Rattle.gateway.specs.States.{State}
 use Rattle.gateway.specs.declared.input.Input.{Input}
 use Rattle.gateway.specs.declared.output.Output.{Output}
 
--- What was taken has a history, of which holds what is promised of the peer's requests, of their repeats, and of moments.
+-- What was taken has a history, of which holds what is promised of the peer's requests, of their repeats, of moments, and of ESP packets.
 pub record KeepsPromises {C : Type 0} (meaning_of : C → Meaning) (inputs : List Input) (outputs : List Output) (old new : State C) : Type 0 where
   pub passages : List (Passage C)
   pub history : IsHistory meaning_of inputs outputs old new passages
   pub requests : RequestsTakeEffect meaning_of passages
   pub repeats : RepeatsAreAnswered meaning_of passages
   pub moments : MomentsComeInTime passages
+  pub packets : PacketsAreDelivered passages

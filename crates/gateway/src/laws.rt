@@ -8,6 +8,8 @@ ghost use Rattle.policy.specs.declared.flow.Flow.{Flow};
 ghost use Rattle.policy.specs.declared.policy.Direction.TheVariants as direction;
 ghost use Rattle.suite.specs.declared.fresh.Fresh.{Fresh};
 ghost use Rattle.effects.specs.Taking.{Meaning};
+ghost use Rattle.initial.specs.Configs.{IsConfig};
+ghost use Rattle.initial.specs.declared.config.Config.{Config};
 ghost use Rattle.sadb.specs.Database.{IsAsBefore, IsSoundTable};
 ghost use Rattle.traffic.specs.Receiving.{TakesOneNumber};
 ghost use Rattle.traffic.specs.Sending.{IsDecided};
@@ -26,6 +28,7 @@ ghost use Rattle.gateway.specs.States.{State};
 ghost use Rattle.gateway.specs.Storing.{again_by};
 ghost use Rattle.gateway.specs.Steps.{GoesSealed, Steps, Traces};
 ghost use Rattle.gateway.specs.WorldRuns.{inputs_at, outputs_at, HappensAs, IsLater};
+ghost use Rattle.gateway.specs.Worked.{IsWorkedRun};
 ghost use Rattle.gateway.specs.Worlds.{child_by, gateway_at, ike_mark, keyed_by, mark_again, IsMarked, WorldState};
 ghost use Rattle.gateway.specs.declared.output.Output.{Output};
 ghost use Rattle.gateway.specs.declared.world.stored.End.{End};
@@ -35,8 +38,16 @@ ghost use Rattle.gateway.specs.declared.fault.Reason.{Reason};
 ghost use Rattle.gateway.specs.declared.input.Input.{Input};
 ghost use Rattle.gateway.specs.declared.input.Input.TheVariants as input;
 
+use deliveries::laws::{
+    every_list_of_packets_is_judged, numbers_are_determined, other_changes_leave_windows,
+    premises_are_met,
+};
 use esp::laws::sealed_packets_open;
-use ike::laws::{children_have_few_selectors, traces_name_what_is_held, what_is_sent_is_short};
+use ike::laws::{
+    children_have_few_selectors, one_association_is_changed, traces_name_what_is_held,
+    what_is_sent_is_short,
+};
+use moments::laws::some_are_held_on;
 use requests::laws::later_incoming_follow;
 use sadb::laws::later_tables_are_determined;
 use traffic::laws::{
@@ -151,6 +162,12 @@ pub fn each_end_has_its_events<C>()
 /// exchange belongs to the phase. And each repeat that is still remembered, of such a request or of one of IKE_SA_INIT, is answered by
 /// the octets of the first reply and changes nothing else; one that is not is E30. What is due comes with the first moment that reaches it.
 /// An input that is refused for want of memory counts as not delivered (RFC 7296, sections 2.1 to 2.4).
+///
+/// No number of a child is judged at two steps. Each ESP packet that was sent to a child is judged exactly at its first arrival while the
+/// child's pair stands and its number is rightly recovered and lies inside or above the window, as long as no check value is forged and
+/// the number was not taken before the run, and is answered there by the verdict on what it holds. Of every other ESP packet nothing is
+/// handed up, and it changes nothing. An ESP packet takes no memory, and touches the table alone (RFC 4301, section 5.2; RFC 4303,
+/// section 3.4).
 pub fn every_run_keeps_its_promises<C>()
     ensures { (meaning_of : C → Meaning) (inputs : List Input) (outputs : List Output) (old new : State C)
         → Runs (StepsAs meaning_of) inputs outputs old new → KeepsPromises meaning_of inputs outputs old new }
@@ -162,6 +179,21 @@ pub fn every_run_keeps_its_promises<C>()
     ike::laws::what_is_quiet_changes_nothing();
     later_incoming_follow();
     refusals_change_nothing::<C>();
+    one_association_is_changed();
+    some_are_held_on();
+    every_list_of_packets_is_judged();
+    other_changes_leave_windows();
+    a_packet_takes_one_number();
+}
+
+/// The premise on ESP packets is met by steps of a gateway in a row, in which a packet comes twice, with another input between, and no
+/// check value is forged: whatever the configuration, the caller and the numbers that were judged.
+pub fn the_premises_of_packets_are_met<C>()
+    ensures { (meaning_of : C → Meaning) (config : Config) (caller : C) → IsConfig config → IsWorkedRun meaning_of config caller }
+{
+    ike::laws::what_is_due_comes_in_time();
+    numbers_are_determined();
+    premises_are_met();
 }
 
 /// What is stored of a world is never forgotten: it is stored from then on, before what comes later.

@@ -15,7 +15,10 @@ use suite::{Agreement, Proof, Sealer};
 ///
 /// Over whatever list: each request under SK of an association takes effect at most once, exactly where it is delivered new; every repeat
 /// that is still remembered is answered by the octets of the first reply; and what a moment brings comes with the first one that has
-/// reached it.
+/// reached it. Each ESP packet that was sent to a child is judged at most once, exactly at its first arrival while the child's pair stands
+/// and its number is rightly recovered and lies inside or above the window, as long as no check value is forged and its number was not
+/// taken before the list, and answered by the verdict on what it holds; of every other one nothing is handed up. An input that is refused
+/// for want of memory counts as not delivered.
 pub fn run<'a, C: Sealer + Agreement + Proof>(
     alloc: Global,
     gateway: &mut Gateway<C>,

@@ -15,7 +15,8 @@ use std::alloc::{AllocError, Global};
 use std::test::Fail;
 use suite::Fresh;
 
-fn own_name(end: End) -> [u8; 9] {
+/// The name that an end goes by.
+pub fn own_name(end: End) -> [u8; 9] {
     match end {
         End::A => *b"a.example",
         End::B => *b"b.example",
@@ -75,8 +76,15 @@ pub fn policy(alloc: Global, end: End) -> Result<Policy, Fail> {
     Ok(Policy::new(Items::from_slice(alloc, &[entry])?)?)
 }
 
-/// A gateway that holds nothing. Its first SPI of ESP is 4096 at A, 8192 at B.
+/// A gateway that holds nothing, with the caller of scripts.
 pub fn gateway(alloc: Global, end: End) -> Result<Gateway<ScriptCaller>, Fail>
+    ensures { IfOk result HoldsNothing }
+{
+    gateway_of(alloc, end, ScriptCaller)
+}
+
+/// A gateway that holds nothing. Its first SPI of ESP is 4096 at A, 8192 at B.
+pub fn gateway_of<C: Drop>(alloc: Global, end: End, caller: C) -> Result<Gateway<C>, Fail>
     ensures { IfOk result HoldsNothing }
 {
     let policy = policy(alloc, end)?;
@@ -85,7 +93,7 @@ pub fn gateway(alloc: Global, end: End) -> Result<Gateway<ScriptCaller>, Fail>
         End::A => 4096,
         End::B => 8192,
     };
-    Ok(Gateway::new(alloc, config, policy, start, ScriptCaller))
+    Ok(Gateway::new(alloc, config, policy, start, caller))
 }
 
 /// The order to begin an association, with fresh octets of this SPI.

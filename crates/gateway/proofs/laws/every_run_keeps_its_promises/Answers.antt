@@ -1,3 +1,4 @@
+use Rattle.gateway.proofs.DeliveryLemmas.{DeliveryFacts}
 use Rattle.gateway.proofs.MomentLemmas.{MomentFacts}
 use Rattle.gateway.proofs.PromiseLemmas.{keeps_promises}
 use Rattle.gateway.proofs.RequestLemmas.{RequestFacts}
@@ -38,4 +39,16 @@ returns g c =
       unrefused = c.what_is_due_comes_in_time.ensures.unrefused;
       stays = c.what_is_due_comes_in_time.ensures.stays;
     } in
-    λ meaning_of inputs outputs old new run. keeps_promises facts c.refusals_change_nothing.ensures.refused moments meaning_of inputs outputs old new run
+    let packets : DeliveryFacts = record {
+      changed = c.one_association_is_changed.ensures;
+      fewer = c.some_are_held_on.ensures.pairs;
+      judged = c.every_list_of_packets_is_judged.ensures;
+      unchanged = c.other_changes_leave_windows.ensures.unchanged;
+      bringing = c.other_changes_leave_windows.ensures.bringing;
+      preparing = c.other_changes_leave_windows.ensures.preparing;
+      marking = c.other_changes_leave_windows.ensures.marking;
+      sending = c.other_changes_leave_windows.ensures.sending;
+      up = c.a_packet_takes_one_number.ensures.up;
+      dummy = c.a_packet_takes_one_number.ensures.dummy;
+    } in
+    λ meaning_of inputs outputs old new run. keeps_promises facts c.refusals_change_nothing.ensures.refused moments packets meaning_of inputs outputs old new run

@@ -1,0 +1,6 @@
+mod FieldLemmas
+mod TableLemmas
+mod CipherLemmas
+mod KeyLemmas
+mod StateLemmas
+pub mod InverseLemmas

@@ -1,0 +1,5 @@
+mod NumberLemmas
+mod ReductionLemmas
+pub mod OctetLemmas
+pub mod PowerLemmas
+mod ElementLemmas

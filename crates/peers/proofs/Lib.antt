@@ -1,0 +1,3 @@
+mod ChainingLemmas
+mod BodyLemmas
+mod PeerLemmas

@@ -1,0 +1,6 @@
+pub mod Chaining
+pub mod Bodies
+pub mod Groups
+pub mod SharedKeys
+pub mod BodyLaws
+pub mod OtherLaws

@@ -1,0 +1,24 @@
+-- Proofs of identity under shared keys (RFC 7296, sections 2.15 and 3.8).
+use Rattle.std.specs.Prelude.{ℕ, Bool, false, ◌&&◌, nat_eq, List, [], ◌∷◌, codes, if◌then◌else◌}
+use Rattle.std.specs.Cmp.Lexicographic.{pointwise}
+use Rattle.mac.specs.Hmac.{hmac_sha256}
+use Rattle.peers.specs.declared.shared_key.Peer.{Peer}
+
+-- Shared Key Message Integrity Code (section 3.8)
+abbrev pub shared_key_method : ℕ
+shared_key_method = 2
+
+-- prf (prf (Shared Secret, "Key Pad for IKEv2"), octets)
+unfoldable pub proof_under : List ℕ → List ℕ → List ℕ
+proof_under secret octets = hmac_sha256 (hmac_sha256 secret (codes "Key Pad for IKEv2")) octets
+
+-- the first of the peers that has this identity proves under its own secret
+abbrev pub proved_by : List Peer → ℕ → List ℕ → List ℕ → List ℕ → Bool
+proved_by [] kind id octets given = false
+proved_by (peer ∷ peers) kind id octets given =
+    if nat_eq peer.kind kind && pointwise nat_eq peer.id id then pointwise nat_eq given (proof_under peer.secret octets)
+    else proved_by peers kind id octets given
+
+-- and by no other method
+unfoldable pub is_accepted : List Peer → ℕ → List ℕ → ℕ → List ℕ → List ℕ → Bool
+is_accepted peers kind id method octets given = nat_eq method shared_key_method && proved_by peers kind id octets given

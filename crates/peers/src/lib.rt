@@ -1,0 +1,26 @@
+//! A caller with what real peers of IPsec speak; none was tried yet: AES-256 in CBC mode with HMAC-SHA-256-128 (RFC 3602, RFC 4868) as cipher, the
+//! 2048-bit MODP group (RFC 3526) as key agreement, and shared keys as proofs of identity (RFC 7296, section 2.15).
+//!
+//! [`PeerCaller`] meets the traits that `suite` asks of a caller ([`Sealer`](suite::Sealer), [`Agreement`](suite::Agreement),
+//! [`Proof`](suite::Proof)) with all their laws. It has the secret of its own end and the identities of its peers, each with its
+//! secret, and draws no random octets: the vector of a body and the secret of an agreement come from whoever calls.
+//!
+//! Nothing here hides how long a call takes: tables are read by secret octets, powers branch on secret bits, and a check value
+//! or a proof is compared up to its first wrong octet.
+//!
+//! ```text
+//! let peer = Peer { kind: 2, id: Items::from_slice(alloc, b"gw.example")?, secret: Items::from_slice(alloc, b"theirs")? };
+//! let caller = PeerCaller { own: Items::from_slice(alloc, b"ours")?, peers };
+//! let public = caller.public(alloc, &secret)?;                  // 256 octets, for a KE payload
+//! caller.seal(&keys, head, plain, &fresh, &mut body)?;          // vector, encrypted payloads, check value
+//! ```
+#![tactic(auto)]
+
+mod agreement;
+mod chaining;
+mod sealer;
+mod shared_key;
+#[cfg(test)]
+mod tests;
+
+pub use shared_key::{Peer, PeerCaller};
