@@ -1,5 +1,5 @@
 -- Every list of steps keeps what is promised of its packets.
-use Rattle.std.proofs.Common.{◌≡◌, ◌↔◌, ℕ, Option, Some, List, refl, sym, ap, ◌∙◌, subst, inl, inr}
+use Rattle.std.proofs.Common.{◌≡◌, ◌↔◌, ◌<◌, ◌≤◌, ℕ, Option, Some, None, List, refl, sym, ap, ◌∙◌, subst, inl, inr}
 use Rattle.std.specs.Prelude.{slice_get}
 use Rattle.std.specs.Ordering.{nat_cmp}
 use Rattle.std.specs.FinMap as finite_map
@@ -160,6 +160,14 @@ module _ (facts : PacketFacts) (old : Database) (ps : List Passage) (new : Datab
       let end = has_end facts child old ps new trail in
       at_most_once (child_history child ps all.numbers end) (history_judged child ps all.numbers end are judged)
 
+  gone : (first place n : ℕ) (p q : Passage) → first ≤ place → slice_get ps first ≡ Some p → slice_get ps place ≡ Some q
+      → child < p.before.next → pair_at p.before.pairs child ≡ None → ¬ IsJudgedAs child n q
+  gone first place n p q order at_first at_place below none j =
+      let absent = (stays_same facts child old ps new trail).absent first place p q order at_first at_place below none in
+      let stands : pair_at q.before.pairs child ≡ Some j.takes.pair = ap (pair_at q.before.pairs) j.takes.child_is ∙ j.takes.changed.there in
+      let is_none = absent.0 in
+      absurd (cc)
+
   child_is_judged : ChildIsJudged child ps
   child_is_judged = record {
     numbers = all.numbers;
@@ -170,6 +178,7 @@ module _ (facts : PacketFacts) (old : Database) (ps : List Passage) (new : Datab
     as_sent = as_sent;
     once = λ place other n p q here there one two. at_most.once place other n ((are.exactly place n p here).1 one) ((are.exactly other n q there).1 two);
     new = λ place n p here j. at_most.new place n ((are.exactly place n p here).1 j);
+    gone = gone;
     exactly_at_first = at_first;
     window = shown;
     same = stays_same facts child old ps new trail;

@@ -120,6 +120,42 @@ module _ (facts : PacketFacts) (child : ℕ) where
   gone_after old (r ∷ ps) new (suc first) (suc place) p q was trail order at_first at_place stood none =
       gone_after r.after ps new first place p q was trail.2 (omega arith) at_first at_place stood none
 
+  -- what is not there before the first of these steps is not there before each, and not after
+  absent_all_along : (q : Passage) (ps : List Passage) (new : Database) (place : ℕ) (p : Passage) → IsPassage q → IsTrail q.after ps new
+      → child < q.before.next → pair_at q.before.pairs child ≡ None → slice_get (q ∷ ps) place ≡ Some p → pair_at p.before.pairs child ≡ None
+  absent_all_along q ps new place p passage trail below none there = elim (held_or_not Pair (pair_at p.before.pairs child)) [
+    | inl gone ↦ gone
+    | inr held ↦
+        let begun = stood_all_along q ps new place p held.value passage trail below there held.is in
+        let stood = begun.there in
+        absurd (cc)
+  ]
+
+  absent_after : (q : Passage) (ps : List Passage) (new : Database) (place : ℕ) (p : Passage) → IsPassage q → IsTrail q.after ps new
+      → child < q.before.next → pair_at q.before.pairs child ≡ None → slice_get (q ∷ ps) place ≡ Some p → IsPassage p → pair_at p.after.pairs child ≡ None
+  absent_after q ps new place p passage trail below none there here = elim (held_or_not Pair (pair_at p.after.pairs child)) [
+    | inl gone ↦ gone
+    | inr held ↦
+        let begun = stood_after q ps new place p held.value passage trail below there here held.is in
+        let stood = begun.there in
+        absurd (cc)
+  ]
+
+  absent : (old : Database) (ps : List Passage) (new : Database) (first place : ℕ) (p q : Passage) → IsTrail old ps new → first ≤ place
+      → slice_get ps first ≡ Some p → slice_get ps place ≡ Some q → child < p.before.next → pair_at p.before.pairs child ≡ None
+      → (pair_at q.before.pairs child ≡ None) × (pair_at q.after.pairs child ≡ None)
+  absent old [] new first place p q trail order at_first at_place below none = absurd (cc)
+  absent old (r ∷ ps) new zero place p q trail order at_first at_place below none =
+      let same_step : p ≡ r = cc in
+      let given : child < r.before.next = subst (λ (s : Passage). child < s.before.next) same_step below in
+      let gone : pair_at r.before.pairs child ≡ None = subst (λ (s : Passage). pair_at s.before.pairs child ≡ None) same_step none in (
+        absent_all_along r ps new place q trail.1 trail.2 given gone at_place,
+        absent_after r ps new place q trail.1 trail.2 given gone at_place (passage_at old (r ∷ ps) new place q trail at_place),
+      )
+  absent old (r ∷ ps) new (suc first) zero p q trail order at_first at_place below none = absurd (omega arith)
+  absent old (r ∷ ps) new (suc first) (suc place) p q trail order at_first at_place below none =
+      absent r.after ps new first place p q trail.2 (omega arith) at_first at_place below none
+
   pub stays_same : (old : Database) (ps : List Passage) (new : Database) → IsTrail old ps new → StaysSame child ps
   stays_same old ps new trail = record {
     kept = λ first place p q was is order at_first at_place stood stands. kept old ps new first place p q was is trail order at_first at_place stood stands;
@@ -127,6 +163,7 @@ module _ (facts : PacketFacts) (child : ℕ) where
       | inl not_there ↦ absurd (nowhere (pair_at p.before.pairs child) not_there there)
       | inr held ↦ gone_after old ps new first place p q held.value trail order at_first at_place held.is none
     ];
+    absent = λ first place p q order at_first at_place below none. absent old ps new first place p q trail order at_first at_place below none;
   }
 
 -- wherever its pair stands, it has one association and one size of its window

@@ -1,5 +1,5 @@
 -- What is promised of the ESP packets of a list of steps.
-use Rattle.std.specs.Prelude.{◌≡◌, ◌↔◌, ◌≤◌, ℕ, false, Option, Some, None, List, slice_get}
+use Rattle.std.specs.Prelude.{◌≡◌, ◌↔◌, ◌<◌, ◌≤◌, ℕ, false, Option, Some, None, List, slice_get}
 use Rattle.std.specs.FinSet as set
 use Rattle.std.specs.FinMap as map
 use Rattle.std.specs.Ordering.{nat_cmp}
@@ -65,13 +65,17 @@ pub record IsSameEnd (was is : Pair) : Type 0 where
   pub local : is.local ≡ was.local
   pub remote : is.remote ≡ was.remote
 
--- a child is what it was as long as its pair stands, and once gone it never comes back
+-- A child is what it was as long as its pair stands, and once gone it never comes back: neither in the list, nor where it went before it.
 pub record StaysSame (child : ℕ) (passages : List Passage) : Type 0 where
   pub kept : (first place : ℕ) (p q : Passage) (was is : Pair) → first ≤ place → slice_get passages first ≡ Some p
       → slice_get passages place ≡ Some q → pair_at p.before.pairs child ≡ Some was → pair_at q.after.pairs child ≡ Some is
       → IsSameEnd was is
   pub gone : (first place : ℕ) (p q : Passage) → first ≤ place → slice_get passages first ≡ Some p → slice_get passages place ≡ Some q
       → IsThere p.before.pairs child → pair_at p.after.pairs child ≡ None → pair_at q.after.pairs child ≡ None
+  -- its serial was given, and no pair is there
+  pub absent : (first place : ℕ) (p q : Passage) → first ≤ place → slice_get passages first ≡ Some p → slice_get passages place ≡ Some q
+      → child < p.before.next → pair_at p.before.pairs child ≡ None
+      → (pair_at q.before.pairs child ≡ None) × (pair_at q.after.pairs child ≡ None)
 
 -- What is promised of one child.
 pub record ChildIsJudged (child : ℕ) (passages : List Passage) : Type 0 where
@@ -94,6 +98,9 @@ pub record ChildIsJudged (child : ℕ) (passages : List Passage) : Type 0 where
       → IsJudgedAs child n p → IsJudgedAs child n q → place ≡ other
   pub new : (place n : ℕ) (p : Passage) → slice_get passages place ≡ Some p → IsJudgedAs child n p
       → set.contains (taken_at_first child passages) n ≡ false
+  -- of a child that is gone, before the list or in it, no packet is judged any more: its serial is not given again
+  pub gone : (first place n : ℕ) (p q : Passage) → first ≤ place → slice_get passages first ≡ Some p → slice_get passages place ≡ Some q
+      → child < p.before.next → pair_at p.before.pairs child ≡ None → ¬ IsJudgedAs child n q
   -- and where no check value was forged, each at the first arrival of what was sent
   pub exactly_at_first : (sent : map.FinMap nat_cmp Octets) → Unforged child passages numbers sent
       → (place n : ℕ) (p : Passage) → slice_get passages place ≡ Some p

@@ -15,9 +15,10 @@ ghost use Rattle.deliveries.specs.Worked.{IsWorkedTrail};
 /// Of every list of steps, whatever comes: no number of a child is judged twice, nor one that its window held when the list began.
 /// What is judged is what the rule judges at all numbers taken before, and it is answered by the verdict on its contents, or refused for
 /// its padding (E19). Where no check value was forged, each packet that was sent to a child is judged exactly at its first arrival while
-/// the pair stands and the number, if it was not taken before, lies inside or above the window and is rightly recovered, and the verdict is that on the very octets sent. At every other packet
-/// nothing is handed up and the table stays as it was: it is refused for the first fault that the rule finds (E14 to E18), or reaches
-/// no pair (E28, or E14 where it ends before its SPI). A child keeps its SPI, key and selectors, and once gone never comes back.
+/// the pair stands and the number, if it was not taken before, lies inside or above the window and is rightly recovered, and the verdict
+/// is that on the very octets sent. At every other packet nothing is handed up and the table stays as it was: it is refused for the first
+/// fault that the rule finds (E14 to E18), or reaches no pair (E28, or E14 where it ends before its SPI). A child keeps its SPI, key and
+/// selectors; once gone, before the list or in it, it never comes back, and no packet is judged as its own.
 pub fn every_list_of_packets_is_judged()
     ensures { (old new : Database) (passages : List Passage) → IsTrail old passages new → PacketsAreJudged passages }
 {

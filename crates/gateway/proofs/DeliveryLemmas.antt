@@ -1,5 +1,5 @@
 -- Every run keeps what is promised of ESP packets.
-use Rattle.std.proofs.Common.{◌≡◌, inl, inr, ℕ, ◌∷◌, [], Bool, true, false, List, Option, Some, None, ap, refl, subst, sym, ◌∙◌, arith}
+use Rattle.std.proofs.Common.{◌≡◌, ◌<◌, ◌≤◌, inl, inr, ℕ, ◌∷◌, [], Bool, true, false, List, Option, Some, None, ap, refl, subst, sym, ◌∙◌, arith}
 use Rattle.std.specs.Prelude.{slice_get}
 use Rattle.std.specs.FinMap as numbers
 use Rattle.std.specs.FinSet as set
@@ -344,6 +344,12 @@ module _ {C : Type 0} (facts : DeliveryFacts) (meaning_of : C → Meaning) where
               (to_table child number p (passage_at place p there) one) t.received stands sent_so;
         }
 
+    gone : (first place child number : ℕ) (p q : Passage C) → first ≤ place → slice_get ps first ≡ Some p → slice_get ps place ≡ Some q → child < p.before.table.next
+        → pair_at p.before.table.pairs child ≡ None → ¬ JudgesOne child number q
+    gone first place child number p q order at_first at_place below none one =
+        (all_judged.children child).gone first place number (table_passage p) (table_passage q) order (there_too ps first p at_first) (there_too ps place q at_place) below none
+        (to_table child number q (passage_at place q at_place) one)
+
     pub packets_kept : PacketsAreDelivered ps
     packets_kept = record {
       packet = takes_at;
@@ -362,5 +368,6 @@ module _ {C : Type 0} (facts : DeliveryFacts) (meaning_of : C → Meaning) where
       at_first = λ child sent unforged place number p there.
           let both = (all_judged.children child).exactly_at_first sent unforged place number (table_passage p) (there_too ps place p there) in
           (λ one. both.0 (to_table child number p (passage_at place p there) one), λ first. to_gateway child number p (passage_at place p there) (both.1 first));
+      gone = gone;
       as_sent = as_sent;
     }

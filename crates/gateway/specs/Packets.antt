@@ -1,6 +1,6 @@
 -- ESP packets over a run: which are judged and when, and what comes of each (RFC 4301 section 5.2, RFC 4303 section 3.4).
 -- A place in the list of passages is the place of its input in the list that was given. A child is told by the serial of its pair.
-use Rattle.std.specs.Prelude.{◌≡◌, ◌↔◌, ℕ, false, Option, Some, None, List, map, slice_get}
+use Rattle.std.specs.Prelude.{◌≡◌, ◌↔◌, ◌<◌, ◌≤◌, ℕ, false, Option, Some, None, List, map, slice_get}
 use Rattle.std.specs.FinMap as numbers
 use Rattle.std.specs.Option.{option_map}
 use Rattle.std.specs.Ordering.{nat_cmp}
@@ -78,7 +78,7 @@ pub record TurnsAway {C : Type 0} (p : Passage C) : Type 0 where
   pub before_judging : is_after_judging fault ≡ false
   pub unchanged : p.after ≡ p.before
 
--- No number of a child is judged twice, whatever is given. Each ESP packet that was sent to a child is judged exactly at its first arrival
+-- No number of a child is judged twice, whatever is given, and none of a child that is gone. Each ESP packet that was sent to a child is judged exactly at its first arrival
 -- while its pair stands and its number is rightly recovered and lies inside or above the window, as long as no check value is forged and
 -- the number was not taken before the list; and what is said there is the verdict on what it holds. Of every other ESP packet nothing is handed up, and it changes nothing.
 pub record PacketsAreDelivered {C : Type 0} (passages : List (Passage C)) : Type 0 where
@@ -102,6 +102,9 @@ pub record PacketsAreDelivered {C : Type 0} (passages : List (Passage C)) : Type
       → JudgesOne child number p
   pub otherwise : (place : ℕ) (octets : Octets) (p : Passage C) → slice_get passages place ≡ Some p → p.given ≡ input.Esp octets
       → ((child number : ℕ) → ¬ JudgesOne child number p) → TurnsAway p
+  -- of a child that is gone, before the list or in it, no packet is judged any more: its serial is not given again
+  pub gone : (first place child number : ℕ) (p q : Passage C) → first ≤ place → slice_get passages first ≡ Some p → slice_get passages place ≡ Some q
+      → child < p.before.table.next → pair_at p.before.table.pairs child ≡ None → ¬ JudgesOne child number q
   -- where no check value was forged, what was sent to a child is judged at its first arrival, and only there
   pub at_first : (child : ℕ) (sent : numbers.FinMap nat_cmp Octets)
       → Unforged child (table_passages passages) (judged.children child).numbers sent

@@ -22,6 +22,11 @@ pub record StepsAs {C : Type 0} (meaning_of : C → Meaning) (i : Input) (old : 
   pub sound : IsSoundState old
   pub steps : Steps (meaning_of old.caller) i old (said o) new
 
+-- A call with a list of inputs is a run over it. Calls in a row, each from where the one before ended, are runs by this step, over the
+-- list of their lists.
+abbrev pub CallsAs : {C : Type 0} → (C → Meaning) → List Input → State C → List Output → State C → Type 0
+CallsAs {C} meaning_of inputs old outputs new = Runs (StepsAs meaning_of) inputs outputs old new
+
 -- The first so many inputs were taken in order, and their outputs appended; and what is promised of them holds.
 pub record RunsFirst {C : Type 0} (meaning_of : C → Meaning) (count : ℕ) (inputs : List Input) (old : State C) (before : List Output) (new : State C) (after : List Output) : Type 0 where
   pub outputs : List Output

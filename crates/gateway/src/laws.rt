@@ -1,5 +1,5 @@
 //! What follows from the definitions alone. No function here does anything.
-ghost use Rattle.std.specs.Prelude.{◌≡◌, ℕ, Contains, IsSome, List, Some, true, false, map};
+ghost use Rattle.std.specs.Prelude.{◌≡◌, ◌++◌, ℕ, Contains, IsSome, List, Some, true, false, flat_map, map};
 ghost use Rattle.std.specs.List.{AllByRecursion};
 ghost use Rattle.base.specs.Octets.{Octets};
 ghost use Rattle.policy.specs.declared.entry.Action.{Action};
@@ -23,7 +23,8 @@ ghost use Rattle.gateway.specs.Faults.{is_after_judging_packet};
 ghost use Rattle.ike.specs.Soundness.{IsSoundMachine};
 ghost use Rattle.gateway.specs.Outputs.{Clear, Dropped, FewAgain, FitsChild, FitsDatagram, IsQuiet, Refused, Said, Ticked, wants_memory, said};
 ghost use Rattle.gateway.specs.Promises.{KeepsPromises};
-ghost use Rattle.gateway.specs.Runs.{Runs, StepsAs};
+ghost use Rattle.gateway.specs.Histories.{IsHistory, Passage};
+ghost use Rattle.gateway.specs.Runs.{CallsAs, Runs, StepsAs};
 ghost use Rattle.gateway.specs.States.{State};
 ghost use Rattle.gateway.specs.Storing.{again_by};
 ghost use Rattle.gateway.specs.Steps.{GoesSealed, Steps, Traces};
@@ -184,6 +185,27 @@ pub fn every_run_keeps_its_promises<C>()
     every_list_of_packets_is_judged();
     other_changes_leave_windows();
     a_packet_takes_one_number();
+}
+
+/// A run over one list of inputs, and a run over the next list from where the first ended, are one run over both, whose steps are those of
+/// the first and then those of the second. So calls in a row are one run over all their lists, of which everything is promised that is
+/// promised of one list: what was judged or took effect at one call is judged or takes effect at no later one.
+pub fn runs_in_a_row_are_one_run<C>()
+    ensures both { (meaning_of : C → Meaning) (first second : List Input) (outputs others : List Output) (old between new : State C)
+        → Runs (StepsAs meaning_of) first outputs old between → Runs (StepsAs meaning_of) second others between new
+        → Runs (StepsAs meaning_of) (first ++ second) (outputs ++ others) old new }
+    ensures histories { (meaning_of : C → Meaning) (first second : List Input) (outputs others : List Output) (old between new : State C)
+        (earlier later : List (Passage C)) → IsHistory meaning_of first outputs old between earlier
+        → IsHistory meaning_of second others between new later
+        → IsHistory meaning_of (first ++ second) (outputs ++ others) old new (earlier ++ later) }
+    ensures calls { (meaning_of : C → Meaning) (lists : List (List Input)) (outputs : List (List Output)) (old new : State C)
+        → Runs (CallsAs meaning_of) lists outputs old new
+        → Runs (StepsAs meaning_of) (flat_map (λ inputs. inputs) lists) (flat_map (λ list. list) outputs) old new }
+    ensures promises { (meaning_of : C → Meaning) (lists : List (List Input)) (outputs : List (List Output)) (old new : State C)
+        → Runs (CallsAs meaning_of) lists outputs old new
+        → KeepsPromises meaning_of (flat_map (λ inputs. inputs) lists) (flat_map (λ list. list) outputs) old new }
+{
+    every_run_keeps_its_promises::<C>();
 }
 
 /// The premise on ESP packets is met by steps of a gateway in a row, in which a packet comes twice, with another input between, and no

@@ -132,3 +132,11 @@ pub fn fresh(spi: u64) -> Fresh {
         seal: [0; 16],
     }
 }
+
+/// The order to ask whether the peer of an association is there.
+pub fn probe(ike: u32) -> Input {
+    Input::Probe {
+        ike,
+        fresh: fresh(9),
+    }
+}
