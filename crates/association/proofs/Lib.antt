@@ -2,3 +2,5 @@ mod ReceivingLemmas
 mod RepeatingLemmas
 mod DeterminedAssociations
 mod DeletingLemmas
+mod GivingUpLemmas
+mod HeldLemmas

@@ -1,11 +1,15 @@
 //! What an end holds of one association.
 ghost use Rattle.std.specs.Prelude.{◌≡◌, Some, None, MatchBool, MatchOption};
 ghost use Rattle.std.specs.Option.{option_copied};
-ghost use Rattle.association.specs.Closing.{Closes, GivesUpSpi, HoldsSpi};
+ghost use Rattle.std.specs.Prelude.{◌≢◌, ℕ};
+ghost use Rattle.requests.specs.Outgoing.{GivesUpRequests, IsOutstanding};
+ghost use Rattle.sadb.specs.Database.{IsReserved};
+ghost use Rattle.association.specs.Closing.{Closes, GivesUpSpi, GivesUpSpis, HoldsReserved};
+ghost use Rattle.association.specs.GivingUp.{GivesUpRequest};
 ghost use Rattle.association.specs.Phases.{established_of, established_spi, keys_in, spi_in};
-ghost use Rattle.association.specs.Purposes.{AwaitsDeletion};
+ghost use Rattle.association.specs.Purposes.{AwaitsChild, AwaitsDeletion, AwaitsSpi};
 
-use crate::{FirstChild, Purpose};
+use crate::{AskedChild, Purpose};
 use base::Items;
 use exchange::Role;
 use requests::{Incoming, Outgoing, Timer};
@@ -74,7 +78,7 @@ pub struct InitSent {
     /// How many cookies it has taken so far, that one counted.
     pub cookies_taken: u8,
     /// The child that IKE_AUTH is to ask for.
-    pub child: FirstChild,
+    pub child: AskedChild,
 }
 
 /// What an initiator keeps while it waits for the response of IKE_AUTH.
@@ -84,7 +88,7 @@ pub struct AuthSent {
     /// The responder's first message, over which its AUTH is computed (RealMessage2; RFC 7296, section 2.15).
     pub first: Items<u8>,
     /// The child that was asked for.
-    pub child: FirstChild,
+    pub child: AskedChild,
 }
 
 /// What a responder keeps until IKE_AUTH comes.
@@ -135,18 +139,18 @@ impl Association {
         spi
     }
 
-    /// Ends it at a moment, in milliseconds: it waits for no answer any more, its children are taken out of the table, and an SPI
-    /// that was reserved for one is given up. What it answered is kept to be sent again. Takes no memory.
+    /// Ends it at a moment, in milliseconds: it waits for no answer any more, its children are taken out of the table, and the SPIs
+    /// that were reserved for further ones are given up. What it answered is kept to be sent again. Takes no memory.
     ///
-    /// The caller asks only where such an SPI is reserved in the table.
+    /// The caller asks only where these SPIs are reserved in the table, each for one child.
     pub fn close(&mut self, table: &mut Table, moment: u64)
-        requires { HoldsSpi (spi_in self.old.phase) table.old }
+        requires { HoldsReserved self.old table.old }
         ensures { Closes self.old table.old moment self.new table.new }
     {
         let (keys, spi) = ended(mem::replace(&mut self.phase, Phase::ENDED));
         self.phase = Phase::Closed { keys, at: moment };
-        self.outgoing.give_up();
         give_up_spi(table, spi);
+        give_up_requests(&mut self.outgoing, table);
         table.remove_all_of(self.serial);
     }
 }
@@ -182,11 +186,33 @@ fn ended(phase: Phase) -> (Option<KeyRecord>, Option<Spi>)
     }
 }
 
-fn give_up_spi(table: &mut Table, spi: Option<Spi>)
-    requires { HoldsSpi spi table.old }
-    ensures { GivesUpSpi spi table.old table.new }
+// None of them waits for its answer any more, and the SPIs of the children that they asked for are given up.
+fn give_up_requests(requests: &mut Outgoing<Request>, table: &mut Table)
+    requires reserved { (spi : ℕ) → AwaitsSpi requests.old spi → IsReserved table.old spi }
+    requires one { (number other spi : ℕ)
+        → AwaitsChild requests.old number spi → AwaitsChild requests.old other spi → number ≡ other }
+    ensures requests { GivesUpRequests requests.old requests.new }
+    ensures spis { GivesUpSpis (AwaitsSpi requests.old) table.old table.new }
 {
-    if let Some(spi) = spi {
+    while let Some((number, _)) = requests.after(None) {
+        give_up_request(requests, table, number);
+    }
+}
+
+fn give_up_request(requests: &mut Outgoing<Request>, table: &mut Table, issued: u32)
+    requires outstanding { IsOutstanding requests.old issued }
+    requires reserved { (spi : ℕ) → AwaitsChild requests.old issued spi → IsReserved table.old spi }
+    ensures { GivesUpRequest requests.old table.old issued requests.new table.new }
+{
+    let request = requests.withdraw(issued);
+    give_up_spi(table, request.purpose.into_spi());
+}
+
+fn give_up_spi(table: &mut Table, given: Option<Spi>)
+    requires { (spi : ℕ) → given ≡ Some spi → IsReserved table.old spi }
+    ensures { GivesUpSpi given table.old table.new }
+{
+    if let Some(spi) = given {
         table.release(spi);
     }
 }

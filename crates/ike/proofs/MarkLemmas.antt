@@ -9,7 +9,6 @@ use Rattle.sadb.specs.Contents.{table_content}
 use Rattle.sadb.specs.Database.{pair_at, Database, IsReserved, Marks, PairMap}
 use Rattle.sadb.specs.declared.pair.Pair.{Pair}
 use Rattle.sadb.specs.declared.pair.State.TheVariants.{Deleting}
-use Rattle.association.specs.Closing.{HoldsSpi}
 use Rattle.informational.specs.Ordering.{MarksFor}
 use Rattle.informational.specs.declared.ordering.Order.{Order}
 use Rattle.informational.specs.declared.ordering.Order.TheVariants as order
@@ -29,10 +28,6 @@ marked_but order.DeleteAssociation table new is = unchanged_but table new is
 
 pub marked_reserved : (o : Order) (table new : Database) (spi : ℕ) → MarksFor o table new → IsReserved table spi → IsReserved new spi
 marked_reserved o table new spi is reserved = subst (λ (d : Database). IsReserved d spi) (sym (marked_but o table new is)) reserved
-
-pub marked_holds : (o : Order) (table new : Database) (spi : Option ℕ) → MarksFor o table new → HoldsSpi spi table → HoldsSpi spi new
-marked_holds o table new None is holds = tt
-marked_holds o table new (Some spi) is holds = marked_reserved o table new spi is holds
 
 one_marked : (table : Database) (child serial : ℕ) (was pair : Pair) (new : Database) → pair_at table.pairs child ≡ Some was → new ≡ record table { pairs = map.insert table.pairs child (record was { state = Deleting }) }
     → pair_at new.pairs serial ≡ Some pair → (pair_at table.pairs serial ≡ Some pair) ⊎ IsMarked table serial pair
