@@ -87,12 +87,12 @@ awaited_by old new same number spi awaits = record { request = awaits.request; o
 
 concluded_awaited : HeldFacts → (setup : Setup) (a : Association) (table : Database) (o : Outcome) (child : Option ℕ) (new : Association) (new_table : Database) → ConcludesBy setup a table o child new new_table → KeepsAwaited a new
 concluded_awaited facts setup a table outcome.Closes child new new_table c number spi awaits = absurd (facts.closed a table setup.moment new new_table spi c.over (inr (record { number = number; awaits = awaits })))
-concluded_awaited facts setup a table (outcome.Establishes pair window) child new new_table c =
-    awaited_by a new (λ number. ap (λ (x : Association). map.get x.outgoing.outstanding number) c.content)
+concluded_awaited facts setup a table (outcome.Establishes pair window) child new new_table c number spi awaits =
+    awaited_by a new (λ n. ap (λ (x : Association). map.get x.outgoing.outstanding n) c.content) number spi awaits
 
 closed_if_awaited : HeldFacts → (ending : Bool) (serials : List ℕ) (a : Association) (table : Database) (moment : ℕ) (new : Association) (new_table : Database) → ClosesIf ending serials a table moment new new_table → KeepsAwaited a new
 closed_if_awaited facts true serials a table moment new new_table is number spi awaits = absurd (facts.closed a table moment new new_table spi is (inr (record { number = number; awaits = awaits })))
-closed_if_awaited facts false serials a table moment new new_table is = awaited_by a new (λ number. ap (λ (x : Association). map.get x.outgoing.outstanding number) is.0)
+closed_if_awaited facts false serials a table moment new new_table is number spi awaits = awaited_by a new (λ n. ap (λ (x : Association). map.get x.outgoing.outstanding n) is.0) number spi awaits
 
 -- what is held then stays reserved
 abbrev pub KeepsReserved : Association → Database → Association → Database → Type 0

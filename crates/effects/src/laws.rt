@@ -38,7 +38,7 @@ ghost use Rattle.association.specs.declared.phase.Phase.TheVariants as phase;
 ghost use Rattle.association.specs.declared.phase.AuthSent.{AuthSent};
 ghost use Rattle.auth.specs.Proofs.{Accepts};
 ghost use Rattle.initial.specs.Answering.{AnswersAuth, Prover};
-ghost use Rattle.initial.specs.Beginning.{begun, Admits, Begins};
+ghost use Rattle.initial.specs.Beginning.{begun, half_open, Admits, Begins};
 ghost use Rattle.effects.specs.Children.{AsksForChild, IsAsking, MakesChild};
 ghost use Rattle.initial.specs.Configs.{Setup, IsConfig};
 ghost use Rattle.informational.specs.Asking.{Asks};

@@ -12,7 +12,7 @@ use Rattle.informational.proofs.counting.remove_deleted.Goals as goal
 pub returns-in-Some : goal.returns-in-Some
 returns-in-Some c =
     let table : Database = c.args.table.now in
-    let child = c.in-DeleteChild.child.now in
+    let child = c.in-DeleteChild.child in
     let pair : Pair = c.in-Some.pair.now in
     let there : pair_at table.pairs child ≡ Some pair = sym c.get.ensures ∙ ap option_copied c.in-Some.is in
     let own : BelongsTo table.pairs c.args.ike child = record { pair = pair; there = there; its = c.if-pair-ike.true } in
