@@ -1,3 +1,6 @@
 mod ChainingLemmas
+mod ChainedLemmas
 mod BodyLemmas
 mod PeerLemmas
+mod OpenedLemmas
+mod ProvedLemmas

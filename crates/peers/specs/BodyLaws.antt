@@ -17,16 +17,16 @@ use Rattle.peers.specs.Chaining.{both, cbc_encrypted, cbc_decrypted}
 use Rattle.peers.specs.Bodies.{pad_length, padding, blocks_of, body_size, encrypted_part, check_value, sealed_body, unpadded, is_intact, decrypted_part, opened_body}
 
 -- ---- octets
-append_octets : (xs ys : List ℕ) → AreOctets xs → AreOctets ys → AreOctets (xs ++ ys)
+pub append_octets : (xs ys : List ℕ) → AreOctets xs → AreOctets ys → AreOctets (xs ++ ys)
 append_octets [] ys front back = back
 append_octets (x ∷ xs) ys front back = (front.0, append_octets xs ys front.1 back)
 
-take_octets : (n : ℕ) (xs : List ℕ) → AreOctets xs → AreOctets (take n xs)
+pub take_octets : (n : ℕ) (xs : List ℕ) → AreOctets xs → AreOctets (take n xs)
 take_octets zero xs octets = tt
 take_octets (suc n) [] octets = tt
 take_octets (suc n) (x ∷ xs) octets = (octets.0, take_octets n xs octets.1)
 
-drop_octets : (n : ℕ) (xs : List ℕ) → AreOctets xs → AreOctets (drop n xs)
+pub drop_octets : (n : ℕ) (xs : List ℕ) → AreOctets xs → AreOctets (drop n xs)
 drop_octets zero xs octets = octets
 drop_octets (suc n) [] octets = tt
 drop_octets (suc n) (x ∷ xs) octets = drop_octets n xs octets.1
@@ -40,14 +40,14 @@ replicate_octets zero = tt
 replicate_octets (suc n) = (omega arith, replicate_octets n)
 
 -- ---- blocks
-both_block : (a b : List ℕ) → AreOctets a → AreOctets b → IsBlock (both a b)
+pub both_block : (a b : List ℕ) → AreOctets a → AreOctets b → IsBlock (both a b)
 unfolding both
 both_block a b octets_a octets_b = record {
   whole = refl;
   octets = map_octets (λ k. bit_xor (get_or a k 0) (get_or b k 0)) (λ k. xor_lt 8 (get_or a k 0) (get_or b k 0) (are_octets a octets_a k) (are_octets b octets_b k)) (range_with_len 0 16);
 }
 
-both_twice : (a b : List ℕ) → length a ≡ 16 → both (both a b) b ≡ a
+pub both_twice : (a b : List ℕ) → length a ≡ 16 → both (both a b) b ≡ a
 unfolding both
 both_twice a b whole =
     sym (fill_by_all (λ k. bit_xor (get_or (map (λ j. bit_xor (get_or a j 0) (get_or b j 0)) (range_with_len 0 16)) k 0) (get_or b k 0)) a 16 0 whole (λ k within.
@@ -73,7 +73,7 @@ pub cbc_decrypted-zero : (key before text : List ℕ) → cbc_decrypted key befo
 unfolding cbc_decrypted
 cbc_decrypted-zero key before text = refl
 
-nothing : (xs : List ℕ) → length xs ≡ 16 * 0 → xs ≡ []
+pub nothing : (xs : List ℕ) → length xs ≡ 16 * 0 → xs ≡ []
 nothing [] none = refl
 nothing (x ∷ xs) none = absurd (omega arith)
 
@@ -193,7 +193,7 @@ body_length keys head plain fresh is =
 pub sizes : (n : ℕ) → (n ≤ body_size n) × (body_size n ≤ n + 128)
 sizes n = (omega arith, omega arith)
 
-pointwise_itself : (xs : List ℕ) → pointwise nat_eq xs xs ≡ true
+pub pointwise_itself : (xs : List ℕ) → pointwise nat_eq xs xs ≡ true
 pointwise_itself [] = refl
 pointwise_itself (x ∷ xs) = rw (eq-eqb x x refl) (pointwise_itself xs)
 
@@ -204,7 +204,7 @@ picked : (t : Bool) (x y : Option (List ℕ)) → t ≡ true → x ≡ y → (if
 picked t x y is same = rw is same
 
 -- vector, blocks and check value, told apart
-opens_parts : (keys : Keys) (head vector blocks value plain : List ℕ) (m : ℕ) →
+pub opens_parts : (keys : Keys) (head vector blocks value plain : List ℕ) (m : ℕ) →
     length vector ≡ 16 → length blocks ≡ 16 * (m + 1) → length value ≡ 16 → value ≡ check_value keys head (vector ++ blocks) →
     unpadded (cbc_decrypted keys.encryption vector (m + 1) blocks) ≡ Some plain →
     opened_body keys head ((vector ++ blocks) ++ value) ≡ Some plain

@@ -1,5 +1,6 @@
 pub mod Chaining
 pub mod Bodies
+pub mod BodyParts
 pub mod Groups
 pub mod SharedKeys
 pub mod BodyLaws

@@ -1,5 +1,6 @@
 -- Proofs of identity under shared keys (RFC 7296, sections 2.15 and 3.8).
-use Rattle.std.specs.Prelude.{ℕ, Bool, false, ◌&&◌, nat_eq, List, [], ◌∷◌, codes, if◌then◌else◌}
+use Rattle.std.specs.Prelude.{◌≡◌, ◌≢◌, ℕ, Bool, false, ◌&&◌, nat_eq, List, [], ◌∷◌, ◌++◌, codes, if◌then◌else◌}
+use Rattle.std.specs.List.{AllByRecursion}
 use Rattle.std.specs.Cmp.Lexicographic.{pointwise}
 use Rattle.mac.specs.Hmac.{hmac_sha256}
 use Rattle.peers.specs.declared.shared_key.Peer.{Peer}
@@ -22,3 +23,19 @@ proved_by (peer ∷ peers) kind id octets given =
 -- and by no other method
 unfoldable pub is_accepted : List Peer → ℕ → List ℕ → ℕ → List ℕ → List ℕ → Bool
 is_accepted peers kind id method octets given = nat_eq method shared_key_method && proved_by peers kind id octets given
+
+-- a peer has an identity, and none before it has the same
+pub record IsFirst (peers : List Peer) (kind : ℕ) (id : List ℕ) (peer : Peer) : Type 0 where
+  pub before : List Peer
+  pub behind : List Peer
+  pub there : peers ≡ before ++ peer ∷ behind
+  pub kind_is : peer.kind ≡ kind
+  pub id_is : peer.id ≡ id
+  pub others : AllByRecursion (λ other. other.kind ≡ kind → other.id ≢ id) before
+
+-- what is given is what section 2.15 has such a peer give, by its own secret
+pub record IsProved (peers : List Peer) (kind : ℕ) (id : List ℕ) (method : ℕ) (octets given : List ℕ) : Type 0 where
+  pub by_shared_key : method ≡ 2
+  pub peer : Peer
+  pub known : IsFirst peers kind id peer
+  pub is : given ≡ hmac_sha256 (hmac_sha256 peer.secret (codes "Key Pad for IKEv2")) octets

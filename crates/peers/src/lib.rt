@@ -5,6 +5,9 @@
 //! [`Proof`](suite::Proof)) with all their laws. It has the secret of its own end and the identities of its peers, each with its
 //! secret, and draws no random octets: the vector of a body and the secret of an agreement come from whoever calls.
 //!
+//! That a body opens exactly if it is made as section 3.14 says, and that a proof is accepted exactly if it is what the first peer with
+//! that identity gives, are laws: [`laws`].
+//!
 //! Nothing here hides how long a call takes: tables are read by secret octets, powers branch on secret bits, and a check value
 //! or a proof is compared up to its first wrong octet.
 //!
@@ -18,6 +21,7 @@
 
 mod agreement;
 mod chaining;
+pub mod laws;
 mod sealer;
 mod shared_key;
 #[cfg(test)]

@@ -1,5 +1,5 @@
 //! The cipher: bodies of encrypted payloads (RFC 7296, section 3.14).
-ghost use Rattle.std.specs.Prelude.{◌≡◌, ◌≤◌, ◌<◌, ◌++◌, OnOk, OnErr, IfSome, ◌+◌, ◌%◌, length, option_map, take};
+ghost use Rattle.std.specs.Prelude.{◌≡◌, ◌≤◌, ◌<◌, ◌++◌, false, Ok, OnOk, OnErr, IfOk, IfSome, ◌+◌, ◌%◌, length, option_map, take};
 ghost use Rattle.std.specs.List.{flat_map};
 ghost use Rattle.suite.specs.Sealing.{Opens};
 ghost use Rattle.peers.specs.Bodies.{check_value, decrypted_part, encrypted_part, is_intact, pad_length, padding, unpadded};
@@ -66,7 +66,11 @@ impl Sealer for PeerCaller {
         head: &[u8],
         body: &[u8],
         out: &mut Vec<u8>,
-    ) -> Result<bool, AllocError> {
+    ) -> Result<bool, AllocError>
+        ensures answered { IfOk result (λ opens. Opens (opened_body keys.now head.now body.now) opens out.old.items out.new.items) }
+        ensures refused { OnErr result (out.new.items ≡ out.old.items) }
+        ensures forged { is_intact keys.now head.now body.now ≡ false → (result ≡ Ok false) × (out.new.items ≡ out.old.items) }
+    {
         if !is_intact(keys, head, body) {
             return Ok(false);
         }

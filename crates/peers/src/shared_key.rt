@@ -1,5 +1,5 @@
 //! The proofs of identity under shared keys (RFC 7296, sections 2.15 and 3.8).
-ghost use Rattle.std.specs.Prelude.{◌≡◌};
+ghost use Rattle.std.specs.Prelude.{◌≡◌, Ok};
 ghost use Rattle.peers.specs.OtherLaws.{proof_fits};
 ghost use Rattle.peers.specs.SharedKeys.{proof_under, proved_by};
 
@@ -58,7 +58,9 @@ impl Proof for PeerCaller {
         method: u8,
         octets: &[u8],
         proof: &[u8],
-    ) -> Result<bool, AllocError> {
+    ) -> Result<bool, AllocError>
+        ensures { result ≡ Ok (is_accepted self.now.peers kind id.now method octets.now proof.now) }
+    {
         Ok(method == SHARED_KEY_METHOD && is_proved(self.peers.as_slice(), kind, id, octets, proof))
     }
 

@@ -1,4 +1,6 @@
 //! Bodies as openssl makes them, values of the group and proofs as python does.
+mod memory;
+
 use crate::chaining::{decrypt, encrypt};
 use crate::{Peer, PeerCaller};
 use aes::Aes256;

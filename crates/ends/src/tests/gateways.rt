@@ -2,4 +2,5 @@
 mod flood;
 mod lists;
 mod notices;
+mod of_peers;
 pub mod sample;
