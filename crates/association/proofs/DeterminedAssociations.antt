@@ -1,5 +1,5 @@
 -- What a message is to an association goes by what is held of it, and so does what its end leaves.
-use Rattle.std.proofs.Common.{◌≡◌, ℕ, Bool, true, false, refl, inl, inr, sym, ap, subst, ◌∙◌, Some}
+use Rattle.std.proofs.Common.{◌≡◌, ℕ, Bool, true, false, refl, inl, inr, sym, ap, subst, ◌∙◌}
 use Rattle.std.specs.Cmp.{nat_cmp_total}
 use Rattle.std.specs.FinSet as set
 use Rattle.std.specs.Ordering.{nat_cmp}
@@ -61,9 +61,9 @@ same_after_giving_up : (Held Other : ℕ → Type 0) (old other a b : Database) 
 same_after_giving_up Held Other old other a b there back same one two =
     let was : (spi : ℕ) → set.contains old.reserved spi ≡ set.contains other.reserved spi = λ spi. ap (λ (d : Database). set.contains d.reserved spi) same in
     let reserved : a.reserved ≡ b.reserved = set.same_set nat_cmp_total set.nat_cmp-IsAntisymmetric a.reserved b.reserved (λ spi.
-        both_ways (set.contains a.reserved spi) (set.contains b.reserved spi)
-        (λ is. let before = (one.reserved spi).0 is in (two.reserved spi).1 (sym (was spi) ∙ before.0, λ held. before.1 (back spi held)))
-        (λ is. let before = (two.reserved spi).0 is in (one.reserved spi).1 (was spi ∙ before.0, λ held. before.1 (there spi held)))) in
+    both_ways (set.contains a.reserved spi) (set.contains b.reserved spi)
+    (λ is. let before = (one.reserved spi).0 is in (two.reserved spi).1 (sym (was spi) ∙ before.0, λ held. before.1 (back spi held)))
+    (λ is. let before = (two.reserved spi).0 is in (one.reserved spi).1 (was spi ∙ before.0, λ held. before.1 (there spi held)))) in
     ap table_content one.content
     ∙ ap (λ (d : Database). record d { reserved = a.reserved; room = 0 }) same
     ∙ ap (λ (r : set.FinSet nat_cmp). record other { reserved = r; room = 0 }) reserved

@@ -1,5 +1,5 @@
 -- All outstanding requests are given up, one after the other, with the SPIs of the children that they asked for.
-use Rattle.std.proofs.Common.{◌≡◌, ◌≢◌, ◌+◌, ◌-◌, ◌<◌, ◌≤◌, ◌&&◌, ◌↔◌, ℕ, zero, suc, Bool, true, false, cond, not, Option, Some, None, refl, sym, ap, subst, ◌∙◌, inl, inr, arith}
+use Rattle.std.proofs.Common.{◌≡◌, ◌≢◌, ◌+◌, ◌-◌, ◌<◌, ◌≤◌, ◌&&◌, ◌↔◌, ℕ, Bool, true, false, cond, not, Option, Some, None, refl, sym, ap, subst, ◌∙◌, inl, inr, arith}
 use Rattle.std.specs.Prelude.{is_some, nat_eq, ◌⊎◌}
 use Rattle.std.proofs.lemmas.Bool.{eq-eqb, ne_eqb}
 use Rattle.std.proofs.lemmas.Bool.Decides.{eqb_tells, leb_tells}
@@ -101,7 +101,7 @@ released_told None old new same spi = (
 )
 released_told (Some s) old new is spi =
     let told : set.contains new.reserved spi ≡ (not (nat_eq spi s) && set.contains old.reserved spi) =
-        ap (λ (d : Database). set.contains d.reserved spi) is.content ∙ set.contains-remove nat_cmp_total old.reserved s spi ∙ ap (λ b. not b && set.contains old.reserved spi) (unsigned_tied spi s) in
+    ap (λ (d : Database). set.contains d.reserved spi) is.content ∙ set.contains-remove nat_cmp_total old.reserved s spi ∙ ap (λ b. not b && set.contains old.reserved spi) (unsigned_tied spi s) in
     elim (eqb_tells spi s) [
       | inl (_, same) ↦ (
         λ reserved. absurd (both_false (set.contains old.reserved spi) (sym (told ∙ ap (λ b. not b && set.contains old.reserved spi) (eq-eqb spi s same)) ∙ reserved)),
@@ -162,12 +162,12 @@ one_more old old_table now table n new new_table before is =
           ∙ ap (λ (m : Outstanding). record old { outstanding = m; room = now.room + 1 }) (sym left)
           ∙ ap (λ (k : ℕ). record old { outstanding = new.outstanding; room = k }) (sym rooms);
       count = (let fewer_now : map.len (map.remove now.outstanding n) + 1 ≡ map.len now.outstanding = fewer now.outstanding n r there in
-        let lens : map.len new.outstanding ≡ map.len (map.remove now.outstanding n) = ap (λ (m : Outstanding). map.len m) left in
-        omega (arith, fewer_now, lens, rooms, before.count));
+          let lens : map.len new.outstanding ≡ map.len (map.remove now.outstanding n) = ap (λ (m : Outstanding). map.len m) left in
+          omega (arith, fewer_now, lens, rooms, before.count));
       spis = λ spi. (
         λ reserved. (let now_told = (released_told (spi_asked r.purpose) table new_table is.released spi).0 reserved in
-          let old_told = (before.spis spi).0 now_told.0 in
-          (old_told.0, λ was. old_told.1 (either spi now_told.1 was))),
+            let old_told = (before.spis spi).0 now_told.0 in
+            (old_told.0, λ was. old_told.1 (either spi now_told.1 was))),
         λ both. (released_told (spi_asked r.purpose) table new_table is.released spi).1 (
           (before.spis spi).1 (both.0, λ was. both.1 (earlier spi was)),
           λ asked. both.1 (awaited spi asked),
@@ -214,7 +214,7 @@ pub all_spis : (old : OwnRequests Request) (old_table : Database) (now : OwnRequ
 all_spis old old_table now table given none = record {
   reserved = λ spi. (
     λ reserved. (let told = (given.spis spi).0 reserved in
-      (told.0, λ awaits. told.1 (record { number = awaits.number; awaited = awaits.awaits; gone = none awaits.number }))),
+        (told.0, λ awaits. told.1 (record { number = awaits.number; awaited = awaits.awaits; gone = none awaits.number }))),
     λ both. (given.spis spi).1 (both.0, λ was. both.1 (record { number = was.number; awaits = was.awaited })),
   );
   content = given.others;
@@ -228,8 +228,8 @@ pub both_given_up : (o : Option ℕ) (requests : OwnRequests Request) (old betwe
 both_given_up o requests old between new first others = record {
   reserved = λ spi. (
     λ reserved. (let then = (others.reserved spi).0 reserved in
-      let before = (released_told o old between first spi).0 then.0 in
-      (before.0, λ held. elim held [ inl its ↦ before.1 its | inr awaits ↦ then.1 awaits ])),
+        let before = (released_told o old between first spi).0 then.0 in
+        (before.0, λ held. elim held [ inl its ↦ before.1 its | inr awaits ↦ then.1 awaits ])),
     λ both. (others.reserved spi).1 ((released_told o old between first spi).1 (both.0, λ its. both.1 (inl its)), λ awaits. both.1 (inr awaits)),
   );
   content = others.content ∙ ap (λ (d : Database). record d { reserved = new.reserved; room = new.room }) (released_others o old between first);

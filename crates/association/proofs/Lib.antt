@@ -4,3 +4,4 @@ mod DeterminedAssociations
 mod DeletingLemmas
 mod GivingUpLemmas
 mod HeldLemmas
+mod AwaitingLemmas

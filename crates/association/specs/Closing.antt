@@ -11,6 +11,14 @@ use Rattle.association.specs.declared.phase.Phase.TheVariants.{Closed}
 abbrev pub HoldsSpi : Association → ℕ → Type 0
 HoldsSpi a spi = (spi_in a.phase ≡ Some spi) ⊎ AwaitsSpi a.outgoing spi
 
+-- some is, or none
+pub record HoldsSomeSpi (a : Association) : Type 0 where
+  pub spi : ℕ
+  pub held : HoldsSpi a spi
+
+pub record HoldsNoSpi (a : Association) : Type 0 where
+  pub none : (spi : ℕ) → ¬ HoldsSpi a spi
+
 -- each of them is reserved in the table, and kept for one child alone
 pub record HoldsReserved (a : Association) (table : Database) : Type 0 where
   pub reserved : (spi : ℕ) → HoldsSpi a spi → IsReserved table spi

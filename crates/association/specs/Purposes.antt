@@ -59,3 +59,12 @@ pub record AwaitsChild (requests : OwnRequests Request) (number spi : ℕ) : Typ
 pub record AwaitsSpi (requests : OwnRequests Request) (spi : ℕ) : Type 0 where
   pub number : ℕ
   pub awaits : AwaitsChild requests number spi
+
+-- none does
+pub record AwaitsNone (requests : OwnRequests Request) : Type 0 where
+  pub none : (spi : ℕ) → ¬ AwaitsSpi requests spi
+
+-- some SPI is awaited
+pub record AwaitsSome (requests : OwnRequests Request) : Type 0 where
+  pub spi : ℕ
+  pub awaits : AwaitsSpi requests spi

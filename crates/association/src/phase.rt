@@ -1,13 +1,13 @@
 //! What an end holds of one association.
 ghost use Rattle.std.specs.Prelude.{◌≡◌, Some, None, MatchBool, MatchOption};
 ghost use Rattle.std.specs.Option.{option_copied};
-ghost use Rattle.std.specs.Prelude.{◌≢◌, ℕ};
+ghost use Rattle.std.specs.Prelude.{ℕ, IsSome};
 ghost use Rattle.requests.specs.Outgoing.{GivesUpRequests, IsOutstanding};
 ghost use Rattle.sadb.specs.Database.{IsReserved};
-ghost use Rattle.association.specs.Closing.{Closes, GivesUpSpi, GivesUpSpis, HoldsReserved};
+ghost use Rattle.association.specs.Closing.{Closes, GivesUpSpi, GivesUpSpis, HoldsNoSpi, HoldsReserved, HoldsSomeSpi};
 ghost use Rattle.association.specs.GivingUp.{GivesUpRequest};
 ghost use Rattle.association.specs.Phases.{established_of, established_spi, keys_in, spi_in};
-ghost use Rattle.association.specs.Purposes.{AwaitsChild, AwaitsDeletion, AwaitsSpi};
+ghost use Rattle.association.specs.Purposes.{AwaitsChild, AwaitsDeletion, AwaitsNone, AwaitsSome, AwaitsSpi};
 
 use crate::{AskedChild, Purpose};
 use base::Items;
@@ -127,6 +127,13 @@ impl Association {
         self.outgoing.any(|request| request.purpose.asks_to_end())
     }
 
+    /// Whether an SPI is reserved for a child that it asked for and that is still to come. Takes no memory.
+    pub fn holds_spi(&self) -> bool
+        ensures { MatchBool result (HoldsSomeSpi self.now) (HoldsNoSpi self.now) }
+    {
+        asks_first(&self.phase) || asks_further(&self.outgoing)
+    }
+
     /// Makes an association established whose IKE_AUTH is done; in any other phase than [`Phase::AuthSent`] and
     /// [`Phase::HalfOpen`] nothing changes. The SPI is answered that was reserved for the first child, where this end asked for
     /// one. Takes no memory.
@@ -170,6 +177,24 @@ fn established(phase: Phase) -> (Phase, Option<Spi>)
         Phase::HalfOpen(open) => (Phase::Established(open.keys), None),
         other => (other, None),
     }
+}
+
+// Whether the first child is still to come.
+fn asks_first(phase: &Phase) -> bool
+    ensures { MatchBool result (IsSome (spi_in phase.now)) (spi_in phase.now ≡ None) }
+{
+    match phase {
+        Phase::InitSent(_) => true,
+        Phase::AuthSent(_) => true,
+        _ => false,
+    }
+}
+
+// Whether a further child is.
+fn asks_further(requests: &Outgoing<Request>) -> bool
+    ensures { MatchBool result (AwaitsSome requests.now) (AwaitsNone requests.now) }
+{
+    requests.any(|request| request.purpose.asks_for_child())
 }
 
 // The keys, and the SPI that the first child was to have.

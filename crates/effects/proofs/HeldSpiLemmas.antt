@@ -5,36 +5,26 @@ use Rattle.std.proofs.lemmas.Option.{none-some}
 use Rattle.std.proofs.Common.{◌≡◌, ◌≢◌, ◌⊎◌, inl, inr, ℕ, ◌+◌, Bool, true, false, Option, Some, None, ap, refl, subst, sym, ◌∙◌, List}
 use Rattle.base.specs.Octets.{Octets}
 use Rattle.wire.specs.declared.message.Message.{Message}
-use Rattle.suite.specs.declared.key_record.KeyRecord.{KeyRecord}
 use Rattle.suite.specs.declared.keys.Keys.{Keys}
 use Rattle.exchange.specs.declared.sealed.Plain.{Plain}
-use Rattle.requests.specs.Outgoing.{number_0_answered, CountsAnswer, HasSameOwnRequests, IssuesRequest, OwnRequests, ReplacesRequest}
+use Rattle.requests.specs.Outgoing.{number_0_answered}
 use Rattle.sadb.specs.Database.{Database, IsReserved, IsSoundTable}
 use Rattle.association.specs.Closing.{Closes, HoldsReserved, HoldsSpi}
-use Rattle.association.specs.Phases.{established_of, established_spi, keys_in, spi_in}
-use Rattle.association.specs.Purposes.{spi_asked, AwaitsChild}
-use Rattle.association.specs.declared.phase.Request.{Request}
+use Rattle.association.specs.Phases.{established_of, established_spi, spi_in}
+use Rattle.association.specs.Purposes.{AwaitsChild}
 use Rattle.association.specs.declared.purpose.Purpose.TheVariants.{Begin, Identify}
 use Rattle.initial.specs.Issuing.{new_request}
-use Rattle.association.specs.declared.fault.MessageFault.{MessageFault}
 use Rattle.association.specs.declared.phase.Association.{Association}
-use Rattle.association.specs.declared.phase.AuthSent.{AuthSent}
-use Rattle.association.specs.declared.phase.HalfOpen.{HalfOpen}
-use Rattle.association.specs.declared.phase.InitSent.{InitSent}
-use Rattle.association.specs.declared.phase.Phase.{Phase}
-use Rattle.association.specs.declared.phase.Phase.TheVariants as phase
 use Rattle.auth.specs.Proofs.{Accepts}
-use Rattle.initial.specs.Answering.{outcome_of, AnswersAuth, IsHalfOpen, Prover}
-use Rattle.initial.specs.Concluding.{established, widened, ConcludesBy}
+use Rattle.initial.specs.Answering.{outcome_of, AnswersAuth, Prover}
+use Rattle.initial.specs.Concluding.{established, ConcludesBy}
 use Rattle.initial.specs.Configs.{Setup}
-use Rattle.initial.specs.Ending.{EndsAuth, IsAuthSent}
-use Rattle.effects.specs.Pairs.{LeavesPairs}
-use Rattle.initial.specs.Reading.{IsInitSent}
+use Rattle.initial.specs.Ending.{EndsAuth}
 use Rattle.deletions.specs.Deciding.{is_closing_verdict, verdict_on}
 use Rattle.informational.specs.Answering.{gone_by, AnswersInformational}
 use Rattle.informational.specs.Counting.{gone_with, is_ended}
 use Rattle.informational.specs.Orders.{ClosesIf}
-use Rattle.effects.specs.Taking.{prover_of, IsPassedOver, Meaning, KeepsIdentity, TakesMessage}
+use Rattle.effects.specs.Taking.{prover_of, IsPassedOver, Meaning, TakesMessage}
 use Rattle.initial.specs.declared.answering.Answered.{Answered}
 use Rattle.initial.specs.declared.concluding.Outcome.{Outcome}
 use Rattle.initial.specs.declared.concluding.Outcome.TheVariants as outcome
@@ -42,7 +32,6 @@ use Rattle.initial.specs.declared.ending.Ended.{Ended}
 use Rattle.effects.specs.declared.taking.Effect.{Effect}
 use Rattle.effects.specs.declared.taking.Effect.TheVariants as effect
 use Rattle.effects.proofs.OtherLemmas.{child_keeps, established_apart, room_keeps, IsKept}
-use Rattle.effects.proofs.PairLemmas.{answer_unused, closed_if_leaves, concluded_leaves, end_unused, itself_same, room_same, same_leaves, HasSamePairs}
 use Rattle.effects.proofs.WayLemmas.{way_of, CountedInformational, WasAsked, WasIdentified, Way}
 use Rattle.effects.proofs.HeldFacts.{HeldFacts}
 
@@ -151,7 +140,7 @@ ended_spis facts accepts setup old table number plain e new new_table is =
     let counted : Association = record old { outgoing = is.outgoing } in
     let none : held_by new ≡ None = ended_none accepts setup old table number plain e new new_table is in
     let awaited : KeepsAwaited old new = λ n spi awaits. facts.counting old.outgoing is.outgoing is.request number n spi is.counted
-        (concluded_awaited facts setup counted table is.verdict e.child new new_table is.concluded n spi awaits) in
+    (concluded_awaited facts setup counted table is.verdict e.child new new_table is.concluded n spi awaits) in
     record {
       first = first_none old new none;
       awaited = awaited;

@@ -8,7 +8,7 @@ use Rattle.suite.specs.declared.fresh.Fresh.{Fresh}
 use Rattle.suite.specs.declared.key_record.KeyRecord.{KeyRecord}
 use Rattle.suite.specs.declared.keys.Keys.{Keys}
 use Rattle.suite.specs.declared.sealer.Cipher.{Cipher}
-use Rattle.requests.specs.Outgoing.{none_issued, IssuesRequest, OwnRequests}
+use Rattle.requests.specs.Outgoing.{none_issued, OwnRequests}
 use Rattle.sadb.specs.Database.{Database, IsReserved}
 use Rattle.association.specs.AskedChildren.{AskedChildView}
 use Rattle.association.specs.Closing.{HoldsReserved, HoldsSpi}

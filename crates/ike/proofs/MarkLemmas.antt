@@ -1,18 +1,16 @@
 -- What an order leaves of the table: a child that is to be deleted is marked, and nothing else is changed.
-use Rattle.std.proofs.Common.{◌≡◌, ◌⊎◌, inl, inr, ℕ, cond, Bool, Option, Some, None, ap, refl, subst, sym, ◌∙◌}
+use Rattle.std.proofs.Common.{◌≡◌, ◌⊎◌, inl, inr, ℕ, cond, Some, ap, subst, sym, ◌∙◌}
 use Rattle.std.specs.Cmp.{nat_cmp_total, unsigned_tied}
 use Rattle.std.specs.FinMap as map
 use Rattle.std.proofs.lemmas.Bool.Decides.{eqb_tells}
-use Rattle.suite.specs.declared.keys.Keys.{Keys}
-use Rattle.base.specs.Octets.{Octets}
 use Rattle.sadb.specs.Contents.{table_content}
-use Rattle.sadb.specs.Database.{pair_at, Database, IsReserved, Marks, PairMap}
+use Rattle.sadb.specs.Database.{pair_at, Database, IsReserved, PairMap}
 use Rattle.sadb.specs.declared.pair.Pair.{Pair}
 use Rattle.sadb.specs.declared.pair.State.TheVariants.{Deleting}
 use Rattle.informational.specs.Ordering.{MarksFor}
 use Rattle.informational.specs.declared.ordering.Order.{Order}
 use Rattle.informational.specs.declared.ordering.Order.TheVariants as order
-use Rattle.ike.specs.Pairs.{IsMarked, IsOwnFor, MarksOne}
+use Rattle.ike.specs.Pairs.{IsMarked}
 
 same_pair : (one other : Pair) → Some one ≡ Some other → one ≡ other
 same_pair one other same = cc

@@ -47,7 +47,7 @@ use Rattle.initial.specs.declared.beginning.Admitted.{Admitted}
 use Rattle.initial.specs.declared.beginning.Beginning.{Beginning}
 use Rattle.informational.specs.declared.ordering.Order.{Order}
 use Rattle.informational.specs.Ordering.{MarksFor}
-use Rattle.ike.proofs.MarkLemmas.{marked_holds, marked_reserved}
+use Rattle.ike.proofs.MarkLemmas.{marked_reserved}
 use Rattle.ike.proofs.WayLemmas.{asked_one}
 use Rattle.ike.specs.Machines.{half_open_count, is_bad_spi, own_spi, setup_at, Held, Machine, SERIAL_END}
 use Rattle.ike.specs.Receiving.{is_initial_request, is_sound_initial, is_answered, is_answered_phase, same_octets, with_next, AdmitsNext, CanMake, DoesJudgement, IsInitialRequest, TakesAt, TakesDatagram, TakesFound, TakesOffer, TakesRead, TakesRequestAt, TakesSound}

@@ -6,7 +6,7 @@ ghost use Rattle.initial.specs.Beginning.{begun, half_open, Admits, Begins};
 
 use crate::Step;
 use crate::issuing::{issued, new_request};
-use association::{Association, AskedChild, HalfOpen, InitSent, Phase, Purpose, Request};
+use association::{AskedChild, Association, HalfOpen, InitSent, Phase, Purpose, Request};
 use base::Items;
 use exchange::Role;
 use requests::{Incoming, Outgoing};

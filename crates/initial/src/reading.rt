@@ -19,7 +19,7 @@ ghost use Rattle.exchange.specs.declared.headers.Role.TheVariants.{Initiator};
 use crate::Step;
 use crate::issuing::{issued, new_request};
 use crate::sealing::sealed;
-use association::{Association, AuthSent, AskedChild, InitSent, Phase, Purpose};
+use association::{AskedChild, Association, AuthSent, InitSent, Phase, Purpose};
 use auth::laws::what_is_sent_fits;
 use auth::{Proving, request};
 use base::Items;

@@ -1,4 +1,3 @@
-use Rattle.effects.proofs.HeldFacts.{HeldFacts}
 use Rattle.effects.proofs.OrderSpiLemmas.{asked_spi, asking_spis, begun_first, begun_spi, opened_none}
 use Rattle.effects.proofs.laws.spis_come_by_orders.Goals as goal
 

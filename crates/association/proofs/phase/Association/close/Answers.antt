@@ -1,8 +1,6 @@
 use Rattle.std.proofs.Common.{◌≡◌, ap, subst, sym, ◌∙◌, inl, inr}
-use Rattle.requests.specs.Outgoing.{GivesUpRequests}
-use Rattle.association.specs.Closing.{GivesUpSpi, GivesUpSpis}
+use Rattle.association.specs.Closing.{GivesUpSpi}
 use Rattle.association.specs.Phases.{keys_in, spi_in}
-use Rattle.association.specs.Purposes.{AwaitsSpi}
 use Rattle.association.specs.declared.phase.Association.{Association}
 use Rattle.association.specs.declared.phase.Phase.TheVariants.{Closed}
 use Rattle.association.proofs.GivingUpLemmas.{both_given_up, released_told}
@@ -15,7 +13,7 @@ pub give_up_requests-requires-clause-reserved : goal.give_up_requests-requires-c
 give_up_requests-requires-clause-reserved c = λ spi awaits.
     let same : c.ended-keys.result.1 ≡ spi_in c.args.self.now.phase = c.ended-keys.ensures.spi ∙ ap spi_in c.replace.ensures.value in
     (released_told c.ended-keys.result.1 c.args.table.now c.give_up_spi.new.table c.give_up_spi.ensures spi).1
-        (c.requires.reserved spi (inr awaits), λ its. c.requires.first spi (sym same ∙ its) awaits)
+    (c.requires.reserved spi (inr awaits), λ its. c.requires.first spi (sym same ∙ its) awaits)
 
 pub give_up_requests-requires-clause-one : goal.give_up_requests-requires-clause-one
 give_up_requests-requires-clause-one c = c.requires.one
