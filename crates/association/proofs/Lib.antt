@@ -2,3 +2,6 @@ mod ReceivingLemmas
 mod RepeatingLemmas
 mod DeterminedAssociations
 mod DeletingLemmas
+mod GivingUpLemmas
+mod HeldLemmas
+mod AwaitingLemmas

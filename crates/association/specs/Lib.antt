@@ -1,8 +1,9 @@
 pub mod Faults
-pub mod FirstChildren
+pub mod AskedChildren
 pub mod Purposes
 pub mod Phases
 pub mod Finding
 pub mod Receiving
 pub mod Closing
+pub mod GivingUp
 pub mod Contents

@@ -1,12 +1,17 @@
 //! What follows from the definitions alone. No function here does anything.
-ghost use Rattle.std.specs.Prelude.{◌≡◌, ℕ};
+ghost use Rattle.std.specs.Prelude.{◌≡◌, ℕ, None, Some};
 ghost use Rattle.base.specs.Octets.{Octets};
 ghost use Rattle.wire.specs.declared.message.Message.{Message};
 ghost use Rattle.exchange.specs.declared.sealed.Plain.{Plain};
 ghost use Rattle.association.specs.Receiving.{Answers, AnswersInitial, IsAnswering, IsAnsweringInitial, IsEffective, IsReceived, IsRepeating, Opening, Reception, Repeat, TakesEffect};
 ghost use Rattle.sadb.specs.Contents.{table_content};
-ghost use Rattle.sadb.specs.Database.{Database};
-ghost use Rattle.association.specs.Closing.{Closes};
+ghost use Rattle.sadb.specs.Database.{Database, IsAsBefore, IsReserved};
+ghost use Rattle.requests.specs.Incoming.{PeerRequests};
+ghost use Rattle.requests.specs.Outgoing.{CountsAnswer, HasSameOwnRequests, IssuesRequest, OwnRequests, ReplacesRequest, WithdrawsRequest};
+ghost use Rattle.association.specs.Closing.{Closes, HoldsReserved, HoldsSpi};
+ghost use Rattle.association.specs.Phases.{spi_in};
+ghost use Rattle.association.specs.Purposes.{spi_asked, AwaitsChild};
+ghost use Rattle.association.specs.declared.phase.Request.{Request};
 ghost use Rattle.association.specs.Contents.{association_content};
 ghost use Rattle.association.specs.declared.phase.Association.{Association};
 
@@ -67,3 +72,39 @@ pub fn endings_are_determined()
     later_tables_are_determined();
     later_outgoing_are_determined::<Request>();
 }
+
+/// The SPIs that an association holds for children stay reserved, each for one child: while the peer's requests change, while one of its
+/// own is answered, and while the table's room alone does; and wherever it holds none that it did not hold, and none of these is given up.
+pub fn spis_stay_held()
+    ensures taking { (a : Association) (table : Database) (incoming : PeerRequests) → HoldsReserved a table
+        → HoldsReserved (record a { incoming = incoming }) table }
+    ensures counting { (a : Association) (table : Database) (number : ℕ) (request : Request) (outgoing : OwnRequests Request)
+        → CountsAnswer a.outgoing number request outgoing → HoldsReserved a table
+        → HoldsReserved (record a { outgoing = outgoing }) table }
+    ensures room { (a : Association) (table new : Database) → IsAsBefore table new → HoldsReserved a table → HoldsReserved a new }
+    ensures fewer { (a b : Association) (table new : Database)
+        → ((spi : ℕ) → spi_in b.phase ≡ Some spi → spi_in a.phase ≡ Some spi)
+        → ((number spi : ℕ) → AwaitsChild b.outgoing number spi → AwaitsChild a.outgoing number spi)
+        → ((spi : ℕ) → HoldsSpi b spi → IsReserved table spi → IsReserved new spi) → HoldsReserved a table → HoldsReserved b new }
+{}
+
+/// An association waits for a child's answer only where it asked for that child: none comes to be awaited while room is made, a request
+/// for something else is issued, a request is answered, or one is withdrawn.
+pub fn children_are_asked_for()
+    ensures preparing { (old new : OwnRequests Request) (number spi : ℕ) → HasSameOwnRequests old new
+        → AwaitsChild new number spi → AwaitsChild old number spi }
+    ensures issuing { (old new : OwnRequests Request) (request : Request) (issued number spi : ℕ) → spi_asked request.purpose ≡ None
+        → IssuesRequest old request issued new → AwaitsChild new number spi → AwaitsChild old number spi }
+    ensures counting { (old new : OwnRequests Request) (request : Request) (counted number spi : ℕ)
+        → CountsAnswer old counted request new → AwaitsChild new number spi → AwaitsChild old number spi }
+    ensures replacing { (old new : OwnRequests Request) (was is : Request) (replaced number spi : ℕ) → spi_asked is.purpose ≡ None
+        → ReplacesRequest old replaced was is new → AwaitsChild new number spi → AwaitsChild old number spi }
+    ensures withdrawing { (old new : OwnRequests Request) (request : Request) (withdrawn number spi : ℕ)
+        → WithdrawsRequest old withdrawn request new → AwaitsChild new number spi → AwaitsChild old number spi }
+{}
+
+/// Who is closed holds no SPI for a child.
+pub fn who_is_closed_holds_none()
+    ensures { (old : Association) (table : Database) (moment : ℕ) (new : Association) (new_table : Database) (spi : ℕ)
+        → Closes old table moment new new_table → ¬ HoldsSpi new spi }
+{}

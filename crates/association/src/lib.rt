@@ -17,17 +17,17 @@
 //! ```
 #![tactic(auto)]
 
+mod asked_child;
 mod fault;
 mod finding;
-mod first_child;
 pub mod laws;
 mod phase;
 mod purpose;
 mod receiving;
 
+pub use asked_child::AskedChild;
 pub use fault::MessageFault;
 pub use finding::find;
-pub use first_child::FirstChild;
 pub use phase::{Association, AuthSent, HalfOpen, InitSent, Phase, Request};
-pub use purpose::Purpose;
+pub use purpose::{FurtherChild, Purpose};
 pub use receiving::{Received, receive};

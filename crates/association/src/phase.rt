@@ -1,11 +1,15 @@
 //! What an end holds of one association.
 ghost use Rattle.std.specs.Prelude.{◌≡◌, Some, None, MatchBool, MatchOption};
 ghost use Rattle.std.specs.Option.{option_copied};
-ghost use Rattle.association.specs.Closing.{Closes, GivesUpSpi, HoldsSpi};
+ghost use Rattle.std.specs.Prelude.{ℕ, IsSome};
+ghost use Rattle.requests.specs.Outgoing.{GivesUpRequests, IsOutstanding};
+ghost use Rattle.sadb.specs.Database.{IsReserved};
+ghost use Rattle.association.specs.Closing.{Closes, GivesUpSpi, GivesUpSpis, HoldsNoSpi, HoldsReserved, HoldsSomeSpi};
+ghost use Rattle.association.specs.GivingUp.{GivesUpRequest};
 ghost use Rattle.association.specs.Phases.{established_of, established_spi, keys_in, spi_in};
-ghost use Rattle.association.specs.Purposes.{AwaitsDeletion};
+ghost use Rattle.association.specs.Purposes.{AwaitsChild, AwaitsDeletion, AwaitsNone, AwaitsSome, AwaitsSpi};
 
-use crate::{FirstChild, Purpose};
+use crate::{AskedChild, Purpose};
 use base::Items;
 use exchange::Role;
 use requests::{Incoming, Outgoing, Timer};
@@ -74,7 +78,7 @@ pub struct InitSent {
     /// How many cookies it has taken so far, that one counted.
     pub cookies_taken: u8,
     /// The child that IKE_AUTH is to ask for.
-    pub child: FirstChild,
+    pub child: AskedChild,
 }
 
 /// What an initiator keeps while it waits for the response of IKE_AUTH.
@@ -84,7 +88,7 @@ pub struct AuthSent {
     /// The responder's first message, over which its AUTH is computed (RealMessage2; RFC 7296, section 2.15).
     pub first: Items<u8>,
     /// The child that was asked for.
-    pub child: FirstChild,
+    pub child: AskedChild,
 }
 
 /// What a responder keeps until IKE_AUTH comes.
@@ -123,6 +127,13 @@ impl Association {
         self.outgoing.any(|request| request.purpose.asks_to_end())
     }
 
+    /// Whether an SPI is reserved for a child that it asked for and that is still to come. Takes no memory.
+    pub fn holds_spi(&self) -> bool
+        ensures { MatchBool result (HoldsSomeSpi self.now) (HoldsNoSpi self.now) }
+    {
+        asks_first(&self.phase) || asks_further(&self.outgoing)
+    }
+
     /// Makes an association established whose IKE_AUTH is done; in any other phase than [`Phase::AuthSent`] and
     /// [`Phase::HalfOpen`] nothing changes. The SPI is answered that was reserved for the first child, where this end asked for
     /// one. Takes no memory.
@@ -135,18 +146,18 @@ impl Association {
         spi
     }
 
-    /// Ends it at a moment, in milliseconds: it waits for no answer any more, its children are taken out of the table, and an SPI
-    /// that was reserved for one is given up. What it answered is kept to be sent again. Takes no memory.
+    /// Ends it at a moment, in milliseconds: it waits for no answer any more, its children are taken out of the table, and the SPIs
+    /// that were reserved for further ones are given up. What it answered is kept to be sent again. Takes no memory.
     ///
-    /// The caller asks only where such an SPI is reserved in the table.
+    /// The caller asks only where these SPIs are reserved in the table, each for one child.
     pub fn close(&mut self, table: &mut Table, moment: u64)
-        requires { HoldsSpi (spi_in self.old.phase) table.old }
+        requires { HoldsReserved self.old table.old }
         ensures { Closes self.old table.old moment self.new table.new }
     {
         let (keys, spi) = ended(mem::replace(&mut self.phase, Phase::ENDED));
         self.phase = Phase::Closed { keys, at: moment };
-        self.outgoing.give_up();
         give_up_spi(table, spi);
+        give_up_requests(&mut self.outgoing, table);
         table.remove_all_of(self.serial);
     }
 }
@@ -168,6 +179,24 @@ fn established(phase: Phase) -> (Phase, Option<Spi>)
     }
 }
 
+// Whether the first child is still to come.
+fn asks_first(phase: &Phase) -> bool
+    ensures { MatchBool result (IsSome (spi_in phase.now)) (spi_in phase.now ≡ None) }
+{
+    match phase {
+        Phase::InitSent(_) => true,
+        Phase::AuthSent(_) => true,
+        _ => false,
+    }
+}
+
+// Whether a further child is.
+fn asks_further(requests: &Outgoing<Request>) -> bool
+    ensures { MatchBool result (AwaitsSome requests.now) (AwaitsNone requests.now) }
+{
+    requests.any(|request| request.purpose.asks_for_child())
+}
+
 // The keys, and the SPI that the first child was to have.
 fn ended(phase: Phase) -> (Option<KeyRecord>, Option<Spi>)
     ensures keys { result.0 ≡ keys_in phase }
@@ -182,11 +211,33 @@ fn ended(phase: Phase) -> (Option<KeyRecord>, Option<Spi>)
     }
 }
 
-fn give_up_spi(table: &mut Table, spi: Option<Spi>)
-    requires { HoldsSpi spi table.old }
-    ensures { GivesUpSpi spi table.old table.new }
+// None of them waits for its answer any more, and the SPIs of the children that they asked for are given up.
+fn give_up_requests(requests: &mut Outgoing<Request>, table: &mut Table)
+    requires reserved { (spi : ℕ) → AwaitsSpi requests.old spi → IsReserved table.old spi }
+    requires one { (number other spi : ℕ)
+        → AwaitsChild requests.old number spi → AwaitsChild requests.old other spi → number ≡ other }
+    ensures requests { GivesUpRequests requests.old requests.new }
+    ensures spis { GivesUpSpis (AwaitsSpi requests.old) table.old table.new }
 {
-    if let Some(spi) = spi {
+    while let Some((number, _)) = requests.after(None) {
+        give_up_request(requests, table, number);
+    }
+}
+
+fn give_up_request(requests: &mut Outgoing<Request>, table: &mut Table, issued: u32)
+    requires outstanding { IsOutstanding requests.old issued }
+    requires reserved { (spi : ℕ) → AwaitsChild requests.old issued spi → IsReserved table.old spi }
+    ensures { GivesUpRequest requests.old table.old issued requests.new table.new }
+{
+    let request = requests.withdraw(issued);
+    give_up_spi(table, request.purpose.into_spi());
+}
+
+fn give_up_spi(table: &mut Table, given: Option<Spi>)
+    requires { (spi : ℕ) → given ≡ Some spi → IsReserved table.old spi }
+    ensures { GivesUpSpi given table.old table.new }
+{
+    if let Some(spi) = given {
         table.release(spi);
     }
 }

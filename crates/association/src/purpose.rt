@@ -1,16 +1,20 @@
 //! What an end's request asks for.
 ghost use Rattle.std.specs.Prelude.{◌≡◌};
-ghost use Rattle.association.specs.Purposes.{exchange_of, asks_to_end};
+ghost use Rattle.association.specs.Purposes.{asks_for_child, asks_to_end, exchange_of, spi_asked};
 
-use wire::numbers::{IKE_AUTH, IKE_SA_INIT, INFORMATIONAL};
+use crate::AskedChild;
+use sadb::Spi;
+use wire::numbers::{CREATE_CHILD_SA, IKE_AUTH, IKE_SA_INIT, INFORMATIONAL};
 
 /// What a request of this end asks for (RFC 7296, section 1).
-#[derive(Clone, Copy, Debug, PartialEq, Eq)]
+#[derive(Drop)]
 pub enum Purpose {
     /// An association, by IKE_SA_INIT (section 1.2).
     Begin,
     /// To know this end, and the first child, by IKE_AUTH (section 1.2).
     Identify,
+    /// A further child, by CREATE_CHILD_SA (section 1.3.1).
+    CreateChild(FurtherChild),
     /// Whether the peer is there, by an empty request of INFORMATIONAL (section 2.4).
     Probe,
     /// The end of a child (section 1.4.1).
@@ -22,14 +26,24 @@ pub enum Purpose {
     DeleteAssociation,
 }
 
+/// A child that this end asked for by an exchange of its own (RFC 7296, section 1.3.1).
+#[derive(Drop)]
+pub struct FurtherChild {
+    /// What was asked for.
+    pub child: AskedChild,
+    /// The nonce of the request, for the child's keys (section 2.17).
+    pub nonce: [u8; 32],
+}
+
 impl Purpose {
     /// The exchange type of the request, which its answer has too (RFC 7296, section 3.1).
-    pub fn exchange(self) -> u8
-        ensures { result ≡ exchange_of self }
+    pub fn exchange(&self) -> u8
+        ensures { result ≡ exchange_of self.now }
     {
         match self {
             Purpose::Begin => IKE_SA_INIT,
             Purpose::Identify => IKE_AUTH,
+            Purpose::CreateChild(_) => CREATE_CHILD_SA,
             Purpose::Probe => INFORMATIONAL,
             Purpose::DeleteChild { .. } => INFORMATIONAL,
             Purpose::DeleteAssociation => INFORMATIONAL,
@@ -37,12 +51,32 @@ impl Purpose {
     }
 
     /// Whether it is the end of the association.
-    pub fn asks_to_end(self) -> bool
-        ensures { result ≡ asks_to_end self }
+    pub fn asks_to_end(&self) -> bool
+        ensures { result ≡ asks_to_end self.now }
     {
         match self {
             Purpose::DeleteAssociation => true,
             _ => false,
+        }
+    }
+
+    /// Whether it is a further child.
+    pub fn asks_for_child(&self) -> bool
+        ensures { result ≡ asks_for_child self.now }
+    {
+        match self {
+            Purpose::CreateChild(_) => true,
+            _ => false,
+        }
+    }
+
+    /// The SPI of the child that it is, which is to be given back to the table.
+    pub fn into_spi(self) -> Option<Spi>
+        ensures { result ≡ spi_asked self }
+    {
+        match self {
+            Purpose::CreateChild(further) => Some(further.child.into_spi()),
+            _ => None,
         }
     }
 }

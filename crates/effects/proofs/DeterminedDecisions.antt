@@ -6,7 +6,7 @@ use Rattle.exchange.specs.declared.sealed.Plain.{Plain}
 use Rattle.sadb.specs.Contents.{table_content}
 use Rattle.sadb.specs.Database.{Database}
 use Rattle.sadb.specs.declared.pair.Pair.{Pair}
-use Rattle.association.specs.FirstChildren.{asked_of}
+use Rattle.association.specs.AskedChildren.{asked_of}
 use Rattle.association.specs.declared.phase.AuthSent.{AuthSent}
 use Rattle.association.specs.declared.phase.HalfOpen.{HalfOpen}
 use Rattle.auth.specs.Proofs.{Accepts}

@@ -24,7 +24,7 @@ use Rattle.sa_init.specs.declared.answers.Agreed.{Agreed}
 use Rattle.sa_init.specs.declared.response.Response.{Response}
 use Rattle.sa_init.specs.declared.response.Response.TheVariants as response
 use Rattle.association.specs.Contents.{association_content}
-use Rattle.association.specs.FirstChildren.{FirstChildView}
+use Rattle.association.specs.AskedChildren.{AskedChildView}
 use Rattle.association.specs.declared.phase.Association.{Association}
 use Rattle.association.specs.declared.phase.InitSent.{InitSent}
 use Rattle.association.specs.declared.phase.Phase.{Phase}
@@ -50,7 +50,7 @@ one_issue laws old other a b request same is also =
 
 -- ---- associations as they begin
 
-begun_alike : (serial : ℕ) (child : FirstChildView) (a b : Beginning) → outgoing_content a.outgoing ≡ outgoing_content b.outgoing → a.spi_i ≡ b.spi_i → a.secret ≡ b.secret → a.nonce ≡ b.nonce
+begun_alike : (serial : ℕ) (child : AskedChildView) (a b : Beginning) → outgoing_content a.outgoing ≡ outgoing_content b.outgoing → a.spi_i ≡ b.spi_i → a.secret ≡ b.secret → a.nonce ≡ b.nonce
     → association_content (begun serial a child) ≡ association_content (begun serial b child)
 begun_alike serial child a b outgoing spi secret nonce = λ i. record {
   serial = serial;
@@ -62,7 +62,7 @@ begun_alike serial child a b outgoing spi secret nonce = λ i. record {
   phase = phase.InitSent (record { secret = secret i; nonce = nonce i; cookie = None; cookies_taken = 0; child = child });
 }
 
-pub one_beginning : OneSpelling → OutgoingLaws → (cipher : Cipher) (group : ℕ) (public_value : Octets → Octets) (fresh : Fresh) (moment serial : ℕ) (child : FirstChildView) (a b : Beginning)
+pub one_beginning : OneSpelling → OutgoingLaws → (cipher : Cipher) (group : ℕ) (public_value : Octets → Octets) (fresh : Fresh) (moment serial : ℕ) (child : AskedChildView) (a b : Beginning)
     → Begins cipher group public_value fresh moment a → Begins cipher group public_value fresh moment b
     → (a.octets ≡ b.octets) × (association_content (begun serial a child) ≡ association_content (begun serial b child))
 one_beginning spelling numbers cipher group public_value fresh moment serial child a b is also =

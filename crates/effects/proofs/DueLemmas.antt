@@ -14,7 +14,7 @@ use Rattle.requests.specs.Timers.{due_from, waits}
 use Rattle.sadb.specs.Database.{Database}
 use Rattle.sa_init.specs.Judging.{OfferView}
 use Rattle.association.specs.Closing.{Closes}
-use Rattle.association.specs.FirstChildren.{FirstChildView}
+use Rattle.association.specs.AskedChildren.{AskedChildView}
 use Rattle.association.specs.Phases.{established_of}
 use Rattle.association.specs.declared.phase.Association.{Association}
 use Rattle.association.specs.declared.phase.Phase.{Phase}
@@ -146,7 +146,7 @@ taken_timely closing meaning setup old table octets m e new new_table timely is 
 
 -- ---- as an association begins, and asks
 
-pub begun_timely : (cipher : Cipher) (group : ℕ) (public_value : Octets → Octets) (fresh : Fresh) (moment serial : ℕ) (beginning : Beginning) (child : FirstChildView)
+pub begun_timely : (cipher : Cipher) (group : ℕ) (public_value : Octets → Octets) (fresh : Fresh) (moment serial : ℕ) (beginning : Beginning) (child : AskedChildView)
     → Begins cipher group public_value fresh moment beginning → IsInTime moment (begun serial beginning child)
 begun_timely cipher group public_value fresh moment serial beginning child is =
     by_parts moment (begun serial beginning child) refl (omega arith) (issued_wait moment none_issued beginning.octets Begin beginning.outgoing is.issued (empty_has (Waits moment)))

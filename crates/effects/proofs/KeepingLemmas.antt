@@ -16,7 +16,7 @@ use Rattle.requests.specs.Outgoing.{none_issued, number_0_answered, CountsAnswer
 use Rattle.sadb.specs.Database.{Database}
 use Rattle.sa_init.specs.Judging.{OfferView}
 use Rattle.association.specs.Closing.{Closes}
-use Rattle.association.specs.FirstChildren.{FirstChildView}
+use Rattle.association.specs.AskedChildren.{AskedChildView}
 use Rattle.association.specs.Phases.{established_of, keys_in}
 use Rattle.association.specs.Receiving.{opened_under, IsReceived, IsRepeating, Opening, Repeat}
 use Rattle.association.specs.declared.phase.Association.{Association}
@@ -346,7 +346,7 @@ pub none_again : (meaning : Meaning) (setup : Setup) (old : Association) (table 
     → TakesMessage meaning setup old table octets m (effect.Again next) new new_table → keys_in new.phase ≡ None
 none_again meaning setup old table octets m next new new_table is = ap (λ (x : Association). keys_in x.phase) (way_of meaning setup old table octets m (effect.Again next) new new_table is).done.content
 
-pub begun_short : (cipher : Cipher) (group : ℕ) (public_value : Octets → Octets) (fresh : Fresh) (moment serial : ℕ) (beginning : Beginning) (child : FirstChildView)
+pub begun_short : (cipher : Cipher) (group : ℕ) (public_value : Octets → Octets) (fresh : Fresh) (moment serial : ℕ) (beginning : Beginning) (child : AskedChildView)
     → Begins cipher group public_value fresh moment beginning → KeepsShort (begun serial beginning child) × IsShort beginning.octets
 begun_short cipher group public_value fresh moment serial beginning child is = (
   record {

@@ -1,6 +1,9 @@
 mod MapLemmas
 mod PairLemmas
 mod SpiLemmas
+mod HeldFacts
+mod HeldSpiLemmas
+mod OrderSpiLemmas
 mod OtherLemmas
 mod ProvingLemmas
 mod WayLemmas

@@ -27,15 +27,14 @@ use Rattle.policy.specs.declared.entry.Entry.{Entry}
 use Rattle.requests.specs.Outgoing.{number_0_answered, OwnRequests}
 use Rattle.sadb.specs.Database.{pair_at, Database, Installs, IsReserved, IsSoundTable}
 use Rattle.sadb.specs.declared.pair.Pair.{Pair}
-use Rattle.association.specs.Closing.{HoldsSpi}
-use Rattle.association.specs.FirstChildren.{asked_of}
+use Rattle.association.specs.Closing.{HoldsReserved}
+use Rattle.association.specs.AskedChildren.{asked_of}
 use Rattle.association.specs.Phases.{established_of, established_spi, keys_in, spi_in}
 use Rattle.association.specs.Receiving.{Answers, IsAnswering, IsEffective, IsReceived, Opening, TakesEffect}
 use Rattle.association.specs.declared.phase.Association.{Association}
 use Rattle.association.specs.declared.phase.AuthSent.{AuthSent}
 use Rattle.association.specs.declared.phase.HalfOpen.{HalfOpen}
 use Rattle.association.specs.declared.phase.InitSent.{InitSent}
-use Rattle.association.specs.declared.phase.Phase.{Phase}
 use Rattle.association.specs.declared.phase.Phase.TheVariants as phase
 use Rattle.association.specs.declared.phase.Request.{Request}
 use Rattle.association.specs.declared.purpose.Purpose.TheVariants.{Identify}
@@ -302,7 +301,7 @@ asked_child facts setup ike sent plain pair serial small is =
     }
 
 counted_makes : (facts : ChildFacts) (meaning : Meaning) (setup : Setup) (old : Association) (table : Database) (octets : Octets) (m : Message) (ended : Ended) (serial : ℕ) (new : Association) (new_table : Database)
-    → IsSoundTable table → HoldsSpi (spi_in old.phase) table
+    → IsSoundTable table → HoldsReserved old table
     → ended.child ≡ Some serial → TakesMessage meaning setup old table octets m (effect.Counted ended) new new_table → CountedAuth meaning setup old table octets m ended new new_table
     → MakesChild meaning setup old table octets m (effect.Counted ended) serial new new_table
 counted_makes facts meaning setup old table octets m ended serial new new_table sound holds e takes is =
@@ -314,7 +313,7 @@ counted_makes facts meaning setup old table octets m ended serial new new_table 
     (subst (λ (o : Outcome). IsVerdict meaning.accepts setup old.serial d.sent d.judged.payloads o) c.outcome_is d.judged.due) in
     let unused : UnusedBy old.serial (outcome.Establishes (Some c.pair) c.window) =
     subst (λ (o : Outcome). UnusedBy old.serial o) c.outcome_is (end_unused meaning.accepts setup old.serial d.sent is.plain d.verdict d.judged) in
-    let reserved : IsReserved table d.sent.child.spi = subst (λ (p : Phase). HoldsSpi (spi_in p) table) d.was holds in
+    let reserved : IsReserved table d.sent.child.spi = holds.reserved d.sent.child.spi (inl (ap spi_in d.was)) in
     record {
       keys = d.sent.keys;
       pair = with_serial serial c.pair;
@@ -332,7 +331,7 @@ counted_makes facts meaning setup old table octets m ended serial new new_table 
     }
 
 way_makes : (facts : ChildFacts) (meaning : Meaning) (setup : Setup) (old : Association) (table : Database) (octets : Octets) (m : Message) (e : Effect) (serial : ℕ) (new : Association) (new_table : Database)
-    → IsSoundTable table → HoldsSpi (spi_in old.phase) table → child_in e ≡ Some serial → TakesMessage meaning setup old table octets m e new new_table
+    → IsSoundTable table → HoldsReserved old table → child_in e ≡ Some serial → TakesMessage meaning setup old table octets m e new new_table
     → Way meaning setup old table octets m e new new_table → MakesChild meaning setup old table octets m e serial new new_table
 way_makes facts meaning setup old table octets m (effect.Refused fault) serial new new_table sound holds named takes is = absurd (none_some serial named)
 way_makes facts meaning setup old table octets m (effect.Repeated reply) serial new new_table sound holds named takes is = absurd (none_some serial named)
@@ -344,7 +343,7 @@ way_makes facts meaning setup old table octets m (effect.Counted ended) serial n
 way_makes facts meaning setup old table octets m (effect.Counted ended) serial new new_table sound holds named takes (inr is) = absurd (none_some serial (sym is.done.child ∙ named))
 
 pub makes_child : ChildFacts → (meaning : Meaning) (setup : Setup) (old : Association) (table : Database) (octets : Octets) (m : Message) (e : Effect) (serial : ℕ) (new : Association) (new_table : Database)
-    → IsSoundTable table → HoldsSpi (spi_in old.phase) table → child_in e ≡ Some serial → TakesMessage meaning setup old table octets m e new new_table
+    → IsSoundTable table → HoldsReserved old table → child_in e ≡ Some serial → TakesMessage meaning setup old table octets m e new new_table
     → MakesChild meaning setup old table octets m e serial new new_table
 makes_child facts meaning setup old table octets m e serial new new_table sound holds named is =
     way_makes facts meaning setup old table octets m e serial new new_table sound holds named is (way_of meaning setup old table octets m e new new_table is)

@@ -22,7 +22,7 @@ use Rattle.requests.specs.Outgoing.{none_issued, number_0_answered, CountsAnswer
 use Rattle.sadb.specs.Database.{Database}
 use Rattle.association.specs.Closing.{Closes}
 use Rattle.association.specs.Finding.{is_waiting}
-use Rattle.association.specs.FirstChildren.{FirstChildView}
+use Rattle.association.specs.AskedChildren.{AskedChildView}
 use Rattle.association.specs.Phases.{established_of, keys_in}
 use Rattle.association.specs.Receiving.{is_closed, opened_under, Answers, AnswersInitial, IsAnsweringInitial, IsReceived, IsRepeating, Opening, Reception, Refused, Repeat, TakesEffect}
 use Rattle.association.specs.declared.phase.Association.{Association}
@@ -489,7 +489,7 @@ admitted_moves cipher group public_value shared_secret fresh moment serial offer
     )
 
 -- there is nothing to speak of as this end begins
-pub begun_none : (cipher : Cipher) (group : ℕ) (public_value : Octets → Octets) (fresh : Fresh) (moment serial : ℕ) (beginning : Beginning) (child : FirstChildView)
+pub begun_none : (cipher : Cipher) (group : ℕ) (public_value : Octets → Octets) (fresh : Fresh) (moment serial : ℕ) (beginning : Beginning) (child : AskedChildView)
     → Begins cipher group public_value fresh moment beginning → ledger (begun serial beginning child) ≡ None
 begun_none cipher group public_value fresh moment serial beginning child is = refl
 

@@ -31,7 +31,7 @@ use Rattle.auth.specs.declared.child.ChildAnswer.{ChildAnswer}
 use Rattle.auth.specs.declared.child.ChildAnswer.TheVariants as answered
 use Rattle.auth.specs.declared.identity.Identity.{Identity}
 use Rattle.association.specs.Finding.{has_pair, is_meant, is_waiting, sent_by_other}
-use Rattle.association.specs.FirstChildren.{asked_of}
+use Rattle.association.specs.AskedChildren.{asked_of}
 use Rattle.association.specs.Phases.{keys_in}
 use Rattle.association.specs.Receiving.{opened_by, opened_under, Answers, AnswersInitial, IsAnswering, IsReceived, Opening, Reception, Refused, Repeat, TakesEffect}
 use Rattle.association.specs.declared.phase.Association.{Association}

@@ -9,7 +9,7 @@ use Rattle.wire.specs.declared.message.Message.{Message}
 use Rattle.exchange.specs.declared.sealed.Plain.{Plain}
 use Rattle.sadb.specs.Database.{Database, Installs, IsAsBefore, IsReserved, Releases, RemovesAllOf, Reserves}
 use Rattle.sadb.specs.declared.pair.Pair.{Pair}
-use Rattle.association.specs.Closing.{Closes, GivesUpSpi}
+use Rattle.association.specs.Closing.{Closes, HoldsSpi}
 use Rattle.association.specs.Phases.{established_spi, spi_in}
 use Rattle.association.specs.declared.phase.Association.{Association}
 use Rattle.association.specs.declared.phase.Phase.{Phase}
@@ -31,6 +31,7 @@ use Rattle.initial.specs.declared.concluding.Outcome.TheVariants as outcome
 use Rattle.initial.specs.declared.ending.Ended.{Ended}
 use Rattle.effects.specs.declared.taking.Effect.{Effect}
 use Rattle.effects.specs.declared.taking.Effect.TheVariants as effect
+use Rattle.effects.proofs.HeldFacts.{counted_before, HeldFacts}
 use Rattle.effects.proofs.WayLemmas.{way_of, Way}
 
 -- ---- sets
@@ -48,11 +49,11 @@ still_there s k q apart there = set.contains-remove nat_cmp_total s k q ∙ ap (
 -- ---- the table's changes
 
 -- an SPI that is reserved, and was given
-record IsKept (table : Database) (q : ℕ) : Type 0 where
-  there : IsReserved table q
-  given : q < table.start + table.given
+pub record IsKept (table : Database) (q : ℕ) : Type 0 where
+  pub there : IsReserved table q
+  pub given : q < table.start + table.given
 
-room_keeps : (old new : Database) (q : ℕ) → IsAsBefore old new → IsKept old q → IsKept new q
+pub room_keeps : (old new : Database) (q : ℕ) → IsAsBefore old new → IsKept old q → IsKept new q
 room_keeps old new q same kept = subst (λ d. IsKept d q) (sym same.content) (record { there = kept.there; given = kept.given })
 
 release_keeps : (old : Database) (spi : ℕ) (new : Database) (q : ℕ) → q ≢ spi → Releases old spi new → IsKept old q → IsKept new q
@@ -74,11 +75,7 @@ removal_keeps old ike new q is kept = subst (λ d. IsKept d q) (sym is.content) 
 other_spi : (spi q : ℕ) → Some spi ≢ Some q → q ≢ spi
 other_spi spi q apart = λ same. apart (ap Some (sym same))
 
-spi_keeps : (spi : Option ℕ) (old new : Database) (q : ℕ) → spi ≢ Some q → GivesUpSpi spi old new → IsKept old q → IsKept new q
-spi_keeps None old new q apart is kept = subst (λ d. IsKept d q) (sym is) kept
-spi_keeps (Some spi) old new q apart is kept = release_keeps old spi new q (other_spi spi q apart) is kept
-
-child_keeps : (old : Database) (spi : Option ℕ) (pair : Option Pair) (child : Option ℕ) (new : Database) (q : ℕ) → spi ≢ Some q → AddsChild old spi pair child new → IsKept old q → IsKept new q
+pub child_keeps : (old : Database) (spi : Option ℕ) (pair : Option Pair) (child : Option ℕ) (new : Database) (q : ℕ) → spi ≢ Some q → AddsChild old spi pair child new → IsKept old q → IsKept new q
 child_keeps old None None None new q apart is kept = subst (λ d. IsKept d q) (sym is) kept
 child_keeps old None (Some pair) (Some serial) new q apart is kept = next_keeps old pair serial new q is kept
 child_keeps old (Some spi) None None new q apart is kept = release_keeps old spi new q (other_spi spi q apart) is kept
@@ -91,7 +88,7 @@ child_keeps old (Some spi) (Some pair) None new q apart is kept = absurd is
 -- ---- what a message does
 
 -- an SPI is another one than what the phase holds, and so than what it gives back
-established_apart : (p : Phase) (q : ℕ) → spi_in p ≢ Some q → established_spi p ≢ Some q
+pub established_apart : (p : Phase) (q : ℕ) → spi_in p ≢ Some q → established_spi p ≢ Some q
 established_apart (phase.InitSent sent) q apart = λ same. cc
 established_apart (phase.AuthSent sent) q apart = apart
 established_apart (phase.HalfOpen held) q apart = λ same. cc
@@ -99,50 +96,51 @@ established_apart (phase.Established keys) q apart = λ same. cc
 established_apart (phase.Closed keys at) q apart = λ same. cc
 
 over_keeps : (old : Association) (table : Database) (moment : ℕ) (new : Association) (new_table : Database) (q : ℕ)
-    → spi_in old.phase ≢ Some q → Closes old table moment new new_table → IsKept table q → IsKept new_table q
+    → ¬ HoldsSpi old q → Closes old table moment new new_table → IsKept table q → IsKept new_table q
 over_keeps old table moment new new_table q apart is kept =
-    removal_keeps is.between old.serial new_table q is.removed (spi_keeps (spi_in old.phase) table is.between q apart is.released kept)
+    removal_keeps is.between old.serial new_table q is.removed
+    (subst (λ d. IsKept d q) (sym is.released.content) (record { there = (is.released.reserved q).1 (kept.there, apart); given = kept.given }))
 
 conclusion_keeps : (setup : Setup) (old : Association) (table : Database) (o : Outcome) (child : Option ℕ) (new : Association) (new_table : Database) (q : ℕ)
-    → spi_in old.phase ≢ Some q → ConcludesBy setup old table o child new new_table → IsKept table q → IsKept new_table q
+    → ¬ HoldsSpi old q → ConcludesBy setup old table o child new new_table → IsKept table q → IsKept new_table q
 conclusion_keeps setup old table outcome.Closes child new new_table q apart is kept = over_keeps old table setup.moment new new_table q apart is.over kept
 conclusion_keeps setup old table (outcome.Establishes pair window) child new new_table q apart is kept =
-    child_keeps table (established_spi old.phase) pair child new_table q (established_apart old.phase q apart) is.added kept
+    child_keeps table (established_spi old.phase) pair child new_table q (established_apart old.phase q (λ its. apart (inl its))) is.added kept
 
 closed_if_keeps : (ending : Bool) (serials : List ℕ) (old : Association) (table : Database) (moment : ℕ) (new : Association) (new_table : Database) (q : ℕ)
-    → spi_in old.phase ≢ Some q → ClosesIf ending serials old table moment new new_table → IsKept table q → IsKept new_table q
+    → ¬ HoldsSpi old q → ClosesIf ending serials old table moment new new_table → IsKept table q → IsKept new_table q
 closed_if_keeps true serials old table moment new new_table q apart is kept = over_keeps old table moment new new_table q apart is kept
 closed_if_keeps false serials old table moment new new_table q apart is kept = subst (λ d. IsKept d q) (sym is.1.removed.content) (record { there = kept.there; given = kept.given })
 
 answer_keeps : (prover : Prover) (setup : Setup) (old : Association) (table : Database) (number : ℕ) (plain : Plain) (a : Answered) (new : Association) (new_table : Database) (q : ℕ)
-    → spi_in old.phase ≢ Some q → AnswersAuth prover setup old table number plain a new new_table → IsKept table q → IsKept new_table q
+    → ¬ HoldsSpi old q → AnswersAuth prover setup old table number plain a new new_table → IsKept table q → IsKept new_table q
 answer_keeps prover setup old table number plain a new new_table q apart is kept =
     conclusion_keeps setup (record old { incoming = is.incoming }) is.between (outcome_of is.decision) a.child new new_table q apart is.concluded (room_keeps table is.between q is.room kept)
 
-end_keeps : (accepts : Accepts) (setup : Setup) (old : Association) (table : Database) (number : ℕ) (plain : Plain) (e : Ended) (new : Association) (new_table : Database) (q : ℕ)
-    → spi_in old.phase ≢ Some q → EndsAuth accepts setup old table number plain e new new_table → IsKept table q → IsKept new_table q
-end_keeps accepts setup old table number plain e new new_table q apart is kept =
-    conclusion_keeps setup (record old { outgoing = is.outgoing }) table is.verdict e.child new new_table q apart is.concluded kept
+end_keeps : HeldFacts → (accepts : Accepts) (setup : Setup) (old : Association) (table : Database) (number : ℕ) (plain : Plain) (e : Ended) (new : Association) (new_table : Database) (q : ℕ)
+    → ¬ HoldsSpi old q → EndsAuth accepts setup old table number plain e new new_table → IsKept table q → IsKept new_table q
+end_keeps facts accepts setup old table number plain e new new_table q apart is kept =
+    conclusion_keeps setup (record old { outgoing = is.outgoing }) table is.verdict e.child new new_table q (λ held. apart (counted_before facts old is.outgoing is.request number q is.counted held)) is.concluded kept
 
 unchanged_keeps : (table new_table : Database) (q : ℕ) → new_table ≡ table → IsKept table q → IsKept new_table q
 unchanged_keeps table new_table q same kept = subst (λ d. IsKept d q) (sym same) kept
 
-way_keeps : (meaning : Meaning) (setup : Setup) (old : Association) (table : Database) (octets : Octets) (m : Message) (e : Effect) (new : Association) (new_table : Database) (q : ℕ)
-    → spi_in old.phase ≢ Some q → Way meaning setup old table octets m e new new_table → IsKept table q → IsKept new_table q
-way_keeps meaning setup old table octets m (effect.Refused fault) new new_table q apart is kept = unchanged_keeps table new_table q is.pairs kept
-way_keeps meaning setup old table octets m (effect.Repeated reply) new new_table q apart is kept = unchanged_keeps table new_table q is.same.pairs kept
-way_keeps meaning setup old table octets m (effect.Replied answered) new new_table q apart (inl is) kept =
+way_keeps : HeldFacts → (meaning : Meaning) (setup : Setup) (old : Association) (table : Database) (octets : Octets) (m : Message) (e : Effect) (new : Association) (new_table : Database) (q : ℕ)
+    → ¬ HoldsSpi old q → Way meaning setup old table octets m e new new_table → IsKept table q → IsKept new_table q
+way_keeps facts meaning setup old table octets m (effect.Refused fault) new new_table q apart is kept = unchanged_keeps table new_table q is.pairs kept
+way_keeps facts meaning setup old table octets m (effect.Repeated reply) new new_table q apart is kept = unchanged_keeps table new_table q is.same.pairs kept
+way_keeps facts meaning setup old table octets m (effect.Replied answered) new new_table q apart (inl is) kept =
     answer_keeps (prover_of meaning) setup old table m.header.id is.plain answered new new_table q apart is.done kept
-way_keeps meaning setup old table octets m (effect.Replied answered) new new_table q apart (inr is) kept =
+way_keeps facts meaning setup old table octets m (effect.Replied answered) new new_table q apart (inr is) kept =
     closed_if_keeps (is_closing_verdict (verdict_on table.pairs old.serial is.done.payloads)) (gone_by (verdict_on table.pairs old.serial is.done.payloads)) (record old { incoming = is.done.incoming }) table setup.moment new new_table q apart is.done.concluded kept
-way_keeps meaning setup old table octets m (effect.Again next) new new_table q apart is kept = unchanged_keeps table new_table q is.pairs kept
-way_keeps meaning setup old table octets m (effect.Identified next) new new_table q apart is kept = unchanged_keeps table new_table q is.pairs kept
-way_keeps meaning setup old table octets m (effect.Counted ended) new new_table q apart (inl is) kept =
-    end_keeps meaning.accepts setup old table m.header.id is.plain ended new new_table q apart is.done kept
-way_keeps meaning setup old table octets m (effect.Counted ended) new new_table q apart (inr is) kept =
-    closed_if_keeps (is_ended is.done.payloads is.done.request.purpose) (gone_with table.pairs old.serial is.done.request.purpose) (record old { outgoing = is.done.outgoing }) table setup.moment new new_table q apart is.done.concluded kept
+way_keeps facts meaning setup old table octets m (effect.Again next) new new_table q apart is kept = unchanged_keeps table new_table q is.pairs kept
+way_keeps facts meaning setup old table octets m (effect.Identified next) new new_table q apart is kept = unchanged_keeps table new_table q is.pairs kept
+way_keeps facts meaning setup old table octets m (effect.Counted ended) new new_table q apart (inl is) kept =
+    end_keeps facts meaning.accepts setup old table m.header.id is.plain ended new new_table q apart is.done kept
+way_keeps facts meaning setup old table octets m (effect.Counted ended) new new_table q apart (inr is) kept =
+    closed_if_keeps (is_ended is.done.payloads is.done.request.purpose) (gone_with table.pairs old.serial is.done.request.purpose) (record old { outgoing = is.done.outgoing }) table setup.moment new new_table q (λ held. apart (counted_before facts old is.done.outgoing is.done.request m.header.id q is.done.counted held)) is.done.concluded kept
 
-pub others_keep : (meaning : Meaning) (setup : Setup) (old : Association) (table : Database) (octets : Octets) (m : Message) (e : Effect) (new : Association) (new_table : Database) (q : ℕ)
-    → spi_in old.phase ≢ Some q → IsReserved table q → q < table.start + table.given → TakesMessage meaning setup old table octets m e new new_table → IsReserved new_table q
-others_keep meaning setup old table octets m e new new_table q apart there given is =
-    (way_keeps meaning setup old table octets m e new new_table q apart (way_of meaning setup old table octets m e new new_table is) (record { there = there; given = given })).there
+pub others_keep : HeldFacts → (meaning : Meaning) (setup : Setup) (old : Association) (table : Database) (octets : Octets) (m : Message) (e : Effect) (new : Association) (new_table : Database) (q : ℕ)
+    → ¬ HoldsSpi old q → IsReserved table q → q < table.start + table.given → TakesMessage meaning setup old table octets m e new new_table → IsReserved new_table q
+others_keep facts meaning setup old table octets m e new new_table q apart there given is =
+    (way_keeps facts meaning setup old table octets m e new new_table q apart (way_of meaning setup old table octets m e new new_table is) (record { there = there; given = given })).there

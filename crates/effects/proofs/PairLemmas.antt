@@ -8,8 +8,8 @@ use Rattle.wire.specs.declared.payload.Payload.{Payload}
 use Rattle.exchange.specs.declared.sealed.Plain.{Plain}
 use Rattle.sadb.specs.Database.{pair_at, BelongsTo, Database, Installs, IsAsBefore, PairMap, Releases, RemovesAllOf, Reserves}
 use Rattle.sadb.specs.declared.pair.Pair.{Pair}
-use Rattle.association.specs.Closing.{Closes, GivesUpSpi}
-use Rattle.association.specs.Phases.{established_spi, spi_in}
+use Rattle.association.specs.Closing.{Closes, GivesUpSpis, HoldsSpi}
+use Rattle.association.specs.Phases.{established_spi}
 use Rattle.association.specs.declared.phase.Association.{Association}
 use Rattle.association.specs.declared.phase.AuthSent.{AuthSent}
 use Rattle.association.specs.declared.phase.HalfOpen.{HalfOpen}
@@ -77,9 +77,8 @@ reserve_same old spi new is = subst (λ (d : Database). HasSamePairs old d) (sym
 release_same : (old : Database) (spi : ℕ) (new : Database) → Releases old spi new → HasSamePairs old new
 release_same old spi new is = subst (λ (d : Database). HasSamePairs old d) (sym is.content) (record { start = refl; given = omega arith; next = refl; pairs = refl })
 
-spi_same : (spi : Option ℕ) (old new : Database) → GivesUpSpi spi old new → HasSamePairs old new
-spi_same None old new is = subst (λ (d : Database). HasSamePairs old d) (sym is) (itself_same old)
-spi_same (Some spi) old new is = release_same old spi new is
+spis_same : (Held : ℕ → Type 0) (old new : Database) → GivesUpSpis Held old new → HasSamePairs old new
+spis_same Held old new is = subst (λ (d : Database). HasSamePairs old d) (sym is.content) (record { start = refl; given = omega arith; next = refl; pairs = refl })
 
 after : (old between new : Database) → HasSamePairs old between → HasSamePairs between new → HasSamePairs old new
 after old between new one two =
@@ -143,7 +142,7 @@ child_leaves old between ike (Some spi) (Some pair) None new same unused is = ab
 -- what an association's end leaves
 over_leaves : (a : Association) (old between : Database) (moment : ℕ) (new : Association) (new_table : Database) → HasSamePairs old between → Closes a between moment new new_table → LeavesPairs old a.serial new_table
 over_leaves a old between moment new new_table same is =
-    removal_leaves old is.between a.serial new_table (after old between is.between same (spi_same (spi_in a.phase) between is.between is.released)) is.removed
+    removal_leaves old is.between a.serial new_table (after old between is.between same (spis_same (HoldsSpi a) between is.between is.released)) is.removed
 
 pub concluded_leaves : (setup : Setup) (a : Association) (old between : Database) (o : Outcome) (child : Option ℕ) (new : Association) (new_table : Database)
     → HasSamePairs old between → UnusedBy a.serial o → ConcludesBy setup a between o child new new_table → LeavesPairs old a.serial new_table
@@ -234,7 +233,7 @@ child_told old between (Some spi) (Some pair) None new same is = absurd is
 
 over_told : (a : Association) (old between : Database) (moment : ℕ) (child : Option ℕ) (new : Association) (new_table : Database) → HasSamePairs old between → Closes a between moment new new_table → ComesTold old child new_table
 over_told a old between moment child new new_table same is =
-    removal_told old is.between a.serial child new_table (after old between is.between same (spi_same (spi_in a.phase) between is.between is.released)) is.removed
+    removal_told old is.between a.serial child new_table (after old between is.between same (spis_same (HoldsSpi a) between is.between is.released)) is.removed
 
 pub concluded_told : (setup : Setup) (a : Association) (old between : Database) (o : Outcome) (child : Option ℕ) (new : Association) (new_table : Database)
     → HasSamePairs old between → ConcludesBy setup a between o child new new_table → ComesTold old child new_table

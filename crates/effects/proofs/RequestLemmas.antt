@@ -26,7 +26,7 @@ use Rattle.requests.specs.Outgoing.{none_issued, number_0_answered, CountsAnswer
 use Rattle.sadb.specs.Database.{Database}
 use Rattle.sa_init.specs.Judging.{OfferView}
 use Rattle.association.specs.Closing.{Closes}
-use Rattle.association.specs.FirstChildren.{FirstChildView}
+use Rattle.association.specs.AskedChildren.{AskedChildView}
 use Rattle.association.specs.Phases.{established_of, keys_in}
 use Rattle.association.specs.Receiving.{admits, fresh_reception, judged_reception, opened_by, repeated_reception, Answers, AnswersInitial, IsEffective, IsReceived, IsReceivedBy, IsReceivedRequest, IsRepeating, Opening, Reception, Refused, Repeat, TakesEffect}
 use Rattle.association.specs.declared.fault.MessageFault.{MessageFault}
@@ -612,7 +612,7 @@ stays_sound laws windows meaning setup old table octets m e new new_table held i
 none_kept : (number : ℕ) (reply : Octets) → map.get no_requests.kept number ≡ Some reply → ⊥
 none_kept number reply is = some_none reply (sym (map.get-empty {X = Octets} nat_cmp number) ∙ is)
 
-pub begun_sound : (cipher : Cipher) (group : ℕ) (public_value : Octets → Octets) (fresh : Fresh) (moment serial : ℕ) (beginning : Beginning) (child : FirstChildView)
+pub begun_sound : (cipher : Cipher) (group : ℕ) (public_value : Octets → Octets) (fresh : Fresh) (moment serial : ℕ) (beginning : Beginning) (child : AskedChildView)
     → Begins cipher group public_value fresh moment beginning → IsSoundlyHeld (begun serial beginning child)
 begun_sound cipher group public_value fresh moment serial beginning child is = record {
   in_effect = λ number reply kept. absurd (none_kept number reply kept);

@@ -1,13 +1,13 @@
--- An SPI that an association holds stays reserved, or is held no more.
-use Rattle.std.proofs.Common.{◌≡◌, ◌⊎◌, inl, inr, ℕ, ◌+◌, Bool, true, false, Option, Some, None, ap, refl, subst, sym, ◌∙◌, List}
+-- What a message leaves of an association.
+use Rattle.std.proofs.Common.{◌≡◌, ◌⊎◌, inl, inr, ℕ, ◌+◌, Bool, true, false, Option, Some, ap, refl, subst, sym, ◌∙◌, List}
 use Rattle.base.specs.Octets.{Octets}
 use Rattle.wire.specs.declared.message.Message.{Message}
 use Rattle.suite.specs.declared.key_record.KeyRecord.{KeyRecord}
 use Rattle.suite.specs.declared.keys.Keys.{Keys}
 use Rattle.exchange.specs.declared.sealed.Plain.{Plain}
 use Rattle.sadb.specs.Database.{Database}
-use Rattle.association.specs.Closing.{Closes, HoldsSpi}
-use Rattle.association.specs.Phases.{established_of, keys_in, spi_in}
+use Rattle.association.specs.Closing.{Closes}
+use Rattle.association.specs.Phases.{established_of, keys_in}
 use Rattle.association.specs.declared.fault.MessageFault.{MessageFault}
 use Rattle.association.specs.declared.phase.Association.{Association}
 use Rattle.association.specs.declared.phase.AuthSent.{AuthSent}
@@ -36,28 +36,6 @@ use Rattle.effects.specs.declared.taking.Effect.TheVariants as effect
 use Rattle.effects.proofs.PairLemmas.{answer_unused, closed_if_leaves, concluded_leaves, end_unused, itself_same, room_same, same_leaves, HasSamePairs}
 use Rattle.effects.proofs.WayLemmas.{way_of, CountedInformational, WasAsked, WasIdentified, Way}
 
-abbrev pub held_by : Association → Option ℕ
-held_by a = spi_in a.phase
-
-concluded_none : (setup : Setup) (old : Association) (table : Database) (o : Outcome) (child : Option ℕ) (new : Association) (new_table : Database)
-    → spi_in (established_of old.phase) ≡ None → ConcludesBy setup old table o child new new_table → held_by new ≡ None
-concluded_none setup old table outcome.Closes child new new_table none c = ap held_by c.over.content
-concluded_none setup old table (outcome.Establishes pair window) child new new_table none c = ap held_by c.content ∙ none
-
-answered_none : (prover : Prover) (setup : Setup) (old : Association) (table : Database) (number : ℕ) (plain : Plain) (a : Answered) (new : Association) (new_table : Database)
-    → AnswersAuth prover setup old table number plain a new new_table → held_by new ≡ None
-answered_none prover setup old table number plain a new new_table is =
-    concluded_none setup (record old { incoming = is.incoming }) is.between (outcome_of is.decision) a.child new new_table (ap (λ p. spi_in (established_of p)) is.was) is.concluded
-
-ended_none : (accepts : Accepts) (setup : Setup) (old : Association) (table : Database) (number : ℕ) (plain : Plain) (e : Ended) (new : Association) (new_table : Database)
-    → EndsAuth accepts setup old table number plain e new new_table → held_by new ≡ None
-ended_none accepts setup old table number plain e new new_table is =
-    concluded_none setup (record old { outgoing = is.outgoing }) table is.verdict e.child new new_table (ap (λ p. spi_in (established_of p)) is.was) is.concluded
-
-closed_if_none : (ending : Bool) (serials : List ℕ) (a : Association) (table : Database) (moment : ℕ) (new : Association) (new_table : Database) → held_by a ≡ None → ClosesIf ending serials a table moment new new_table → held_by new ≡ None
-closed_if_none true serials a table moment new new_table none is = ap held_by is.content
-closed_if_none false serials a table moment new new_table none is = ap held_by is.0 ∙ none
-
 -- a message that is passed over, or comes again, changes nothing
 abbrev pub Idle : Effect → Association → Database → Association → Database → Type 0
 Idle (effect.Refused fault) old table new new_table = IsPassedOver old table new new_table
@@ -75,10 +53,9 @@ idle_by (effect.Again octets) old new table new_table same = tt
 idle_by (effect.Identified octets) old new table new_table same = tt
 idle_by (effect.Counted ended) old new table new_table same = tt
 
--- What a message leaves of an association: it stays itself, and holds its SPI no more, or still, and then the table is as it was.
+-- It stays itself.
 record Leaves (e : Effect) (old : Association) (table : Database) (new : Association) (new_table : Database) : Type 0 where
   idle : Idle e old table new new_table
-  spi : (held_by new ≡ None) ⊎ ((held_by new ≡ held_by old) × (new_table ≡ table))
   itself : KeepsIdentity old new
   pairs : LeavesPairs table old.serial new_table
 
@@ -92,7 +69,7 @@ unchanged_leaves : (table : Database) (ike : ℕ) (new_table : Database) → new
 unchanged_leaves table ike new_table same = same_leaves table ike new_table (subst (λ (d : Database). HasSamePairs table d) (sym same) (itself_same table))
 
 leaves_all : (e : Effect) (old new : Association) (table new_table : Database) → IsPassedOver old table new new_table → Leaves e old table new new_table
-leaves_all e old new table new_table same = record { idle = idle_by e old new table new_table same; spi = inr (ap held_by same.association, same.pairs); itself = itself_by old old new same.association (all_itself old); pairs = unchanged_leaves table old.serial new_table same.pairs }
+leaves_all e old new table new_table same = record { idle = idle_by e old new table new_table same; itself = itself_by old old new same.association (all_itself old); pairs = unchanged_leaves table old.serial new_table same.pairs }
 
 closed_waits : (keys : Option KeyRecord) (at : ℕ) (sent : InitSent) → phase.Closed keys at ≡ phase.InitSent sent → ⊥
 closed_waits keys at sent is = cc
@@ -171,7 +148,6 @@ answered_leaves : (prover : Prover) (setup : Setup) (old : Association) (table :
 answered_leaves prover setup old table number plain a new new_table is =
     record {
       idle = tt;
-      spi = inl (answered_none prover setup old table number plain a new new_table is);
       itself = like (record old { incoming = is.incoming }) old new refl refl refl refl refl
           (concluded_itself setup (record old { incoming = is.incoming }) is.between (outcome_of is.decision) a.child new new_table is.opened.keys (ap established_of is.was) is.concluded);
       pairs = concluded_leaves setup (record old { incoming = is.incoming }) table is.between (outcome_of is.decision) a.child new new_table (room_same table is.between is.room)
@@ -183,7 +159,6 @@ ended_leaves : (accepts : Accepts) (setup : Setup) (old : Association) (table : 
 ended_leaves accepts setup old table number plain e new new_table is =
     record {
       idle = tt;
-      spi = inl (ended_none accepts setup old table number plain e new new_table is);
       itself = like (record old { outgoing = is.outgoing }) old new refl refl refl refl refl
           (concluded_itself setup (record old { outgoing = is.outgoing }) table is.verdict e.child new new_table is.sent.keys (ap established_of is.was) is.concluded);
       pairs = concluded_leaves setup (record old { outgoing = is.outgoing }) table table is.verdict e.child new new_table (itself_same table)
@@ -198,7 +173,6 @@ informed_leaves body_of setup old table number plain a new new_table is =
     let taken : Association = record old { incoming = is.incoming } in
     record {
       idle = tt;
-      spi = inl (closed_if_none ending serials taken table setup.moment new new_table (ap spi_in is.established) is.concluded);
       itself = like taken old new refl refl refl refl refl (closed_if_itself ending serials taken table setup.moment new new_table is.concluded);
       pairs = closed_if_leaves ending serials taken table setup.moment new new_table is.concluded;
     }
@@ -211,7 +185,6 @@ counted_leaves setup old table m e new new_table is =
     let counted : Association = record old { outgoing = is.done.outgoing } in
     record {
       idle = tt;
-      spi = inl (closed_if_none ending serials counted table setup.moment new new_table (ap spi_in is.was) is.done.concluded);
       itself = like counted old new refl refl refl refl refl (closed_if_itself ending serials counted table setup.moment new new_table is.done.concluded);
       pairs = closed_if_leaves ending serials counted table setup.moment new new_table is.done.concluded;
     }
@@ -222,7 +195,6 @@ asked_leaves meaning setup old table m next new new_table is =
     let waiting : InitSent = record is.sent { cookie = Some is.cookie; cookies_taken = is.sent.cookies_taken + 1 } in
     record {
       idle = tt;
-      spi = inr (ap held_by is.done.content ∙ sym (ap spi_in is.was), is.pairs);
       itself =
           itself_by old (record old { outgoing = new.outgoing; phase = phase.InitSent waiting }) new is.done.content
           (record {
@@ -243,7 +215,6 @@ identified_leaves meaning setup old table octets m next new new_table is =
     let asking : AuthSent = record { keys = is.keys; first = octets; child = is.sent.child } in
     record {
       idle = tt;
-      spi = inr (ap held_by is.done.content ∙ sym (ap spi_in is.was), is.pairs);
       itself =
           itself_by old (record old { spi_r = m.header.spi_r; outgoing = new.outgoing; phase = phase.AuthSent asking }) new is.done.content
           (record {
@@ -272,27 +243,6 @@ way_leaves meaning setup old table octets m (effect.Counted ended) new new_table
 leaves : (meaning : Meaning) (setup : Setup) (old : Association) (table : Database) (octets : Octets) (m : Message) (e : Effect) (new : Association) (new_table : Database)
     → TakesMessage meaning setup old table octets m e new new_table → Leaves e old table new new_table
 leaves meaning setup old table octets m e new new_table is = way_leaves meaning setup old table octets m e new new_table (way_of meaning setup old table octets m e new new_table is)
-
-still_held : (old new : Association) (table new_table : Database) → HoldsSpi (held_by old) table → (held_by new ≡ None) ⊎ ((held_by new ≡ held_by old) × (new_table ≡ table))
-    → HoldsSpi (held_by new) new_table
-still_held old new table new_table holds (inl none) = subst (λ s. HoldsSpi s new_table) (sym none) tt
-still_held old new table new_table holds (inr (same, unchanged)) =
-    subst (λ (d : Database). HoldsSpi (held_by new) d) (sym unchanged) (subst (λ s. HoldsSpi s table) (sym same) holds)
-
-pub spis_stay : (meaning : Meaning) (setup : Setup) (old : Association) (table : Database) (octets : Octets) (m : Message) (e : Effect) (new : Association) (new_table : Database)
-    → HoldsSpi (spi_in old.phase) table → TakesMessage meaning setup old table octets m e new new_table → HoldsSpi (spi_in new.phase) new_table
-spis_stay meaning setup old table octets m e new new_table holds is =
-    still_held old new table new_table holds (leaves meaning setup old table octets m e new new_table is).spi
-
-some_held : (old new : Association) (table new_table : Database) (spi : ℕ) → held_by new ≡ Some spi → (held_by new ≡ None) ⊎ ((held_by new ≡ held_by old) × (new_table ≡ table))
-    → held_by old ≡ Some spi
-some_held old new table new_table spi held (inl none) = absurd cc
-some_held old new table new_table spi held (inr (same, unchanged)) = sym same ∙ held
-
-pub none_comes : (meaning : Meaning) (setup : Setup) (old : Association) (table : Database) (octets : Octets) (m : Message) (e : Effect) (new : Association) (new_table : Database) (spi : ℕ)
-    → spi_in new.phase ≡ Some spi → TakesMessage meaning setup old table octets m e new new_table → spi_in old.phase ≡ Some spi
-none_comes meaning setup old table octets m e new new_table spi held is =
-    some_held old new table new_table spi held (leaves meaning setup old table octets m e new new_table is).spi
 
 pub stays_itself : (meaning : Meaning) (setup : Setup) (old : Association) (table : Database) (octets : Octets) (m : Message) (e : Effect) (new : Association) (new_table : Database)
     → TakesMessage meaning setup old table octets m e new new_table → KeepsIdentity old new

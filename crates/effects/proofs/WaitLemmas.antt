@@ -13,7 +13,7 @@ use Rattle.suite.specs.declared.sealer.Cipher.{Cipher}
 use Rattle.requests.specs.Outgoing.{none_issued, number_0_answered, CountsAnswer, GivesUpRequests, OwnRequests}
 use Rattle.suite.specs.declared.key_record.KeyRecord.{KeyRecord}
 use Rattle.sadb.specs.Database.{Database}
-use Rattle.association.specs.FirstChildren.{FirstChildView}
+use Rattle.association.specs.AskedChildren.{AskedChildView}
 use Rattle.association.specs.Phases.{established_of, keys_in}
 use Rattle.association.specs.declared.phase.Association.{Association}
 use Rattle.association.specs.declared.phase.AuthSent.{AuthSent}
@@ -281,7 +281,7 @@ probe_keeps body_of setup order old octets new number request held is there =
           ∙ ap (λ (r : OwnRequests Request). map.get r.outstanding number) is.issued.prepared.content ∙ there
     ]
 
-pub begun_waits : (cipher : Cipher) (group : ℕ) (public_value : Octets → Octets) (fresh : Fresh) (moment serial : ℕ) (beginning : Beginning) (child : FirstChildView) (number : ℕ) (request : Request)
+pub begun_waits : (cipher : Cipher) (group : ℕ) (public_value : Octets → Octets) (fresh : Fresh) (moment serial : ℕ) (beginning : Beginning) (child : AskedChildView) (number : ℕ) (request : Request)
     → Begins cipher group public_value fresh moment beginning → map.get (begun serial beginning child).outgoing.outstanding number ≡ Some request
     → (beginning.octets ≡ request.octets) × (request.timer ≡ record { sent = moment; repeats = 0 })
 begun_waits cipher group public_value fresh moment serial beginning child number request is there =

@@ -16,7 +16,7 @@ use Rattle.exchange.specs.declared.sealed.Plain.{Plain}
 use Rattle.policy.specs.Narrowing.{AnswersOffer, LieInsidePolicy}
 use Rattle.sadb.specs.Database.{pair_at, Database}
 use Rattle.sadb.specs.declared.pair.Pair.{Pair}
-use Rattle.association.specs.FirstChildren.{asked_of, FirstChildView}
+use Rattle.association.specs.AskedChildren.{asked_of, AskedChildView}
 use Rattle.association.specs.Receiving.{opened_by}
 use Rattle.association.specs.declared.phase.Association.{Association}
 use Rattle.association.specs.declared.phase.AuthSent.{AuthSent}
@@ -56,7 +56,7 @@ pub record IsAnsweredChild (setup : Setup) (keys : KeyRecord) (request reply : L
   pub few : HasFewSelectors pair
 
 -- The initiator's pair: it is made of the reply and of whatever request asked for this child, and keeps to what was asked.
-pub record IsAskedChild (child : FirstChildView) (keys : KeyRecord) (reply : List Payload) (pair : Pair) : Type 0 where
+pub record IsAskedChild (child : AskedChildView) (keys : KeyRecord) (reply : List Payload) (pair : Pair) : Type 0 where
   pub made : (request : List Payload) → HasChildPayloads request (child_request (asked_of child)) → IsChild Initiator (first_child_keys keys) request reply pair
   pub keeps : KeepsToRequest (asked_of child) pair
   pub few : HasFewSelectors pair

@@ -12,9 +12,9 @@ ghost use Rattle.sa_init.specs.Judging.{Accepted, IsJudgement, OfferView};
 ghost use Rattle.sa_init.specs.declared.judging.Sender.{Sender};
 ghost use Rattle.sadb.specs.Database.{pair_at, Database, IsReserved, IsSoundTable};
 ghost use Rattle.sadb.specs.declared.pair.Pair.{Pair};
-ghost use Rattle.association.specs.Closing.{HoldsSpi};
-ghost use Rattle.association.specs.FirstChildren.{FirstChildView};
-ghost use Rattle.association.specs.Phases.{keys_in, spi_in};
+ghost use Rattle.association.specs.Closing.{HoldsReserved, HoldsSpi};
+ghost use Rattle.association.specs.AskedChildren.{AskedChildView};
+ghost use Rattle.association.specs.Phases.{keys_in};
 ghost use Rattle.association.specs.Finding.{is_meant};
 ghost use Rattle.association.specs.Purposes.{exchange_of};
 ghost use Rattle.association.specs.Receiving.{opened_by, IsRepeating, Opening};
@@ -38,7 +38,7 @@ ghost use Rattle.association.specs.declared.phase.Phase.TheVariants as phase;
 ghost use Rattle.association.specs.declared.phase.AuthSent.{AuthSent};
 ghost use Rattle.auth.specs.Proofs.{Accepts};
 ghost use Rattle.initial.specs.Answering.{AnswersAuth, Prover};
-ghost use Rattle.initial.specs.Beginning.{begun, Admits, Begins};
+ghost use Rattle.initial.specs.Beginning.{begun, half_open, Admits, Begins};
 ghost use Rattle.effects.specs.Children.{AsksForChild, IsAsking, MakesChild};
 ghost use Rattle.initial.specs.Configs.{Setup, IsConfig};
 ghost use Rattle.informational.specs.Asking.{Asks};
@@ -66,8 +66,9 @@ ghost use Rattle.effects.specs.declared.taking.Effect.TheVariants.{Again, Counte
 
 use association::Request;
 use association::laws::{
-    endings_are_determined, receptions_are_determined, receptions_go_by_content,
-    receptions_say_why, repeats_say_why, what_is_due_is_received,
+    children_are_asked_for, endings_are_determined, receptions_are_determined,
+    receptions_go_by_content, receptions_say_why, repeats_say_why, spis_stay_held,
+    what_is_due_is_received, who_is_closed_holds_none,
 };
 use auth::laws::{who_is_accepted_proved_itself, windows_are_read_again};
 use children::laws::{
@@ -88,13 +89,16 @@ use suite::Sealer;
 use suite::laws::derived_keys_are_keys;
 use wire::laws::{octets_spell_one_message, plain_spellings_are_determined, what_is_read_fits};
 
-/// The SPI that is reserved for an association's first child stays reserved as long as the association holds it.
+/// The SPIs that are reserved for an association's children stay reserved as long as the association holds them.
 pub fn spis_stay_reserved()
     ensures { (meaning : Meaning) (setup : Setup) (old : Association) (table : Database) (octets : Octets) (m : Message)
-        (effect : Effect) (new : Association) (new_table : Database) → HoldsSpi (spi_in old.phase) table
-        → TakesMessage meaning setup old table octets m effect new new_table
-        → HoldsSpi (spi_in new.phase) new_table }
-{}
+        (effect : Effect) (new : Association) (new_table : Database) → IsSoundTable table → HoldsReserved old table
+        → TakesMessage meaning setup old table octets m effect new new_table → HoldsReserved new new_table }
+{
+    spis_stay_held();
+    children_are_asked_for();
+    who_is_closed_holds_none();
+}
 
 /// A message leaves an association its serial, its role and its SPIs, but that an initiator learns the responder's; no association
 /// comes to be half open, or to wait for the response to IKE_SA_INIT, that was not before; and who waits for the response to IKE_AUTH
@@ -133,20 +137,51 @@ pub fn what_is_passed_over_changes_nothing()
         → (new ≡ old) × (new_table ≡ table) }
 {}
 
-/// An association comes to no SPI by a message: what it holds for its first child it held before.
+/// An association comes to no SPI by a message: what it holds for a child it held before.
 pub fn no_spi_comes()
     ensures { (meaning : Meaning) (setup : Setup) (old : Association) (table : Database) (octets : Octets) (m : Message)
-        (effect : Effect) (new : Association) (new_table : Database) (spi : ℕ) → spi_in new.phase ≡ Some spi
-        → TakesMessage meaning setup old table octets m effect new new_table → spi_in old.phase ≡ Some spi }
-{}
+        (effect : Effect) (new : Association) (new_table : Database) (spi : ℕ) → HoldsSpi new spi
+        → TakesMessage meaning setup old table octets m effect new new_table → HoldsSpi old spi }
+{
+    spis_stay_held();
+    children_are_asked_for();
+    who_is_closed_holds_none();
+}
+
+/// An association holds an SPI from the order on that asked for the child: one that begins holds that of its first child alone, one that
+/// this end admits holds none, and one that asks whether the peer is there, or for a deletion, holds none that it did not hold.
+pub fn spis_come_by_orders()
+    ensures begun { (cipher : Cipher) (group : ℕ) (public_value : Octets → Octets) (fresh : Fresh) (moment serial : ℕ)
+        (beginning : Beginning) (child : AskedChildView) (spi : ℕ) → Begins cipher group public_value fresh moment beginning
+        → HoldsSpi (begun serial beginning child) spi → spi ≡ child.spi }
+    ensures first { (cipher : Cipher) (group : ℕ) (public_value : Octets → Octets) (fresh : Fresh) (moment serial : ℕ)
+        (beginning : Beginning) (child : AskedChildView) (table : Database) → Begins cipher group public_value fresh moment beginning
+        → IsReserved table child.spi → HoldsReserved (begun serial beginning child) table }
+    ensures admitted { (serial spi_i spi_r : ℕ) (keys : KeyRecord) (request reply : Octets) (moment spi : ℕ)
+        → ¬ HoldsSpi (half_open serial spi_i spi_r keys request reply moment) spi }
+    ensures asked { (body_of : Keys → Octets → Octets → Octets → Octets) (setup : Setup) (order : Order) (old : Association)
+        (octets : Octets) (new : Association) (spi : ℕ) → Asks body_of setup order old octets new
+        → HoldsSpi new spi → HoldsSpi old spi }
+    ensures asking { (body_of : Keys → Octets → Octets → Octets → Octets) (setup : Setup) (order : Order) (old : Association)
+        (octets : Octets) (new : Association) (table : Database) → Asks body_of setup order old octets new
+        → HoldsReserved old table → HoldsReserved new table }
+{
+    spis_stay_held();
+    children_are_asked_for();
+    who_is_closed_holds_none();
+}
 
 /// An SPI that is reserved for another association than the one that a message is for stays reserved.
 pub fn what_others_hold_stays()
     ensures { (meaning : Meaning) (setup : Setup) (old : Association) (table : Database) (octets : Octets) (m : Message)
-        (effect : Effect) (new : Association) (new_table : Database) (spi : ℕ) → spi_in old.phase ≢ Some spi
+        (effect : Effect) (new : Association) (new_table : Database) (spi : ℕ) → ¬ HoldsSpi old spi
         → IsReserved table spi → spi < table.start + table.given
         → TakesMessage meaning setup old table octets m effect new new_table → IsReserved new_table spi }
-{}
+{
+    spis_stay_held();
+    children_are_asked_for();
+    who_is_closed_holds_none();
+}
 
 /// All that an association keeps to send again has at most 3000 octets, as a message may have: the replies that are kept, the requests
 /// that wait for an answer, and the reply that a half-open association keeps. So has what goes out by a message, and what goes out as
@@ -159,7 +194,7 @@ pub fn what_is_kept_is_short()
         (effect : Effect) (new : Association) (new_table : Database) (said : Octets) → KeepsShort old
         → TakesMessage meaning setup old table octets m effect new new_table → octets_of_effect effect ≡ Some said → IsShort said }
     ensures begun { (cipher : Cipher) (group : ℕ) (public_value : Octets → Octets) (fresh : Fresh) (moment serial : ℕ)
-        (beginning : Beginning) (child : FirstChildView) → Begins cipher group public_value fresh moment beginning
+        (beginning : Beginning) (child : AskedChildView) → Begins cipher group public_value fresh moment beginning
         → KeepsShort (begun serial beginning child) × IsShort beginning.octets }
     ensures admitted { (cipher : Cipher) (group : ℕ) (public_value : Octets → Octets)
         (shared_secret : Octets → Octets → Option Octets) (fresh : Fresh) (moment serial : ℕ) (offer : OfferView) (spi_i : ℕ)
@@ -201,7 +236,7 @@ pub fn keys_stay()
 pub fn children_are_made_of_their_messages()
     ensures made { (meaning : Meaning) (setup : Setup) (old : Association) (table : Database) (octets : Octets) (m : Message)
         (effect : Effect) (serial : ℕ) (new : Association) (new_table : Database) → IsSoundTable table
-        → HoldsSpi (spi_in old.phase) table → child_in effect ≡ Some serial
+        → HoldsReserved old table → child_in effect ≡ Some serial
         → TakesMessage meaning setup old table octets m effect new new_table
         → MakesChild meaning setup old table octets m effect serial new new_table }
     ensures asked { (meaning : Meaning) (setup : Setup) (old : Association) (table : Database) (octets : Octets) (m : Message)
@@ -284,7 +319,7 @@ pub fn keys_stay_whole()
 /// An association begins in one way, at either end, with one first message; for how many requests it has room is no part of it.
 pub fn beginnings_are_determined()
     ensures begun { (cipher : Cipher) (group : ℕ) (public_value : Octets → Octets) (fresh : Fresh) (moment serial : ℕ)
-        (child : FirstChildView) (a b : Beginning) → Begins cipher group public_value fresh moment a
+        (child : AskedChildView) (a b : Beginning) → Begins cipher group public_value fresh moment a
         → Begins cipher group public_value fresh moment b
         → (a.octets ≡ b.octets)
         × (association_content (begun serial a child) ≡ association_content (begun serial b child)) }
@@ -397,7 +432,7 @@ pub fn requests_are_remembered()
         (effect : Effect) (new : Association) (new_table : Database)
         → IsSoundlyHeld old → TakesMessage meaning setup old table octets m effect new new_table → IsSoundlyHeld new }
     ensures begun { (cipher : Cipher) (group : ℕ) (public_value : Octets → Octets) (fresh : Fresh) (moment serial : ℕ)
-        (beginning : Beginning) (child : FirstChildView) → Begins cipher group public_value fresh moment beginning
+        (beginning : Beginning) (child : AskedChildView) → Begins cipher group public_value fresh moment beginning
         → IsSoundlyHeld (begun serial beginning child) }
     ensures admitted { (cipher : Cipher) (group : ℕ) (public_value : Octets → Octets)
         (shared_secret : Octets → Octets → Option Octets) (fresh : Fresh) (moment serial : ℕ) (offer : OfferView) (spi_i : ℕ)
@@ -430,7 +465,7 @@ pub fn messages_make_moves()
         → Admits cipher group public_value shared_secret fresh moment serial offer spi_i request admitted
         → (keys : KeyRecord) × Lead (Make keys ∷ []) None (ledger admitted.association) }
     ensures begun { (cipher : Cipher) (group : ℕ) (public_value : Octets → Octets) (fresh : Fresh) (moment serial : ℕ)
-        (beginning : Beginning) (child : FirstChildView) → Begins cipher group public_value fresh moment beginning
+        (beginning : Beginning) (child : AskedChildView) → Begins cipher group public_value fresh moment beginning
         → ledger (begun serial beginning child) ≡ None }
     ensures initial { (meaning : Meaning) (setup : Setup) (old : Association) (table : Database) (octets : Octets) (m : Message)
         (next : Octets) (new : Association) (new_table : Database) → IsSoundlyHeld old
@@ -507,7 +542,7 @@ pub fn nothing_comes_due()
         (effect : Effect) (new : Association) (new_table : Database) → IsInTime setup.moment old
         → TakesMessage meaning setup old table octets m effect new new_table → IsInTime setup.moment new }
     ensures begun { (cipher : Cipher) (group : ℕ) (public_value : Octets → Octets) (fresh : Fresh) (moment serial : ℕ)
-        (beginning : Beginning) (child : FirstChildView) → Begins cipher group public_value fresh moment beginning
+        (beginning : Beginning) (child : AskedChildView) → Begins cipher group public_value fresh moment beginning
         → IsInTime moment (begun serial beginning child) }
     ensures admitted { (cipher : Cipher) (group : ℕ) (public_value : Octets → Octets)
         (shared_secret : Octets → Octets → Option Octets) (fresh : Fresh) (moment serial : ℕ) (offer : OfferView) (spi_i : ℕ)
@@ -538,7 +573,7 @@ pub fn requests_wait_on()
         → TakesMessage meaning setup old table octets m effect new new_table → new.phase ≡ phase.Closed keys at
         → (old.phase ≡ phase.Closed keys at) ⊎ ((at ≡ setup.moment) × Ends effect) }
     ensures begun { (cipher : Cipher) (group : ℕ) (public_value : Octets → Octets) (fresh : Fresh) (moment serial : ℕ)
-        (beginning : Beginning) (child : FirstChildView) (number : ℕ) (request : Request)
+        (beginning : Beginning) (child : AskedChildView) (number : ℕ) (request : Request)
         → Begins cipher group public_value fresh moment beginning
         → map.get (begun serial beginning child).outgoing.outstanding number ≡ Some request
         → (beginning.octets ≡ request.octets) × (request.timer ≡ record { sent = moment; repeats = 0 }) }

@@ -5,8 +5,7 @@ ghost use Rattle.wire.specs.Numbers.{INFORMATIONAL};
 ghost use Rattle.requests.specs.Incoming.{IsFreshRequest};
 ghost use Rattle.requests.specs.Outgoing.{IsOutstanding};
 ghost use Rattle.sadb.specs.Database.{IsAsBefore};
-ghost use Rattle.association.specs.Closing.{HoldsSpi};
-ghost use Rattle.association.specs.Phases.{spi_in};
+ghost use Rattle.association.specs.Closing.{HoldsReserved};
 ghost use Rattle.association.specs.Receiving.{IsAnsweringInitial, IsReceived};
 ghost use Rattle.initial.specs.Configs.{setup_of, IsConfig};
 ghost use Rattle.initial.specs.Reading.{IsInitSent};
@@ -48,8 +47,8 @@ pub enum Effect {
 /// established association INFORMATIONAL is taken by [`informational::answer`], and its response by [`informational::count`].
 /// Requests of CREATE_CHILD_SA are passed over ([`MessageFault::WrongPhase`]).
 ///
-/// The octets are those that the message was decoded from, and an SPI that is reserved for the association's first child is reserved
-/// in the table. An error is for want of memory alone, and changes nothing but the table's room: [`ChildFault::Message`], or where
+/// The octets are those that the message was decoded from, and the SPIs that the association holds for children are reserved in the
+/// table. An error is for want of memory alone, and changes nothing but the table's room: [`ChildFault::Message`], or where
 /// IKE_AUTH makes a child also one of the other three.
 pub fn take_message<C: Sealer + Agreement + Proof>(
     alloc: Global,
@@ -61,7 +60,7 @@ pub fn take_message<C: Sealer + Agreement + Proof>(
 ) -> Result<Effect, ChildFault>
     requires config { IsConfig step.now.config.now }
     requires spelled { Spells message.now octets.now }
-    requires reserved { HoldsSpi (spi_in association.old.phase) table.old }
+    requires reserved { HoldsReserved association.old table.old }
     ensures taken { IfOk result (λ effect. TakesMessage
         (record {
           cipher = C.cipher;
@@ -169,6 +168,7 @@ fn take_request<C: Sealer + Agreement + Proof>(
 ) -> Result<Effect, ChildFault>
     requires config { IsConfig step.now.config.now }
     requires fresh { IsFreshRequest association.old.incoming number }
+    requires reserved { HoldsReserved association.old table.old }
     ensures taken { IfOk result (λ effect. DoesRequest
         (record {
           cipher = C.cipher;
@@ -215,6 +215,7 @@ fn take_further<C: Sealer + Agreement + Proof>(
 ) -> Result<Effect, AllocError>
     requires established { IsEstablished association.old.phase }
     requires fresh { IsFreshRequest association.old.incoming number }
+    requires reserved { HoldsReserved association.old table.old }
     ensures taken { IfOk result (λ effect. DoesFurther (exchange == INFORMATIONAL)
         (record {
           cipher = C.cipher;
@@ -247,7 +248,7 @@ fn take_response<C: Sealer + Agreement + Proof>(
 ) -> Result<Effect, ChildFault>
     requires config { IsConfig step.now.config.now }
     requires outstanding { IsOutstanding association.old.outgoing number }
-    requires reserved { HoldsSpi (spi_in association.old.phase) table.old }
+    requires reserved { HoldsReserved association.old table.old }
     ensures taken { IfOk result (λ effect. DoesResponse
         (record {
           cipher = C.cipher;

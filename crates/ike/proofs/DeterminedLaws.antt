@@ -14,7 +14,7 @@ use Rattle.sa_init.specs.Cookies.{CookieSecrets}
 use Rattle.sa_init.specs.Judging.{IsJudgement, JudgementView, OfferView}
 use Rattle.sa_init.specs.declared.judging.Sender.{Sender}
 use Rattle.association.specs.Contents.{association_content}
-use Rattle.association.specs.FirstChildren.{FirstChildView}
+use Rattle.association.specs.AskedChildren.{AskedChildView}
 use Rattle.association.specs.declared.phase.Association.{Association}
 use Rattle.initial.specs.Beginning.{begun, Admits, Begins}
 use Rattle.initial.specs.Configs.{Setup}
@@ -44,7 +44,7 @@ OneJudgement =
 
 -- of associations as they begin, and of what messages do to them
 pub record AssociationLaws : Type 0 where
-  pub begun : (cipher : Cipher) (group : ℕ) (public_value : Octets → Octets) (fresh : Fresh) (moment serial : ℕ) (child : FirstChildView) (a b : Beginning)
+  pub begun : (cipher : Cipher) (group : ℕ) (public_value : Octets → Octets) (fresh : Fresh) (moment serial : ℕ) (child : AskedChildView) (a b : Beginning)
       → Begins cipher group public_value fresh moment a → Begins cipher group public_value fresh moment b
       → (a.octets ≡ b.octets) × (association_content (begun serial a child) ≡ association_content (begun serial b child))
   pub admitted : (cipher : Cipher) (group : ℕ) (public_value : Octets → Octets) (shared_secret : Octets → Octets → Option Octets) (fresh : Fresh) (moment serial : ℕ) (offer : OfferView) (spi_i : ℕ) (request : Octets) (a b : Admitted)

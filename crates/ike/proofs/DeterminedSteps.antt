@@ -16,7 +16,7 @@ use Rattle.sa_init.specs.Judging.{Accepted, Answered, Full, Incomplete, IsJudgem
 use Rattle.sa_init.specs.Messages.{notice_message}
 use Rattle.association.specs.Contents.{association_content}
 use Rattle.association.specs.Finding.{found}
-use Rattle.association.specs.FirstChildren.{FirstChildView}
+use Rattle.association.specs.AskedChildren.{AskedChildView}
 use Rattle.association.specs.declared.fault.MessageFault.{MessageFault}
 use Rattle.association.specs.declared.fault.MessageFault.TheVariants.{WrongPhase}
 use Rattle.association.specs.declared.phase.Association.{Association}
@@ -79,7 +79,7 @@ same_choice o x y is also = cc
 same_offer : (a b : OfferView) → Accepted a ≡ Accepted b → a ≡ b
 same_offer a b same = cc
 
-abbrev begun_content : ℕ → Beginning → FirstChildView → Association
+abbrev begun_content : ℕ → Beginning → AskedChildView → Association
 begun_content serial beginning child = association_content (begun serial beginning child)
 
 module _ (laws : Laws) (meaning : Meaning) (setup : Setup) (old other : Held) (same : held_content old ≡ held_content other) where

@@ -1,19 +1,16 @@
 -- What an order leaves of the table: a child that is to be deleted is marked, and nothing else is changed.
-use Rattle.std.proofs.Common.{◌≡◌, ◌⊎◌, inl, inr, ℕ, cond, Bool, Option, Some, None, ap, refl, subst, sym, ◌∙◌}
+use Rattle.std.proofs.Common.{◌≡◌, ◌⊎◌, inl, inr, ℕ, cond, Some, ap, subst, sym, ◌∙◌}
 use Rattle.std.specs.Cmp.{nat_cmp_total, unsigned_tied}
 use Rattle.std.specs.FinMap as map
 use Rattle.std.proofs.lemmas.Bool.Decides.{eqb_tells}
-use Rattle.suite.specs.declared.keys.Keys.{Keys}
-use Rattle.base.specs.Octets.{Octets}
 use Rattle.sadb.specs.Contents.{table_content}
-use Rattle.sadb.specs.Database.{pair_at, Database, IsReserved, Marks, PairMap}
+use Rattle.sadb.specs.Database.{pair_at, Database, IsReserved, PairMap}
 use Rattle.sadb.specs.declared.pair.Pair.{Pair}
 use Rattle.sadb.specs.declared.pair.State.TheVariants.{Deleting}
-use Rattle.association.specs.Closing.{HoldsSpi}
 use Rattle.informational.specs.Ordering.{MarksFor}
 use Rattle.informational.specs.declared.ordering.Order.{Order}
 use Rattle.informational.specs.declared.ordering.Order.TheVariants as order
-use Rattle.ike.specs.Pairs.{IsMarked, IsOwnFor, MarksOne}
+use Rattle.ike.specs.Pairs.{IsMarked}
 
 same_pair : (one other : Pair) → Some one ≡ Some other → one ≡ other
 same_pair one other same = cc
@@ -29,10 +26,6 @@ marked_but order.DeleteAssociation table new is = unchanged_but table new is
 
 pub marked_reserved : (o : Order) (table new : Database) (spi : ℕ) → MarksFor o table new → IsReserved table spi → IsReserved new spi
 marked_reserved o table new spi is reserved = subst (λ (d : Database). IsReserved d spi) (sym (marked_but o table new is)) reserved
-
-pub marked_holds : (o : Order) (table new : Database) (spi : Option ℕ) → MarksFor o table new → HoldsSpi spi table → HoldsSpi spi new
-marked_holds o table new None is holds = tt
-marked_holds o table new (Some spi) is holds = marked_reserved o table new spi is holds
 
 one_marked : (table : Database) (child serial : ℕ) (was pair : Pair) (new : Database) → pair_at table.pairs child ≡ Some was → new ≡ record table { pairs = map.insert table.pairs child (record was { state = Deleting }) }
     → pair_at new.pairs serial ≡ Some pair → (pair_at table.pairs serial ≡ Some pair) ⊎ IsMarked table serial pair

@@ -8,7 +8,7 @@ use Rattle.exchange.specs.Counting.{only_sa}
 use Rattle.exchange.specs.declared.headers.Role.TheVariants.{Initiator, Responder}
 use Rattle.sadb.specs.Mirrors.{Mirrors}
 use Rattle.sadb.specs.declared.pair.Pair.{Pair}
-use Rattle.association.specs.FirstChildren.{asked_of, FirstChildView}
+use Rattle.association.specs.AskedChildren.{asked_of, AskedChildView}
 use Rattle.children.specs.Asking.{asked_proposal, child_request, HasChildPayloads}
 use Rattle.children.specs.Pairs.{IsChild}
 use Rattle.effects.specs.Children.{IsAnsweredChild, IsAskedChild}
@@ -19,7 +19,7 @@ pub record MirrorFacts : Type 0 where
   pub mirror : (keys : List (List ℕ)) (request reply : List Payload) (proposal : Proposal) (a b : Pair)
       → only_sa request ≡ Some (proposal ∷ []) → IsChild Initiator keys request reply a → IsChild Responder keys request reply b → Mirrors a b
 
-pub first_mirror : MirrorFacts → (setup : Setup) (keys others : KeyRecord) (child : FirstChildView) (request reply : List Payload) (a b : Pair)
+pub first_mirror : MirrorFacts → (setup : Setup) (keys others : KeyRecord) (child : AskedChildView) (request reply : List Payload) (a b : Pair)
     → keys ≡ others → HasChildPayloads request (child_request (asked_of child)) → IsAskedChild child keys reply a → IsAnsweredChild setup others request reply b → Mirrors a b
 first_mirror facts setup keys others child request reply a b same asks asked answered =
     facts.mirror (first_child_keys keys) request reply (asked_proposal (asked_of child)) a b asks.sa (asked.made request asks)

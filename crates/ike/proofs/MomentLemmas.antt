@@ -12,7 +12,7 @@ use Rattle.suite.specs.declared.keys.Keys.{Keys}
 use Rattle.suite.specs.declared.sealer.Cipher.{Cipher}
 use Rattle.sadb.specs.Database.{Database}
 use Rattle.sa_init.specs.Judging.{OfferView}
-use Rattle.association.specs.FirstChildren.{FirstChildView}
+use Rattle.association.specs.AskedChildren.{AskedChildView}
 use Rattle.association.specs.declared.phase.Association.{Association}
 use Rattle.initial.specs.Beginning.{begun, Admits, Begins}
 use Rattle.initial.specs.Configs.{Setup}
@@ -44,7 +44,7 @@ use Rattle.ike.proofs.WayLemmas.{admitted, datagram_way, probed, rested, started
 pub record TimelyLaws : Type 0 where
   pub taken : (meaning : Meaning) (setup : Setup) (old : Association) (table : Database) (octets : Octets) (m : Message) (e : Effect) (new : Association) (new_table : Database)
       → IsInTime setup.moment old → TakesMessage meaning setup old table octets m e new new_table → IsInTime setup.moment new
-  pub begins : (cipher : Cipher) (group : ℕ) (public_value : Octets → Octets) (fresh : Fresh) (moment serial : ℕ) (beginning : Beginning) (child : FirstChildView)
+  pub begins : (cipher : Cipher) (group : ℕ) (public_value : Octets → Octets) (fresh : Fresh) (moment serial : ℕ) (beginning : Beginning) (child : AskedChildView)
       → Begins cipher group public_value fresh moment beginning → IsInTime moment (begun serial beginning child)
   pub admits : (cipher : Cipher) (group : ℕ) (public_value : Octets → Octets) (shared_secret : Octets → Octets → Option Octets) (fresh : Fresh) (moment serial : ℕ) (offer : OfferView) (spi_i : ℕ) (request : Octets) (admitted : Admitted)
       → Admits cipher group public_value shared_secret fresh moment serial offer spi_i request admitted → IsInTime moment admitted.association

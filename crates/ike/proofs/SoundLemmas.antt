@@ -1,5 +1,5 @@
 -- Associations stay sound with the table, whatever a step does.
-use Rattle.std.proofs.Common.{◌≡◌, ◌≢◌, ◌⊎◌, inl, inr, ℕ, ◌+◌, ◌<◌, ◌≤◌, ◌++◌, ◌∷◌, [], List, length, Option, Some, None, ap, refl, subst, sym, ◌∙◌, arith}
+use Rattle.std.proofs.Common.{◌≡◌, ◌≢◌, ◌⊎◌, inl, inr, ℕ, ◌+◌, ◌<◌, ◌≤◌, ◌++◌, ◌∷◌, [], List, length, Some, ap, refl, subst, sym, ◌∙◌, arith}
 use Rattle.std.specs.List.{slice_get}
 use Rattle.std.specs.Prelude.{slice_set}
 use Rattle.std.proofs.lemmas.Bool.Decides.{leb_tells}
@@ -8,8 +8,7 @@ use Rattle.exchange.specs.declared.headers.Role.{Role}
 use Rattle.exchange.specs.declared.headers.Role.TheVariants.{Initiator}
 use Rattle.sadb.specs.Database.{Database, IsReserved}
 use Rattle.sa_init.specs.Judging.{ASSOCIATION_LIMIT, HALF_OPEN_LIMIT}
-use Rattle.association.specs.Closing.{HoldsSpi}
-use Rattle.association.specs.Phases.{spi_in}
+use Rattle.association.specs.Closing.{HoldsReserved, HoldsSpi}
 use Rattle.association.specs.declared.phase.Association.{Association}
 use Rattle.association.specs.declared.phase.HalfOpen.{HalfOpen}
 use Rattle.association.specs.declared.phase.Phase.TheVariants as phase
@@ -20,22 +19,18 @@ use Rattle.ike.specs.Machines.{half_open_count, own_spi, spi_by_role, Held, SERI
 use Rattle.ike.specs.Soundness.{AreApart, AreSound, At, IsSound}
 use Rattle.ike.proofs.ListLemmas.{grown, replaced}
 
-abbrev pub held_by : Association → Option ℕ
-held_by a = spi_in a.phase
-
 -- what stands at a place, after one item was replaced or added there
 abbrev pub Stands : {A : Type 0} → List A → ℕ → A → ℕ → A → Type 0
 Stands {A} xs i y k b = ((k ≡ i) × (b ≡ y)) ⊎ ((k ≢ i) × (slice_get xs k ≡ Some b))
 
-other_holds : (table new_table : Database) (o : Option ℕ) → ((spi : ℕ) → o ≡ Some spi → IsReserved table spi → IsReserved new_table spi) → HoldsSpi o table → HoldsSpi o new_table
-other_holds table new_table None stays holds = tt
-other_holds table new_table (Some spi) stays holds = stays spi refl holds
+pub other_holds : (table new_table : Database) (a : Association) → ((spi : ℕ) → HoldsSpi a spi → IsReserved table spi → IsReserved new_table spi) → HoldsReserved a table → HoldsReserved a new_table
+other_holds table new_table a stays holds = record { reserved = λ spi its. stays spi its (holds.reserved spi its); first = holds.first; one = holds.one }
 
 -- what is asked of the association b that stands at a place from now on, among others
 pub record Joins (old : Held) (place : ℕ) (b : Association) (next : ℕ) (table new_table : Database) : Type 0 where
   pub sound : IsSound b next new_table
   pub more : old.next ≤ next
-  pub others : (k : ℕ) (c : Association) (spi : ℕ) → k ≢ place → At old k c → held_by c ≡ Some spi → IsReserved table spi → IsReserved new_table spi
+  pub others : (k : ℕ) (c : Association) (spi : ℕ) → k ≢ place → At old k c → HoldsSpi c spi → IsReserved table spi → IsReserved new_table spi
   pub before : (k : ℕ) (c : Association) → k < place → At old k c → AreApart c b
   pub after : (k : ℕ) (c : Association) → place < k → At old k c → AreApart b c
 
@@ -50,7 +45,7 @@ still_sound old place b next table new_table sound joins k c (inr (other, there)
       own = was.own;
       initiator = was.initiator;
       responder = was.responder;
-      reserved = other_holds table new_table (held_by c) (λ spi held reserved. joins.others k c spi other there held reserved) was.reserved;
+      reserved = other_holds table new_table c (λ spi held reserved. joins.others k c spi other there held reserved) was.reserved;
       short = was.short;
       soundly = was.soundly;
       asked = was.asked;
@@ -112,7 +107,7 @@ sound_with old table new_table stays sound =
             own = was.own;
             initiator = was.initiator;
             responder = was.responder;
-            reserved = other_holds table new_table (held_by c) (λ spi held. stays spi) was.reserved;
+            reserved = other_holds table new_table c (λ spi held. stays spi) was.reserved;
             short = was.short;
             soundly = was.soundly;
             asked = was.asked;
@@ -144,7 +139,7 @@ own_stays a b initiator stays =
 abbrev pub StaysOpened : Association → Association → Type 0
 StaysOpened a b = (opened : HalfOpen) → b.phase ≡ phase.HalfOpen opened → a.phase ≡ phase.HalfOpen opened
 
-pub apart_before : (a b c : Association) → own_spi b ≡ own_spi a → KeepsIdentity a b → StaysOpened a b → ((spi : ℕ) → held_by b ≡ Some spi → held_by a ≡ Some spi) → AreApart c a → AreApart c b
+pub apart_before : (a b c : Association) → own_spi b ≡ own_spi a → KeepsIdentity a b → StaysOpened a b → ((spi : ℕ) → HoldsSpi b spi → HoldsSpi a spi) → AreApart c a → AreApart c b
 apart_before a b c own stays opens none was =
     record {
       rising = subst (λ n. c.serial < n) (sym stays.serial) was.rising;
@@ -153,7 +148,7 @@ apart_before a b c own stays opens none was =
       asked = λ one two is also. was.asked one two is (opens two also);
     }
 
-pub apart_after : (a b c : Association) → own_spi b ≡ own_spi a → KeepsIdentity a b → StaysOpened a b → ((spi : ℕ) → held_by b ≡ Some spi → held_by a ≡ Some spi) → AreApart a c → AreApart b c
+pub apart_after : (a b c : Association) → own_spi b ≡ own_spi a → KeepsIdentity a b → StaysOpened a b → ((spi : ℕ) → HoldsSpi b spi → HoldsSpi a spi) → AreApart a c → AreApart b c
 apart_after a b c own stays opens none was =
     record {
       rising = subst (λ n. n < c.serial) (sym stays.serial) was.rising;
@@ -162,8 +157,8 @@ apart_after a b c own stays opens none was =
       asked = λ one two is also. was.asked one two (opens one is) also;
     }
 
--- two at different places don't hold one SPI
-pub alone : (held : Held) (table : Database) (k place : ℕ) (c a : Association) (spi : ℕ) → AreSound held table → k ≢ place → At held k c → At held place a → held_by c ≡ Some spi → held_by a ≢ Some spi
+-- two at different places hold no SPI both
+pub alone : (held : Held) (table : Database) (k place : ℕ) (c a : Association) (spi : ℕ) → AreSound held table → k ≢ place → At held k c → At held place a → HoldsSpi c spi → ¬ HoldsSpi a spi
 alone held table k place c a spi sound other there here holds =
     elim (leb_tells place k) [
       | inl (yes_it_is, above) ↦ λ e. (sound.apart place k a c (omega (arith, other, above)) here there).held spi e holds

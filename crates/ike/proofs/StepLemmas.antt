@@ -19,9 +19,8 @@ use Rattle.sadb.specs.Database.{Database, IsAsBefore, IsReserved, IsSoundTable, 
 use Rattle.sa_init.specs.Cookies.{CookieSecrets}
 use Rattle.sa_init.specs.Judging.{Accepted, Answered, Full, Incomplete, ASSOCIATION_LIMIT, HALF_OPEN_LIMIT, IsJudgement, JudgementView, OfferView}
 use Rattle.sa_init.specs.declared.judging.Sender.{Sender}
-use Rattle.association.specs.Closing.{HoldsSpi}
-use Rattle.association.specs.FirstChildren.{FirstChildView}
-use Rattle.association.specs.Phases.{spi_in}
+use Rattle.association.specs.Closing.{HoldsReserved, HoldsSpi}
+use Rattle.association.specs.AskedChildren.{AskedChildView}
 use Rattle.association.specs.declared.fault.MessageFault.{MessageFault}
 use Rattle.association.specs.declared.phase.Association.{Association}
 use Rattle.association.specs.declared.phase.AuthSent.{AuthSent}
@@ -48,7 +47,7 @@ use Rattle.initial.specs.declared.beginning.Admitted.{Admitted}
 use Rattle.initial.specs.declared.beginning.Beginning.{Beginning}
 use Rattle.informational.specs.declared.ordering.Order.{Order}
 use Rattle.informational.specs.Ordering.{MarksFor}
-use Rattle.ike.proofs.MarkLemmas.{marked_holds, marked_reserved}
+use Rattle.ike.proofs.MarkLemmas.{marked_reserved}
 use Rattle.ike.proofs.WayLemmas.{asked_one}
 use Rattle.ike.specs.Machines.{half_open_count, is_bad_spi, own_spi, setup_at, Held, Machine, SERIAL_END}
 use Rattle.ike.specs.Receiving.{is_initial_request, is_sound_initial, is_answered, is_answered_phase, same_octets, with_next, AdmitsNext, CanMake, DoesJudgement, IsInitialRequest, TakesAt, TakesDatagram, TakesFound, TakesOffer, TakesRead, TakesRequestAt, TakesSound}
@@ -64,22 +63,22 @@ use Rattle.ike.proofs.AskingLemmas.{changed_itself, changed_phase}
 use Rattle.ike.proofs.RepeatLemmas.{none_passes, same_octets_itself}
 use Rattle.ike.proofs.TickLemmas.{ticked_sound}
 use Rattle.ike.proofs.CountLemmas.{count_grown, count_replaced, not_used, not_zero, weight_most}
-use Rattle.ike.proofs.SoundLemmas.{StaysOpened, alone, apart_after, apart_before, held_by, own_stays, sound_grown, sound_replaced, sound_with, waited_before, Joins}
+use Rattle.ike.proofs.SoundLemmas.{StaysOpened, alone, apart_after, apart_before, other_holds, own_stays, sound_grown, sound_replaced, sound_with, waited_before, Joins}
 use Rattle.std.specs.List.{position}
 
 -- what is known of a message's effect, and of offers that are accepted
 pub record Laws : Type 0 where
   pub stays : (meaning : Meaning) (setup : Setup) (old : Association) (table : Database) (octets : Octets) (m : Message) (effect : Effect) (new : Association) (new_table : Database)
-      → HoldsSpi (spi_in old.phase) table → TakesMessage meaning setup old table octets m effect new new_table → HoldsSpi (spi_in new.phase) new_table
+      → IsSoundTable table → HoldsReserved old table → TakesMessage meaning setup old table octets m effect new new_table → HoldsReserved new new_table
   pub others : (meaning : Meaning) (setup : Setup) (old : Association) (table : Database) (octets : Octets) (m : Message) (effect : Effect) (new : Association) (new_table : Database) (spi : ℕ)
-      → spi_in old.phase ≢ Some spi → IsReserved table spi → spi < table.start + table.given → TakesMessage meaning setup old table octets m effect new new_table → IsReserved new_table spi
+      → ¬ HoldsSpi old spi → IsReserved table spi → spi < table.start + table.given → TakesMessage meaning setup old table octets m effect new new_table → IsReserved new_table spi
   pub none : (meaning : Meaning) (setup : Setup) (old : Association) (table : Database) (octets : Octets) (m : Message) (effect : Effect) (new : Association) (new_table : Database) (spi : ℕ)
-      → spi_in new.phase ≡ Some spi → TakesMessage meaning setup old table octets m effect new new_table → spi_in old.phase ≡ Some spi
+      → HoldsSpi new spi → TakesMessage meaning setup old table octets m effect new new_table → HoldsSpi old spi
   pub itself : (meaning : Meaning) (setup : Setup) (old : Association) (table : Database) (octets : Octets) (m : Message) (effect : Effect) (new : Association) (new_table : Database)
       → TakesMessage meaning setup old table octets m effect new new_table → KeepsIdentity old new
   pub short : (meaning : Meaning) (setup : Setup) (old : Association) (table : Database) (octets : Octets) (m : Message) (effect : Effect) (new : Association) (new_table : Database)
       → KeepsShort old → TakesMessage meaning setup old table octets m effect new new_table → KeepsShort new
-  pub begins : (cipher : Cipher) (group : ℕ) (public_value : Octets → Octets) (fresh : Fresh) (moment serial : ℕ) (beginning : Beginning) (child : FirstChildView)
+  pub begins : (cipher : Cipher) (group : ℕ) (public_value : Octets → Octets) (fresh : Fresh) (moment serial : ℕ) (beginning : Beginning) (child : AskedChildView)
       → Begins cipher group public_value fresh moment beginning → KeepsShort (begun serial beginning child) × IsShort beginning.octets
   pub admits : (cipher : Cipher) (group : ℕ) (public_value : Octets → Octets) (shared_secret : Octets → Octets → Option Octets) (fresh : Fresh) (moment serial : ℕ) (offer : OfferView) (spi_i : ℕ) (request : Octets) (admitted : Admitted)
       → Admits cipher group public_value shared_secret fresh moment serial offer spi_i request admitted → KeepsShort admitted.association × IsShort admitted.octets
@@ -87,7 +86,7 @@ pub record Laws : Type 0 where
       → IsSoundlyHeld old → TakesMessage meaning setup old table octets m effect new new_table → IsSoundlyHeld new
   pub opened : (meaning : Meaning) (setup : Setup) (old : Association) (table : Database) (octets : Octets) (m : Message) (effect : Effect) (new : Association) (new_table : Database) (opened : HalfOpen)
       → TakesMessage meaning setup old table octets m effect new new_table → new.phase ≡ phase.HalfOpen opened → old.phase ≡ phase.HalfOpen opened
-  pub begins_soundly : (cipher : Cipher) (group : ℕ) (public_value : Octets → Octets) (fresh : Fresh) (moment serial : ℕ) (beginning : Beginning) (child : FirstChildView)
+  pub begins_soundly : (cipher : Cipher) (group : ℕ) (public_value : Octets → Octets) (fresh : Fresh) (moment serial : ℕ) (beginning : Beginning) (child : AskedChildView)
       → Begins cipher group public_value fresh moment beginning → IsSoundlyHeld (begun serial beginning child)
   pub admits_soundly : (cipher : Cipher) (group : ℕ) (public_value : Octets → Octets) (shared_secret : Octets → Octets → Option Octets) (fresh : Fresh) (moment serial : ℕ) (offer : OfferView) (spi_i : ℕ) (request : Octets) (admitted : Admitted)
       → Admits cipher group public_value shared_secret fresh moment serial offer spi_i request admitted → IsSoundlyHeld admitted.association
@@ -95,6 +94,11 @@ pub record Laws : Type 0 where
       → HoldsWholeKeys old.phase → TakesMessage meaning setup old table octets m effect new new_table → HoldsWholeKeys new.phase
   pub admits_whole : (cipher : Cipher) (group : ℕ) (public_value : Octets → Octets) (shared_secret : Octets → Octets → Option Octets) (fresh : Fresh) (moment serial : ℕ) (offer : OfferView) (spi_i : ℕ) (request : Octets) (admitted : Admitted)
       → Admits cipher group public_value shared_secret fresh moment serial offer spi_i request admitted → HoldsWholeKeys admitted.association.phase
+  pub begins_one : (cipher : Cipher) (group : ℕ) (public_value : Octets → Octets) (fresh : Fresh) (moment serial : ℕ) (beginning : Beginning) (child : AskedChildView) (spi : ℕ)
+      → Begins cipher group public_value fresh moment beginning → HoldsSpi (begun serial beginning child) spi → spi ≡ child.spi
+  pub begins_held : (cipher : Cipher) (group : ℕ) (public_value : Octets → Octets) (fresh : Fresh) (moment serial : ℕ) (beginning : Beginning) (child : AskedChildView) (table : Database)
+      → Begins cipher group public_value fresh moment beginning → IsReserved table child.spi → HoldsReserved (begun serial beginning child) table
+  pub admits_none : (serial spi_i spi_r : ℕ) (keys : KeyRecord) (request reply : Octets) (moment spi : ℕ) → HoldsSpi (half_open_association serial spi_i spi_r keys request reply moment) spi → ⊥
   pub room : (cipher : Cipher) (group : ℕ) (secrets : CookieSecrets) (sender : Sender) (half_open held : ℕ) (payloads : List Payload) (offer : OfferView)
       → IsJudgement cipher group secrets sender half_open held payloads (Accepted offer) → (half_open < HALF_OPEN_LIMIT) × (held < ASSOCIATION_LIMIT)
 
@@ -102,6 +106,8 @@ pub record Laws : Type 0 where
 pub record OrderLaws : Type 0 where
   pub probed : (body_of : Keys → Octets → Octets → Octets → Octets) (setup : Setup) (order : Order) (old : Association) (octets : Octets) (new : Association) → KeepsShort old → Asks body_of setup order old octets new → KeepsShort new × IsShort octets
   pub probed_soundly : (body_of : Keys → Octets → Octets → Octets → Octets) (setup : Setup) (order : Order) (old : Association) (octets : Octets) (new : Association) → IsSoundlyHeld old → Asks body_of setup order old octets new → IsSoundlyHeld new
+  pub asked : (body_of : Keys → Octets → Octets → Octets → Octets) (setup : Setup) (order : Order) (old : Association) (octets : Octets) (new : Association) (spi : ℕ) → Asks body_of setup order old octets new → HoldsSpi new spi → HoldsSpi old spi
+  pub asking : (body_of : Keys → Octets → Octets → Octets → Octets) (setup : Setup) (order : Order) (old : Association) (octets : Octets) (new : Association) (table : Database) → Asks body_of setup order old octets new → HoldsReserved old table → HoldsReserved new table
   pub held : (now : ℕ) (old : List Association) (table : Database) (ticked : Ticked) (new : List Association) (new_table : Database) → Ticks now old table ticked new new_table → HoldSome now old new
   pub reserved : (now : ℕ) (old : List Association) (table : Database) (ticked : Ticked) (new : List Association) (new_table : Database) (spi : ℕ)
       → HoldsNone now old spi → IsReserved table spi → Ticks now old table ticked new new_table → IsReserved new_table spi
@@ -120,7 +126,7 @@ taken_joins laws place meaning setup octets m old table stepped new new_table so
     let was = sound.each place is.association is.there in
     let stays : KeepsIdentity is.association is.changed = laws.itself meaning setup is.association table octets m is.effect is.changed new_table is.takes in
     let own : own_spi is.changed ≡ own_spi is.association = own_stays is.association is.changed (λ w. was.initiator (inl w)) stays in
-    let none : (spi : ℕ) → held_by is.changed ≡ Some spi → held_by is.association ≡ Some spi =
+    let none : (spi : ℕ) → HoldsSpi is.changed spi → HoldsSpi is.association spi =
     λ spi e. laws.none meaning setup is.association table octets m is.effect is.changed new_table spi e is.takes in
     let opens : StaysOpened is.association is.changed = λ opened here. laws.opened meaning setup is.association table octets m is.effect is.changed new_table opened is.takes here in
     record {
@@ -130,7 +136,7 @@ taken_joins laws place meaning setup octets m old table stepped new new_table so
         own = λ e. was.own (sym own ∙ e);
         initiator = λ w. stays.role ∙ was.initiator (waited_before is.association is.changed stays w);
         responder = λ h. stays.role ∙ was.responder (stays.half_open h);
-        reserved = laws.stays meaning setup is.association table octets m is.effect is.changed new_table was.reserved is.takes;
+        reserved = laws.stays meaning setup is.association table octets m is.effect is.changed new_table sound_table was.reserved is.takes;
         short = laws.short meaning setup is.association table octets m is.effect is.changed new_table was.short is.takes;
         soundly = laws.soundly meaning setup is.association table octets m is.effect is.changed new_table was.soundly is.takes;
         asked = λ opened here. was.asked opened (opens opened here);
@@ -164,8 +170,8 @@ found_sound laws (Err f) meaning setup octets m old table stepped new new_table 
 last_joins : (old : Held) (b : Association) (table new_table : Database) → AreSound old table → is_bad_spi (own_spi b) old.associations ≡ false → b.serial ≡ old.next
     → (IsInitSent b.phase ⊎ IsAuthSent b.phase → b.role ≡ Initiator) → (IsHalfOpen b.phase → b.role ≡ Responder) → KeepsShort b → IsSoundlyHeld b → HoldsWholeKeys b.phase
     → ((opened : HalfOpen) → b.phase ≡ phase.HalfOpen opened → IsInitialRequest opened.request)
-    → ((k : ℕ) (c : Association) (one two : HalfOpen) → At old k c → c.phase ≡ phase.HalfOpen one → b.phase ≡ phase.HalfOpen two → one.request ≢ two.request) → HoldsSpi (held_by b) new_table
-    → ((spi : ℕ) → IsReserved table spi → IsReserved new_table spi) → ((spi : ℕ) → IsReserved table spi → held_by b ≢ Some spi)
+    → ((k : ℕ) (c : Association) (one two : HalfOpen) → At old k c → c.phase ≡ phase.HalfOpen one → b.phase ≡ phase.HalfOpen two → one.request ≢ two.request) → HoldsReserved b new_table
+    → ((spi : ℕ) → IsReserved table spi → IsReserved new_table spi) → ((spi : ℕ) → IsReserved table spi → ¬ HoldsSpi b spi)
     → Joins old (length old.associations) b (old.next + 1) table new_table
 last_joins old b table new_table sound usable serial initiator responder short soundly whole asked others_asked holds stays apart =
     record {
@@ -187,7 +193,7 @@ last_joins old b table new_table sound usable serial initiator responder short s
           record {
             rising = let given = (sound.each k c there).serial_given in omega (arith, given, serial);
             own = not_used (own_spi b) old.associations k c usable there;
-            held = λ spi held. apart spi (subst (λ s. HoldsSpi s table) held (sound.each k c there).reserved);
+            held = λ spi held. apart spi ((sound.each k c there).reserved.reserved spi held);
             asked = λ one two is also. others_asked k c one two there is also;
           };
       after = λ k c more there. let within = slice_get_within old.associations k c there in absurd (omega (arith, more, within));
@@ -213,8 +219,13 @@ some_none spi e = cc
 no_keys : (keys : KeyRecord) → None ≡ Some keys → ⊥
 no_keys keys e = cc
 
-none_held : (o : Option ℕ) (spi : ℕ) → o ≡ None → o ≢ Some spi
-none_held o spi none e = some_none spi (sym e ∙ none)
+-- who holds none
+holds_none : (a : Association) (table : Database) → ((spi : ℕ) → HoldsSpi a spi → ⊥) → HoldsReserved a table
+holds_none a table none = record {
+  reserved = λ spi held. absurd (none spi held);
+  first = λ spi its awaits. none spi (inl its);
+  one = λ number other spi one two. absurd (none spi (inr (record { number = number; awaits = one })));
+}
 
 many_clash : (b : Bool) → b ≡ true → b ≡ false → ⊥
 many_clash true positive negative = absurd cc
@@ -249,6 +260,7 @@ admitted_sound laws meaning setup offer spi_i octets old stepped new table half_
     (laws.admits_soundly meaning.cipher meaning.group meaning.public_value meaning.shared_secret setup.fresh setup.moment old.next offer spi_i octets made.admitted made.admits) in
     let whole : HoldsWholeKeys b.phase = subst (λ (a : Association). HoldsWholeKeys a.phase) made.admits.content
     (laws.admits_whole meaning.cipher meaning.group meaning.public_value meaning.shared_secret setup.fresh setup.moment old.next offer spi_i octets made.admitted made.admits) in
+    let none : (spi : ℕ) → HoldsSpi b spi → ⊥ = laws.admits_none old.next spi_i setup.fresh.spi made.admits.agreed.record octets made.admits.agreed.octets setup.moment in
     subst (λ (h : Held). AreSound h table) (sym made.content)
     (subst (λ (a : Association). AreSound (with_next old a) table) (sym made.admits.content)
     (sound_grown old b table table few can.serial
@@ -257,7 +269,7 @@ admitted_sound laws meaning setup offer spi_i octets old stepped new table half_
     (last_joins old b table table sound can.usable refl (λ w. absurd (opened_waits _ w)) (λ h. refl) short soundly whole
     (λ opened here. subst (λ (o : HalfOpen). IsInitialRequest o.request) (opened_as _ opened here) anew.asked)
     (λ k c one two there is also. subst (λ (o : HalfOpen). one.request ≢ o.request) (opened_as _ two also) (other_request octets old k c one anew there is))
-    tt (λ spi there. there) (λ spi there. none_held None spi refl))))
+    (holds_none b table none) (λ spi there. there) (λ spi there. none spi))))
 
 offer_sound : (laws : Laws) (meaning : Meaning) (setup : Setup) (offer : OfferView) (spi_i : ℕ) (octets : Octets) (old : Held) (stepped : Stepped) (new : Held) (table : Database)
     → half_open_count old.associations < HALF_OPEN_LIMIT → length old.associations < ASSOCIATION_LIMIT → AreSound old table → IsAnew octets old → TakesOffer meaning setup offer spi_i octets old stepped new → AreSound new table
@@ -380,17 +392,15 @@ start_sound laws meaning setup ike place old table stepped new new_table sound_t
     (λ keys are. absurd (no_keys keys are))
     (λ opened here. absurd (begun_asks _ opened here))
     (λ k c one two there is_one is_two. absurd (begun_asks _ two is_two))
-    (now_reserved is.between is.done.spi new_table is.done.reserved)
+    (laws.begins_held meaning.cipher meaning.group meaning.public_value setup.fresh setup.moment old.next is.beginning (child_by is.entry is.done.spi setup.config.extended) new_table is.begins
+    (now_reserved is.between is.done.spi new_table is.done.reserved))
     (λ spi there. still_reserved is.between is.done.spi new_table spi is.done.reserved (between_reserved spi there))
     (λ spi there e.
     let given = (sound_table.reserved_given spi there).before_next in
-    let is_new : is.done.spi ≡ spi = same_spi is.done.spi spi e in
+    let is_new : spi ≡ is.done.spi = laws.begins_one meaning.cipher meaning.group meaning.public_value setup.fresh setup.moment old.next is.beginning (child_by is.entry is.done.spi setup.config.extended) spi is.begins e in
     absurd (omega (arith, given, is_new, same_next, is.done.reserved.in_order)))))
 
 -- ---- an order to ask whether the peer is there
-
-same_spis : (a b : Association) → b.phase ≡ a.phase → held_by b ≡ held_by a
-same_spis a b same = ap spi_in same
 
 probed_joins : (laws : OrderLaws) (body_of : Keys → Octets → Octets → Octets → Octets) (setup : Setup) (ike : ℕ) (old : Held) (table new_table : Database) (stepped : Stepped) (new : Held)
     → AreSound old table → (is : AsksAt body_of setup ike old stepped new) → MarksFor is.order table new_table → Joins old is.place is.changed old.next table new_table
@@ -399,7 +409,7 @@ probed_joins laws body_of setup ike old table new_table stepped new sound is mar
     let stays = changed_itself body_of setup ike old stepped new is in
     let phase_is = changed_phase body_of setup ike old stepped new is in
     let own : own_spi is.changed ≡ own_spi is.association = own_stays is.association is.changed (λ w. was.initiator (inl w)) stays in
-    let none : (spi : ℕ) → held_by is.changed ≡ Some spi → held_by is.association ≡ Some spi = λ spi e. sym (same_spis is.association is.changed phase_is) ∙ e in
+    let none : (spi : ℕ) → HoldsSpi is.changed spi → HoldsSpi is.association spi = λ spi e. laws.asked body_of setup is.order is.association is.octets is.changed spi is.asks e in
     let opens : StaysOpened is.association is.changed = λ opened here. sym phase_is ∙ here in
     record {
       sound = record {
@@ -408,7 +418,8 @@ probed_joins laws body_of setup ike old table new_table stepped new sound is mar
         own = λ e. was.own (sym own ∙ e);
         initiator = λ w. stays.role ∙ was.initiator (waited_before is.association is.changed stays w);
         responder = λ h. stays.role ∙ was.responder (stays.half_open h);
-        reserved = marked_holds is.order table new_table (held_by is.changed) marked (subst (λ o. HoldsSpi o table) (sym (same_spis is.association is.changed phase_is)) was.reserved);
+        reserved = other_holds table new_table is.changed (λ spi held there. marked_reserved is.order table new_table spi marked there)
+            (laws.asking body_of setup is.order is.association is.octets is.changed table is.asks was.reserved);
         short = (laws.probed body_of setup is.order is.association is.octets is.changed was.short is.asks).0;
         soundly = laws.probed_soundly body_of setup is.order is.association is.octets is.changed was.soundly is.asks;
         asked = λ opened here. was.asked opened (opens opened here);

@@ -1,5 +1,6 @@
 -- A moment keeps what holds of the associations that are held on.
 use Rattle.std.proofs.Common.{◌≡◌, ◌⊎◌, inl, inr, ℕ, zero, suc, ◌<◌, ◌≤◌, ◌∷◌, [], Bool, true, false, cond, List, length, Option, Some, None, ap, refl, subst, sym, ◌∙◌, arith}
+use Rattle.std.proofs.lemmas.Option.{none-some}
 use Rattle.std.specs.FinMap as map
 use Rattle.std.proofs.lemmas.Bool.Decides.{eqb_tells}
 use Rattle.std.specs.List.{slice_get}
@@ -10,8 +11,9 @@ use Rattle.requests.specs.Incoming.{after_number_0, no_requests, IsLeftBehind, P
 use Rattle.requests.specs.Numbers.{HasNumber}
 use Rattle.requests.specs.Outgoing.{OwnRequests}
 use Rattle.sadb.specs.Database.{Database, IsReserved}
-use Rattle.association.specs.Closing.{HoldsSpi}
+use Rattle.association.specs.Closing.{HoldsReserved, HoldsSpi}
 use Rattle.association.specs.Phases.{keys_in, spi_in}
+use Rattle.association.specs.Purposes.{spi_asked, AwaitsChild}
 use Rattle.association.specs.declared.phase.Association.{Association}
 use Rattle.association.specs.declared.phase.HalfOpen.{HalfOpen}
 use Rattle.association.specs.declared.phase.Phase.{Phase}
@@ -34,7 +36,7 @@ use Rattle.ike.specs.Machines.{association_of, half_open_count, has_serial, own_
 use Rattle.ike.specs.Soundness.{AreApart, AreSound, At, IsSound}
 use Rattle.ike.proofs.CountLemmas.{count_lighter, count_more}
 use Rattle.ike.proofs.SerialLemmas.{same_one, sound_found}
-use Rattle.ike.proofs.SoundLemmas.{alone, held_by}
+use Rattle.ike.proofs.SoundLemmas.{alone}
 
 -- what is known of a moment
 abbrev pub TicksHold : Type 0
@@ -136,15 +138,32 @@ on_opened now a b on is = on_phase IsHalfOpen now a b on closed_opened is
 -- an SPI that it holds it held before, and then it has not failed
 record Held_on (now : ℕ) (a : Association) (spi : ℕ) : Type 0 where
   alive : has_failed now a ≡ false
-  held : held_by a ≡ Some spi
+  held : HoldsSpi a spi
 
 none_some : (spi : ℕ) → None ≡ Some spi → ⊥
 none_some spi e = cc
 
-on_holds : (now : ℕ) (a b : Association) (spi : ℕ) → HoldsOn now a b → held_by b ≡ Some spi → Held_on now a spi
+closed_holds : (now : ℕ) (a b : Association) (spi : ℕ) → IsClosedAt now a b → HoldsSpi b spi → ⊥
+closed_holds now a b spi is (inl its) = none_some spi (sym (ap spi_in (closed_phase now a b is)) ∙ its)
+closed_holds now a b spi is (inr awaits) =
+    none-some awaits.awaits.request (sym (ap (λ (o : OwnRequests Request). map.get o.outstanding awaits.number) is.requests.content ∙ map.get-empty nat_cmp awaits.number) ∙ awaits.awaits.outstanding)
+
+was_awaited : (now : ℕ) (a b : Association) (number spi : ℕ) → HoldsOn now a b → AwaitsChild b.outgoing number spi → AwaitsChild a.outgoing number spi
+was_awaited now a b number spi on awaits =
+    let was = on.requests number awaits.request awaits.outstanding in
+    record { request = was.was; outstanding = was.there; reserved = ap spi_asked (sym was.purpose) ∙ awaits.reserved }
+
+was_held : (now : ℕ) (a b : Association) (spi : ℕ) → HoldsOn now a b → HoldsSpi b spi → HoldsSpi a spi
+was_held now a b spi on (inl its) = elim on.phase [
+  | inl stays ↦ inl (ap spi_in (sym stays.1) ∙ its)
+  | inr closes ↦ absurd (none_some spi (sym (ap spi_in (closed_phase now a b closes)) ∙ its))
+]
+was_held now a b spi on (inr awaits) = inr (record { number = awaits.number; awaits = was_awaited now a b awaits.number spi on awaits.awaits })
+
+on_holds : (now : ℕ) (a b : Association) (spi : ℕ) → HoldsOn now a b → HoldsSpi b spi → Held_on now a spi
 on_holds now a b spi on holds = elim on.phase [
-  | inl stays ↦ record { alive = stays.0; held = ap spi_in (sym stays.1) ∙ holds }
-  | inr closes ↦ absurd (none_some spi (sym (ap spi_in (closed_phase now a b closes)) ∙ holds))
+  | inl stays ↦ record { alive = stays.0; held = was_held now a b spi on holds }
+  | inr closes ↦ absurd (closed_holds now a b spi closes holds)
 ]
 
 -- its keys stay
@@ -246,19 +265,26 @@ abbrev pub KeepsReserved : ℕ → List Association → Database → Database �
 KeepsReserved now old table new_table = (spi : ℕ) → HoldsNone now old spi → IsReserved table spi → IsReserved new_table spi
 
 -- no other holds the SPI of one that has not failed
-none_fails : (now : ℕ) (held : Held) (table : Database) (place : ℕ) (a : Association) (spi : ℕ) → AreSound held table → At held place a → has_failed now a ≡ false → held_by a ≡ Some spi → HoldsNone now held.associations spi
+none_fails : (now : ℕ) (held : Held) (table : Database) (place : ℕ) (a : Association) (spi : ℕ) → AreSound held table → At held place a → has_failed now a ≡ false → HoldsSpi a spi → HoldsNone now held.associations spi
 none_fails now held table place a spi sound there alive holds k c is other = elim (eqb_tells k place) [
   | inl (one, same) ↦ subst (λ x. has_failed now x ≡ false) (same_one a c (sym there ∙ subst (λ n. slice_get held.associations n ≡ Some c) same is)) alive
   | inr (none, apart) ↦ absurd (alone held table k place c a spi sound apart is there other holds)
 ]
 
-reserved_on : (now : ℕ) (held : Held) (table new_table : Database) (place : ℕ) (a : Association) (o : Option ℕ) → AreSound held table → At held place a → KeepsReserved now held.associations table new_table
-    → ((spi : ℕ) → o ≡ Some spi → Held_on now a spi) → HoldsSpi o new_table
-reserved_on now held table new_table place a None sound there keeps holds = tt
-reserved_on now held table new_table place a (Some spi) sound there keeps holds =
-    let on = holds spi refl in
-    keeps spi (none_fails now held table place a spi sound there on.alive on.held)
-    (subst (λ o. HoldsSpi o table) on.held (sound.each place a there).reserved)
+reserved_on : (now : ℕ) (held : Held) (table new_table : Database) (place : ℕ) (a b : Association) → AreSound held table → At held place a → KeepsReserved now held.associations table new_table
+    → HoldsOn now a b → HoldsReserved b new_table
+reserved_on now held table new_table place a b sound there keeps on =
+    let was = (sound.each place a there).reserved in
+    record {
+      reserved = λ spi held_now.
+          let before = on_holds now a b spi on held_now in
+          keeps spi (none_fails now held table place a spi sound there before.alive before.held) (was.reserved spi before.held);
+      first = λ spi its awaits. elim on.phase [
+        | inl stays ↦ was.first spi (ap spi_in (sym stays.1) ∙ its) (record { number = awaits.number; awaits = was_awaited now a b awaits.number spi on awaits.awaits })
+        | inr closes ↦ absurd (none_some spi (sym (ap spi_in (closed_phase now a b closes)) ∙ its))
+      ];
+      one = λ number other spi one two. was.one number other spi (was_awaited now a b number spi on one) (was_awaited now a b other spi on two);
+    }
 
 each_on : (now : ℕ) (held : Held) (table new_table : Database) (b : Association) → AreSound held table → KeepsReserved now held.associations table new_table → (place : ℕ) → Origin now held.associations place b → IsSound b held.next new_table
 each_on now held table new_table b sound keeps place o =
@@ -269,7 +295,7 @@ each_on now held table new_table b sound keeps place o =
       own = λ e. was.own (sym (on_own now o.was b o.on) ∙ e);
       initiator = λ w. o.on.role ∙ was.initiator (on_waits now o.was b o.on w);
       responder = λ h. o.on.role ∙ was.responder (on_opened now o.was b o.on h);
-      reserved = reserved_on now held table new_table o.from o.was (held_by b) sound o.there keeps (λ spi e. on_holds now o.was b spi o.on e);
+      reserved = reserved_on now held table new_table o.from o.was b sound o.there keeps o.on;
       short = on_short now o.was b o.on was.short;
       soundly = on_soundly now o.was b o.on was.soundly;
       asked = λ opened here. was.asked opened (on_half_open now o.was b o.on opened here);

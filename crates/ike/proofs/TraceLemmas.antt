@@ -14,9 +14,9 @@ use Rattle.suite.specs.declared.sealer.Cipher.{Cipher}
 use Rattle.sadb.specs.Database.{pair_at, Database, IsSoundTable, PairMap}
 use Rattle.sadb.specs.declared.pair.Pair.{Pair}
 use Rattle.sa_init.specs.Judging.{OfferView}
-use Rattle.association.specs.Closing.{HoldsSpi}
-use Rattle.association.specs.FirstChildren.{FirstChildView}
-use Rattle.association.specs.Phases.{keys_in, spi_in}
+use Rattle.association.specs.Closing.{HoldsReserved}
+use Rattle.association.specs.AskedChildren.{AskedChildView}
+use Rattle.association.specs.Phases.{keys_in}
 use Rattle.association.specs.declared.phase.Association.{Association}
 use Rattle.association.specs.declared.phase.AuthSent.{AuthSent}
 use Rattle.association.specs.declared.phase.HalfOpen.{HalfOpen}
@@ -75,7 +75,7 @@ pub record ShortFacts : Type 0 where
   pub probed : (body_of : Keys → Octets → Octets → Octets → Octets) (setup : Setup) (order : Order) (old : Association) (octets : Octets) (new : Association) → KeepsShort old → Asks body_of setup order old octets new → KeepsShort new × IsShort octets
   pub sent : (meaning : Meaning) (setup : Setup) (old : Association) (table : Database) (octets : Octets) (m : Message) (effect : Effect) (new : Association) (new_table : Database) (said : Octets)
       → KeepsShort old → TakesMessage meaning setup old table octets m effect new new_table → octets_of_effect effect ≡ Some said → IsShort said
-  pub begins : (cipher : Cipher) (group : ℕ) (public_value : Octets → Octets) (fresh : Fresh) (moment serial : ℕ) (beginning : Beginning) (child : FirstChildView)
+  pub begins : (cipher : Cipher) (group : ℕ) (public_value : Octets → Octets) (fresh : Fresh) (moment serial : ℕ) (beginning : Beginning) (child : AskedChildView)
       → Begins cipher group public_value fresh moment beginning → KeepsShort (begun serial beginning child) × IsShort beginning.octets
   pub admits : (cipher : Cipher) (group : ℕ) (public_value : Octets → Octets) (shared_secret : Octets → Octets → Option Octets) (fresh : Fresh) (moment serial : ℕ) (offer : OfferView) (spi_i : ℕ) (request : Octets) (admitted : Admitted)
       → Admits cipher group public_value shared_secret fresh moment serial offer spi_i request admitted → KeepsShort admitted.association × IsShort admitted.octets
@@ -223,7 +223,7 @@ pub record TraceFacts : Type 0 where
   pub stay : (meaning : Meaning) (setup : Setup) (old : Association) (table : Database) (octets : Octets) (m : Message) (effect : Effect) (new : Association) (new_table : Database) (keys : KeyRecord)
       → keys_in old.phase ≡ Some keys → TakesMessage meaning setup old table octets m effect new new_table → keys_in new.phase ≡ Some keys
   pub made : (meaning : Meaning) (setup : Setup) (old : Association) (table : Database) (octets : Octets) (m : Message) (effect : Effect) (serial : ℕ) (new : Association) (new_table : Database)
-      → IsSoundTable table → HoldsSpi (spi_in old.phase) table → child_in effect ≡ Some serial → TakesMessage meaning setup old table octets m effect new new_table
+      → IsSoundTable table → HoldsReserved old table → child_in effect ≡ Some serial → TakesMessage meaning setup old table octets m effect new new_table
       → MakesChild meaning setup old table octets m effect serial new new_table
   pub asks : (meaning : Meaning) (setup : Setup) (old : Association) (table : Database) (octets : Octets) (m : Message) (next : Octets) (new : Association) (new_table : Database)
       → TakesMessage meaning setup old table octets m (effect.Identified next) new new_table → AsksForChild meaning setup next new

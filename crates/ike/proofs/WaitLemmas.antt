@@ -10,7 +10,7 @@ use Rattle.suite.specs.declared.sealer.Cipher.{Cipher}
 use Rattle.wire.specs.declared.message.Message.{Message}
 use Rattle.suite.specs.declared.key_record.KeyRecord.{KeyRecord}
 use Rattle.sadb.specs.Database.{Database}
-use Rattle.association.specs.FirstChildren.{FirstChildView}
+use Rattle.association.specs.AskedChildren.{AskedChildView}
 use Rattle.association.specs.declared.phase.Association.{Association}
 use Rattle.association.specs.declared.phase.HalfOpen.{HalfOpen}
 use Rattle.association.specs.declared.phase.InitSent.{InitSent}
@@ -56,7 +56,7 @@ pub record WaitLaws : Type 0 where
       → TakesMessage meaning setup old table octets m e new new_table → new.phase ≡ phase.Closed keys at → (old.phase ≡ phase.Closed keys at) ⊎ ((at ≡ setup.moment) × Ends e)
   pub opened : (meaning : Meaning) (setup : Setup) (old : Association) (table : Database) (octets : Octets) (m : Message) (e : Effect) (new : Association) (new_table : Database) (opened : HalfOpen)
       → TakesMessage meaning setup old table octets m e new new_table → new.phase ≡ phase.HalfOpen opened → old.phase ≡ phase.HalfOpen opened
-  pub begun : (cipher : Cipher) (group : ℕ) (public_value : Octets → Octets) (fresh : Fresh) (moment serial : ℕ) (beginning : Beginning) (child : FirstChildView) (number : ℕ) (request : Request)
+  pub begun : (cipher : Cipher) (group : ℕ) (public_value : Octets → Octets) (fresh : Fresh) (moment serial : ℕ) (beginning : Beginning) (child : AskedChildView) (number : ℕ) (request : Request)
       → Begins cipher group public_value fresh moment beginning → map.get (begun serial beginning child).outgoing.outstanding number ≡ Some request
       → (beginning.octets ≡ request.octets) × (request.timer ≡ record { sent = moment; repeats = 0 })
   pub probed : (body_of : Keys → Octets → Octets → Octets → Octets) (setup : Setup) (order : Order) (old : Association) (octets : Octets) (new : Association) → IsSoundlyHeld old → Asks body_of setup order old octets new

@@ -11,7 +11,7 @@ use Rattle.sadb.specs.Database.{Database}
 use Rattle.sa_init.specs.Cookies.{CookieSecrets}
 use Rattle.sa_init.specs.Judging.{Accepted, Answered, Full, Incomplete, JudgementView, OfferView}
 use Rattle.association.specs.Finding.{found}
-use Rattle.association.specs.FirstChildren.{FirstChildView}
+use Rattle.association.specs.AskedChildren.{AskedChildView}
 use Rattle.association.specs.declared.fault.MessageFault.{MessageFault}
 use Rattle.association.specs.declared.phase.Association.{Association}
 use Rattle.initial.specs.Beginning.{begun, Admits}
@@ -58,7 +58,7 @@ after_change old place x whole more k b there = go (replaced old.associations pl
   go (inl is) = subst (λ (y : Association). HoldsWholeKeys y.phase) (sym is.1) more
   go (inr is) = whole k b is.1
 
-no_keys : (serial : ℕ) (beginning : Beginning) (child : FirstChildView) → HoldsWholeKeys (begun serial beginning child).phase
+no_keys : (serial : ℕ) (beginning : Beginning) (child : AskedChildView) → HoldsWholeKeys (begun serial beginning child).phase
 no_keys serial beginning child keys is = absurd (cc)
 
 module _ (laws : KeyLaws) (meaning : Meaning) (setup : Setup) (old : Held) (whole : HoldWholeKeys old) (new : Held) (stepped : Stepped) where

@@ -3,8 +3,7 @@ use Rattle.std.specs.Prelude.{◌≡◌, ◌≢◌, ◌⊎◌, ◌<◌, ◌≤�
 use Rattle.exchange.specs.declared.headers.Role.TheVariants.{Initiator, Responder}
 use Rattle.sadb.specs.Database.{Database}
 use Rattle.sa_init.specs.Judging.{ASSOCIATION_LIMIT, HALF_OPEN_LIMIT}
-use Rattle.association.specs.Closing.{HoldsSpi}
-use Rattle.association.specs.Phases.{spi_in}
+use Rattle.association.specs.Closing.{HoldsReserved, HoldsSpi}
 use Rattle.association.specs.declared.phase.Association.{Association}
 use Rattle.association.specs.declared.phase.HalfOpen.{HalfOpen}
 use Rattle.association.specs.declared.phase.Phase.TheVariants as phase
@@ -23,7 +22,7 @@ abbrev pub At : Held → ℕ → Association → Type 0
 At held place a = slice_get held.associations place ≡ Some a
 
 -- what holds of each association: its serial was given, the SPI of this end is not zero, who waits for the response to IKE_SA_INIT or to
--- IKE_AUTH is the initiator, who waits for IKE_AUTH is the responder, an SPI that is held for a first child is reserved, all that can go
+-- IKE_AUTH is the initiator, who waits for IKE_AUTH is the responder, the SPIs that are held for children are reserved, each for one child, all that can go
 -- out again has at most 3000 octets, what is kept of the peer's requests is sound and what waits for an answer belongs to the phase, a
 -- half-open one was asked for by IKE_SA_INIT, and its keys have 32 octets each
 pub record IsSound (a : Association) (next : ℕ) (table : Database) : Type 0 where
@@ -32,7 +31,7 @@ pub record IsSound (a : Association) (next : ℕ) (table : Database) : Type 0 wh
   pub own : own_spi a ≢ 0
   pub initiator : IsInitSent a.phase ⊎ IsAuthSent a.phase → a.role ≡ Initiator
   pub responder : IsHalfOpen a.phase → a.role ≡ Responder
-  pub reserved : HoldsSpi (spi_in a.phase) table
+  pub reserved : HoldsReserved a table
   pub short : KeepsShort a
   pub soundly : IsSoundlyHeld a
   pub asked : (opened : HalfOpen) → a.phase ≡ phase.HalfOpen opened → IsInitialRequest opened.request
@@ -42,7 +41,7 @@ pub record IsSound (a : Association) (next : ℕ) (table : Database) : Type 0 wh
 pub record AreApart (a other : Association) : Type 0 where
   pub rising : a.serial < other.serial
   pub own : own_spi a ≢ own_spi other
-  pub held : (spi : ℕ) → spi_in a.phase ≡ Some spi → spi_in other.phase ≢ Some spi
+  pub held : (spi : ℕ) → HoldsSpi a spi → ¬ HoldsSpi other spi
   -- no request of IKE_SA_INIT makes a second one that is half open
   pub asked : (one two : HalfOpen) → a.phase ≡ phase.HalfOpen one → other.phase ≡ phase.HalfOpen two → one.request ≢ two.request
 

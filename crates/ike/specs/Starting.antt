@@ -9,7 +9,7 @@ use Rattle.suite.specs.declared.fresh.Fresh.{Fresh}
 use Rattle.sadb.specs.Database.{Database, IsAsBefore, IsFull, IsSpent, Reserves}
 use Rattle.sa_init.specs.Judging.{ASSOCIATION_LIMIT}
 use Rattle.children.specs.declared.fault.ChildFault.TheVariants as child
-use Rattle.association.specs.FirstChildren.{FirstChildView}
+use Rattle.association.specs.AskedChildren.{AskedChildView}
 use Rattle.association.specs.declared.fault.MessageFault.TheVariants.{UnknownAssociation, WrongPhase}
 use Rattle.initial.specs.Beginning.{begun, Begins}
 use Rattle.initial.specs.Configs.{Setup}
@@ -57,7 +57,7 @@ abbrev pub order_fault : List Entry → Option ℕ → ℕ → Fresh → Held �
 order_fault entries ike place fresh old = order_fault_of (protecting_entry entries place) ike old fresh.spi
 
 -- the child that is asked for by an entry: the whole of both its sides
-abbrev pub child_by : Entry → ℕ → Bool → FirstChildView
+abbrev pub child_by : Entry → ℕ → Bool → AskedChildView
 child_by entry spi extended = record { spi = spi; local = local_side entry; remote = remote_side entry; extended = extended }
 
 -- an association may be begun, of this serial, by this entry

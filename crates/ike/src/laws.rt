@@ -10,7 +10,7 @@ ghost use Rattle.suite.specs.declared.key_record.KeyRecord.{KeyRecord};
 ghost use Rattle.wire.specs.declared.payload.Payload.{Payload};
 ghost use Rattle.sadb.specs.Mirrors.{Mirrors};
 ghost use Rattle.sadb.specs.declared.pair.Pair.{Pair};
-ghost use Rattle.association.specs.FirstChildren.{asked_of, FirstChildView};
+ghost use Rattle.association.specs.AskedChildren.{asked_of, AskedChildView};
 ghost use Rattle.association.specs.Phases.{keys_in};
 ghost use Rattle.association.specs.declared.phase.Association.{Association};
 ghost use Rattle.association.specs.declared.phase.AuthSent.{AuthSent};
@@ -58,7 +58,7 @@ use effects::laws::{
     associations_stay_themselves, beginnings_are_determined, children_are_made_of_their_messages,
     effects_are_determined, keys_stay, messages_make_moves, messages_open, no_spi_comes,
     nothing_comes_due, orders_are_short_and_determined, pairs_that_come_are_told, requests_wait_on,
-    spis_stay_reserved, what_goes_out_again_is_kept, what_is_kept_is_short,
+    spis_come_by_orders, spis_stay_reserved, what_goes_out_again_is_kept, what_is_kept_is_short,
     what_is_passed_over_changes_nothing, what_is_sealed_opens, what_others_hold_stays,
 };
 use moments::laws::{
@@ -77,7 +77,7 @@ use wire::laws::{
 
 /// Whatever a step does, the machine is sound with its table from then on: at most 128 associations, 32 of them half open, by rising
 /// serial, each under an SPI of its own that is not zero; of one that waits for a response this end is the initiator, and of one that is
-/// half open the responder; what they hold for their first children is reserved in the table, each SPI for one of them alone; their keys
+/// half open the responder; the SPIs that they hold for children are reserved in the table, each for one child alone; their keys
 /// have 32 octets each; and the configuration is one that a machine is made with.
 pub fn soundness_stays()
     ensures { (meaning : Meaning) (entries : List Entry) (input : InputView) (old : Machine) (table : Database)
@@ -87,6 +87,7 @@ pub fn soundness_stays()
     spis_stay_reserved();
     what_others_hold_stays();
     no_spi_comes();
+    spis_come_by_orders();
     associations_stay_themselves();
     what_is_kept_is_short();
     acceptance_is_limited();
@@ -210,7 +211,7 @@ pub fn children_have_few_selectors()
 /// The two ends' pairs of one first child mirror each other: the initiator's, of the reply, and the responder's, of that reply and of a
 /// request that asked for the initiator's child, under equal keys.
 pub fn first_children_mirror()
-    ensures { (setup : Setup) (keys others : KeyRecord) (child : FirstChildView) (request reply : List Payload) (a b : Pair)
+    ensures { (setup : Setup) (keys others : KeyRecord) (child : AskedChildView) (request reply : List Payload) (a b : Pair)
         → keys ≡ others → HasChildPayloads request (child_request (asked_of child)) → IsAskedChild child keys reply a
         → IsAnsweredChild setup others request reply b → Mirrors a b }
 {

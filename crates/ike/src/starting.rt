@@ -10,7 +10,7 @@ ghost use Rattle.ike.specs.Starting.{further_order_fault, if_protects, new_order
 
 use crate::held::{Held, has_serial, is_bad_spi};
 use crate::{IkeFault, IkeOutput, Stepped};
-use association::{FirstChild, MessageFault};
+use association::{AskedChild, MessageFault};
 use base::Selector;
 use initial::{Beginning, Step, begin};
 use policy::{Action, Entry};
@@ -162,7 +162,7 @@ fn begin_next(
     held.associations.reserve(1)?;
     // From here on nothing can be refused.
     let spi = reserve(table);
-    let child = FirstChild::new(spi, local, remote, extended);
+    let child = AskedChild::new(spi, local, remote, extended);
     let (association, octets) = beginning.into_association(alloc, allowed.serial, child);
     held.associations.push_reserved(association);
     held.next += 1;

@@ -43,6 +43,7 @@ if_its_own (Some pair) ike child = if pair.ike == ike then child ∷ [] else []
 abbrev pub gone_with : PairMap → ℕ → Purpose → List ℕ
 gone_with pairs ike purpose.Begin = []
 gone_with pairs ike purpose.Identify = []
+gone_with pairs ike (purpose.CreateChild further) = []
 gone_with pairs ike purpose.Probe = []
 gone_with pairs ike (purpose.DeleteChild child) = if_its_own (pair_at pairs child) ike child
 gone_with pairs ike purpose.DeleteAssociation = []

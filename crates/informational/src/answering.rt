@@ -4,6 +4,7 @@ ghost use Rattle.wire.specs.Numbers.{INFORMATIONAL};
 ghost use Rattle.exchange.specs.Headers.{keys_of};
 ghost use Rattle.exchange.specs.Sealed.{IsSealed};
 ghost use Rattle.requests.specs.Incoming.{IsFreshRequest};
+ghost use Rattle.association.specs.Closing.{HoldsReserved};
 ghost use Rattle.initial.specs.Answering.{reply_message};
 ghost use Rattle.initial.specs.Configs.{setup_of};
 ghost use Rattle.deletions.specs.Answering.{payloads_of_verdict};
@@ -11,6 +12,7 @@ ghost use Rattle.deletions.specs.Deciding.{is_closing_verdict, IsSoundVerdict};
 ghost use Rattle.informational.specs.Answering.{gone_by, AnswersInformational};
 ghost use Rattle.informational.specs.Orders.{ClosesIf, IsEstablished};
 
+use association::laws::spis_stay_held;
 use association::{Association, Phase};
 use base::Items;
 use deletions::laws::what_is_decided_can_be_removed;
@@ -32,8 +34,8 @@ use wire::numbers::INFORMATIONAL;
 /// closed, and the answer is empty. Otherwise the Live pairs that are named go, and the answer names the SPIs of the other direction; it
 /// is empty where none goes. A pair that is Deleting stays until the request of this end is answered, and isn't named.
 ///
-/// The caller asks only at an established association, where the request is fresh. An error is for want of memory alone, and changes
-/// nothing.
+/// The caller asks only at an established association, where the request is fresh and the SPIs that the association holds are reserved in
+/// the table. An error is for want of memory alone, and changes nothing.
 pub fn answer<C: Sealer>(
     alloc: Global,
     step: &Step<'_, C>,
@@ -44,6 +46,7 @@ pub fn answer<C: Sealer>(
 ) -> Result<Answered, AllocError>
     requires established { IsEstablished association.old.phase }
     requires fresh { IsFreshRequest association.old.incoming number }
+    requires reserved { HoldsReserved association.old table.old }
     ensures answered { IfOk result (λ answered. AnswersInformational C.body_of (setup_of step.now)
         association.old table.old number plain.now answered association.new table.new) }
     ensures refused { IfErr result (λ _. (association.new ≡ association.old) × (table.new ≡ table.old)) }
@@ -51,6 +54,7 @@ pub fn answer<C: Sealer>(
     let Phase::Established(keys) = &association.phase else {
         unreachable!();
     };
+    spis_stay_held();
     let verdict = decide(alloc, plain, association.serial, table)?;
     let octets = make_reply(alloc, step, association, table, keys, number, &verdict)?;
     let kept = Items::from_slice(alloc, octets.as_slice())?;
@@ -98,7 +102,7 @@ fn make_reply<C: Sealer>(
 
 // The association is closed, or the pairs go that a request names.
 fn conclude(association: &mut Association, table: &mut Table, verdict: &Verdict, moment: u64)
-    requires established { IsEstablished association.old.phase }
+    requires reserved { HoldsReserved association.old table.old }
     requires sound { IsSoundVerdict table.old.pairs association.old.serial verdict.now }
     ensures { ClosesIf (is_closing_verdict verdict.now) (gone_by verdict.now)
         association.old table.old moment association.new table.new }

@@ -1,10 +1,12 @@
 //! The response to a request of this end.
 ghost use Rattle.std.specs.Prelude.{◌≡◌, IfOk, IfErr};
 ghost use Rattle.requests.specs.Outgoing.{IsOutstanding};
+ghost use Rattle.association.specs.Closing.{HoldsReserved};
 ghost use Rattle.informational.specs.Counting.{gone_with, CountsInformational, IsRejectedBy};
 ghost use Rattle.informational.specs.Orders.{ClosesIf, IsEstablished, RemovesOwn};
 ghost use Rattle.initial.specs.Configs.{setup_of};
 
+use association::laws::spis_stay_held;
 use association::{Association, Purpose};
 use deletions::remove_named;
 use exchange::{Plain, has_invalid_syntax};
@@ -16,8 +18,8 @@ use std::alloc::{AllocError, Global};
 /// is closed where it has a notice INVALID_SYNTAX (section 2.21.3), or answers a request to delete it; the pair of a child goes whose
 /// deletion it answers. What else it says is nothing to that.
 ///
-/// The caller asks only at an established association, where a request of this number is outstanding. An error is for want of memory
-/// alone, and changes nothing.
+/// The caller asks only at an established association, where a request of this number is outstanding and the SPIs that the association
+/// holds are reserved in the table. An error is for want of memory alone, and changes nothing.
 pub fn count<C>(
     alloc: Global,
     step: &Step<'_, C>,
@@ -28,15 +30,17 @@ pub fn count<C>(
 ) -> Result<Ended, AllocError>
     requires established { IsEstablished association.old.phase }
     requires outstanding { IsOutstanding association.old.outgoing number }
+    requires reserved { HoldsReserved association.old table.old }
     ensures counted { IfOk result (λ ended. CountsInformational (setup_of step.now)
         association.old table.old number plain.now ended association.new table.new) }
     ensures refused { IfErr result (λ _. (association.new ≡ association.old) × (table.new ≡ table.old)) }
 {
+    spis_stay_held();
     let rejected = is_rejected(alloc, plain)?;
     // From here on nothing can be refused.
     let request = association.outgoing.count(number);
     let closed = rejected || request.purpose.asks_to_end();
-    conclude(association, table, closed, request.purpose, step.moment);
+    conclude(association, table, closed, &request.purpose, step.moment);
     Ok(Ended {
         child: None,
         closed,
@@ -58,11 +62,11 @@ fn conclude(
     association: &mut Association,
     table: &mut Table,
     closed: bool,
-    purpose: Purpose,
+    purpose: &Purpose,
     moment: u64,
 )
-    requires { IsEstablished association.old.phase }
-    ensures { ClosesIf closed (gone_with table.old.pairs association.old.serial purpose)
+    requires { HoldsReserved association.old table.old }
+    ensures { ClosesIf closed (gone_with table.old.pairs association.old.serial purpose.now)
         association.old table.old moment association.new table.new }
 {
     if closed {
@@ -73,12 +77,12 @@ fn conclude(
 }
 
 // The pair of a child goes that this end asked to delete, if it is of this association.
-fn remove_deleted(table: &mut Table, ike: u32, purpose: Purpose)
-    ensures { RemovesOwn ike (gone_with table.old.pairs ike purpose) table.old table.new }
+fn remove_deleted(table: &mut Table, ike: u32, purpose: &Purpose)
+    ensures { RemovesOwn ike (gone_with table.old.pairs ike purpose.now) table.old table.new }
 {
     match purpose {
-        Purpose::DeleteChild { child } => match table.get(child) {
-            Some(pair) if pair.ike == ike => remove_named(table, &[child]),
+        Purpose::DeleteChild { child } => match table.get(*child) {
+            Some(pair) if pair.ike == ike => remove_named(table, &[*child]),
             _ => remove_named(table, &[]),
         },
         _ => remove_named(table, &[]),

@@ -2,7 +2,7 @@
 use Rattle.std.proofs.Common.{◌≡◌, ℕ, List, Option, Some, None, MatchOption, subst}
 use Rattle.wire.specs.declared.payload.Payload.{Payload}
 use Rattle.sadb.specs.declared.pair.Pair.{Pair}
-use Rattle.association.specs.FirstChildren.{asked_of}
+use Rattle.association.specs.AskedChildren.{asked_of}
 use Rattle.association.specs.declared.phase.AuthSent.{AuthSent}
 use Rattle.children.specs.Accepting.{IsAcceptedChild, IsUnacceptable}
 use Rattle.children.specs.declared.asking.Asked.{Asked}

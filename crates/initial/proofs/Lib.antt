@@ -1,1 +1,2 @@
 mod ChildLemmas
+mod ConcludingLemmas

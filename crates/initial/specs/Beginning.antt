@@ -12,7 +12,7 @@ use Rattle.sa_init.specs.Agreement.{IsAnswer}
 use Rattle.sa_init.specs.Judging.{OfferView}
 use Rattle.sa_init.specs.Messages.{request_message}
 use Rattle.sa_init.specs.declared.answers.Agreed.{Agreed}
-use Rattle.association.specs.FirstChildren.{FirstChildView}
+use Rattle.association.specs.AskedChildren.{AskedChildView}
 use Rattle.association.specs.declared.phase.Association.{Association}
 use Rattle.association.specs.declared.phase.Phase.TheVariants as phase
 use Rattle.association.specs.declared.purpose.Purpose.TheVariants.{Begin}
@@ -29,7 +29,7 @@ pub record Begins (cipher : Cipher) (group : ℕ) (public_value : Octets → Oct
   pub nonce_is : beginning.nonce ≡ fresh.nonce
 
 -- an initiator's association, when its first request goes out
-abbrev pub begun : ℕ → Beginning → FirstChildView → Association
+abbrev pub begun : ℕ → Beginning → AskedChildView → Association
 begun serial beginning child = record {
   serial = serial;
   role = Initiator;

@@ -4,8 +4,8 @@ use Rattle.requests.specs.Incoming.{PeerRequests}
 use Rattle.requests.specs.Outgoing.{OwnRequests}
 use Rattle.sadb.specs.Database.{Database, Installs, IsReserved, Releases}
 use Rattle.sadb.specs.declared.pair.Pair.{Pair}
-use Rattle.association.specs.Closing.{Closes, HoldsSpi}
-use Rattle.association.specs.Phases.{established_of, established_spi, spi_in}
+use Rattle.association.specs.Closing.{Closes, HoldsReserved}
+use Rattle.association.specs.Phases.{established_of, established_spi}
 use Rattle.association.specs.declared.phase.Association.{Association}
 use Rattle.association.specs.declared.phase.Request.{Request}
 use Rattle.auth.specs.Windows.{IsWindow}
@@ -67,5 +67,5 @@ CanAdd table (Some spi) None = IsReserved table spi
 CanAdd table (Some spi) (Some pair) = IsReserved table spi × (pair.inbound.association.spi ≡ spi)
 
 abbrev pub CanConclude : Association → Database → Outcome → Type 0
-CanConclude a table outcome.Closes = HoldsSpi (spi_in a.phase) table
+CanConclude a table outcome.Closes = HoldsReserved a table
 CanConclude a table (outcome.Establishes pair window) = IsWindow window × CanAdd table (established_spi a.phase) pair

@@ -16,7 +16,7 @@ use Rattle.sa_init.specs.Messages.{request_message}
 use Rattle.sa_init.specs.Reading.{IsResponse, WaitingView}
 use Rattle.sa_init.specs.declared.response.Response.{Response}
 use Rattle.sa_init.specs.declared.response.Response.TheVariants as response
-use Rattle.association.specs.FirstChildren.{asked_of}
+use Rattle.association.specs.AskedChildren.{asked_of}
 use Rattle.association.specs.declared.phase.Association.{Association}
 use Rattle.association.specs.declared.phase.InitSent.{InitSent}
 use Rattle.association.specs.declared.phase.Phase.{Phase}

@@ -4,6 +4,7 @@ ghost use Rattle.exchange.specs.Headers.{keys_of};
 ghost use Rattle.exchange.specs.Sealed.{CanBeSealed, IsSealed};
 ghost use Rattle.requests.specs.Incoming.{IsFreshRequest};
 ghost use Rattle.sadb.specs.Database.{IsAsBefore};
+ghost use Rattle.association.specs.Closing.{HoldsReserved};
 ghost use Rattle.auth.specs.Fitting.{FitWithin};
 ghost use Rattle.auth.specs.Answers.{answering_payloads, auth_answer};
 ghost use Rattle.initial.specs.Answering.{child_answer, outcome_of, pair_of, reply_message, reply_payloads, AnswersAuth, IsHalfOpen};
@@ -16,6 +17,7 @@ use crate::Step;
 use crate::concluding::{Outcome, conclude};
 use crate::deciding::{Decision, decide};
 use crate::sealing::sealed;
+use association::laws::spis_stay_held;
 use association::{Association, HalfOpen, Phase};
 use auth::laws::what_is_sent_fits;
 use auth::{ChildAnswer, Proving, answer};
@@ -47,7 +49,7 @@ pub struct Answered {
 /// [`children::respond`] answers for the child, and the window of this end where it is above 1. From then on both windows count
 /// (section 2.3): this end's as configured, the peer's as it told, 1 where it told none.
 ///
-/// The caller asks only at a half-open association, where the request is fresh. An error is for want of memory alone: association
+/// The caller asks only at a half-open association, where the request is fresh and the SPIs that it holds are reserved in the table. An error is for want of memory alone: association
 /// and table are as they were then, but for the table's room.
 pub fn answer_auth<C: Sealer + Proof>(
     alloc: Global,
@@ -60,6 +62,7 @@ pub fn answer_auth<C: Sealer + Proof>(
     requires config { IsConfig step.now.config.now }
     requires waiting { IsHalfOpen association.old.phase }
     requires fresh { IsFreshRequest association.old.incoming number }
+    requires reserved { HoldsReserved association.old table.old }
     ensures answered { IfOk result (λ answered. AnswersAuth
         (record {
           body_of = C.body_of;
@@ -74,6 +77,7 @@ pub fn answer_auth<C: Sealer + Proof>(
     let Phase::HalfOpen(half_open) = &association.phase else {
         unreachable!();
     };
+    spis_stay_held();
     let decision = decide(alloc, step, table, association.serial, half_open, plain)?;
     let reply = make_reply(alloc, step, association, half_open, number, decision)?;
     let kept = Items::from_slice(alloc, reply.octets.as_slice())?;

@@ -6,7 +6,7 @@ ghost use Rattle.initial.specs.Beginning.{begun, half_open, Admits, Begins};
 
 use crate::Step;
 use crate::issuing::{issued, new_request};
-use association::{Association, FirstChild, HalfOpen, InitSent, Phase, Purpose, Request};
+use association::{AskedChild, Association, HalfOpen, InitSent, Phase, Purpose, Request};
 use base::Items;
 use exchange::Role;
 use requests::{Incoming, Outgoing};
@@ -65,7 +65,7 @@ impl Beginning {
         self,
         alloc: Global,
         serial: u32,
-        child: FirstChild,
+        child: AskedChild,
     ) -> (Association, Items<u8>)
         ensures association { result.0 ≡ begun serial self child }
         ensures octets { result.1 ≡ self.octets }

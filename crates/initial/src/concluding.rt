@@ -1,8 +1,7 @@
 //! What becomes of an association when IKE_AUTH is done.
 ghost use Rattle.std.specs.Prelude.{◌≡◌, Option, Some, None};
 ghost use Rattle.auth.specs.Windows.{IsWindow};
-ghost use Rattle.association.specs.Closing.{HoldsSpi};
-ghost use Rattle.association.specs.Phases.{established_spi, spi_in};
+ghost use Rattle.association.specs.Phases.{established_spi};
 ghost use Rattle.initial.specs.Concluding.{established, is_closing, widened, AddsChild, CanAdd, CanConclude, ConcludesBy, EstablishesBy};
 ghost use Rattle.initial.specs.Configs.{setup_of};
 

@@ -1,8 +1,7 @@
 //! The response to IKE_AUTH.
 ghost use Rattle.std.specs.Prelude.{◌≡◌, Some, IfOk, IfErr};
 ghost use Rattle.requests.specs.Outgoing.{IsOutstanding};
-ghost use Rattle.association.specs.Closing.{HoldsSpi};
-ghost use Rattle.association.specs.Phases.{spi_in};
+ghost use Rattle.association.specs.Closing.{HoldsReserved};
 ghost use Rattle.initial.specs.Configs.{setup_of, IsConfig};
 ghost use Rattle.initial.specs.Concluding.{is_closing, CanConclude};
 ghost use Rattle.initial.specs.Ending.{EndsAuth, FitsVerdict, IsAuthSent, IsVerdict, Judges};
@@ -10,6 +9,7 @@ ghost use Rattle.initial.specs.Ending.{EndsAuth, FitsVerdict, IsAuthSent, IsVerd
 use crate::Step;
 use crate::concluding::{Outcome, conclude};
 use crate::deciding::read_chain;
+use association::laws::spis_stay_held;
 use association::{Association, AuthSent, Phase};
 use auth::laws::windows_are_read_again;
 use auth::{Proving, is_accepted, peer_window};
@@ -35,7 +35,8 @@ pub struct Ended {
 /// established, with the child that [`children::accept`] makes of the answer, or without one: then its SPI is given up. From then
 /// on both windows count (section 2.3): this end's as configured, the peer's as it told, 1 where it told none.
 ///
-/// The caller asks only where the response to IKE_AUTH is waited for, of this number, and the child's SPI is reserved in the table.
+/// The caller asks only where the response to IKE_AUTH is waited for, of this number, and the SPIs that the association holds are
+/// reserved in the table.
 /// An error is for want of memory alone, and changes nothing.
 pub fn end_auth<C: Proof>(
     alloc: Global,
@@ -48,7 +49,7 @@ pub fn end_auth<C: Proof>(
     requires config { IsConfig step.now.config.now }
     requires waiting { IsAuthSent association.old.phase }
     requires outstanding { IsOutstanding association.old.outgoing number }
-    requires reserved { HoldsSpi (spi_in association.old.phase) table.old }
+    requires reserved { HoldsReserved association.old table.old }
     ensures ended { IfOk result (λ ended. EndsAuth (C.accepts step.now.caller.now) (setup_of step.now)
         association.old table.old number plain.now ended association.new table.new) }
     ensures refused { IfErr result (λ _. (association.new ≡ association.old) × (table.new ≡ table.old)) }
@@ -56,6 +57,7 @@ pub fn end_auth<C: Proof>(
     let Phase::AuthSent(sent) = &association.phase else {
         unreachable!();
     };
+    spis_stay_held();
     let verdict = judge_response(alloc, step, association.serial, sent, plain)?;
     // From here on nothing can be refused.
     let _ = association.outgoing.count(number);

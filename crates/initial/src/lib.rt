@@ -8,7 +8,7 @@
 //!
 //! ```text
 //! let beginning = begin(alloc, &step)?;
-//! let child = FirstChild::new(table.reserve()?, local, remote, true);
+//! let child = AskedChild::new(table.reserve()?, local, remote, true);
 //! let (mut association, request) = beginning.into_association(alloc, 1, child);
 //! send(request);
 //!

@@ -9,7 +9,7 @@ ghost use Rattle.initial.specs.Configs.{setup_of, IsConfig};
 ghost use Rattle.initial.specs.Reading.{carrying, identity_message, telling, waiting_of, IsInitSent, ReadsResponse, TakesFew};
 ghost use Rattle.std.specs.Prelude.{Some};
 ghost use Rattle.sa_init.specs.Messages.{request_message};
-ghost use Rattle.association.specs.FirstChildren.{asked_of};
+ghost use Rattle.association.specs.AskedChildren.{asked_of};
 ghost use Rattle.auth.specs.Fitting.{FitWithin};
 ghost use Rattle.auth.specs.Proofs.{proving_of};
 ghost use Rattle.auth.specs.Requests.{auth_request};
@@ -19,7 +19,7 @@ ghost use Rattle.exchange.specs.declared.headers.Role.TheVariants.{Initiator};
 use crate::Step;
 use crate::issuing::{issued, new_request};
 use crate::sealing::sealed;
-use association::{Association, AuthSent, FirstChild, InitSent, Phase, Purpose};
+use association::{AskedChild, Association, AuthSent, InitSent, Phase, Purpose};
 use auth::laws::what_is_sent_fits;
 use auth::{Proving, request};
 use base::Items;
@@ -194,7 +194,7 @@ fn identity_request<C: Sealer + Proof>(
 fn identity_payloads<C: Proof>(
     alloc: Global,
     step: &Step<'_, C>,
-    child: &FirstChild,
+    child: &AskedChild,
     keys: &KeyRecord,
     first: &[u8],
 ) -> Result<Items<Payload>, AllocError>

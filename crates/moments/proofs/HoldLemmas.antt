@@ -1,15 +1,11 @@
 -- What a moment leaves of the associations and of the table.
-use Rattle.std.proofs.Common.{◌≡◌, ◌≢◌, inl, inr, ℕ, suc, ◌+◌, ◌++◌, ◌∷◌, [], Bool, true, false, not, List, Option, Some, None, ap, refl, subst, sym, ◌∙◌}
+use Rattle.std.proofs.Common.{◌≡◌, ◌≢◌, inl, inr, ℕ, suc, ◌+◌, ◌++◌, ◌∷◌, [], Bool, true, false, List, Option, Some, None, ap, refl, subst, sym, ◌∙◌}
 use Rattle.std.specs.FinMap as map
-use Rattle.std.specs.FinSet as set
 use Rattle.std.specs.Option.{option_map}
-use Rattle.std.specs.Cmp.{nat_cmp_total, unsigned_tied}
 use Rattle.std.specs.Ordering.{nat_cmp}
 use Rattle.std.specs.Prelude.{◌&&◌, if◌then◌else◌}
-use Rattle.std.proofs.lemmas.Bool.{ne_eqb}
 use Rattle.sadb.specs.Database.{Database, IsReserved, RemovesAllOf}
-use Rattle.association.specs.Closing.{Closes, GivesUpSpi}
-use Rattle.association.specs.Phases.{spi_in}
+use Rattle.association.specs.Closing.{Closes, GivesUpSpis, HoldsSpi}
 use Rattle.association.specs.declared.phase.Association.{Association}
 use Rattle.association.specs.declared.phase.Request.{Request}
 use Rattle.moments.specs.Due.{after_sending, has_failed, is_due, is_over, SendsAgain}
@@ -103,9 +99,8 @@ left_twice old between new first second =
       each = λ serial pair there. first.each serial pair (second.each serial pair there);
     }
 
-given_up_left : (o : Option ℕ) (old new : Database) → GivesUpSpi o old new → LeavesFewer old new
-given_up_left None old new is = subst (λ (d : Database). LeavesFewer old d) (sym is) (all_left old)
-given_up_left (Some spi) old new is =
+given_up_left : (Held : ℕ → Type 0) (old new : Database) → GivesUpSpis Held old new → LeavesFewer old new
+given_up_left Held old new is =
     subst (λ (d : Database). LeavesFewer old d) (sym is.content) (record { start = refl; given = refl; next = refl; each = λ serial pair there. there })
 
 removed_left : (old : Database) (ike : ℕ) (new : Database) → RemovesAllOf old ike new → LeavesFewer old new
@@ -119,7 +114,7 @@ removed_left old ike new is =
 
 closed_left : (a : Association) (old : Database) (now : ℕ) (b : Association) (new : Database) → Closes a old now b new → LeavesFewer old new
 closed_left a old now b new is =
-    left_twice old is.between new (given_up_left (spi_in a.phase) old is.between is.released) (removed_left is.between a.serial new is.removed)
+    left_twice old is.between new (given_up_left (HoldsSpi a) old is.between is.released) (removed_left is.between a.serial new is.removed)
 
 same_left : (old new : Database) → new ≡ old → LeavesFewer old new
 same_left old new same = subst (λ (d : Database). LeavesFewer old d) (sym same) (all_left old)
@@ -140,22 +135,16 @@ fewer_left now (a ∷ rest) table sent closed new new_table is =
 
 -- ---- what is reserved
 
-other_spi : (o : Option ℕ) (old new : Database) (spi : ℕ) → o ≢ Some spi → GivesUpSpi o old new → IsReserved old spi → IsReserved new spi
-other_spi None old new spi apart is kept = subst (λ (d : Database). IsReserved d spi) (sym is) kept
-other_spi (Some given) old new spi apart is kept =
-    subst (λ (d : Database). IsReserved d spi) (sym is.content)
-    (set.contains-remove nat_cmp_total old.reserved given spi ∙ ap (λ b. not b && set.contains old.reserved spi) (unsigned_tied spi given ∙ ne_eqb spi given (λ e. apart (ap Some (sym e)))) ∙ kept)
-
 clash : (b : Bool) → b ≡ true → b ≡ false → ⊥
 clash true one other = cc
 clash false one other = cc
 
 first_reserved : (over failed : Bool) (now : ℕ) (a : Association) (table : Database) (sent : List Resent) (closed : List ℕ) (held : List Association) (new_table : Database) (spi : ℕ)
-    → (failed ≡ true → spi_in a.phase ≢ Some spi) → PassesBy over failed now a table sent closed held new_table → IsReserved table spi → IsReserved new_table spi
+    → (failed ≡ true → ¬ HoldsSpi a spi) → PassesBy over failed now a table sent closed held new_table → IsReserved table spi → IsReserved new_table spi
 first_reserved true failed now a table sent closed held new_table spi apart is kept = subst (λ (d : Database). IsReserved d spi) (sym is.3) kept
 first_reserved false true now a table sent closed held new_table spi apart is kept =
     let over = is.1 in
-    subst (λ (d : Database). IsReserved d spi) (sym over.removed.content) (other_spi (spi_in a.phase) table over.between spi (apart refl) over.released kept)
+    subst (λ (d : Database). IsReserved d spi) (sym over.removed.content) ((over.released.reserved spi).1 (kept, apart refl))
 first_reserved false false now a table sent closed held new_table spi apart is kept = subst (λ (d : Database). IsReserved d spi) (sym is.5) kept
 
 pub still_reserved : (now : ℕ) (old : List Association) (table : Database) (sent : List Resent) (closed : List ℕ) (new : List Association) (new_table : Database) (spi : ℕ)

@@ -1,15 +1,10 @@
 -- One association after the other, each in its place.
-use Rattle.std.proofs.Common.{◌≡◌, ◌≢◌, ◌+◌, ◌<◌, ◌≤◌, ◌++◌, ◌∷◌, [], ◌&&◌, ℕ, suc, List, length, take, drop, get_or, Bool, true, false, not, cond, Option, Some, None, arith, sym, ap, ◌∙◌, refl, subst, add-one, drop-cons, nat_le, set}
+use Rattle.std.proofs.Common.{◌≡◌, ◌≢◌, ◌+◌, ◌<◌, ◌≤◌, ◌++◌, ◌∷◌, [], ◌&&◌, ℕ, suc, List, length, take, drop, get_or, Bool, true, false, not, cond, arith, sym, ap, ◌∙◌, refl, subst, add-one, drop-cons, nat_le, set}
 use Rattle.std.proofs.lemmas.List.{drop-set-lt, get_or-drop, take_all, take_more, take_more_set}
-use Rattle.std.specs.Cmp.{nat_cmp_total, unsigned_tied}
-use Rattle.std.specs.FinSet as set
-use Rattle.std.specs.Ordering.{nat_cmp}
 use Rattle.std.specs.List.{flat_map}
-use Rattle.std.proofs.lemmas.Bool.{ne_eqb}
 use Rattle.std.proofs.lemmas.Bool.Decides.{nat_tests}
-use Rattle.sadb.specs.Database.{Database, IsReserved, Releases, RemovesAllOf}
-use Rattle.association.specs.Closing.{Closes, GivesUpSpi, HoldsSpi}
-use Rattle.association.specs.Phases.{spi_in}
+use Rattle.sadb.specs.Database.{Database, IsReserved, RemovesAllOf}
+use Rattle.association.specs.Closing.{Closes, HoldsReserved, HoldsSpi}
 use Rattle.association.specs.declared.phase.Association.{Association}
 use Rattle.moments.specs.Due.{closed_by, closed_of, has_failed, held_of, is_over, sent_by, sent_of, CLOSED_TIME}
 use Rattle.moments.specs.Passing.{BecomeAll, Becomes, BecomesBy}
@@ -18,37 +13,30 @@ use Rattle.moments.specs.Ticking.{HoldTheirSpis, PassAll, PassesBy}
 
 -- ---- what the others hold
 
-still_there : (s : set.FinSet nat_cmp) (k q : ℕ) → q ≢ k → set.contains s q ≡ true → set.contains (set.remove s k) q ≡ true
-still_there s k q apart there = set.contains-remove nat_cmp_total s k q ∙ ap (λ b. not b && set.contains s q) (unsigned_tied q k ∙ ne_eqb q k apart) ∙ there
-
-release_keeps : (old : Database) (spi : ℕ) (new : Database) (q : ℕ) → q ≢ spi → Releases old spi new → IsReserved old q → IsReserved new q
-release_keeps old spi new q apart is there = subst (λ d. IsReserved d q) (sym is.content) (still_there old.reserved spi q apart there)
-
 removal_keeps : (old : Database) (ike : ℕ) (new : Database) (q : ℕ) → RemovesAllOf old ike new → IsReserved old q → IsReserved new q
 removal_keeps old ike new q is there = subst (λ d. IsReserved d q) (sym is.content) there
 
-spi_keeps : (spi : Option ℕ) (old new : Database) (q : ℕ) → spi ≢ Some q → GivesUpSpi spi old new → IsReserved old q → IsReserved new q
-spi_keeps None old new q apart is there = subst (λ d. IsReserved d q) (sym is) there
-spi_keeps (Some spi) old new q apart is there = release_keeps old spi new q (λ same. apart (ap Some (sym same))) is there
+closing_keeps : (old : Association) (table : Database) (now : ℕ) (new : Association) (new_table : Database) (q : ℕ) → ¬ HoldsSpi old q → Closes old table now new new_table → IsReserved table q → IsReserved new_table q
+closing_keeps old table now new new_table q apart is there = removal_keeps is.between old.serial new_table q is.removed ((is.released.reserved q).1 (there, apart))
 
-closing_keeps : (old : Association) (table : Database) (now : ℕ) (new : Association) (new_table : Database) (q : ℕ) → spi_in old.phase ≢ Some q → Closes old table now new new_table → IsReserved table q → IsReserved new_table q
-closing_keeps old table now new new_table q apart is there = removal_keeps is.between old.serial new_table q is.removed (spi_keeps (spi_in old.phase) table is.between q apart is.released there)
-
-becoming_keeps : (over failed : Bool) (now : ℕ) (old : Association) (table : Database) (new : Association) (new_table : Database) (q : ℕ) → spi_in old.phase ≢ Some q → BecomesBy over failed now old table new new_table
+becoming_keeps : (over failed : Bool) (now : ℕ) (old : Association) (table : Database) (new : Association) (new_table : Database) (q : ℕ) → ¬ HoldsSpi old q → BecomesBy over failed now old table new new_table
     → IsReserved table q → IsReserved new_table q
 becoming_keeps true failed now old table new new_table q apart is there = subst (λ d. IsReserved d q) (sym is.1) there
 becoming_keeps false true now old table new new_table q apart is there = closing_keeps old table now new new_table q apart is there
 becoming_keeps false false now old table new new_table q apart is there = subst (λ d. IsReserved d q) (sym is.1) there
 
-still_held : (spi : Option ℕ) (now : ℕ) (old : Association) (table : Database) (new : Association) (new_table : Database) → ((q : ℕ) → spi ≡ Some q → spi_in old.phase ≢ Some q) → Becomes now old table new new_table
-    → HoldsSpi spi table → HoldsSpi spi new_table
-still_held None now old table new new_table apart is holds = tt
-still_held (Some q) now old table new new_table apart is holds = becoming_keeps (is_over now old.phase) (has_failed now old) now old table new new_table q (apart q refl) is.done holds
+still_held : (other : Association) (now : ℕ) (old : Association) (table : Database) (new : Association) (new_table : Database) → ((q : ℕ) → HoldsSpi other q → ¬ HoldsSpi old q) → Becomes now old table new new_table
+    → HoldsReserved other table → HoldsReserved other new_table
+still_held other now old table new new_table apart is holds = record {
+  reserved = λ q its. becoming_keeps (is_over now old.phase) (has_failed now old) now old table new new_table q (apart q its) is.done (holds.reserved q its);
+  first = holds.first;
+  one = holds.one;
+}
 
 others_hold : (now : ℕ) (old : Association) (others : List Association) (table : Database) (new : Association) (new_table : Database) → HoldTheirSpis (old ∷ others) table → Becomes now old table new new_table → HoldTheirSpis others new_table
 others_hold now old others table new new_table hold is =
     record {
-      reserved = λ place a there. still_held (spi_in a.phase) now old table new new_table (λ q its same. hold.apart 0 (suc place) old a q (omega arith) refl there same its) is (hold.reserved (suc place) a there);
+      reserved = λ place a there. still_held a now old table new new_table (λ q its same. hold.apart 0 (suc place) old a q (omega arith) refl there same its) is (hold.reserved (suc place) a there);
       apart = λ place later a other spi less there further its. hold.apart (suc place) (suc later) a other spi (omega arith) there further its;
     }
 
@@ -85,9 +73,9 @@ rest_behind : (first current : List Association) (i : ℕ) (d : Association) →
 unfolding tail_of
 rest_behind first current i d inside within same = rw add-one (ap tail_of (sym (drop-cons current i d within) ∙ same ∙ drop-cons first i d inside))
 
--- the next one holds its SPI
+-- the next one holds its SPIs
 pub next_holds : (now i : ℕ) (first : List Association) (first_table : Database) (current : List Association) (table : Database) (d : Association) → i < length current → PassedTo now i first first_table current table
-    → HoldsSpi (spi_in (get_or current i d).phase) table
+    → HoldsReserved (get_or current i d) table
 next_holds now i first first_table current table d inside so_far =
     let hold : HoldTheirSpis (get_or current i d ∷ drop (i + 1) current) table = subst (λ (xs : List Association). HoldTheirSpis xs table) (from_here first current i d inside so_far.rest) so_far.hold in
     hold.reserved 0 (get_or current i d) refl

@@ -10,8 +10,7 @@ use Rattle.std.specs.Ordering.{nat_cmp}
 use Rattle.requests.specs.Outgoing.{SomeOutstanding}
 use Rattle.requests.specs.Timers.{due_from, last_wait, waits}
 use Rattle.sadb.specs.Database.{pair_at, Database, RemovesAllOf}
-use Rattle.association.specs.Closing.{Closes, GivesUpSpi}
-use Rattle.association.specs.Phases.{spi_in}
+use Rattle.association.specs.Closing.{Closes, GivesUpSpis, HoldsSpi}
 use Rattle.association.specs.declared.phase.Association.{Association}
 use Rattle.association.specs.declared.phase.Request.{Request}
 use Rattle.moments.specs.Due.{after_sending, closed_by, closed_of, has_failed, is_due, is_over, is_unanswered, outstanding_of, sent_by, sent_of, SendsAgain}
@@ -130,9 +129,8 @@ nothing_left earlier now old table ticked new new_table less begun is =
 
 -- ---- whose pairs go
 
-spi_pairs : (o : Option ℕ) (old new : Database) → GivesUpSpi o old new → new.pairs ≡ old.pairs
-spi_pairs None old new is = ap (λ (d : Database). d.pairs) is
-spi_pairs (Some spi) old new is = ap (λ (d : Database). d.pairs) is.content
+spi_pairs : (Held : ℕ → Type 0) (old new : Database) → GivesUpSpis Held old new → new.pairs ≡ old.pairs
+spi_pairs Held old new is = ap (λ (d : Database). d.pairs) is.content
 
 none_in : (x : ℕ) → Contains [] x → ⊥
 none_in x is = omega (arith, is.1)
@@ -153,9 +151,9 @@ none_goes closed old new none same serial pair = (
   λ both. subst (λ (d : Database). pair_at d.pairs serial ≡ Some pair) (sym same) both.0,
 )
 
-its_go : (closed : List ℕ) (ike : ℕ) (spi : Option ℕ) (old between new : Database) → closed ≡ ike ∷ [] → GivesUpSpi spi old between → RemovesAllOf between ike new → LeavesPairsBut closed old new
-its_go closed ike spi old between new one released removed serial pair =
-    let same = spi_pairs spi old between released in (
+its_go : (closed : List ℕ) (ike : ℕ) (Held : ℕ → Type 0) (old between new : Database) → closed ≡ ike ∷ [] → GivesUpSpis Held old between → RemovesAllOf between ike new → LeavesPairsBut closed old new
+its_go closed ike Held old between new one released removed serial pair =
+    let same = spi_pairs Held old between released in (
       λ there.
           (let both = (removed.kept serial pair).0 there in
           (sym (ap (λ m. pair_at m serial) same) ∙ both.0, λ is. both.1 (only_in ike pair.ike (subst (λ (xs : List ℕ). Contains xs pair.ike) one is)))),
@@ -166,7 +164,7 @@ its_go closed ike spi old between new one released removed serial pair =
 one_goes : (over failed : Bool) (now : ℕ) (a : Association) (table : Database) (sent : List Resent) (closed : List ℕ) (held : List Association) (after : Database) → PassesBy over failed now a table sent closed held after
     → LeavesPairsBut closed table after
 one_goes true failed now a table sent closed held after is = none_goes closed table after is.1 is.3
-one_goes false true now a table sent closed held after is = its_go closed a.serial (spi_in a.phase) table is.1.between after is.3 is.1.released is.1.removed
+one_goes false true now a table sent closed held after is = its_go closed a.serial (HoldsSpi a) table is.1.between after is.3 is.1.released is.1.removed
 one_goes false false now a table sent closed held after is = none_goes closed table after is.3 is.5
 
 both_go : (one other all : List ℕ) (a b c : Database) → all ≡ one ++ other → LeavesPairsBut one a b → LeavesPairsBut other b c → LeavesPairsBut all a c

@@ -3,7 +3,7 @@ use Rattle.std.specs.Prelude.{◌≡◌, ◌⊎◌, ◌∷◌, ℕ, false, Some,
 use Rattle.std.specs.FinMap as map
 use Rattle.sadb.specs.Database.{pair_at, Database}
 use Rattle.sadb.specs.declared.pair.Pair.{Pair}
-use Rattle.association.specs.Phases.{spi_in}
+use Rattle.association.specs.Closing.{HoldsSpi}
 use Rattle.association.specs.declared.phase.Association.{Association}
 use Rattle.association.specs.declared.phase.Request.{Request}
 use Rattle.moments.specs.Due.{has_failed}
@@ -50,6 +50,6 @@ pub record LeavesFewer (old new : Database) : Type 0 where
   pub next : new.next ≡ old.next
   pub each : (serial : ℕ) (pair : Pair) → pair_at new.pairs serial ≡ Some pair → pair_at old.pairs serial ≡ Some pair
 
--- no association holds the SPI for its first child whose peer is gone
+-- no association holds the SPI for a child whose peer is gone
 abbrev pub HoldsNone : ℕ → List Association → ℕ → Type 0
-HoldsNone now old spi = (place : ℕ) (a : Association) → slice_get old place ≡ Some a → spi_in a.phase ≡ Some spi → has_failed now a ≡ false
+HoldsNone now old spi = (place : ℕ) (a : Association) → slice_get old place ≡ Some a → HoldsSpi a spi → has_failed now a ≡ false

@@ -1,9 +1,8 @@
 -- What comes with a moment, at all associations (RFC 7296 sections 2.1 and 2.4): requests go out again, associations whose peer is gone
 -- are closed, and those that are over are held no longer.
-use Rattle.std.specs.Prelude.{◌≡◌, ◌≢◌, ◌++◌, ◌∷◌, ◌<◌, ℕ, Bool, true, false, Some, List, [], slice_get}
+use Rattle.std.specs.Prelude.{◌≡◌, ◌++◌, ◌∷◌, ◌<◌, ℕ, Bool, true, false, Some, List, [], slice_get}
 use Rattle.sadb.specs.Database.{Database}
-use Rattle.association.specs.Closing.{Closes, HoldsSpi}
-use Rattle.association.specs.Phases.{spi_in}
+use Rattle.association.specs.Closing.{Closes, HoldsReserved, HoldsSpi}
 use Rattle.association.specs.declared.phase.Association.{Association}
 use Rattle.moments.specs.Due.{due_of, has_failed, is_over, SendsAgain}
 use Rattle.moments.specs.declared.resent.Resent.{Resent}
@@ -47,8 +46,8 @@ PassAll now (a ∷ rest) table sent closed held new_table = PassesThen now a (λ
 
 -- The SPIs that the associations hold are reserved in the table, each for one of them alone.
 pub record HoldTheirSpis (associations : List Association) (table : Database) : Type 0 where
-  pub reserved : (place : ℕ) (a : Association) → slice_get associations place ≡ Some a → HoldsSpi (spi_in a.phase) table
-  pub apart : (place later : ℕ) (a other : Association) (spi : ℕ) → place < later → slice_get associations place ≡ Some a → slice_get associations later ≡ Some other → spi_in a.phase ≡ Some spi → spi_in other.phase ≢ Some spi
+  pub reserved : (place : ℕ) (a : Association) → slice_get associations place ≡ Some a → HoldsReserved a table
+  pub apart : (place later : ℕ) (a other : Association) (spi : ℕ) → place < later → slice_get associations place ≡ Some a → slice_get associations later ≡ Some other → HoldsSpi a spi → ¬ HoldsSpi other spi
 
 abbrev pub Ticks : ℕ → List Association → Database → Ticked → List Association → Database → Type 0
 Ticks now old table ticked new new_table = PassAll now old table ticked.requests ticked.closed new new_table

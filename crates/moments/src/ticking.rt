@@ -1,8 +1,7 @@
 //! What a moment brings, at all associations.
 ghost use Rattle.std.specs.Prelude.{◌≡◌, IfOk, IfErr};
 ghost use Rattle.std.specs.List.{flat_map};
-ghost use Rattle.association.specs.Closing.{HoldsSpi};
-ghost use Rattle.association.specs.Phases.{spi_in};
+ghost use Rattle.association.specs.Closing.{HoldsReserved};
 ghost use Rattle.moments.specs.Due.{closed_of, sent_of};
 ghost use Rattle.moments.specs.Passing.{Becomes, BecomeAll};
 ghost use Rattle.moments.specs.Ticking.{HoldTheirSpis, Ticks};
@@ -84,7 +83,7 @@ fn pass_all(alloc: Global, associations: &mut [Association], table: &mut Table, 
 }
 
 fn pass(alloc: Global, association: &mut Association, table: &mut Table, now: u64)
-    requires { HoldsSpi (spi_in association.old.phase) table.old }
+    requires { HoldsReserved association.old table.old }
     ensures { Becomes now association.old table.old association.new table.new }
 {
     if is_over(association, now) {

@@ -1,7 +1,7 @@
 //! What comes with time: requests go out again, and associations end (RFC 7296, sections 2.1 and 2.4).
-ghost use Rattle.std.specs.Prelude.{◌≡◌, All, None};
-ghost use Rattle.std.specs.Bool.{OnFalse, OnTrue};
-ghost use Rattle.association.specs.Phases.{spi_in};
+ghost use Rattle.std.specs.Prelude.{All};
+ghost use Rattle.std.specs.Bool.{OnTrue};
+ghost use Rattle.association.specs.Closing.{HoldsNoSpi};
 
 use association::{Association, HalfOpen, Phase, Purpose, Request};
 use base::Items;
@@ -84,18 +84,12 @@ fn established(alloc: Global, timers: &[Timer]) -> Result<Vec<Association>, Fail
     Ok(all)
 }
 
-fn waits_for_child(association: &Association) -> bool
-    ensures { OnFalse result (spi_in association.now.phase ≡ None) }
-{
-    matches!(association.phase, Phase::InitSent(_) | Phase::AuthSent(_))
-}
-
-/// Whether none holds an SPI for its first child, as none does in these tests.
+/// Whether none holds an SPI for a child, as none does in these tests.
 fn none_waits_for_child(associations: &[Association]) -> bool
-    ensures { OnTrue result (All (λ a. spi_in a.phase ≡ None) associations.now) }
+    ensures { OnTrue result (All HoldsNoSpi associations.now) }
 {
     for association in associations {
-        if waits_for_child(association) {
+        if association.holds_spi() {
             return false;
         }
     }

@@ -3,7 +3,6 @@ use Rattle.association.proofs.laws.endings_are_determined.Goals as goal
 
 pub returns : goal.returns
 returns c = same_after_closing (record {
-  released = c.later_tables_are_determined.ensures.released;
   emptied = c.later_tables_are_determined.ensures.emptied;
   given_up = c.later_outgoing_are_determined.ensures.given_up;
 })

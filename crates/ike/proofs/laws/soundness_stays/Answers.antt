@@ -17,10 +17,15 @@ returns c =
       admits_soundly = c.requests_are_remembered.ensures.admitted;
       whole = c.keys_stay_whole.ensures.taken;
       admits_whole = c.keys_stay_whole.ensures.admitted;
+      begins_one = c.spis_come_by_orders.ensures.begun;
+      begins_held = c.spis_come_by_orders.ensures.first;
+      admits_none = c.spis_come_by_orders.ensures.admitted;
       room = c.acceptance_is_limited.ensures.room;
     }) (record {
       probed = c.orders_are_short_and_determined.ensures.kept;
       probed_soundly = c.requests_are_remembered.ensures.probed;
+      asked = c.spis_come_by_orders.ensures.asked;
+      asking = c.spis_come_by_orders.ensures.asking;
       held = c.some_are_held_on.ensures.held;
       reserved = c.some_are_held_on.ensures.reserved;
     })

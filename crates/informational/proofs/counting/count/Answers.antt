@@ -26,3 +26,7 @@ returns-clause-counted g c =
       concluded = subst (λ b. ClosesIf b (gone_with c.args.table.now.pairs c.args.association.now.serial asked) a c.args.table.now c.args.step.now.moment c.conclude.new.association c.conclude.new.table)
           closed c.conclude.ensures;
     }
+
+pub conclude-requires : goal.conclude-requires
+conclude-requires g c =
+    c.spis_stay_held.ensures.counting c.args.association.now c.args.table.now c.args.number c.count-request.result c.count-request.new.self c.count-request.ensures c.requires.reserved

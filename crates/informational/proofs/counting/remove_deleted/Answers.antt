@@ -16,7 +16,7 @@ returns-in-Some c =
     let pair : Pair = c.in-Some.pair.now in
     let there : pair_at table.pairs child ≡ Some pair = sym c.get.ensures ∙ ap option_copied c.in-Some.is in
     let own : BelongsTo table.pairs c.args.ike child = record { pair = pair; there = there; its = c.if-pair-ike.true } in
-    let gone : gone_with table.pairs c.args.ike c.args.purpose ≡ child ∷ [] =
+    let gone : gone_with table.pairs c.args.ike c.args.purpose.now ≡ child ∷ [] =
     ap (λ (p : Purpose). gone_with table.pairs c.args.ike p) c.in-DeleteChild.is
     ∙ ap (λ (o : Option Pair). if_its_own o c.args.ike child) there
     ∙ ap (λ (b : Bool). if b then child ∷ [] else []) (eq-eqb pair.ike c.args.ike c.if-pair-ike.true) in

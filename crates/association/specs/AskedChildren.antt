@@ -1,10 +1,10 @@
--- The child that is made with an association (RFC 7296 section 1.2).
+-- A child that an end asked for, with the association or by an exchange of its own (RFC 7296 sections 1.2 and 1.3.1).
 use Rattle.std.specs.Prelude.{ℕ, Bool}
 use Rattle.base.specs.declared.selector.Selector.{Selector}
 use Rattle.policy.specs.Narrowing.{IsSendableSelector}
 use Rattle.children.specs.declared.asking.Asked.{Asked}
 
-pub record FirstChildView : Type 0 where
+pub record AskedChildView : Type 0 where
   -- the inbound SPI that the table reserved
   pub spi : ℕ
   -- the selectors of this end's side and of the peer's
@@ -19,5 +19,5 @@ pub record IsSendableChild (local remote : Selector) : Type 0 where
   pub remote_fits : IsSendableSelector remote
 
 -- what is asked for
-abbrev pub asked_of : FirstChildView → Asked
+abbrev pub asked_of : AskedChildView → Asked
 asked_of child = record { spi = child.spi; local = child.local; remote = child.remote; extended = child.extended }

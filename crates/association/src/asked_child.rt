@@ -1,41 +1,41 @@
-//! The child that is made with an association.
+//! A child that this end asked for.
 ghost use Rattle.std.specs.Prelude.{◌≡◌};
 ghost use Rattle.policy.specs.Narrowing.{IsSendableSelector};
-ghost use Rattle.association.specs.FirstChildren.{asked_of};
+ghost use Rattle.association.specs.AskedChildren.{asked_of};
 
 use base::Selector;
 use children::Asked;
 use sadb::Spi;
 use std::marker::Model;
 
-/// The child that an initiator wants with the association (RFC 7296, section 1.2).
+/// A child that this end wants: with the association, by IKE_AUTH, or by an exchange of its own (RFC 7296, sections 1.2 and 1.3.1).
 #[derive(Drop)]
-pub struct FirstChild {
+pub struct AskedChild {
     spi: Spi,
     local: Selector,
     remote: Selector,
     extended: bool,
 }
 
-impl Model for FirstChild {
-    ghost use Rattle.association.specs.FirstChildren.{FirstChildView, IsSendableChild};
+impl Model for AskedChild {
+    ghost use Rattle.association.specs.AskedChildren.{AskedChildView, IsSendableChild};
 
-    ghost Value = { FirstChildView };
+    ghost Value = { AskedChildView };
 
     ghost view = { λ c. record { spi = c.spi; local = c.local; remote = c.remote; extended = c.extended } };
 
     ghost invariant = { λ c. IsSendableChild c.local c.remote };
 }
 
-impl FirstChild {
+impl AskedChild {
     /// A child with an inbound SPI that the table reserved, a selector of this end's side and one of the peer's, and with extended
     /// sequence numbers where they are allowed (RFC 4303, section 2.2.1). The caller gives selectors that a message can carry.
-    pub fn new(spi: Spi, local: Selector, remote: Selector, extended: bool) -> FirstChild
+    pub fn new(spi: Spi, local: Selector, remote: Selector, extended: bool) -> AskedChild
         requires local { IsSendableSelector local }
         requires remote { IsSendableSelector remote }
         ensures { result ≡ record { spi = spi; local = local; remote = remote; extended = extended } }
     {
-        FirstChild {
+        AskedChild {
             spi,
             local,
             remote,
