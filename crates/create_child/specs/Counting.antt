@@ -1,0 +1,84 @@
+-- The response to a request for a further child, and what comes of it (RFC 7296 sections 1.3.1, 2.17 and 2.21.3).
+use Rattle.std.specs.Prelude.{◌≡◌, ℕ, Bool, true, false, Option, Some, None}
+use Rattle.std.specs.FinMap as map
+use Rattle.suite.specs.declared.key_record.KeyRecord.{KeyRecord}
+use Rattle.exchange.specs.declared.sealed.Plain.{Plain}
+use Rattle.requests.specs.Outgoing.{CountsAnswer, OwnRequests}
+use Rattle.sadb.specs.Database.{Database, Installs, Releases}
+use Rattle.sadb.specs.declared.pair.Pair.{Pair}
+use Rattle.association.specs.AskedChildren.{asked_of}
+use Rattle.association.specs.Closing.{Closes}
+use Rattle.association.specs.declared.phase.Association.{Association}
+use Rattle.association.specs.declared.phase.Phase.TheVariants as phase
+use Rattle.association.specs.declared.phase.Request.{Request}
+use Rattle.association.specs.declared.purpose.FurtherChild.{FurtherChild}
+use Rattle.association.specs.declared.purpose.Purpose.TheVariants.{CreateChild}
+use Rattle.initial.specs.Concluding.{with_outgoing}
+use Rattle.initial.specs.Configs.{Setup}
+use Rattle.initial.specs.declared.ending.Ended.{Ended}
+use Rattle.further.specs.Concluding.{Concludes}
+use Rattle.further.specs.declared.concluding.Conclusion.{Conclusion}
+use Rattle.further.specs.declared.concluding.Conclusion.TheVariants as conclusion
+
+-- the request of this number waits for its answer, and asked for a further child
+pub record AsksAt (requests : OwnRequests Request) (number : ℕ) : Type 0 where
+  pub request : Request
+  pub outstanding : map.get requests.outstanding number ≡ Some request
+  pub further : FurtherChild
+  pub asked : request.purpose ≡ CreateChild further
+
+-- a child that is made has the SPI that was reserved for it
+abbrev pub HasItsSpi : ℕ → Conclusion → Type 0
+HasItsSpi spi conclusion.Closes = Unit {0}
+HasItsSpi spi (conclusion.Made pair) = pair.inbound.association.spi ≡ spi
+HasItsSpi spi conclusion.NoChild = Unit {0}
+
+-- what the response makes of it, under these keys; only private contracts cite this and the one before
+pub record ConcludesAt (setup : Setup) (a : Association) (keys : KeyRecord) (number : ℕ) (plain : Plain) (concluded : Conclusion) : Type 0 where
+  pub at : AsksAt a.outgoing number
+  pub due : Concludes setup.config.blocks a.serial keys (asked_of at.further.child) at.further.nonce plain concluded
+  pub its_own : HasItsSpi at.further.child.spi concluded
+
+abbrev pub is_closing_conclusion : Conclusion → Bool
+is_closing_conclusion conclusion.Closes = true
+is_closing_conclusion (conclusion.Made pair) = false
+is_closing_conclusion conclusion.NoChild = false
+
+-- The association ends, and the child's SPI is given up with those that it holds.
+pub record EndsWithout (spi : ℕ) (old : Association) (table : Database) (moment : ℕ) (child : Option ℕ) (new : Association) (new_table : Database) : Type 0 where
+  pub none : child ≡ None
+  pub between : Database
+  pub released : Releases table spi between
+  pub over : Closes old between moment new new_table
+
+-- The child is made, under its SPI.
+pub record AddsUnder (spi : ℕ) (pair : Pair) (old : Association) (table : Database) (child : Option ℕ) (new : Association) (new_table : Database) : Type 0 where
+  pub serial : ℕ
+  pub told : child ≡ Some serial
+  pub installed : Installs table spi pair serial new_table
+  pub same : new ≡ old
+
+-- No child is made, and its SPI is given up.
+pub record GoesOnWithout (spi : ℕ) (old : Association) (table : Database) (child : Option ℕ) (new : Association) (new_table : Database) : Type 0 where
+  pub none : child ≡ None
+  pub released : Releases table spi new_table
+  pub same : new ≡ old
+
+abbrev pub EndsFurther : Conclusion → ℕ → Association → Database → ℕ → Option ℕ → Association → Database → Type 0
+EndsFurther conclusion.Closes spi old table moment child new new_table = EndsWithout spi old table moment child new new_table
+EndsFurther (conclusion.Made pair) spi old table moment child new new_table = AddsUnder spi pair old table child new new_table
+EndsFurther conclusion.NoChild spi old table moment child new new_table = GoesOnWithout spi old table child new new_table
+
+-- The response is counted, and concluded on.
+pub record CountsFurther (setup : Setup) (old : Association) (table : Database) (number : ℕ) (plain : Plain) (ended : Ended) (new : Association) (new_table : Database) : Type 0 where
+  pub keys : KeyRecord
+  pub established : old.phase ≡ phase.Established keys
+  pub request : Request
+  pub further : FurtherChild
+  pub asked : request.purpose ≡ CreateChild further
+  pub outgoing : OwnRequests Request
+  pub counted : CountsAnswer old.outgoing number request outgoing
+  pub conclusion : Conclusion
+  pub concluded : Concludes setup.config.blocks old.serial keys (asked_of further.child) further.nonce plain conclusion
+  pub closed : ended.closed ≡ is_closing_conclusion conclusion
+  pub ends : EndsFurther conclusion further.child.spi (with_outgoing old outgoing) table setup.moment ended.child new new_table

@@ -1,0 +1,5 @@
+pub mod Faults
+pub mod Asking
+pub mod Readying
+pub mod Answering
+pub mod Counting

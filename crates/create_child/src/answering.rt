@@ -1,0 +1,133 @@
+//! The answer to a request for a further child.
+ghost use Rattle.std.specs.Prelude.{◌≡◌, IfOk, IfErr};
+ghost use Rattle.wire.specs.Numbers.{CREATE_CHILD_SA};
+ghost use Rattle.exchange.specs.Headers.{keys_of};
+ghost use Rattle.exchange.specs.Sealed.{IsSealed};
+ghost use Rattle.requests.specs.Incoming.{IsFreshRequest};
+ghost use Rattle.sadb.specs.Database.{IsAsBefore};
+ghost use Rattle.association.specs.Closing.{HoldsReserved};
+ghost use Rattle.initial.specs.Answering.{reply_message};
+ghost use Rattle.initial.specs.Configs.{setup_of, IsConfig};
+ghost use Rattle.informational.specs.Orders.{IsEstablished};
+ghost use Rattle.further.specs.Answering.{further_answer, FitsAnswer};
+ghost use Rattle.create_child.specs.Answering.{AnswersFurther, CanInstall, ConcludesFurther};
+
+use association::laws::spis_stay_held;
+use association::{Association, Phase};
+use auth::ChildAnswer;
+use base::Items;
+use children::{ChildFault, install};
+use exchange::laws::short_messages_can_be_sent;
+use exchange::{Plain, sent_header};
+use further::{answer_payloads, decide};
+use initial::{Answered, Step, sealed};
+use sadb::{Pair, Table};
+use std::alloc::{AllocError, Global};
+use suite::{KeyRecord, Sealer};
+use wire::Message;
+use wire::numbers::CREATE_CHILD_SA;
+
+/// Answers a request of CREATE_CHILD_SA at an established association (RFC 7296, section 1.3.1), by the payloads that it opened to and what
+/// [`further::decide`] makes of them.
+///
+/// Where the payloads are not in the grammar, or the request is incomplete, the answer is INVALID_SYNTAX and the association is closed
+/// (section 2.21.3). Where no child is made for another reason the answer is that notice alone. Otherwise the child is made, and the answer
+/// has the step's fresh nonce.
+///
+/// The caller asks only at an established association, where the request is fresh and the SPIs that the association holds are reserved in
+/// the table. An error is for want of memory alone: association and table are as they were then, but for the table's room.
+pub fn answer<C: Sealer>(
+    alloc: Global,
+    step: &Step<'_, C>,
+    association: &mut Association,
+    table: &mut Table,
+    number: u32,
+    plain: &Plain,
+) -> Result<Answered, ChildFault>
+    requires config { IsConfig step.now.config.now }
+    requires established { IsEstablished association.old.phase }
+    requires fresh { IsFreshRequest association.old.incoming number }
+    requires reserved { HoldsReserved association.old table.old }
+    ensures answered { IfOk result (λ answered. AnswersFurther C.body_of (setup_of step.now)
+        association.old table.old number plain.now answered association.new table.new) }
+    ensures refused { IfErr result (λ _. (association.new ≡ association.old) × IsAsBefore table.old table.new) }
+{
+    let Phase::Established(keys) = &association.phase else {
+        unreachable!();
+    };
+    spis_stay_held();
+    let deleting = association.is_deleting();
+    let decision = decide(
+        alloc,
+        step,
+        table,
+        association.serial,
+        keys,
+        deleting,
+        plain,
+    )?;
+    let closed = decision.is_closing();
+    let (answer, pair) = decision.into_parts();
+    let octets = make_reply(alloc, step, association, keys, number, answer)?;
+    let kept = Items::from_slice(alloc, octets.as_slice())?;
+    association.incoming.prepare()?;
+    // From here on nothing can be refused.
+    association.incoming.take(number, kept);
+    let child = conclude(association, table, closed, pair, step.moment);
+    Ok(Answered {
+        octets,
+        child,
+        closed,
+    })
+}
+
+fn make_reply<C: Sealer>(
+    alloc: Global,
+    step: &Step<'_, C>,
+    association: &Association,
+    keys: &KeyRecord,
+    number: u32,
+    answer: ChildAnswer,
+) -> Result<Items<u8>, AllocError>
+    requires { FitsAnswer answer }
+    ensures { IfOk result (IsSealed C.body_of (keys_of association.now.role keys.now) step.now.fresh.now.seal
+        (reply_message association.now CREATE_CHILD_SA number (further_answer answer step.now.fresh.now.nonce))) }
+{
+    short_messages_can_be_sent();
+    let payloads = answer_payloads(alloc, answer, &step.fresh.nonce)?;
+    let role = association.role;
+    let message = Message {
+        header: sent_header(
+            association.spi_i,
+            association.spi_r,
+            CREATE_CHILD_SA,
+            role,
+            true,
+            number,
+        ),
+        payloads,
+    };
+    sealed(alloc, step.caller, role, keys, &message, &step.fresh.seal)
+}
+
+// The association is closed, or the child is added, if there is one.
+fn conclude(
+    association: &mut Association,
+    table: &mut Table,
+    closed: bool,
+    pair: Option<Pair>,
+    moment: u64,
+) -> Option<u32>
+    requires reserved { HoldsReserved association.old table.old }
+    requires room { CanInstall table.old pair }
+    ensures { ConcludesFurther closed pair association.old table.old moment result association.new table.new }
+{
+    if closed {
+        association.close(table, moment);
+        return None;
+    }
+    match pair {
+        Some(pair) => Some(install(table, pair)),
+        None => None,
+    }
+}

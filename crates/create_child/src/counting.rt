@@ -1,0 +1,124 @@
+//! The response to a request of this end for a further child.
+ghost use Rattle.std.specs.Prelude.{◌≡◌, IfOk, IfErr};
+ghost use Rattle.sadb.specs.Database.{IsReserved};
+ghost use Rattle.association.specs.Closing.{HoldsReserved, HoldsSpi};
+ghost use Rattle.initial.specs.Configs.{setup_of, IsConfig};
+ghost use Rattle.informational.specs.Orders.{IsEstablished};
+ghost use Rattle.create_child.specs.Counting.{is_closing_conclusion, AsksAt, ConcludesAt, CountsFurther, EndsFurther, HasItsSpi};
+
+use association::laws::{children_are_asked_for, spis_stay_held};
+use association::{Association, Phase, Purpose};
+use children::ChildFault;
+use exchange::Plain;
+use further::{Conclusion, conclude_response};
+use initial::{Ended, Step};
+use sadb::{Spi, Table};
+use std::alloc::Global;
+use suite::KeyRecord;
+
+/// Counts the response to a request for a further child (RFC 7296, section 1.3.1), by the payloads that it opened to and what
+/// [`further::conclude_response`] makes of them: the association is closed, the child is made under the SPI that was reserved for it, or no
+/// child is made and that SPI is given up.
+///
+/// The caller asks only at an established association, where a request of this number that asked for a child is outstanding, and the SPIs
+/// that the association holds are reserved in the table. An error is for want of memory alone, and changes nothing.
+pub fn count<C>(
+    alloc: Global,
+    step: &Step<'_, C>,
+    association: &mut Association,
+    table: &mut Table,
+    number: u32,
+    plain: &Plain,
+) -> Result<Ended, ChildFault>
+    requires config { IsConfig step.now.config.now }
+    requires established { IsEstablished association.old.phase }
+    requires asked { AsksAt association.old.outgoing number }
+    requires reserved { HoldsReserved association.old table.old }
+    ensures counted { IfOk result (λ ended. CountsFurther (setup_of step.now)
+        association.old table.old number plain.now ended association.new table.new) }
+    ensures refused { IfErr result (λ _. (association.new ≡ association.old) × (table.new ≡ table.old)) }
+{
+    let Phase::Established(keys) = &association.phase else {
+        unreachable!();
+    };
+    spis_stay_held();
+    children_are_asked_for();
+    let conclusion = conclusion_at(alloc, step, association, keys, number, plain)?;
+    // From here on nothing can be refused.
+    let request = association.outgoing.count(number);
+    let Some(spi) = request.purpose.into_spi() else {
+        unreachable!();
+    };
+    let closed = is_closing(&conclusion);
+    let child = conclude(association, table, spi, conclusion, step.moment);
+    Ok(Ended { child, closed })
+}
+
+// What the response makes of the request of its number.
+fn conclusion_at<C>(
+    alloc: Global,
+    step: &Step<'_, C>,
+    association: &Association,
+    keys: &KeyRecord,
+    number: u32,
+    plain: &Plain,
+) -> Result<Conclusion, ChildFault>
+    requires config { IsConfig step.now.config.now }
+    requires asked { AsksAt association.now.outgoing number }
+    ensures { IfOk result (ConcludesAt (setup_of step.now) association.now keys.now number plain.now) }
+{
+    let Some(request) = association.outgoing.get(number) else {
+        unreachable!();
+    };
+    let Purpose::CreateChild(further) = &request.purpose else {
+        unreachable!();
+    };
+    conclude_response(
+        alloc,
+        plain,
+        &further.child.asked(),
+        &further.nonce,
+        association.serial,
+        keys,
+        step.config.blocks,
+    )
+}
+
+fn is_closing(conclusion: &Conclusion) -> bool
+    ensures { result ≡ is_closing_conclusion conclusion.now }
+{
+    match conclusion {
+        Conclusion::Closes => true,
+        Conclusion::Made(_) => false,
+        Conclusion::NoChild => false,
+    }
+}
+
+// The child's SPI, which the association holds no more, goes to its pair or back to the table.
+fn conclude(
+    association: &mut Association,
+    table: &mut Table,
+    spi: Spi,
+    conclusion: Conclusion,
+    moment: u64,
+) -> Option<u32>
+    requires held { HoldsReserved association.old table.old }
+    requires reserved { IsReserved table.old spi }
+    requires apart { ¬ HoldsSpi association.old spi }
+    requires its_own { HasItsSpi spi conclusion }
+    ensures { EndsFurther conclusion spi association.old table.old moment result association.new table.new }
+{
+    spis_stay_held();
+    match conclusion {
+        Conclusion::Closes => {
+            table.release(spi);
+            association.close(table, moment);
+            None
+        }
+        Conclusion::Made(pair) => Some(table.install(spi, pair)),
+        Conclusion::NoChild => {
+            table.release(spi);
+            None
+        }
+    }
+}
