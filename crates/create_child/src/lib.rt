@@ -17,6 +17,7 @@ mod answering;
 mod asking;
 mod counting;
 mod fault;
+pub mod laws;
 
 pub use answering::answer;
 pub use asking::ask;

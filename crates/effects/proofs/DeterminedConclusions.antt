@@ -3,6 +3,7 @@ use Rattle.std.proofs.Common.{◌≡◌, ℕ, Bool, true, false, Option, Some, N
 use Rattle.sadb.specs.Contents.{table_content}
 use Rattle.sadb.specs.Database.{Database}
 use Rattle.sadb.specs.declared.pair.Pair.{Pair}
+use Rattle.association.specs.Closing.{GivesUpSpi}
 use Rattle.association.specs.Contents.{association_content}
 use Rattle.association.specs.Phases.{established_spi}
 use Rattle.association.specs.declared.phase.Association.{Association}
@@ -12,6 +13,7 @@ use Rattle.initial.specs.declared.concluding.Outcome.{Outcome}
 use Rattle.initial.specs.declared.concluding.Outcome.TheVariants as outcome
 use Rattle.informational.specs.Orders.{ClosesIf}
 use Rattle.effects.proofs.DeterminedLaws.{TableLaws}
+use Rattle.effects.proofs.WayLemmas.{FurtherIf}
 
 -- the child and the table
 pub record SameChild (child other : Option ℕ) (a b : Database) : Type 0 where
@@ -71,3 +73,18 @@ one_closing laws false serials moment old other a b table another a_table b_tabl
   ap association_content is.0 ∙ same ∙ sym (ap association_content also.0),
   laws.gone table another a_table b_table serials alike is.1.removed also.1.removed,
 )
+
+given_up_alike : TableLaws → (spi : Option ℕ) (old other a b : Database) → table_content old ≡ table_content other → GivesUpSpi spi old a → GivesUpSpi spi other b → table_content a ≡ table_content b
+given_up_alike laws None old other a b same is also = ap table_content is ∙ same ∙ sym (ap table_content also)
+given_up_alike laws (Some spi) old other a b same is also = laws.released old other a b spi same is also
+
+-- an end after an exchange of CREATE_CHILD_SA, or a child, or neither
+pub one_further_end : TableLaws → (closing : Bool) (spi : Option ℕ) (pair : Option Pair) (moment : ℕ) (child number : Option ℕ) (old other a b : Association) (table another a_table b_table : Database)
+    → association_content old ≡ association_content other → table_content table ≡ table_content another
+    → FurtherIf closing spi pair old table moment child a a_table → FurtherIf closing spi pair other another moment number b b_table → SameConclusion child number a b a_table b_table
+one_further_end laws true spi pair moment child number old other a b table another a_table b_table same alike is also =
+    let over = laws.ended old other a b is.between also.between a_table b_table moment same (given_up_alike laws spi table another is.between also.between alike is.given_up also.given_up) is.over also.over in
+    record { child_is = is.none ∙ sym also.none; association = over.0; table = over.1 }
+one_further_end laws false spi pair moment child number old other a b table another a_table b_table same alike is also =
+    let added = one_added laws spi pair child number table another a_table b_table alike is.added also.added in
+    record { child_is = added.child_is; association = ap association_content is.same ∙ same ∙ sym (ap association_content also.same); table = added.table }

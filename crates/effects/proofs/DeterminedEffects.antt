@@ -1,8 +1,8 @@
 -- What a message does to its association and to the table is determined, but for room.
-use Rattle.std.proofs.Common.{◌≡◌, ◌==◌, ℕ, Bool, true, false, List, Option, Some, refl, sym, ap, subst, ◌∙◌}
+use Rattle.std.proofs.Common.{◌≡◌, ◌==◌, ℕ, Bool, true, false, List, Option, Some, None, MatchBool, refl, sym, ap, subst, ◌∙◌}
 use Rattle.std.specs.FinMap as map
 use Rattle.base.specs.Octets.{Octets}
-use Rattle.wire.specs.Numbers.{IKE_AUTH, INFORMATIONAL}
+use Rattle.wire.specs.Numbers.{CREATE_CHILD_SA, IKE_AUTH, INFORMATIONAL}
 use Rattle.wire.specs.declared.message.Message.{Message}
 use Rattle.wire.specs.declared.payload.Payload.{Payload}
 use Rattle.suite.specs.declared.key_record.KeyRecord.{KeyRecord}
@@ -14,8 +14,10 @@ use Rattle.requests.specs.Incoming.{HasSameRequests, PeerRequests, TakesRequest}
 use Rattle.requests.specs.Outgoing.{CountsAnswer, OwnRequests}
 use Rattle.sadb.specs.Contents.{table_content}
 use Rattle.sadb.specs.Database.{Database, PairMap}
+use Rattle.association.specs.AskedChildren.{asked_of}
 use Rattle.association.specs.Contents.{association_content}
 use Rattle.association.specs.Phases.{keys_in}
+use Rattle.association.specs.Purposes.{AwaitsDeletion}
 use Rattle.association.specs.Receiving.{Answers, AnswersInitial, IsReceived, Reception, Refused, Repeat, TakesEffect}
 use Rattle.association.specs.declared.fault.MessageFault.{MessageFault}
 use Rattle.association.specs.declared.fault.MessageFault.TheVariants.{WrongPhase}
@@ -25,7 +27,9 @@ use Rattle.association.specs.declared.phase.HalfOpen.{HalfOpen}
 use Rattle.association.specs.declared.phase.Phase.{Phase}
 use Rattle.association.specs.declared.phase.Phase.TheVariants as phase
 use Rattle.association.specs.declared.phase.Request.{Request}
+use Rattle.association.specs.declared.purpose.FurtherChild.{FurtherChild}
 use Rattle.association.specs.declared.purpose.Purpose.{Purpose}
+use Rattle.association.specs.declared.purpose.Purpose.TheVariants.{CreateChild}
 use Rattle.initial.specs.Answering.{outcome_of, reply_message, reply_payloads, AnswersAuth, Prover}
 use Rattle.initial.specs.Concluding.{is_closing, with_incoming, with_outgoing, ConcludesBy}
 use Rattle.initial.specs.Configs.{Setup}
@@ -37,8 +41,15 @@ use Rattle.deletions.specs.declared.deciding.Verdict.{Verdict}
 use Rattle.informational.specs.Answering.{gone_by, AnswersInformational}
 use Rattle.informational.specs.Counting.{gone_with, is_ended, CountsInformational}
 use Rattle.informational.specs.Orders.{ClosesIf}
+use Rattle.further.specs.Answering.{answer_to_further, further_answer, further_pair}
+use Rattle.further.specs.Concluding.{Concludes}
+use Rattle.further.specs.Deciding.{is_closing_decision, DecidesFurther}
+use Rattle.further.specs.declared.concluding.Conclusion.{Conclusion}
+use Rattle.further.specs.declared.deciding.Decision as further
+use Rattle.create_child.specs.Answering.{AnswersFurther, ConcludesFurther}
+use Rattle.create_child.specs.Counting.{is_closing_conclusion, CountsFurther, EndsFurther}
 use Rattle.effects.specs.Lengths.{AreWholeKeys, HoldsWholeKeys, TellsLengths}
-use Rattle.effects.specs.Taking.{asker_of, prover_of, Does, DoesFurther, DoesInitial, DoesRequest, DoesResponse, IsPassedOver, Meaning, Says, TakesMessage}
+use Rattle.effects.specs.Taking.{asked_further, asker_of, prover_of, Does, DoesAnswer, DoesFurther, DoesInitial, DoesRequest, DoesResponse, IsPassedOver, Meaning, Says, TakesMessage}
 use Rattle.initial.specs.declared.answering.Answered.{Answered}
 use Rattle.initial.specs.declared.concluding.Outcome.{Outcome}
 use Rattle.initial.specs.declared.deciding.Decision.{Decision}
@@ -48,9 +59,10 @@ use Rattle.initial.specs.declared.reading.Continued.TheVariants as continued
 use Rattle.effects.specs.declared.taking.Effect.{Effect}
 use Rattle.effects.specs.declared.taking.Effect.TheVariants as effect
 use Rattle.effects.proofs.DeterminedLaws.{Laws}
-use Rattle.effects.proofs.DeterminedConclusions.{one_closing, one_conclusion}
+use Rattle.effects.proofs.DeterminedConclusions.{one_closing, one_conclusion, one_further_end}
 use Rattle.effects.proofs.DeterminedDecisions.{one_decision, one_read, one_verdict}
 use Rattle.effects.proofs.DeterminedReadings.{keys_by_role, one_response}
+use Rattle.effects.proofs.WayLemmas.{answered_further, counted_further, pair_made}
 
 -- two ends of one beginning
 pub record SameEnd (e f : Effect) (a b : Association) (a_table b_table : Database) : Type 0 where
@@ -66,6 +78,9 @@ same_opened p one other is also = cc
 
 same_sent : (p : Phase) (one other : AuthSent) → p ≡ phase.AuthSent one → p ≡ phase.AuthSent other → one ≡ other
 same_sent p one other is also = cc
+
+same_further : (one other : FurtherChild) → CreateChild one ≡ CreateChild other → one ≡ other
+same_further one other same = cc
 
 same_keys : (p : Phase) (one other : KeyRecord) → p ≡ phase.Established one → p ≡ phase.Established other → one ≡ other
 same_keys p one other is also = cc
@@ -213,6 +228,89 @@ module _ (laws : Laws) (meaning : Meaning) (setup : Setup) (old other : Associat
         table = over.1;
       }
 
+  -- ---- CREATE_CHILD_SA
+
+  one_deleting : (d e : Bool) → MatchBool d (AwaitsDeletion old.outgoing) (¬ AwaitsDeletion old.outgoing) → MatchBool e (AwaitsDeletion other.outgoing) (¬ AwaitsDeletion other.outgoing) → d ≡ e
+  one_deleting true true is also = refl
+  one_deleting true false is also = absurd (also (record {
+    number = is.number;
+    request = is.request;
+    outstanding = sym (ap (λ (z : Association). map.get z.outgoing.outstanding is.number) same) ∙ is.outstanding;
+    deletion = is.deletion;
+  }))
+  one_deleting false true is also = absurd (is (record {
+    number = also.number;
+    request = also.request;
+    outstanding = ap (λ (z : Association). map.get z.outgoing.outstanding also.number) same ∙ also.outstanding;
+    deletion = also.deletion;
+  }))
+  one_deleting false false is also = refl
+
+  one_further_answer : TellsLengths meaning.body_of setup.fresh.seal → HoldsWholeKeys old.phase → (number : ℕ) (plain : Plain) (x y : Answered) (a b : Association) (a_table b_table : Database)
+      → AnswersFurther meaning.body_of setup old table number plain x a a_table → AnswersFurther meaning.body_of setup other another number plain y b b_table
+      → SameEnd (effect.Replied x) (effect.Replied y) a b a_table b_table
+  one_further_answer tells whole number plain x y a b a_table b_table is also =
+      let keys : also.keys ≡ is.keys = same_keys other.phase also.keys is.keys also.established (sym (ap (λ (z : Association). z.phase) same) ∙ is.established) in
+      let serial : other.serial ≡ old.serial = sym (ap (λ (z : Association). z.serial) same) in
+      let deleting : also.deleting ≡ is.deleting = sym (one_deleting is.deleting also.deleting is.told also.told) in
+      let by_serial : DecidesFurther setup old.serial also.keys another also.deleting plain also.decision =
+      subst (λ (n : ℕ). DecidesFurther setup n also.keys another also.deleting plain also.decision) serial also.decided in
+      let by_keys : DecidesFurther setup old.serial is.keys another also.deleting plain also.decision =
+      subst (λ (k : KeyRecord). DecidesFurther setup old.serial k another also.deleting plain also.decision) keys by_serial in
+      let decided : DecidesFurther setup old.serial is.keys another is.deleting plain also.decision =
+      subst (λ (d : Bool). DecidesFurther setup old.serial is.keys another d plain also.decision) deleting by_keys in
+      let decision : also.decision ≡ is.decision = sym (laws.further.decided setup old.serial is.keys table another is.deleting plain is.decision also.decision alike is.decided decided) in
+      let answer = λ (d : further.Decision). further_answer (answer_to_further d) setup.fresh.nonce in
+      let sealed_by_keys : IsSealed meaning.body_of (keys_of other.role is.keys) setup.fresh.seal (reply_message other CREATE_CHILD_SA number (answer also.decision)) y.octets =
+      subst (λ (k : KeyRecord). IsSealed meaning.body_of (keys_of other.role k) setup.fresh.seal (reply_message other CREATE_CHILD_SA number (answer also.decision)) y.octets) keys also.sealed in
+      let sealed : IsSealed meaning.body_of (keys_of other.role is.keys) setup.fresh.seal (reply_message other CREATE_CHILD_SA number (answer is.decision)) y.octets =
+      subst (λ (d : further.Decision). IsSealed meaning.body_of (keys_of other.role is.keys) setup.fresh.seal (reply_message other CREATE_CHILD_SA number (answer d)) y.octets) decision sealed_by_keys in
+      let octets : x.octets ≡ y.octets = one_sealing tells is.keys (whole is.keys (ap keys_in is.established)) CREATE_CHILD_SA number (answer is.decision) x.octets y.octets is.sealed sealed in
+      let before = one_taking number x.octets y.octets is.ready also.ready is.incoming also.incoming octets is.prepared also.prepared is.taken also.taken in
+      let between : table_content is.between ≡ table_content also.between = laws.tables.prepared table is.between is.room ∙ alike ∙ sym (laws.tables.prepared another also.between also.room) in
+      let concluded : ConcludesFurther (is_closing_decision is.decision) (further_pair is.decision) (with_incoming other also.incoming) also.between setup.moment y.child b b_table =
+      subst (λ (d : further.Decision). ConcludesFurther (is_closing_decision d) (further_pair d) (with_incoming other also.incoming) also.between setup.moment y.child b b_table) decision also.concluded in
+      let over = one_further_end laws.tables (is_closing_decision is.decision) None (further_pair is.decision) setup.moment x.child y.child (with_incoming old is.incoming) (with_incoming other also.incoming) a b is.between also.between a_table b_table before between
+      (answered_further (is_closing_decision is.decision) (further_pair is.decision) (with_incoming old is.incoming) is.between setup.moment x.child a a_table is.concluded)
+      (answered_further (is_closing_decision is.decision) (further_pair is.decision) (with_incoming other also.incoming) also.between setup.moment y.child b b_table concluded) in
+      let closed : x.closed ≡ y.closed = is.closed ∙ ap is_closing_decision (sym decision) ∙ sym also.closed in
+      record {
+        effect_is = ap (λ (z : Answered). effect.Replied z) (answered_alike x y octets over.child_is closed);
+        association = over.association;
+        table = over.table;
+      }
+
+  one_further_count : (number : ℕ) (plain : Plain) (x y : Ended) (a b : Association) (a_table b_table : Database)
+      → CountsFurther setup old table number plain x a a_table → CountsFurther setup other another number plain y b b_table
+      → SameEnd (effect.Counted x) (effect.Counted y) a b a_table b_table
+  one_further_count number plain x y a b a_table b_table is also =
+      let keys : also.keys ≡ is.keys = same_keys other.phase also.keys is.keys also.established (sym (ap (λ (z : Association). z.phase) same) ∙ is.established) in
+      let serial : other.serial ≡ old.serial = sym (ap (λ (z : Association). z.serial) same) in
+      let requests : also.request ≡ is.request = same_request also.request is.request (sym also.counted.there ∙ sym (ap (λ (z : Association). map.get z.outgoing.outstanding number) same) ∙ is.counted.there) in
+      let asked : also.further ≡ is.further = same_further also.further is.further (sym also.asked ∙ ap (λ (r : Request). r.purpose) requests ∙ is.asked) in
+      let by_serial : Concludes setup.config.blocks old.serial also.keys (asked_of also.further.child) also.further.nonce plain also.conclusion =
+      subst (λ (n : ℕ). Concludes setup.config.blocks n also.keys (asked_of also.further.child) also.further.nonce plain also.conclusion) serial also.concluded in
+      let by_keys : Concludes setup.config.blocks old.serial is.keys (asked_of also.further.child) also.further.nonce plain also.conclusion =
+      subst (λ (k : KeyRecord). Concludes setup.config.blocks old.serial k (asked_of also.further.child) also.further.nonce plain also.conclusion) keys by_serial in
+      let concluded : Concludes setup.config.blocks old.serial is.keys (asked_of is.further.child) is.further.nonce plain also.conclusion =
+      subst (λ (f : FurtherChild). Concludes setup.config.blocks old.serial is.keys (asked_of f.child) f.nonce plain also.conclusion) asked by_keys in
+      let conclusion : also.conclusion ≡ is.conclusion =
+      sym (laws.further.concluded setup.config.blocks old.serial is.keys (asked_of is.further.child) is.further.nonce plain is.conclusion also.conclusion is.concluded concluded) in
+      let before = one_counting number is.request also.request is.outgoing also.outgoing is.counted also.counted in
+      let ends_by_asked : EndsFurther also.conclusion is.further.child.spi (with_outgoing other also.outgoing) another setup.moment y.child b b_table =
+      subst (λ (f : FurtherChild). EndsFurther also.conclusion f.child.spi (with_outgoing other also.outgoing) another setup.moment y.child b b_table) asked also.ends in
+      let ends : EndsFurther is.conclusion is.further.child.spi (with_outgoing other also.outgoing) another setup.moment y.child b b_table =
+      subst (λ (c : Conclusion). EndsFurther c is.further.child.spi (with_outgoing other also.outgoing) another setup.moment y.child b b_table) conclusion ends_by_asked in
+      let over = one_further_end laws.tables (is_closing_conclusion is.conclusion) (Some is.further.child.spi) (pair_made is.conclusion) setup.moment x.child y.child (with_outgoing old is.outgoing) (with_outgoing other also.outgoing) a b table another a_table b_table before alike
+      (counted_further is.conclusion is.further.child.spi (with_outgoing old is.outgoing) table setup.moment x.child a a_table is.ends)
+      (counted_further is.conclusion is.further.child.spi (with_outgoing other also.outgoing) another setup.moment y.child b b_table ends) in
+      let closed : x.closed ≡ y.closed = is.closed ∙ ap is_closing_conclusion (sym conclusion) ∙ sym also.closed in
+      record {
+        effect_is = ap (λ (z : Ended). effect.Counted z) (ended_alike x y over.child_is closed);
+        association = over.association;
+        table = over.table;
+      }
+
   -- ---- what is passed over
 
   one_passing : (e f : Effect) (a b : Association) (a_table b_table : Database) → e ≡ f → IsPassedOver old table a a_table → IsPassedOver other another b b_table → SameEnd e f a b a_table b_table
@@ -253,6 +351,16 @@ pub record IsInformed (setup : Setup) (number : ℕ) (plain : Plain) (e : Effect
   pub is : e ≡ effect.Counted ended
   pub counts : CountsInformational setup old table number plain ended new new_table
 
+pub record AnswersChild (meaning : Meaning) (setup : Setup) (number : ℕ) (plain : Plain) (e : Effect) (old : Association) (table : Database) (new : Association) (new_table : Database) : Type 0 where
+  pub answered : Answered
+  pub is : e ≡ effect.Replied answered
+  pub answers : AnswersFurther meaning.body_of setup old table number plain answered new new_table
+
+pub record CountsChild (setup : Setup) (number : ℕ) (plain : Plain) (e : Effect) (old : Association) (table : Database) (new : Association) (new_table : Database) : Type 0 where
+  pub ended : Ended
+  pub is : e ≡ effect.Counted ended
+  pub counts : CountsFurther setup old table number plain ended new new_table
+
 module _ (meaning : Meaning) (setup : Setup) (old : Association) (table : Database) (octets : Octets) (m : Message) (new : Association) (new_table : Database) where
   pub refused_is : (fault : MessageFault) (e : Effect) → Does meaning setup old table octets m (Refused fault) e new new_table → Refuses fault e old table new new_table
   refused_is fault (effect.Refused s) is = record { is = ap (λ (x : MessageFault). effect.Refused x) is.0; passed = is.1 }
@@ -274,12 +382,12 @@ module _ (meaning : Meaning) (setup : Setup) (number : ℕ) (plain : Plain) (old
   -- by the exchange, at an established association
   abbrev pub FurtherDone : Bool → Effect → Type 0
   FurtherDone true e = Informs meaning setup number plain e old table new new_table
-  FurtherDone false e = Refuses WrongPhase e old table new new_table
+  FurtherDone false e = AnswersChild meaning setup number plain e old table new new_table
 
   further_is : (informational : Bool) (e : Effect) → DoesFurther informational meaning setup old table number plain e new new_table → FurtherDone informational e
   further_is true (effect.Replied s) is = record { answered = s; is = refl; answers = is }
   further_is true e is = absurd is
-  further_is false (effect.Refused s) is = record { is = ap (λ (x : MessageFault). effect.Refused x) is.0; passed = is.1 }
+  further_is false (effect.Replied s) is = record { answered = s; is = refl; answers = is }
   further_is false e is = absurd is
 
   -- by the phase: a half-open association answers, an established one goes by the exchange, any other passes the request over
@@ -295,16 +403,26 @@ module _ (meaning : Meaning) (setup : Setup) (number : ℕ) (plain : Plain) (old
   request_is p exchange (effect.Refused s) is = record { is = ap (λ (x : MessageFault). effect.Refused x) is.0; passed = is.1 }
   request_is p exchange e is = absurd is
 
+  -- by what the request of the response asked for
+  abbrev pub AnswerDone : Bool → Effect → Type 0
+  AnswerDone true e = CountsChild setup number plain e old table new new_table
+  AnswerDone false e = IsInformed setup number plain e old table new new_table
+
+  answer_is : (further : Bool) (e : Effect) → DoesAnswer further setup old table number plain e new new_table → AnswerDone further e
+  answer_is true (effect.Counted s) is = record { ended = s; is = refl; counts = is }
+  answer_is true e is = absurd is
+  answer_is false (effect.Counted s) is = record { ended = s; is = refl; counts = is }
+  answer_is false e is = absurd is
+
   abbrev pub ResponseDone : Phase → Effect → Type 0
   ResponseDone (phase.AuthSent sent) e = Counts meaning setup number plain e old table new new_table
-  ResponseDone (phase.Established keys) e = IsInformed setup number plain e old table new new_table
+  ResponseDone (phase.Established keys) e = AnswerDone (asked_further old number) e
   ResponseDone p e = Refuses WrongPhase e old table new new_table
 
   pub response_is : (p : Phase) (e : Effect) → DoesResponse meaning setup p old table number plain e new new_table → ResponseDone p e
   response_is (phase.AuthSent p) (effect.Counted s) is = record { ended = s; is = refl; ends = is }
   response_is (phase.AuthSent p) e is = absurd is
-  response_is (phase.Established p) (effect.Counted s) is = record { ended = s; is = refl; counts = is }
-  response_is (phase.Established p) e is = absurd is
+  response_is (phase.Established p) e is = answer_is (asked_further old number) e is
   response_is p (effect.Refused s) is = record { is = ap (λ (x : MessageFault). effect.Refused x) is.0; passed = is.1 }
   response_is p e is = absurd is
 
@@ -367,10 +485,15 @@ module _ (laws : Laws) (meaning : Meaning) (setup : Setup) (old other : Associat
   both_inform tells whole number plain true is also =
       let one = one_information laws meaning setup old other same table another alike tells whole number plain is.answered also.answered a b a_table b_table is.answers also.answers in
       record { effect_is = is.is ∙ one.effect_is ∙ sym also.is; association = one.association; table = one.table }
-  both_inform tells whole number plain false is also = both_refuse WrongPhase is also
+  both_inform tells whole number plain false is also =
+      let one = one_further_answer laws meaning setup old other same table another alike tells whole number plain is.answered also.answered a b a_table b_table is.answers also.answers in
+      record { effect_is = is.is ∙ one.effect_is ∙ sym also.is; association = one.association; table = one.table }
 
-  both_be_informed : (number : ℕ) (plain : Plain) → IsInformed setup number plain e old table a a_table → IsInformed setup number plain f other another b b_table → SameEnd e f a b a_table b_table
-  both_be_informed number plain is also =
+  both_be_answered : (number : ℕ) (plain : Plain) (further : Bool) → AnswerDone meaning setup number plain old table a a_table further e → AnswerDone meaning setup number plain other another b b_table further f → SameEnd e f a b a_table b_table
+  both_be_answered number plain true is also =
+      let one = one_further_count laws meaning setup old other same table another alike number plain is.ended also.ended a b a_table b_table is.counts also.counts in
+      record { effect_is = is.is ∙ one.effect_is ∙ sym also.is; association = one.association; table = one.table }
+  both_be_answered number plain false is also =
       let one = one_count laws meaning setup old other same table another alike number plain is.ended also.ended a b a_table b_table is.counts also.counts in
       record { effect_is = is.is ∙ one.effect_is ∙ sym also.is; association = one.association; table = one.table }
 
@@ -386,7 +509,9 @@ module _ (laws : Laws) (meaning : Meaning) (setup : Setup) (old other : Associat
   responses_alike number plain (phase.InitSent p) is also = both_refuse WrongPhase is also
   responses_alike number plain (phase.AuthSent p) is also = both_count number plain is also
   responses_alike number plain (phase.HalfOpen p) is also = both_refuse WrongPhase is also
-  responses_alike number plain (phase.Established p) is also = both_be_informed number plain is also
+  responses_alike number plain (phase.Established p) is also =
+      both_be_answered number plain (asked_further old number) is
+      (subst (λ (x : Bool). AnswerDone meaning setup number plain other another b b_table x f) (sym (ap (λ (z : Association). asked_further z number) same)) also)
   responses_alike number plain (phase.Closed p at) is also = both_refuse WrongPhase is also
 
   one_doing : TellsLengths meaning.body_of setup.fresh.seal → HoldsWholeKeys old.phase → (octets : Octets) (m : Message) (r : Reception) → Does meaning setup old table octets m r e a a_table → Does meaning setup other another octets m r f b b_table → SameEnd e f a b a_table b_table

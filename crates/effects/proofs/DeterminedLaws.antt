@@ -11,7 +11,9 @@ use Rattle.suite.specs.declared.fresh.Fresh.{Fresh}
 use Rattle.suite.specs.declared.keys.Keys.{Keys}
 use Rattle.suite.specs.declared.sealer.Cipher.{Cipher}
 use Rattle.exchange.specs.Sealed.{IsSealed, TellsLength}
+use Rattle.suite.specs.declared.key_record.KeyRecord.{KeyRecord}
 use Rattle.exchange.specs.declared.child.ChildPayloads.{ChildPayloads}
+use Rattle.exchange.specs.declared.sealed.Plain.{Plain}
 use Rattle.requests.specs.Contents.{incoming_content, outgoing_content}
 use Rattle.requests.specs.Incoming.{HasSameRequests, PeerRequests, TakesRequest}
 use Rattle.requests.specs.Outgoing.{CountsAnswer, HasSameOwnRequests, IssuesRequest, OwnRequests, ReplacesRequest}
@@ -20,6 +22,11 @@ use Rattle.sadb.specs.Contents.{table_content}
 use Rattle.sadb.specs.Database.{Database, Installs, IsAsBefore, Releases}
 use Rattle.sadb.specs.declared.pair.Pair.{Pair}
 use Rattle.deletions.specs.Removing.{RemovesNamed}
+use Rattle.further.specs.Concluding.{Concludes}
+use Rattle.further.specs.Deciding.{DecidesFurther}
+use Rattle.further.specs.declared.concluding.Conclusion.{Conclusion}
+use Rattle.further.specs.declared.deciding.Decision.{Decision}
+use Rattle.initial.specs.Configs.{Setup}
 use Rattle.association.specs.Closing.{Closes}
 use Rattle.association.specs.Contents.{association_content}
 use Rattle.association.specs.Receiving.{IsReceived, Opening, Reception}
@@ -102,6 +109,13 @@ pub record TableLaws : Type 0 where
       → Closes old old_table moment a a_table → Closes other other_table moment b b_table
       → (association_content a ≡ association_content b) × (table_content a_table ≡ table_content b_table)
 
+-- of further children
+pub record FurtherChildLaws : Type 0 where
+  pub decided : (setup : Setup) (ike : ℕ) (keys : KeyRecord) (table other_table : Database) (deleting : Bool) (plain : Plain) (one other : Decision)
+      → table_content table ≡ table_content other_table → DecidesFurther setup ike keys table deleting plain one → DecidesFurther setup ike keys other_table deleting plain other → one ≡ other
+  pub concluded : (blocks ike : ℕ) (keys : KeyRecord) (asked : Asked) (own_nonce : Octets) (plain : Plain) (one other : Conclusion)
+      → Concludes blocks ike keys asked own_nonce plain one → Concludes blocks ike keys asked own_nonce plain other → one ≡ other
+
 -- of what a message is to its association
 pub record ReceptionLaws : Type 0 where
   pub one : (plain_of : Opening) (a : Association) (octets : Octets) (m : Message) (one other : Reception) → IsReceived plain_of a octets m one → IsReceived plain_of a octets m other → one ≡ other
@@ -116,4 +130,5 @@ pub record Laws : Type 0 where
   pub incoming : IncomingLaws
   pub outgoing : OutgoingLaws
   pub tables : TableLaws
+  pub further : FurtherChildLaws
   pub receptions : ReceptionLaws

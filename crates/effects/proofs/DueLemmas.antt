@@ -1,9 +1,8 @@
 -- A message leaves nothing of its association due that was not due before: what it makes is of its own moment.
-use Rattle.std.proofs.Common.{◌≡◌, ◌+◌, ◌<◌, ◌≤◌, ℕ, nat_le, length, Bool, true, false, Option, Some, arith, ap, inl, inr, refl, subst, sym, ◌∙◌, List}
+use Rattle.std.proofs.Common.{◌≡◌, ◌+◌, ◌<◌, ◌≤◌, ℕ, nat_le, length, Bool, true, false, Option, arith, ap, inl, inr, refl, subst, sym, ◌∙◌, List}
 use Rattle.std.proofs.lemmas.Bool.Decides.{nat_tests}
 use Rattle.std.specs.FinMap as map
 use Rattle.base.specs.Octets.{Octets}
-use Rattle.wire.specs.Numbers.{IKE_AUTH, IKE_SA_INIT, INFORMATIONAL}
 use Rattle.wire.specs.declared.message.Message.{Message}
 use Rattle.suite.specs.declared.fresh.Fresh.{Fresh}
 use Rattle.suite.specs.declared.key_record.KeyRecord.{KeyRecord}
@@ -31,20 +30,15 @@ use Rattle.initial.specs.declared.beginning.Admitted.{Admitted}
 use Rattle.initial.specs.declared.beginning.Beginning.{Beginning}
 use Rattle.initial.specs.declared.concluding.Outcome.{Outcome}
 use Rattle.initial.specs.declared.concluding.Outcome.TheVariants as outcome
-use Rattle.deletions.specs.Deciding.{is_closing_verdict, verdict_on}
-use Rattle.informational.specs.Answering.{gone_by}
-use Rattle.informational.specs.Counting.{gone_with, is_ended}
 use Rattle.informational.specs.Orders.{ClosesIf}
-use Rattle.informational.specs.Asking.{Asks}
-use Rattle.informational.specs.Ordering.{purpose_of}
-use Rattle.informational.specs.declared.ordering.Order.{Order}
 use Rattle.moments.specs.Due.{is_over, HALF_OPEN_TIME}
 use Rattle.moments.specs.Held.{began, IsInTime}
+use Rattle.effects.specs.Sending.{SendsRequest}
 use Rattle.effects.specs.Taking.{Meaning, TakesMessage}
 use Rattle.effects.specs.declared.taking.Effect.{Effect}
 use Rattle.effects.specs.declared.taking.Effect.TheVariants as effect
 use Rattle.effects.proofs.MapLemmas.{empty_has, insert_has, remove_has, same_has, EachHas}
-use Rattle.effects.proofs.WayLemmas.{way_of, Way}
+use Rattle.effects.proofs.WayLemmas.{answered_later, counted_later, way_of, Way}
 
 -- what is known of closings
 abbrev pub ClosingLaw : Type 0
@@ -117,17 +111,17 @@ way_timely closing meaning setup old table octets m (effect.Replied answered) ne
     let d = is.done in
     concluded_timely closing setup (with_incoming old d.incoming) d.between (outcome_of d.decision) answered.child new new_table d.opened.keys (ap established_of d.was) d.concluded (all_wait setup.moment old timely)
 way_timely closing meaning setup old table octets m (effect.Replied answered) new new_table timely (inr is) =
-    let d = is.done in
-    closed_if_timely closing (is_closing_verdict (verdict_on table.pairs old.serial d.payloads)) (gone_by (verdict_on table.pairs old.serial d.payloads)) (with_incoming old d.incoming) table setup.moment new new_table
-    (by_parts setup.moment (with_incoming old d.incoming) timely.nothing_due.held timely.begun.since (all_wait setup.moment old timely)) d.concluded
+    let d = answered_later meaning setup old table octets m answered new new_table is in
+    closed_if_timely closing answered.closed d.ends.serials (with_incoming old d.incoming) d.ends.before setup.moment new d.ends.after
+    (by_parts setup.moment (with_incoming old d.incoming) timely.nothing_due.held timely.begun.since (all_wait setup.moment old timely)) d.ends.is
 way_timely closing meaning setup old table octets m (effect.Counted ended) new new_table timely (inl is) =
     let d = is.done in
     concluded_timely closing setup (with_outgoing old d.outgoing) table d.verdict ended.child new new_table d.sent.keys (ap established_of d.was) d.concluded
     (counted_wait setup.moment old.outgoing m.header.id d.request d.outgoing d.counted (all_wait setup.moment old timely))
 way_timely closing meaning setup old table octets m (effect.Counted ended) new new_table timely (inr is) =
-    let d = is.done in
-    closed_if_timely closing (is_ended d.payloads d.request.purpose) (gone_with table.pairs old.serial d.request.purpose) (with_outgoing old d.outgoing) table setup.moment new new_table
-    (by_parts setup.moment (with_outgoing old d.outgoing) timely.nothing_due.held timely.begun.since (counted_wait setup.moment old.outgoing m.header.id d.request d.outgoing d.counted (all_wait setup.moment old timely))) d.concluded
+    let d = counted_later meaning setup old table octets m ended new new_table is in
+    closed_if_timely closing ended.closed d.ends.serials (with_outgoing old d.outgoing) d.ends.before setup.moment new d.ends.after
+    (by_parts setup.moment (with_outgoing old d.outgoing) timely.nothing_due.held timely.begun.since (counted_wait setup.moment old.outgoing m.header.id d.request d.outgoing d.counted (all_wait setup.moment old timely))) d.ends.is
 way_timely closing meaning setup old table octets m (effect.Again next) new new_table timely is =
     let d = is.done in
     by_parts setup.moment new (ap (λ (x : Association). is_over setup.moment x.phase) d.content) (begun_by setup.moment new.phase _ (ap (λ (x : Association). x.phase) d.content) (omega arith))
@@ -161,8 +155,8 @@ admitted_timely cipher group public_value shared_secret fresh moment serial offe
     (begun_by moment admitted.association.phase _ (ap (λ (x : Association). x.phase) is.content) (omega arith))
     (same_has (Waits moment) map.empty admitted.association.outgoing.outstanding (ap (λ (x : Association). x.outgoing.outstanding) is.content) (empty_has (Waits moment)))
 
-pub probed_timely : (body_of : Keys → Octets → Octets → Octets → Octets) (setup : Setup) (order : Order) (old : Association) (octets : Octets) (new : Association)
-    → IsInTime setup.moment old → Asks body_of setup order old octets new → IsInTime setup.moment new
-probed_timely body_of setup order old octets new timely is =
+pub requested_timely : (body_of : Keys → Octets → Octets → Octets → Octets) (setup : Setup) (old : Association) (octets : Octets) (new : Association)
+    → IsInTime setup.moment old → SendsRequest body_of setup old octets new → IsInTime setup.moment new
+requested_timely body_of setup old octets new timely is =
     timely_as setup.moment (with_outgoing old is.outgoing) new is.content
-    (by_parts setup.moment (with_outgoing old is.outgoing) timely.nothing_due.held timely.begun.since (issued_wait setup.moment old.outgoing octets (purpose_of order) is.outgoing is.issued (all_wait setup.moment old timely)))
+    (by_parts setup.moment (with_outgoing old is.outgoing) timely.nothing_due.held timely.begun.since (issued_wait setup.moment old.outgoing octets is.purpose is.outgoing is.issued (all_wait setup.moment old timely)))

@@ -18,6 +18,11 @@ pub record HeldFacts : Type 0 where
   pub fewer : (a b : Association) (table new : Database) → ((spi : ℕ) → spi_in b.phase ≡ Some spi → spi_in a.phase ≡ Some spi) → ((number spi : ℕ) → AwaitsChild b.outgoing number spi → AwaitsChild a.outgoing number spi)
       → ((spi : ℕ) → HoldsSpi b spi → IsReserved table spi → IsReserved new spi) → HoldsReserved a table → HoldsReserved b new
 
+-- an SPI is held no more as the answer is counted that it was held for
+abbrev pub GivenBack : Type 0
+GivenBack = (a : Association) (table : Database) (number : ℕ) (request : Request) (outgoing : OwnRequests Request) (spi : ℕ)
+    → HoldsReserved a table → CountsAnswer a.outgoing number request outgoing → spi_asked request.purpose ≡ Some spi → HoldsSpi (record a { outgoing = outgoing }) spi → ⊥
+
 -- what is held after an answer was counted was held before
 pub counted_before : HeldFacts → (old : Association) (outgoing : OwnRequests Request) (request : Request) (number spi : ℕ) → CountsAnswer old.outgoing number request outgoing
     → HoldsSpi (record old { outgoing = outgoing }) spi → HoldsSpi old spi

@@ -3,7 +3,6 @@ use Rattle.std.proofs.Common.{◌≡◌, ◌⊎◌, inl, inr, ℕ, ◌+◌, Bool
 use Rattle.std.specs.FinMap as map
 use Rattle.std.specs.Ordering.{nat_cmp}
 use Rattle.base.specs.Octets.{Octets}
-use Rattle.wire.specs.Numbers.{IKE_AUTH, IKE_SA_INIT}
 use Rattle.wire.specs.declared.message.Message.{Message}
 use Rattle.wire.specs.declared.payload.Payload.{Payload}
 use Rattle.suite.specs.declared.fresh.Fresh.{Fresh}
@@ -31,9 +30,6 @@ use Rattle.effects.specs.Children.{IsAsking}
 use Rattle.initial.specs.Concluding.{established, widened, ConcludesBy}
 use Rattle.initial.specs.Configs.{Setup}
 use Rattle.initial.specs.Issuing.{new_request, IssuesNext}
-use Rattle.deletions.specs.Deciding.{is_closing_verdict, verdict_on}
-use Rattle.informational.specs.Answering.{gone_by}
-use Rattle.informational.specs.Counting.{gone_with, is_ended}
 use Rattle.informational.specs.Orders.{ClosesIf}
 use Rattle.effects.specs.Keeping.{kept_reply, octets_of_effect, HasKeys, IsShort, KeepsShort, KeyedBy}
 use Rattle.effects.specs.Taking.{Meaning, TakesMessage}
@@ -46,7 +42,7 @@ use Rattle.initial.specs.declared.ending.Ended.{Ended}
 use Rattle.effects.specs.declared.taking.Effect.{Effect}
 use Rattle.effects.specs.declared.taking.Effect.TheVariants as effect
 use Rattle.effects.proofs.MapLemmas.{empty_has, insert_has, remove_has, same_has, same_item, some_none, EachHas}
-use Rattle.effects.proofs.WayLemmas.{way_of, AnsweredAuth, AnsweredInformational, CountedAuth, CountedInformational, WasAsked, WasIdentified, WasRepeated, Way}
+use Rattle.effects.proofs.WayLemmas.{answered_later, counted_later, way_of, AnsweredAuth, AnsweredLater, CountedAuth, CountedLater, WasAsked, WasIdentified, WasRepeated, Way}
 
 -- what is known of a request that comes again
 pub record RepeatFacts : Type 0 where
@@ -224,12 +220,11 @@ auth_answered_leaves meaning setup old table octets m answered new new_table is 
     replied_leaves old d.ready d.incoming m.header.id answered new d.opened.keys (ap keys_in d.was) d.sealed.whole.limit d.prepared d.taken
     (concluded_done setup (record old { incoming = d.incoming }) d.between (outcome_of d.decision) answered.child new new_table d.opened.keys (ap established_of d.was) d.concluded)
 
-informed_leaves : (meaning : Meaning) (setup : Setup) (old : Association) (table : Database) (m : Message) (answered : Answered) (new : Association) (new_table : Database)
-    → AnsweredInformational meaning setup old table m answered new new_table → Leaves (effect.Replied answered) old new
-informed_leaves meaning setup old table m answered new new_table is =
-    let d = is.done in
-    replied_leaves old d.ready d.incoming m.header.id answered new d.keys (ap keys_in d.established) d.sealed.whole.limit d.prepared d.taken
-    (closed_if_done (is_closing_verdict (verdict_on table.pairs old.serial d.payloads)) (gone_by (verdict_on table.pairs old.serial d.payloads)) (record old { incoming = d.incoming }) table setup.moment new new_table d.keys d.established d.concluded)
+later_answered_leaves : (meaning : Meaning) (setup : Setup) (old : Association) (m : Message) (answered : Answered) (new : Association)
+    → AnsweredLater meaning setup old m answered new → Leaves (effect.Replied answered) old new
+later_answered_leaves meaning setup old m answered new d =
+    replied_leaves old d.ready d.incoming m.header.id answered new d.keys (ap keys_in d.was) d.sealed.whole.limit d.prepared d.taken
+    (closed_if_done answered.closed d.ends.serials (record old { incoming = d.incoming }) d.ends.before setup.moment new d.ends.after d.keys d.was d.ends.is)
 
 auth_counted_leaves : (meaning : Meaning) (setup : Setup) (old : Association) (table : Database) (octets : Octets) (m : Message) (ended : Ended) (new : Association) (new_table : Database)
     → CountedAuth meaning setup old table octets m ended new new_table → Leaves (effect.Counted ended) old new
@@ -238,12 +233,11 @@ auth_counted_leaves meaning setup old table octets m ended new new_table is =
     counted_leaves old m.header.id d.request d.outgoing ended new d.sent.keys (ap keys_in d.was) d.counted
     (concluded_done setup (record old { outgoing = d.outgoing }) table d.verdict ended.child new new_table d.sent.keys (ap established_of d.was) d.concluded)
 
-informing_counted_leaves : (setup : Setup) (old : Association) (table : Database) (m : Message) (ended : Ended) (new : Association) (new_table : Database)
-    → CountedInformational setup old table m ended new new_table → Leaves (effect.Counted ended) old new
-informing_counted_leaves setup old table m ended new new_table is =
-    let d = is.done in
-    counted_leaves old m.header.id d.request d.outgoing ended new is.keys (ap keys_in is.was) d.counted
-    (closed_if_done (is_ended d.payloads d.request.purpose) (gone_with table.pairs old.serial d.request.purpose) (record old { outgoing = d.outgoing }) table setup.moment new new_table is.keys is.was d.concluded)
+later_counted_leaves : (setup : Setup) (old : Association) (m : Message) (ended : Ended) (new : Association)
+    → CountedLater setup old m ended new → Leaves (effect.Counted ended) old new
+later_counted_leaves setup old m ended new d =
+    counted_leaves old m.header.id d.request d.outgoing ended new d.keys (ap keys_in d.was) d.counted
+    (closed_if_done ended.closed d.ends.serials (record old { outgoing = d.outgoing }) d.ends.before setup.moment new d.ends.after d.keys d.was d.ends.is)
 
 -- an association that waits for the response to IKE_SA_INIT has no keys
 no_keys : (old : Association) (p : Phase) (sent : InitSent) (keys : KeyRecord) → old.phase ≡ phase.InitSent sent → keys_in old.phase ≡ Some keys → keys_in p ≡ Some keys
@@ -305,11 +299,11 @@ way_leaves facts meaning setup old table octets m (effect.Refused fault) new new
     }
 way_leaves facts meaning setup old table octets m (effect.Repeated reply) new new_table is = repeated_leaves facts meaning old table octets m reply new new_table is
 way_leaves facts meaning setup old table octets m (effect.Replied answered) new new_table (inl is) = auth_answered_leaves meaning setup old table octets m answered new new_table is
-way_leaves facts meaning setup old table octets m (effect.Replied answered) new new_table (inr is) = informed_leaves meaning setup old table m answered new new_table is
+way_leaves facts meaning setup old table octets m (effect.Replied answered) new new_table (inr is) = later_answered_leaves meaning setup old m answered new (answered_later meaning setup old table octets m answered new new_table is)
 way_leaves facts meaning setup old table octets m (effect.Again next) new new_table is = asked_leaves meaning setup old table m next new new_table is
 way_leaves facts meaning setup old table octets m (effect.Identified next) new new_table is = identified_leaves meaning setup old table octets m next new new_table is
 way_leaves facts meaning setup old table octets m (effect.Counted ended) new new_table (inl is) = auth_counted_leaves meaning setup old table octets m ended new new_table is
-way_leaves facts meaning setup old table octets m (effect.Counted ended) new new_table (inr is) = informing_counted_leaves setup old table m ended new new_table is
+way_leaves facts meaning setup old table octets m (effect.Counted ended) new new_table (inr is) = later_counted_leaves setup old m ended new (counted_later meaning setup old table octets m ended new new_table is)
 
 leaves : (facts : RepeatFacts) (meaning : Meaning) (setup : Setup) (old : Association) (table : Database) (octets : Octets) (m : Message) (e : Effect) (new : Association) (new_table : Database)
     → TakesMessage meaning setup old table octets m e new new_table → Leaves e old new

@@ -23,4 +23,5 @@ mod RequestLemmas
 mod DueLemmas
 mod MoveLemmas
 mod OpeningLemmas
+mod SendingLemmas
 mod WaitLemmas

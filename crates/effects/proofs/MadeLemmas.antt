@@ -1,4 +1,4 @@
--- Which child comes of IKE_AUTH, and of which payloads.
+-- Which child comes of IKE_AUTH or CREATE_CHILD_SA, and of which payloads.
 use Rattle.std.proofs.Common.{◌≡◌, ◌≤◌, length, inl, inr, ◌<◌, ◌^◌, ◌∷◌, [], ℕ, cond, Bool, true, false, List, Option, Some, None, ap, refl, subst, sym, ◌∙◌, arith, ◌⊎◌, ◌+◌}
 use Rattle.std.specs.Cmp.{nat_cmp_total, unsigned_tied}
 use Rattle.std.specs.FinMap as map
@@ -13,7 +13,7 @@ use Rattle.wire.specs.Sizes.{FitsFields}
 use Rattle.wire.specs.declared.message.Message.{Message}
 use Rattle.wire.specs.declared.payload.Payload.{Payload}
 use Rattle.wire.specs.declared.payload.Payload.TheVariants.{TsI, TsR}
-use Rattle.suite.specs.Keys.{first_child_keys}
+use Rattle.suite.specs.Keys.{child_keys, first_child_keys}
 use Rattle.suite.specs.declared.key_record.KeyRecord.{KeyRecord}
 use Rattle.exchange.specs.Counting.{only_sa, only_ts_i, only_ts_r}
 use Rattle.exchange.specs.Headers.{keys_of, sent_header}
@@ -30,6 +30,7 @@ use Rattle.sadb.specs.declared.pair.Pair.{Pair}
 use Rattle.association.specs.Closing.{HoldsReserved}
 use Rattle.association.specs.AskedChildren.{asked_of}
 use Rattle.association.specs.Phases.{established_of, established_spi, keys_in, spi_in}
+use Rattle.association.specs.Purposes.{spi_asked}
 use Rattle.association.specs.Receiving.{Answers, IsAnswering, IsEffective, IsReceived, Opening, TakesEffect}
 use Rattle.association.specs.declared.phase.Association.{Association}
 use Rattle.association.specs.declared.phase.AuthSent.{AuthSent}
@@ -49,15 +50,23 @@ use Rattle.children.specs.declared.responding.Made.{Made}
 use Rattle.children.specs.declared.responding.Response.TheVariants as response
 use Rattle.children.specs.declared.setting.Setting.{Setting}
 use Rattle.initial.specs.Answering.{outcome_of, reply_payloads}
-use Rattle.effects.specs.Children.{AsksForChild, BringsChild, IsAnsweredChild, IsAskedChild, IsAsking, MakesChild}
-use Rattle.initial.specs.Concluding.{AddsChild, ConcludesBy}
+use Rattle.further.specs.Answering.{answer_to_further, further_answer, further_pair}
+use Rattle.further.specs.Concluding.{Concludes, IsConclusion}
+use Rattle.further.specs.Deciding.{is_closing_decision, DecidesFurther, DecidesFurtherBy, IsFurtherDecision}
+use Rattle.further.specs.Judging.{Admitted, AsksFor, FurtherJudgement, FurtherRequestView, IsFurtherJudgement, Refused}
+use Rattle.further.specs.Pairs.{IsFurtherChild}
+use Rattle.further.specs.Payloads.{further_payloads}
+use Rattle.further.specs.declared.concluding.Conclusion.{Conclusion}
+use Rattle.further.specs.declared.concluding.Conclusion.TheVariants as conclusion
+use Rattle.further.specs.declared.deciding.Decision as further
+use Rattle.further.specs.declared.deciding.Decision.TheVariants as decided
+use Rattle.create_child.specs.Counting.{is_closing_conclusion}
+use Rattle.effects.specs.Children.{AsksForChild, BringsChild, First, Further, IsAnsweredChild, IsAskedChild, IsAsking, MakesChild}
+use Rattle.initial.specs.Concluding.{with_incoming, with_outgoing, AddsChild, ConcludesBy}
 use Rattle.initial.specs.Configs.{first_setting, Setup}
 use Rattle.initial.specs.Deciding.{own_proving, AcceptsAuth, IsDecision, IsRead}
 use Rattle.initial.specs.Ending.{IsVerdict}
 use Rattle.initial.specs.Issuing.{new_request, IssuesNext}
-use Rattle.deletions.specs.Deciding.{is_closing_verdict, verdict_on}
-use Rattle.informational.specs.Answering.{gone_by}
-use Rattle.informational.specs.Counting.{gone_with, is_ended}
 use Rattle.informational.specs.Orders.{ClosesIf}
 use Rattle.effects.specs.Keeping.{child_in}
 use Rattle.effects.specs.Pairs.{IsUnused, LeavesPairs}
@@ -70,10 +79,10 @@ use Rattle.initial.specs.declared.deciding.Decision.TheVariants as decision
 use Rattle.initial.specs.declared.ending.Ended.{Ended}
 use Rattle.effects.specs.declared.taking.Effect.{Effect}
 use Rattle.effects.specs.declared.taking.Effect.TheVariants as effect
-use Rattle.effects.proofs.PairLemmas.{answer_unused, end_unused, UnusedBy}
+use Rattle.effects.proofs.PairLemmas.{answer_unused, end_unused, further_unused, made_unused, UnusedBy, UnusedIn}
 use Rattle.effects.proofs.PayloadLemmas.{answer_has, request_has}
 use Rattle.effects.proofs.SpiLemmas.{pairs_left}
-use Rattle.effects.proofs.WayLemmas.{way_of, AnsweredAuth, CountedAuth, WasIdentified, Way}
+use Rattle.effects.proofs.WayLemmas.{answered_further, answered_later, counted_further, counted_later, pair_made, way_of, AnsweredAuth, AnsweredFurther, CountedAuth, CountedFurther, FurtherIf, WasIdentified, Way}
 
 -- what the crates below say of children, and of what a message is
 pub record ChildFacts : Type 0 where
@@ -96,6 +105,28 @@ pub record ChildFacts : Type 0 where
   pub ts_r : (payloads : List Payload) (selectors : List Selector) → AllByRecursion FitsFields payloads → only_ts_r payloads ≡ Some selectors → FitsFields (TsR selectors)
   pub effective : (plain_of : Opening) (a : Association) (octets : Octets) (m : Message) (plain : Plain) → IsReceived plain_of a octets m (TakesEffect plain) → IsEffective plain_of a octets m plain
   pub answering : (plain_of : Opening) (a : Association) (octets : Octets) (m : Message) (plain : Plain) → IsReceived plain_of a octets m (Answers plain) → IsAnswering plain_of a octets m plain
+
+-- what is known of further children
+pub record FurtherFacts : Type 0 where
+  pub made : (setup : Setup) (ike : ℕ) (keys : KeyRecord) (table : Database) (deleting : Bool) (plain : Plain) (made : Made) (request : List Payload)
+      → DecidesFurther setup ike keys table deleting plain (decided.Made made) → SpellsChain plain.first request plain.octets
+      → IsFurtherChild Responder keys request (further_answer (answer_to_further (decided.Made made)) setup.fresh.nonce) made.pair
+  pub accepted : (blocks ike : ℕ) (keys : KeyRecord) (asked : Asked) (own_nonce : Octets) (plain : Plain) (pair : Pair) (answer : List Payload)
+      → asked.spi < 2 ^ 32 → Concludes blocks ike keys asked own_nonce plain (conclusion.Made pair) → SpellsChain plain.first answer plain.octets
+      → IsFurtherChild Initiator keys (further_payloads (child_request asked) own_nonce) answer pair
+  pub offer : (setup : Setup) (ike : ℕ) (keys : KeyRecord) (table : Database) (deleting : Bool) (plain : Plain) (made : Made) (request : List Payload) (ts_i ts_r : List Selector)
+      → DecidesFurther setup ike keys table deleting plain (decided.Made made) → SpellsChain plain.first request plain.octets → only_ts_i request ≡ Some ts_i → only_ts_r request ≡ Some ts_r
+      → AnswersOffer made.pair.remote ts_i × AnswersOffer made.pair.local ts_r
+  pub policy : (setup : Setup) (ike : ℕ) (keys : KeyRecord) (table : Database) (deleting : Bool) (plain : Plain) (made : Made)
+      → DecidesFurther setup ike keys table deleting plain (decided.Made made) → LieInsidePolicy setup.entries made.pair.remote made.pair.local
+  pub extension : (setup : Setup) (ike : ℕ) (keys : KeyRecord) (table : Database) (deleting : Bool) (plain : Plain) (made : Made)
+      → DecidesFurther setup ike keys table deleting plain (decided.Made made) → made.pair.inbound.association.extended ≡ true → setup.config.extended ≡ true
+  pub asked : (blocks ike : ℕ) (keys : KeyRecord) (asked : Asked) (own_nonce : Octets) (plain : Plain) (pair : Pair)
+      → Concludes blocks ike keys asked own_nonce plain (conclusion.Made pair) → KeepsToRequest asked pair
+  pub few_made : (setup : Setup) (ike : ℕ) (keys : KeyRecord) (table : Database) (deleting : Bool) (plain : Plain) (made : Made)
+      → DecidesFurther setup ike keys table deleting plain (decided.Made made) → HasFewSelectors made.pair
+  pub few_accepted : (blocks ike : ℕ) (keys : KeyRecord) (asked : Asked) (own_nonce : Octets) (plain : Plain) (pair : Pair)
+      → Concludes blocks ike keys asked own_nonce plain (conclusion.Made pair) → HasFewSelectors pair
 
 -- ---- the table's change
 
@@ -125,6 +156,9 @@ next_adds old pair serial new is =
 
 none_some : (serial : ℕ) → None ≡ Some serial → ⊥
 none_some serial e = cc
+
+same_pair : (a b : Pair) → Some a ≡ Some b → a ≡ b
+same_pair a b e = cc
 
 same_number : (a b : ℕ) → Some a ≡ Some b → a ≡ b
 same_number a b e = cc
@@ -212,7 +246,7 @@ decided_child accepts setup ike opened table plain (Some payloads) (decision.Acc
 
 answered_child : (facts : ChildFacts) (own_method : ℕ) (proof_of : Octets → Octets) (accepts : Accepts) (setup : Setup) (ike : ℕ) (opened : HalfOpen) (table : Database) (plain : Plain) (d : Decision) (pair : Pair) (serial : ℕ)
     → (is : DecidesChild accepts setup ike opened table plain d pair)
-    → IsAnsweredChild setup opened.keys is.request (reply_payloads own_method proof_of setup opened d) (with_serial serial pair)
+    → IsAnsweredChild First setup opened.keys is.request (reply_payloads own_method proof_of setup opened d) (with_serial serial pair)
 answered_child facts own_method proof_of accepts setup ike opened table plain d pair serial is =
     let setting : Setting = first_setting setup.config ike opened.keys in
     let asked = is.accepted.asked in
@@ -225,7 +259,7 @@ answered_child facts own_method proof_of accepts setup ike opened table plain d 
     let few_r = facts.ts_r is.request asked.child.ts_r fit judged.ts_r in
     let few = facts.few_made setting setup.config.extended setup.entries table asked.child is.made few_i.few few_r.few child in
     let lie = facts.offer setting setup.config.extended setup.entries table asked.child is.made child in
-    let made : IsAnsweredChild setup opened.keys is.request reply (with_serial serial is.made.pair) = record {
+    let made : IsAnsweredChild First setup opened.keys is.request reply (with_serial serial is.made.pair) = record {
       child = still_child Responder (first_child_keys opened.keys) is.request reply serial is.made.pair
           (facts.made setting setup.config.extended setup.entries table asked.child is.made is.request reply child judged.sa has);
       offer = asked.child;
@@ -236,8 +270,8 @@ answered_child facts own_method proof_of accepts setup ike opened table plain d 
       extension = facts.extension setting setup.config.extended setup.entries table asked.child is.made child;
       few = record { local = few.local; remote = few.remote };
     } in
-    subst (λ (x : Decision). IsAnsweredChild setup opened.keys is.request (reply_payloads own_method proof_of setup opened x) (with_serial serial pair)) (sym is.is)
-    (subst (λ (p : Pair). IsAnsweredChild setup opened.keys is.request reply (with_serial serial p)) is.same made)
+    subst (λ (x : Decision). IsAnsweredChild First setup opened.keys is.request (reply_payloads own_method proof_of setup opened x) (with_serial serial pair)) (sym is.is)
+    (subst (λ (p : Pair). IsAnsweredChild First setup opened.keys is.request reply (with_serial serial p)) is.same made)
 
 replied_makes : (facts : ChildFacts) (meaning : Meaning) (setup : Setup) (old : Association) (table : Database) (octets : Octets) (m : Message) (answered : Answered) (serial : ℕ) (new : Association) (new_table : Database)
     → answered.child ≡ Some serial → TakesMessage meaning setup old table octets m (effect.Replied answered) new new_table → AnsweredAuth meaning setup old table octets m answered new new_table
@@ -255,15 +289,18 @@ replied_makes facts meaning setup old table octets m answered serial new new_tab
       keys = d.opened.keys;
       pair = with_serial serial c.pair;
       brings = child_brought meaning setup old table octets m (effect.Replied answered) serial d.opened.keys c.pair new new_table takes (c.phase_is ∙ ap established_of d.was) in_order unused c.there;
-      made = record {
-        plain = is.plain;
-        opened = (facts.effective meaning.plain_of old octets m is.plain is.received).opened;
-        request = decides.request;
-        read = decides.read;
-        reply = reply_payloads meaning.own_method meaning.proof_of setup d.opened d.decision;
-        sealed = d.sealed;
-        is = answered_child facts meaning.own_method meaning.proof_of meaning.accepts setup old.serial d.opened table is.plain d.decision c.pair serial decides;
-      };
+      made = (
+        First,
+        record {
+          plain = is.plain;
+          opened = (facts.effective meaning.plain_of old octets m is.plain is.received).opened;
+          request = decides.request;
+          read = decides.read;
+          reply = reply_payloads meaning.own_method meaning.proof_of setup d.opened d.decision;
+          sealed = d.sealed;
+          is = answered_child facts meaning.own_method meaning.proof_of meaning.accepts setup old.serial d.opened table is.plain d.decision c.pair serial decides;
+        },
+      );
     }
 
 -- ---- at the initiator
@@ -318,7 +355,7 @@ counted_makes facts meaning setup old table octets m ended serial new new_table 
       keys = d.sent.keys;
       pair = with_serial serial c.pair;
       brings = child_brought meaning setup old table octets m (effect.Counted ended) serial d.sent.keys c.pair new new_table takes (c.phase_is ∙ ap established_of d.was) c.in_order unused c.there;
-      made = record {
+      made = inl (record {
         sent = d.sent;
         was = d.was;
         same_keys = refl;
@@ -327,26 +364,189 @@ counted_makes facts meaning setup old table octets m ended serial new new_table 
         reply = accepts.reply;
         read = accepts.read;
         is = asked_child facts setup old.serial d.sent is.plain c.pair serial (reserved_fits table d.sent.child.spi sound reserved) accepts;
-      };
+      });
     }
 
-way_makes : (facts : ChildFacts) (meaning : Meaning) (setup : Setup) (old : Association) (table : Database) (octets : Octets) (m : Message) (e : Effect) (serial : ℕ) (new : Association) (new_table : Database)
+-- ---- what CREATE_CHILD_SA comes to
+
+still_further : (role : Role) (keys : KeyRecord) (request reply : List Payload) (serial : ℕ) (pair : Pair) → IsFurtherChild role keys request reply pair → IsFurtherChild role keys request reply (with_serial serial pair)
+still_further role keys request reply serial pair is =
+    record {
+      no_exchange = is.no_exchange;
+      nonce_i = is.nonce_i;
+      nonce_r = is.nonce_r;
+      asked = is.asked;
+      answered = is.answered;
+      child = still_child role (child_keys keys.sk_d is.nonce_i is.nonce_r) request reply serial pair is.child;
+    }
+
+-- the association stays as it is, with a child
+record GivesChild (pair : Option Pair) (a : Association) (table : Database) (serial : ℕ) (new : Association) (new_table : Database) : Type 0 where
+  one : Pair
+  is : pair ≡ Some one
+  same : new ≡ a
+  in_order : serial ≡ table.next
+  there : pair_at new_table.pairs serial ≡ Some (with_serial serial one)
+
+gives_child : (closing : Bool) (spi : Option ℕ) (pair : Option Pair) (a : Association) (table : Database) (moment : ℕ) (child : Option ℕ) (serial : ℕ) (new : Association) (new_table : Database)
+    → child ≡ Some serial → FurtherIf closing spi pair a table moment child new new_table → GivesChild pair a table serial new new_table
+gives_child true spi pair a table moment child serial new new_table e is = absurd (none_some serial (sym is.none ∙ e))
+gives_child false spi pair a table moment child serial new new_table e is =
+    let added = child_adds table spi pair child serial new_table e is.added in
+    record { one = added.one; is = added.is; same = is.same; in_order = added.in_order; there = added.there }
+
+record MadeByDecision (d : further.Decision) (pair : Pair) : Type 0 where
+  made : Made
+  is : d ≡ decided.Made made
+  same : made.pair ≡ pair
+
+made_by_decision : (d : further.Decision) (pair : Pair) → further_pair d ≡ Some pair → MadeByDecision d pair
+made_by_decision (decided.Refused notice) pair e = absurd cc
+made_by_decision (decided.Made made) pair e = record { made = made; is = refl; same = cc }
+
+made_by_conclusion : (c : Conclusion) (pair : Pair) → pair_made c ≡ Some pair → c ≡ conclusion.Made pair
+made_by_conclusion conclusion.Closes pair e = absurd cc
+made_by_conclusion (conclusion.Made made) pair e = ap (λ (p : Pair). conclusion.Made p) (same_pair made pair e)
+made_by_conclusion conclusion.NoChild pair e = absurd cc
+
+-- what a request asked for, of which a child is made
+record AsksForMade (plain : Plain) (deleting : Bool) : Type 0 where
+  request : List Payload
+  read : SpellsChain plain.first request plain.octets
+  view : FurtherRequestView
+  asks : AsksFor request deleting view
+
+judged_asks : (setup : Setup) (ike : ℕ) (keys : KeyRecord) (table : Database) (deleting : Bool) (plain : Plain) (request : List Payload) (j : FurtherJudgement) (made : Made)
+    → SpellsChain plain.first request plain.octets → IsFurtherJudgement request deleting j → DecidesFurtherBy setup ike keys table j (decided.Made made) → AsksForMade plain deleting
+judged_asks setup ike keys table deleting plain request (Refused notice) made read judged due = absurd due
+judged_asks setup ike keys table deleting plain request (Admitted view) made read judged due = record { request = request; read = read; view = view; asks = judged }
+
+decided_asks : (setup : Setup) (ike : ℕ) (keys : KeyRecord) (table : Database) (deleting : Bool) (plain : Plain) (payloads : Option (List Payload)) (made : Made)
+    → IsRead plain payloads → IsFurtherDecision setup ike keys table deleting payloads (decided.Made made) → AsksForMade plain deleting
+decided_asks setup ike keys table deleting plain None made read due = absurd due
+decided_asks setup ike keys table deleting plain (Some request) made read due = judged_asks setup ike keys table deleting plain request due.judgement made read due.judged due.due
+
+further_replied_makes : (facts : ChildFacts) (laws : FurtherFacts) (meaning : Meaning) (setup : Setup) (old : Association) (table : Database) (octets : Octets) (m : Message) (answered : Answered) (serial : ℕ) (new : Association) (new_table : Database)
+    → answered.child ≡ Some serial → TakesMessage meaning setup old table octets m (effect.Replied answered) new new_table → AnsweredFurther meaning setup old table octets m answered new new_table
+    → MakesChild meaning setup old table octets m (effect.Replied answered) serial new new_table
+further_replied_makes facts laws meaning setup old table octets m answered serial new new_table e takes is =
+    let d = is.done in
+    let taken : Association = record old { incoming = d.incoming } in
+    let c : GivesChild (further_pair d.decision) taken d.between serial new new_table =
+    gives_child (is_closing_decision d.decision) None (further_pair d.decision) taken d.between setup.moment answered.child serial new new_table e
+    (answered_further (is_closing_decision d.decision) (further_pair d.decision) taken d.between setup.moment answered.child new new_table d.concluded) in
+    let by = made_by_decision d.decision c.one c.is in
+    let made : DecidesFurther setup old.serial d.keys table d.deleting is.plain (decided.Made by.made) =
+    subst (λ (x : further.Decision). DecidesFurther setup old.serial d.keys table d.deleting is.plain x) by.is d.decided in
+    let asks = decided_asks setup old.serial d.keys table d.deleting is.plain made.payloads by.made made.read made.due in
+    let lie = laws.offer setup old.serial d.keys table d.deleting is.plain by.made asks.request asks.view.child.ts_i asks.view.child.ts_r made asks.read asks.asks.ts_i asks.asks.ts_r in
+    let few = laws.few_made setup old.serial d.keys table d.deleting is.plain by.made made in
+    let answer = λ (x : further.Decision). further_answer (answer_to_further x) setup.fresh.nonce in
+    let child : IsAnsweredChild Further setup d.keys asks.request (answer (decided.Made by.made)) (with_serial serial by.made.pair) = record {
+      child = still_further Responder d.keys asks.request (answer (decided.Made by.made)) serial by.made.pair
+          (laws.made setup old.serial d.keys table d.deleting is.plain by.made asks.request made asks.read);
+      offer = asks.view.child;
+      offered = record { sa = asks.asks.sa; ts_i = asks.asks.ts_i; ts_r = asks.asks.ts_r };
+      remote = lie.0;
+      local = lie.1;
+      protected = laws.policy setup old.serial d.keys table d.deleting is.plain by.made made;
+      extension = laws.extension setup old.serial d.keys table d.deleting is.plain by.made made;
+      few = record { local = few.local; remote = few.remote };
+    } in
+    let unused : UnusedIn old.serial (Some c.one) = subst (λ (p : Option Pair). UnusedIn old.serial p) c.is (further_unused setup old.serial d.keys table d.deleting is.plain d.decision d.decided) in
+    record {
+      keys = d.keys;
+      pair = with_serial serial c.one;
+      brings = child_brought meaning setup old table octets m (effect.Replied answered) serial d.keys c.one new new_table takes (ap (λ (x : Association). x.phase) c.same ∙ d.established)
+          (c.in_order ∙ ap (λ (x : Database). x.next) d.room.content) unused c.there;
+      made = (
+        Further,
+        record {
+          plain = is.plain;
+          opened = (facts.effective meaning.plain_of old octets m is.plain is.received).opened;
+          request = asks.request;
+          read = asks.read;
+          reply = answer d.decision;
+          sealed = d.sealed;
+          is = subst (λ (x : further.Decision). IsAnsweredChild Further setup d.keys asks.request (answer x) (with_serial serial c.one)) (sym by.is)
+              (subst (λ (p : Pair). IsAnsweredChild Further setup d.keys asks.request (answer (decided.Made by.made)) (with_serial serial p)) by.same child);
+        },
+      );
+    }
+
+-- the payloads that were read make it
+record AcceptsFurther (blocks ike : ℕ) (keys : KeyRecord) (asked : Asked) (own_nonce : Octets) (plain : Plain) : Type 0 where
+  reply : List Payload
+  read : SpellsChain plain.first reply plain.octets
+
+accepts_further : (blocks ike : ℕ) (keys : KeyRecord) (asked : Asked) (own_nonce : Octets) (plain : Plain) (payloads : Option (List Payload)) (pair : Pair)
+    → IsRead plain payloads → IsConclusion blocks ike keys asked own_nonce payloads (conclusion.Made pair) → AcceptsFurther blocks ike keys asked own_nonce plain
+accepts_further blocks ike keys asked own_nonce plain None pair read due = absurd due
+accepts_further blocks ike keys asked own_nonce plain (Some reply) pair read due = record { reply = reply; read = read }
+
+further_counted_makes : (facts : ChildFacts) (laws : FurtherFacts) (meaning : Meaning) (setup : Setup) (old : Association) (table : Database) (octets : Octets) (m : Message) (ended : Ended) (serial : ℕ) (new : Association) (new_table : Database)
+    → IsSoundTable table → HoldsReserved old table
+    → ended.child ≡ Some serial → TakesMessage meaning setup old table octets m (effect.Counted ended) new new_table → CountedFurther meaning setup old table octets m ended new new_table
+    → MakesChild meaning setup old table octets m (effect.Counted ended) serial new new_table
+further_counted_makes facts laws meaning setup old table octets m ended serial new new_table sound holds e takes is =
+    let d = is.done in
+    let spi : ℕ = d.further.child.spi in
+    let asked : Asked = asked_of d.further.child in
+    let counted : Association = record old { outgoing = d.outgoing } in
+    let c : GivesChild (pair_made d.conclusion) counted table serial new new_table =
+    gives_child (is_closing_conclusion d.conclusion) (Some spi) (pair_made d.conclusion) counted table setup.moment ended.child serial new new_table e
+    (counted_further d.conclusion spi counted table setup.moment ended.child new new_table d.ends) in
+    let made : Concludes setup.config.blocks old.serial d.keys asked d.further.nonce is.plain (conclusion.Made c.one) =
+    subst (λ (x : Conclusion). Concludes setup.config.blocks old.serial d.keys asked d.further.nonce is.plain x) (made_by_conclusion d.conclusion c.one c.is) d.concluded in
+    let accepts = accepts_further setup.config.blocks old.serial d.keys asked d.further.nonce is.plain made.payloads c.one made.read made.due in
+    let reserved : IsReserved table spi =
+    holds.reserved spi (inr (record { number = m.header.id; awaits = record { request = d.request; outstanding = d.counted.there; reserved = ap spi_asked d.asked } })) in
+    let keeps = laws.asked setup.config.blocks old.serial d.keys asked d.further.nonce is.plain c.one made in
+    let few = laws.few_accepted setup.config.blocks old.serial d.keys asked d.further.nonce is.plain c.one made in
+    let unused : UnusedIn old.serial (Some c.one) =
+    subst (λ (p : Option Pair). UnusedIn old.serial p) c.is (made_unused setup.config.blocks old.serial d.keys asked d.further.nonce is.plain d.conclusion d.concluded) in
+    record {
+      keys = d.keys;
+      pair = with_serial serial c.one;
+      brings = child_brought meaning setup old table octets m (effect.Counted ended) serial d.keys c.one new new_table takes (ap (λ (x : Association). x.phase) c.same ∙ d.established) c.in_order unused c.there;
+      made = inr (record {
+        was = d.established;
+        request = d.request;
+        outstanding = d.counted.there;
+        further = d.further;
+        asked = d.asked;
+        plain = is.plain;
+        opened = (facts.answering meaning.plain_of old octets m is.plain is.received).opened;
+        reply = accepts.reply;
+        read = accepts.read;
+        is = record {
+          made = still_further Initiator d.keys (further_payloads (child_request asked) d.further.nonce) accepts.reply serial c.one
+              (laws.accepted setup.config.blocks old.serial d.keys asked d.further.nonce is.plain c.one accepts.reply (reserved_fits table spi sound reserved) made accepts.read);
+          keeps = record { spi = keeps.spi; local = keeps.local; remote = keeps.remote; extension = keeps.extension };
+          few = record { local = few.local; remote = few.remote };
+        };
+      });
+    }
+
+way_makes : (facts : ChildFacts) (laws : FurtherFacts) (meaning : Meaning) (setup : Setup) (old : Association) (table : Database) (octets : Octets) (m : Message) (e : Effect) (serial : ℕ) (new : Association) (new_table : Database)
     → IsSoundTable table → HoldsReserved old table → child_in e ≡ Some serial → TakesMessage meaning setup old table octets m e new new_table
     → Way meaning setup old table octets m e new new_table → MakesChild meaning setup old table octets m e serial new new_table
-way_makes facts meaning setup old table octets m (effect.Refused fault) serial new new_table sound holds named takes is = absurd (none_some serial named)
-way_makes facts meaning setup old table octets m (effect.Repeated reply) serial new new_table sound holds named takes is = absurd (none_some serial named)
-way_makes facts meaning setup old table octets m (effect.Replied answered) serial new new_table sound holds named takes (inl is) = replied_makes facts meaning setup old table octets m answered serial new new_table named takes is
-way_makes facts meaning setup old table octets m (effect.Replied answered) serial new new_table sound holds named takes (inr is) = absurd (none_some serial (sym is.done.child ∙ named))
-way_makes facts meaning setup old table octets m (effect.Again next) serial new new_table sound holds named takes is = absurd (none_some serial named)
-way_makes facts meaning setup old table octets m (effect.Identified next) serial new new_table sound holds named takes is = absurd (none_some serial named)
-way_makes facts meaning setup old table octets m (effect.Counted ended) serial new new_table sound holds named takes (inl is) = counted_makes facts meaning setup old table octets m ended serial new new_table sound holds named takes is
-way_makes facts meaning setup old table octets m (effect.Counted ended) serial new new_table sound holds named takes (inr is) = absurd (none_some serial (sym is.done.child ∙ named))
+way_makes facts laws meaning setup old table octets m (effect.Refused fault) serial new new_table sound holds named takes is = absurd (none_some serial named)
+way_makes facts laws meaning setup old table octets m (effect.Repeated reply) serial new new_table sound holds named takes is = absurd (none_some serial named)
+way_makes facts laws meaning setup old table octets m (effect.Replied answered) serial new new_table sound holds named takes (inl is) = replied_makes facts meaning setup old table octets m answered serial new new_table named takes is
+way_makes facts laws meaning setup old table octets m (effect.Replied answered) serial new new_table sound holds named takes (inr (inl is)) = absurd (none_some serial (sym is.done.child ∙ named))
+way_makes facts laws meaning setup old table octets m (effect.Again next) serial new new_table sound holds named takes is = absurd (none_some serial named)
+way_makes facts laws meaning setup old table octets m (effect.Identified next) serial new new_table sound holds named takes is = absurd (none_some serial named)
+way_makes facts laws meaning setup old table octets m (effect.Counted ended) serial new new_table sound holds named takes (inl is) = counted_makes facts meaning setup old table octets m ended serial new new_table sound holds named takes is
+way_makes facts laws meaning setup old table octets m (effect.Counted ended) serial new new_table sound holds named takes (inr (inl is)) = absurd (none_some serial (sym is.done.child ∙ named))
+way_makes facts laws meaning setup old table octets m (effect.Replied answered) serial new new_table sound holds named takes (inr (inr is)) = further_replied_makes facts laws meaning setup old table octets m answered serial new new_table named takes is
+way_makes facts laws meaning setup old table octets m (effect.Counted ended) serial new new_table sound holds named takes (inr (inr is)) = further_counted_makes facts laws meaning setup old table octets m ended serial new new_table sound holds named takes is
 
-pub makes_child : ChildFacts → (meaning : Meaning) (setup : Setup) (old : Association) (table : Database) (octets : Octets) (m : Message) (e : Effect) (serial : ℕ) (new : Association) (new_table : Database)
+pub makes_child : ChildFacts → FurtherFacts → (meaning : Meaning) (setup : Setup) (old : Association) (table : Database) (octets : Octets) (m : Message) (e : Effect) (serial : ℕ) (new : Association) (new_table : Database)
     → IsSoundTable table → HoldsReserved old table → child_in e ≡ Some serial → TakesMessage meaning setup old table octets m e new new_table
     → MakesChild meaning setup old table octets m e serial new new_table
-makes_child facts meaning setup old table octets m e serial new new_table sound holds named is =
-    way_makes facts meaning setup old table octets m e serial new new_table sound holds named is (way_of meaning setup old table octets m e new new_table is)
+makes_child facts laws meaning setup old table octets m e serial new new_table sound holds named is =
+    way_makes facts laws meaning setup old table octets m e serial new new_table sound holds named is (way_of meaning setup old table octets m e new new_table is)
 
 -- ---- what an initiator asks for
 
@@ -408,8 +608,8 @@ way_waits meaning setup old table octets m (effect.Replied answered) new new_tab
     let d = is.done in
     absurd (concluded_waits setup (record old { incoming = d.incoming }) d.between (outcome_of d.decision) answered.child new new_table d.opened.keys sent (ap established_of d.was) d.concluded waits)
 way_waits meaning setup old table octets m (effect.Replied answered) new new_table sent waits (inr is) =
-    let d = is.done in
-    absurd (closed_if_waits (is_closing_verdict (verdict_on table.pairs old.serial d.payloads)) (gone_by (verdict_on table.pairs old.serial d.payloads)) (record old { incoming = d.incoming }) table setup.moment new new_table d.keys sent d.established d.concluded waits)
+    let d = answered_later meaning setup old table octets m answered new new_table is in
+    absurd (closed_if_waits answered.closed d.ends.serials (with_incoming old d.incoming) d.ends.before setup.moment new d.ends.after d.keys sent d.was d.ends.is waits)
 way_waits meaning setup old table octets m (effect.Again next) new new_table sent waits is =
     absurd (initial_waits (record is.sent { cookie = Some is.cookie; cookies_taken = is.sent.cookies_taken + 1 }) sent (sym (ap (λ (x : Association). x.phase) is.done.content) ∙ waits))
 way_waits meaning setup old table octets m (effect.Identified next) new new_table sent waits is = inr (record { octets = next; is = refl })
@@ -417,8 +617,8 @@ way_waits meaning setup old table octets m (effect.Counted ended) new new_table 
     let d = is.done in
     absurd (concluded_waits setup (record old { outgoing = d.outgoing }) table d.verdict ended.child new new_table d.sent.keys sent (ap established_of d.was) d.concluded waits)
 way_waits meaning setup old table octets m (effect.Counted ended) new new_table sent waits (inr is) =
-    let d = is.done in
-    absurd (closed_if_waits (is_ended d.payloads d.request.purpose) (gone_with table.pairs old.serial d.request.purpose) (record old { outgoing = d.outgoing }) table setup.moment new new_table is.keys sent is.was d.concluded waits)
+    let d = counted_later meaning setup old table octets m ended new new_table is in
+    absurd (closed_if_waits ended.closed d.ends.serials (with_outgoing old d.outgoing) d.ends.before setup.moment new d.ends.after d.keys sent d.was d.ends.is waits)
 
 pub waits_for_child : (meaning : Meaning) (setup : Setup) (old : Association) (table : Database) (octets : Octets) (m : Message) (e : Effect) (new : Association) (new_table : Database) (sent : AuthSent)
     → new.phase ≡ phase.AuthSent sent → TakesMessage meaning setup old table octets m e new new_table → (old.phase ≡ phase.AuthSent sent) ⊎ IsAsking e

@@ -9,7 +9,7 @@ use Rattle.std.specs.FinSet as set
 use Rattle.std.specs.Option.{option_map}
 use Rattle.std.specs.Ordering.{nat_cmp}
 use Rattle.base.specs.Octets.{Octets}
-use Rattle.wire.specs.Numbers.{IKE_AUTH, IKE_SA_INIT, INFORMATIONAL}
+use Rattle.wire.specs.Numbers.{IKE_SA_INIT, INFORMATIONAL}
 use Rattle.wire.specs.declared.message.Message.{Message}
 use Rattle.wire.specs.declared.payload.Payload.{Payload}
 use Rattle.suite.specs.declared.key_record.KeyRecord.{KeyRecord}
@@ -47,23 +47,18 @@ use Rattle.initial.specs.Configs.{IsConfig, Setup}
 use Rattle.initial.specs.Issuing.{new_request, IssuesNext}
 use Rattle.initial.specs.declared.concluding.Outcome.{Outcome}
 use Rattle.initial.specs.declared.concluding.Outcome.TheVariants as outcome
-use Rattle.deletions.specs.Deciding.{is_closing_verdict, verdict_on}
-use Rattle.informational.specs.Answering.{gone_by}
-use Rattle.informational.specs.Counting.{gone_with, is_ended}
 use Rattle.informational.specs.Orders.{ClosesIf}
-use Rattle.informational.specs.Asking.{Asks}
-use Rattle.informational.specs.Ordering.{payloads_of_order, purpose_of}
-use Rattle.informational.specs.declared.ordering.Order.{Order}
 use Rattle.suite.specs.declared.keys.Keys.{Keys}
 use Rattle.effects.specs.Moves.{and_closes, first_ledger, ledger, ledger_of, ledger_with, makes_and_issues, moves_of, octets_out, put, ClosesLedger, Close, Count, Counts, Issue, Issues, KeepsReply, KeepWindows, Lead, Ledger, Make, Move, Remove, TakeEffect, TakesEffectOnce, WaitsWith}
 use Rattle.effects.specs.Requests.{IsSoundlyHeld}
-use Rattle.effects.specs.Taking.{Does, DoesFurther, DoesRequest, DoesResponse, Meaning, TakesMessage}
+use Rattle.effects.specs.Sending.{SendsRequest}
+use Rattle.effects.specs.Taking.{asked_further, Does, DoesAnswer, DoesFurther, DoesRequest, DoesResponse, Meaning, TakesMessage}
 use Rattle.effects.specs.Waiting.{MayBeOutstanding, TookFirstRequest}
 use Rattle.effects.specs.declared.taking.Effect.{Effect}
 use Rattle.effects.specs.declared.taking.Effect.TheVariants as effect
 use Rattle.effects.proofs.KeepingLemmas.{established_keys}
 use Rattle.effects.proofs.RequestLemmas.{came, counted_window, decided_window, inserted, judged_window, repeated_why, taken_size, yes_no, TellsWindow, Windows}
-use Rattle.effects.proofs.WayLemmas.{way_of, Way}
+use Rattle.effects.proofs.WayLemmas.{answered_later, counted_later, way_of, Way}
 
 -- ---- ledgers
 
@@ -340,14 +335,13 @@ way_moves windows meaning setup old table octets m (effect.Replied answered) new
     (subst (λ (b : Bool). Ends b Responder m.header.id (ledger_of (with_incoming old d.incoming) keys) (ledger new)) (sym d.closed)
     (concluded_ends setup Responder m.header.id (with_incoming old d.incoming) keys d.between (outcome_of d.decision) answered.child new new_table awaits (ap keys_in d.was) is_open d.concluded)))
 way_moves windows meaning setup old table octets m (effect.Replied answered) new new_table held config (inr is) =
-    let d = is.done in
-    let is_open : is_closed old.phase ≡ false = ap is_closed d.established in
-    from_keys (and_closes (TakeEffect m.header.id answered.octets) answered.closed) old d.keys (ledger new) (ap keys_in d.established)
+    let d = answered_later meaning setup old table octets m answered new new_table is in
+    let is_open : is_closed old.phase ≡ false = ap is_closed d.was in
+    from_keys (and_closes (TakeEffect m.header.id answered.octets) answered.closed) old d.keys (ledger new) (ap keys_in d.was)
     (taken_leads answered.closed m.header.id answered.octets (ledger_of old d.keys) (ledger_of (with_incoming old d.incoming) d.keys) (ledger new)
     (taken_moves old d.keys d.ready d.incoming m.header.id answered.octets is_open d.prepared d.taken)
     (taken_size old.incoming d.ready m.header.id answered.octets d.incoming d.prepared d.taken) refl
-    (subst (λ (b : Bool). Ends b Responder m.header.id (ledger_of (with_incoming old d.incoming) d.keys) (ledger new)) (sym d.closed)
-    (closed_if_ends Responder m.header.id (is_closing_verdict (verdict_on table.pairs old.serial d.payloads)) (gone_by (verdict_on table.pairs old.serial d.payloads)) (with_incoming old d.incoming) d.keys table setup.moment new new_table (ap keys_in d.established) is_open d.concluded)))
+    (closed_if_ends Responder m.header.id answered.closed d.ends.serials (with_incoming old d.incoming) d.keys d.ends.before setup.moment new d.ends.after (ap keys_in d.was) is_open d.ends.is))
 way_moves windows meaning setup old table octets m (effect.Counted ended) new new_table held config (inl is) =
     let d = is.done in
     let keys = d.sent.keys in
@@ -369,13 +363,12 @@ way_moves windows meaning setup old table octets m (effect.Counted ended) new ne
     (subst (λ (b : Bool). Ends b Initiator m.header.id (ledger_of (with_outgoing old d.outgoing) keys) (ledger new)) (sym d.closed)
     (concluded_ends setup Initiator m.header.id (with_outgoing old d.outgoing) keys table d.verdict ended.child new new_table awaits (ap keys_in d.was) is_open d.concluded)))
 way_moves windows meaning setup old table octets m (effect.Counted ended) new new_table held config (inr is) =
-    let d = is.done in
-    let is_open : is_closed old.phase ≡ false = ap is_closed is.was in
-    from_keys (and_closes (Count m.header.id) ended.closed) old is.keys (ledger new) (ap keys_in is.was)
-    (counted_leads ended.closed m.header.id (ledger_of old is.keys) (ledger_of (with_outgoing old d.outgoing) is.keys) (ledger new)
-    (counted_moves old is.keys m.header.id d.request d.outgoing is_open d.counted) refl (counted_window old.outgoing m.header.id d.request d.outgoing d.counted)
-    (subst (λ (b : Bool). Ends b Initiator m.header.id (ledger_of (with_outgoing old d.outgoing) is.keys) (ledger new)) (sym d.closed)
-    (closed_if_ends Initiator m.header.id (is_ended d.payloads d.request.purpose) (gone_with table.pairs old.serial d.request.purpose) (with_outgoing old d.outgoing) is.keys table setup.moment new new_table (ap keys_in is.was) is_open d.concluded)))
+    let d = counted_later meaning setup old table octets m ended new new_table is in
+    let is_open : is_closed old.phase ≡ false = ap is_closed d.was in
+    from_keys (and_closes (Count m.header.id) ended.closed) old d.keys (ledger new) (ap keys_in d.was)
+    (counted_leads ended.closed m.header.id (ledger_of old d.keys) (ledger_of (with_outgoing old d.outgoing) d.keys) (ledger new)
+    (counted_moves old d.keys m.header.id d.request d.outgoing is_open d.counted) refl (counted_window old.outgoing m.header.id d.request d.outgoing d.counted)
+    (closed_if_ends Initiator m.header.id ended.closed d.ends.serials (with_outgoing old d.outgoing) d.keys d.ends.before setup.moment new d.ends.after (ap keys_in d.was) is_open d.ends.is))
 way_moves windows meaning setup old table octets m (effect.Again next) new new_table held config is = ap ledger is.done.content ∙ sym (no_ledger old (ap keys_in is.was))
 way_moves windows meaning setup old table octets m (effect.Identified next) new new_table held config is =
     let d = is.done in
@@ -400,14 +393,13 @@ message_moves windows meaning setup old table octets m e new new_table held conf
 
 -- ---- an order, and the end
 
-pub probe_moves : (body_of : Keys → Octets → Octets → Octets → Octets) (setup : Setup) (order : Order) (old : Association) (octets : Octets) (new : Association)
-    → Asks body_of setup order old octets new → Lead (Issue old.outgoing.next octets ∷ []) (ledger old) (ledger new)
-probe_moves body_of setup order old octets new is =
-    let are : keys_in new.phase ≡ Some is.keys = ap (λ (x : Association). keys_in x.phase) is.content ∙ ap keys_in is.established in
+pub requested_moves : (body_of : Keys → Octets → Octets → Octets → Octets) (setup : Setup) (old : Association) (octets : Octets) (new : Association)
+    → SendsRequest body_of setup old octets new → Lead (Issue old.outgoing.next octets ∷ []) (ledger old) (ledger new)
+requested_moves body_of setup old octets new is =
     let l = ledger_of old is.keys in
     let after : ledger new ≡ Some (with_own l is.outgoing) = ap ledger is.content ∙ ap (option_map (ledger_of (with_outgoing old is.outgoing))) (ap keys_in is.established) in
     from_keys (Issue old.outgoing.next octets ∷ []) old is.keys (ledger new) (ap keys_in is.established)
-    (Some (with_own l is.outgoing), issued_moves l old.outgoing (new_request octets (purpose_of order) setup.moment) is.outgoing (ap is_closed is.established) is.issued, after)
+    (Some (with_own l is.outgoing), issued_moves l old.outgoing (new_request octets is.purpose setup.moment) is.outgoing (ap is_closed is.established) is.issued, after)
 
 -- what waits belongs to a phase that is open, and in which nothing is over
 waiting_open : (p : Phase) (number : ℕ) (asked : Purpose) → MayBeOutstanding p number asked → is_closed p ≡ false
@@ -550,12 +542,17 @@ identified_request (phase.Established keys) meaning setup exchange old table num
     identified_further (exchange == INFORMATIONAL) meaning setup old table number plain next new new_table is
 identified_request (phase.Closed keys at) meaning setup exchange old table number plain next new new_table is = is
 
+identified_answer : (further : Bool) (setup : Setup) (old : Association) (table : Database) (number : ℕ) (plain : Plain) (next : Octets) (new : Association) (new_table : Database)
+    → DoesAnswer further setup old table number plain (effect.Identified next) new new_table → ⊥
+identified_answer true setup old table number plain next new new_table is = is
+identified_answer false setup old table number plain next new new_table is = is
+
 identified_response : (p : Phase) (meaning : Meaning) (setup : Setup) (old : Association) (table : Database) (number : ℕ) (plain : Plain) (next : Octets) (new : Association) (new_table : Database)
     → DoesResponse meaning setup p old table number plain (effect.Identified next) new new_table → ⊥
 identified_response (phase.InitSent sent) meaning setup old table number plain next new new_table is = is
 identified_response (phase.AuthSent sent) meaning setup old table number plain next new new_table is = is
 identified_response (phase.HalfOpen opened) meaning setup old table number plain next new new_table is = is
-identified_response (phase.Established keys) meaning setup old table number plain next new new_table is = is
+identified_response (phase.Established keys) meaning setup old table number plain next new new_table is = identified_answer (asked_further old number) setup old table number plain next new new_table is
 identified_response (phase.Closed keys at) meaning setup old table number plain next new new_table is = is
 
 identified_reception : (r : Reception) (meaning : Meaning) (setup : Setup) (old : Association) (table : Database) (octets : Octets) (m : Message) (next : Octets) (new : Association) (new_table : Database)

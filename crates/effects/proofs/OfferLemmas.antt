@@ -1,6 +1,7 @@
 -- What an answer takes of an offer.
 use Rattle.std.proofs.Common.{◌≡◌, ◌∷◌, [], ℕ, zero, suc, Bool, true, false, List, Option, Some, None, All, Contains, slice_index_or, ap, refl, subst, sym, ◌∙◌, arith}
 use Rattle.base.specs.Octets.{Octets}
+use Rattle.wire.specs.Numbers.{CREATE_CHILD_SA, IKE_AUTH}
 use Rattle.wire.specs.declared.payload.Payload.{Payload}
 use Rattle.wire.specs.declared.payload.Payload.TheVariants.{Sa}
 use Rattle.wire.specs.declared.proposal.Proposal.{Proposal}
@@ -10,6 +11,8 @@ use Rattle.suite.specs.declared.choice.Chosen.{Chosen}
 use Rattle.suite.specs.declared.choice.Wanted.{Wanted}
 use Rattle.suite.specs.declared.choice.Wanted.TheVariants.{Ike, Esp}
 use Rattle.suite.specs.declared.fresh.Fresh.{Fresh}
+use Rattle.suite.specs.declared.key_record.KeyRecord.{KeyRecord}
+use Rattle.suite.specs.declared.keys.Keys.{Keys}
 use Rattle.suite.specs.declared.sealer.Cipher.{Cipher}
 use Rattle.exchange.specs.Offers.{answer_of, answered_transforms, count_of_kind, IsTakenFrom}
 use Rattle.exchange.specs.declared.sealed.Plain.{Plain}
@@ -29,12 +32,18 @@ use Rattle.initial.specs.Answering.{reply_payloads, AnswersAuth, Prover}
 use Rattle.initial.specs.Beginning.{Admits}
 use Rattle.initial.specs.Configs.{Setup}
 use Rattle.initial.specs.Deciding.{own_proving, IsDecision, IsRead}
-use Rattle.effects.specs.Offers.{AnswersAuthSa, AnswersInitialSa, AnswersOneOf, AnswersPlain}
+use Rattle.further.specs.Answering.{answer_to_further, further_answer}
+use Rattle.further.specs.Deciding.{DecidesFurtherBy, IsFurtherDecision}
+use Rattle.further.specs.Judging.{Admitted, FurtherJudgement, IsFurtherJudgement, Refused}
+use Rattle.further.specs.declared.deciding.Decision as further
+use Rattle.further.specs.declared.deciding.Decision.TheVariants as decided
+use Rattle.create_child.specs.Answering.{AnswersFurther}
+use Rattle.effects.specs.Offers.{AnswersInitialSa, AnswersOneOf, AnswersPlain, AnswersSealedSa}
 use Rattle.initial.specs.declared.answering.Answered.{Answered}
-use Rattle.initial.specs.declared.beginning.Admitted.{Admitted}
+use Rattle.initial.specs.declared.beginning.Admitted as admitting
 use Rattle.initial.specs.declared.deciding.Decision.{Decision}
 use Rattle.initial.specs.declared.deciding.Decision.TheVariants as decision
-use Rattle.effects.proofs.PayloadLemmas.{answer_sa, answer_without, notice_without}
+use Rattle.effects.proofs.PayloadLemmas.{answer_sa, answer_without, further_sa, notice_without}
 
 -- what is known of an answer
 pub record OfferFacts : Type 0 where
@@ -88,7 +97,7 @@ answers_one facts wanted proposals chosen spi found =
 -- ---- IKE_SA_INIT
 
 pub initial_answers : OfferFacts → (cipher : Cipher) (group : ℕ) (public_value : Octets → Octets) (shared_secret : Octets → Octets → Option Octets) (secrets : CookieSecrets) (sender : Sender) (half_open held : ℕ) (payloads : List Payload)
-    (fresh : Fresh) (moment serial : ℕ) (offer : OfferView) (spi_i : ℕ) (request : Octets) (admitted : Admitted)
+    (fresh : Fresh) (moment serial : ℕ) (offer : OfferView) (spi_i : ℕ) (request : Octets) (admitted : admitting.Admitted)
     → IsJudgement cipher group secrets sender half_open held payloads (Accepted offer) → Admits cipher group public_value shared_secret fresh moment serial offer spi_i request admitted
     → AnswersInitialSa payloads admitted.octets
 initial_answers facts cipher group public_value shared_secret secrets sender half_open held payloads fresh moment serial offer spi_i request admitted judged is =
@@ -129,7 +138,7 @@ decision_answers facts own_method proof_of accepts setup ike opened table plain 
     }
 
 pub auth_answers : OfferFacts → (prover : Prover) (setup : Setup) (old : Association) (table : Database) (number : ℕ) (plain : Plain) (answered : Answered) (new : Association) (new_table : Database)
-    → AnswersAuth prover setup old table number plain answered new new_table → AnswersAuthSa prover.body_of setup old number plain answered.octets
+    → AnswersAuth prover setup old table number plain answered new new_table → AnswersSealedSa IKE_AUTH prover.body_of setup old number plain answered.octets
 auth_answers facts prover setup old table number plain answered new new_table is =
     record {
       keys = is.opened.keys;
@@ -137,4 +146,40 @@ auth_answers facts prover setup old table number plain answered new new_table is
       reply = reply_payloads prover.own_method prover.proof_of setup is.opened is.decision;
       sealed = is.sealed;
       answers = λ proposals sa. decision_answers facts prover.own_method prover.proof_of prover.accepts setup old.serial is.opened table plain is.decided.payloads is.decision proposals is.decided.read is.decided.due sa;
+    }
+
+-- ---- CREATE_CHILD_SA
+
+further_by : (facts : OfferFacts) (setup : Setup) (ike : ℕ) (keys : KeyRecord) (table : Database) (deleting : Bool) (plain : Plain) (payloads : List Payload) (j : FurtherJudgement) (made : Made) (answered : List Proposal)
+    → IsRead plain (Some payloads) → IsFurtherJudgement payloads deleting j → DecidesFurtherBy setup ike keys table j (decided.Made made) → Contains (further_answer (answer_to_further (decided.Made made)) setup.fresh.nonce) (Sa answered) → AnswersPlain plain answered
+further_by facts setup ike keys table deleting plain payloads (Refused notice) made answered read judged due sa = absurd due
+further_by facts setup ike keys table deleting plain payloads (Admitted asked) made answered read judged child sa =
+    let is : answered_proposals (Esp setup.config.extended) child.chosen child.terms.spi_r ≡ answered =
+    sym (ap (λ (x : Made). x.payloads.proposals) child.whole) ∙ further_sa made.payloads setup.fresh.nonce answered sa in
+    record {
+      request = payloads;
+      read = read;
+      answers = record {
+        offered = asked.child.proposals;
+        sa = judged.sa;
+        one = subst (λ (ps : List Proposal). AnswersOneOf asked.child.proposals ps) is
+            (answers_one facts (Esp setup.config.extended) asked.child.proposals child.chosen _ child.due.choice);
+      };
+    }
+
+further_decides : (facts : OfferFacts) (setup : Setup) (ike : ℕ) (keys : KeyRecord) (table : Database) (deleting : Bool) (plain : Plain) (payloads : Option (List Payload)) (d : further.Decision) (answered : List Proposal)
+    → IsRead plain payloads → IsFurtherDecision setup ike keys table deleting payloads d → Contains (further_answer (answer_to_further d) setup.fresh.nonce) (Sa answered) → AnswersPlain plain answered
+further_decides facts setup ike keys table deleting plain payloads (decided.Refused notice) answered read due sa = absurd (notice_without notice answered sa)
+further_decides facts setup ike keys table deleting plain None (decided.Made made) answered read due sa = absurd due
+further_decides facts setup ike keys table deleting plain (Some payloads) (decided.Made made) answered read due sa = further_by facts setup ike keys table deleting plain payloads due.judgement made answered read due.judged due.due sa
+
+pub further_answers : OfferFacts → (body_of : Keys → Octets → Octets → Octets → Octets) (setup : Setup) (old : Association) (table : Database) (number : ℕ) (plain : Plain) (answered : Answered) (new : Association) (new_table : Database)
+    → AnswersFurther body_of setup old table number plain answered new new_table → AnswersSealedSa CREATE_CHILD_SA body_of setup old number plain answered.octets
+further_answers facts body_of setup old table number plain answered new new_table is =
+    record {
+      keys = is.keys;
+      are = ap keys_in is.established;
+      reply = further_answer (answer_to_further is.decision) setup.fresh.nonce;
+      sealed = is.sealed;
+      answers = λ proposals sa. further_decides facts setup old.serial is.keys table is.deleting plain is.decided.payloads is.decision proposals is.decided.read is.decided.due sa;
     }

@@ -5,7 +5,7 @@ use Rattle.std.specs.List.{AllByRecursion}
 use Rattle.std.specs.Prelude.{nat_lt}
 use Rattle.base.specs.Octets.{Octets}
 use Rattle.wire.specs.Messages.{Spells}
-use Rattle.wire.specs.Numbers.{IKE_AUTH, IKE_SA_INIT, INFORMATIONAL}
+use Rattle.wire.specs.Numbers.{CREATE_CHILD_SA, IKE_AUTH, IKE_SA_INIT, INFORMATIONAL}
 use Rattle.wire.specs.Payloads.{IsClear}
 use Rattle.wire.specs.declared.message.Header.{Header}
 use Rattle.wire.specs.declared.message.Message.{Message}
@@ -13,7 +13,6 @@ use Rattle.wire.specs.declared.payload.Payload.{Payload}
 use Rattle.suite.specs.declared.key_record.KeyRecord.{KeyRecord}
 use Rattle.suite.specs.declared.keys.Keys.{Keys}
 use Rattle.exchange.specs.Children.{child_payloads}
-use Rattle.exchange.specs.Counting.{unknown_critical}
 use Rattle.exchange.specs.Headers.{is_initiator, keys_of, other_role, sent_header}
 use Rattle.exchange.specs.Notices.{payload_of_notice}
 use Rattle.exchange.specs.Sealed.{IsSealed}
@@ -33,6 +32,7 @@ use Rattle.auth.specs.declared.identity.Identity.{Identity}
 use Rattle.association.specs.Finding.{has_pair, is_meant, is_waiting, sent_by_other}
 use Rattle.association.specs.AskedChildren.{asked_of}
 use Rattle.association.specs.Phases.{keys_in}
+use Rattle.association.specs.Purposes.{exchange_of}
 use Rattle.association.specs.Receiving.{opened_by, opened_under, Answers, AnswersInitial, IsAnswering, IsReceived, Opening, Reception, Refused, Repeat, TakesEffect}
 use Rattle.association.specs.declared.phase.Association.{Association}
 use Rattle.association.specs.declared.phase.HalfOpen.{HalfOpen}
@@ -52,18 +52,20 @@ use Rattle.deletions.specs.Answering.{deletion_if_any, payloads_of_verdict}
 use Rattle.deletions.specs.Deciding.{verdict_on}
 use Rattle.deletions.specs.declared.deciding.Verdict.{Verdict}
 use Rattle.deletions.specs.declared.deciding.Verdict.TheVariants as verdict
-use Rattle.informational.specs.Asking.{Asks}
 use Rattle.informational.specs.Ordering.{payloads_of_order}
+use Rattle.further.specs.Answering.{answer_to_further, further_answer}
+use Rattle.further.specs.Payloads.{further_payloads}
 use Rattle.informational.specs.declared.ordering.Order.{Order}
 use Rattle.informational.specs.declared.ordering.Order.TheVariants as order
 use Rattle.effects.specs.Lengths.{AreWholeKeys, HoldsWholeKeys}
 use Rattle.effects.specs.Openings.{OpensAsMessage, OpensWhatItSeals}
 use Rattle.effects.specs.Requests.{PutsIntoEffect}
+use Rattle.effects.specs.Sending.{SendsRequest}
 use Rattle.effects.specs.Taking.{Does, DoesFurther, DoesRequest, Meaning, TakesMessage}
 use Rattle.effects.specs.declared.taking.Effect.{Effect}
 use Rattle.effects.specs.declared.taking.Effect.TheVariants as effect
 use Rattle.effects.proofs.DeterminedReadings.{keys_by_role}
-use Rattle.effects.proofs.WayLemmas.{way_of, Way}
+use Rattle.effects.proofs.WayLemmas.{counted_later, way_of, Way}
 
 -- ---- none of the payloads that go out is encrypted itself
 
@@ -98,10 +100,17 @@ verdict_clear (verdict.Unsupported kind) = (λ same. omega (arith, same), tt)
 verdict_clear verdict.Closes = tt
 verdict_clear (verdict.Deletes deleted) = named_clear deleted.inbound_spis
 
-order_clear : (order : Order) → AreClear (payloads_of_order order)
+pub order_clear : (order : Order) → AreClear (payloads_of_order order)
 order_clear order.Probe = tt
 order_clear (order.DeleteChild child spi) = (λ same. omega (arith, same), tt)
 order_clear order.DeleteAssociation = (λ same. omega (arith, same), tt)
+
+pub further_clear : (child : ChildPayloads) (nonce : Octets) → AreClear (further_payloads child nonce)
+further_clear child nonce = (λ same. omega (arith, same), (λ same. omega (arith, same), (λ same. omega (arith, same), (λ same. omega (arith, same), tt))))
+
+further_answer_clear : (answer : ChildAnswer) (nonce : Octets) → AreClear (further_answer answer nonce)
+further_answer_clear (answered.Payloads child) nonce = further_clear child nonce
+further_answer_clear (answered.Notice notice) nonce = notice_clear notice
 
 reply_clear : (own_method : ℕ) (proof_of : Octets → Octets) (setup : Setup) (opened : HalfOpen) (d : Decision) → AreClear (reply_payloads own_method proof_of setup opened d)
 reply_clear own_method proof_of setup opened (decision.Refused notice) = notice_clear notice
@@ -150,7 +159,12 @@ way_replies meaning setup old table octets m answered new new_table opens whole 
     let are : keys_in old.phase ≡ Some d.opened.keys = ap keys_in d.was in
     own_opens meaning.body_of meaning.plain_of setup.fresh.seal old d.opened.keys IKE_AUTH m.header.id true (reply_payloads meaning.own_method meaning.proof_of setup d.opened d.decision) answered.octets opens are (whole d.opened.keys are)
     (reply_clear meaning.own_method meaning.proof_of setup d.opened d.decision) d.sealed
-way_replies meaning setup old table octets m answered new new_table opens whole (inr is) =
+way_replies meaning setup old table octets m answered new new_table opens whole (inr (inr is)) =
+    let d = is.done in
+    let are : keys_in old.phase ≡ Some d.keys = ap keys_in d.established in
+    own_opens meaning.body_of meaning.plain_of setup.fresh.seal old d.keys CREATE_CHILD_SA m.header.id true (further_answer (answer_to_further d.decision) setup.fresh.nonce) answered.octets opens are (whole d.keys are)
+    (further_answer_clear (answer_to_further d.decision) setup.fresh.nonce) d.sealed
+way_replies meaning setup old table octets m answered new new_table opens whole (inr (inl is)) =
     let d = is.done in
     let are : keys_in old.phase ≡ Some d.keys = ap keys_in d.established in
     own_opens meaning.body_of meaning.plain_of setup.fresh.seal old d.keys INFORMATIONAL m.header.id true (payloads_of_verdict (verdict_on table.pairs old.serial d.payloads)) answered.octets opens are (whole d.keys are)
@@ -181,14 +195,14 @@ pub identities_open : (meaning : Meaning) (setup : Setup) (old : Association) (t
 identities_open meaning setup old table octets m next new new_table opens whole is =
     way_identifies meaning setup old table octets m next new new_table opens whole (way_of meaning setup old table octets m (effect.Identified next) new new_table is)
 
-pub probes_open : (body_of : Keys → Octets → Octets → Octets → Octets) (plain_of : Opening) (setup : Setup) (order : Order) (old : Association) (octets : Octets) (new : Association)
-    → OpensWhatItSeals body_of plain_of setup.fresh.seal → HoldsWholeKeys old.phase → Asks body_of setup order old octets new
+pub requests_open : (body_of : Keys → Octets → Octets → Octets → Octets) (plain_of : Opening) (setup : Setup) (old : Association) (octets : Octets) (new : Association)
+    → OpensWhatItSeals body_of plain_of setup.fresh.seal → HoldsWholeKeys old.phase → SendsRequest body_of setup old octets new
     → OpensAsMessage plain_of new new.role false old.outgoing.next octets
-probes_open body_of plain_of setup order old octets new opens whole is =
+requests_open body_of plain_of setup old octets new opens whole is =
     let are : keys_in old.phase ≡ Some is.keys = ap keys_in is.established in
     let asked = with_outgoing old is.outgoing in
     subst (λ (a : Association). OpensAsMessage plain_of a a.role false old.outgoing.next octets) (sym is.content)
-    (own_opens body_of plain_of setup.fresh.seal asked is.keys INFORMATIONAL old.outgoing.next false (payloads_of_order order) octets opens are (whole is.keys are) (order_clear order) is.sealed)
+    (own_opens body_of plain_of setup.fresh.seal asked is.keys (exchange_of is.purpose) old.outgoing.next false is.payloads octets opens are (whole is.keys are) is.clear is.sealed)
 
 -- ---- what comes from the peer
 
@@ -278,7 +292,7 @@ counted_by meaning setup old table octets m AnswersInitial ended new new_table r
 way_open : (meaning : Meaning) (setup : Setup) (old : Association) (table : Database) (octets : Octets) (m : Message) (ended : Ended) (new : Association) (new_table : Database)
     → Way meaning setup old table octets m (effect.Counted ended) new new_table → is_waiting old.phase ≡ false
 way_open meaning setup old table octets m ended new new_table (inl is) = ap is_waiting is.done.was
-way_open meaning setup old table octets m ended new new_table (inr is) = ap is_waiting is.was
+way_open meaning setup old table octets m ended new new_table (inr is) = ap is_waiting (counted_later meaning setup old table octets m ended new new_table is).was
 
 pub counted_opens : AnsweringLaw → (meaning : Meaning) (setup : Setup) (old : Association) (table : Database) (octets : Octets) (m : Message) (ended : Ended) (new : Association) (new_table : Database) → Spells m octets → is_meant m.header old ≡ true
     → TakesMessage meaning setup old table octets m (effect.Counted ended) new new_table → OpensAsMessage meaning.plain_of old (other_role old.role) true m.header.id octets

@@ -9,8 +9,9 @@ use Rattle.wire.specs.declared.message.Message.{Message}
 use Rattle.exchange.specs.declared.sealed.Plain.{Plain}
 use Rattle.sadb.specs.Database.{Database, Installs, IsAsBefore, IsReserved, Releases, RemovesAllOf, Reserves}
 use Rattle.sadb.specs.declared.pair.Pair.{Pair}
-use Rattle.association.specs.Closing.{Closes, HoldsSpi}
+use Rattle.association.specs.Closing.{Closes, GivesUpSpi, HoldsSpi}
 use Rattle.association.specs.Phases.{established_spi, spi_in}
+use Rattle.association.specs.Purposes.{spi_asked}
 use Rattle.association.specs.declared.phase.Association.{Association}
 use Rattle.association.specs.declared.phase.Phase.{Phase}
 use Rattle.association.specs.declared.phase.Phase.TheVariants as phase
@@ -24,6 +25,9 @@ use Rattle.deletions.specs.Deciding.{is_closing_verdict, verdict_on}
 use Rattle.informational.specs.Answering.{gone_by}
 use Rattle.informational.specs.Counting.{gone_with, is_ended}
 use Rattle.informational.specs.Orders.{ClosesIf}
+use Rattle.further.specs.Answering.{further_pair}
+use Rattle.further.specs.Deciding.{is_closing_decision}
+use Rattle.create_child.specs.Counting.{is_closing_conclusion}
 use Rattle.effects.specs.Taking.{prover_of, Meaning, TakesMessage}
 use Rattle.initial.specs.declared.answering.Answered.{Answered}
 use Rattle.initial.specs.declared.concluding.Outcome.{Outcome}
@@ -32,7 +36,7 @@ use Rattle.initial.specs.declared.ending.Ended.{Ended}
 use Rattle.effects.specs.declared.taking.Effect.{Effect}
 use Rattle.effects.specs.declared.taking.Effect.TheVariants as effect
 use Rattle.effects.proofs.HeldFacts.{counted_before, HeldFacts}
-use Rattle.effects.proofs.WayLemmas.{way_of, Way}
+use Rattle.effects.proofs.WayLemmas.{answered_further, counted_further, pair_made, way_of, CountedFurther, FurtherIf, Way}
 
 -- ---- sets
 
@@ -112,6 +116,26 @@ closed_if_keeps : (ending : Bool) (serials : List ℕ) (old : Association) (tabl
 closed_if_keeps true serials old table moment new new_table q apart is kept = over_keeps old table moment new new_table q apart is kept
 closed_if_keeps false serials old table moment new new_table q apart is kept = subst (λ d. IsKept d q) (sym is.1.removed.content) (record { there = kept.there; given = kept.given })
 
+given_up_keeps : (spi : Option ℕ) (old new : Database) (q : ℕ) → spi ≢ Some q → GivesUpSpi spi old new → IsKept old q → IsKept new q
+given_up_keeps None old new q apart is kept = subst (λ d. IsKept d q) (sym is) kept
+given_up_keeps (Some spi) old new q apart is kept = release_keeps old spi new q (other_spi spi q apart) is kept
+
+further_if_keeps : (closing : Bool) (spi : Option ℕ) (pair : Option Pair) (a : Association) (table : Database) (moment : ℕ) (child : Option ℕ) (new : Association) (new_table : Database) (q : ℕ)
+    → ¬ HoldsSpi a q → spi ≢ Some q → FurtherIf closing spi pair a table moment child new new_table → IsKept table q → IsKept new_table q
+further_if_keeps true spi pair a table moment child new new_table q apart other is kept =
+    over_keeps a is.between moment new new_table q apart is.over (given_up_keeps spi table is.between q other is.given_up kept)
+further_if_keeps false spi pair a table moment child new new_table q apart other is kept = child_keeps table spi pair child new_table q other is.added kept
+
+further_counted_keeps : HeldFacts → (meaning : Meaning) (setup : Setup) (old : Association) (table : Database) (octets : Octets) (m : Message) (e : Ended) (new : Association) (new_table : Database) (q : ℕ)
+    → ¬ HoldsSpi old q → CountedFurther meaning setup old table octets m e new new_table → IsKept table q → IsKept new_table q
+further_counted_keeps facts meaning setup old table octets m e new new_table q apart is kept =
+    let d = is.done in
+    let counted : Association = record old { outgoing = d.outgoing } in
+    further_if_keeps (is_closing_conclusion d.conclusion) (Some d.further.child.spi) (pair_made d.conclusion) counted table setup.moment e.child new new_table q
+    (λ held. apart (counted_before facts old d.outgoing d.request m.header.id q d.counted held))
+    (λ same. apart (inr (record { number = m.header.id; awaits = record { request = d.request; outstanding = d.counted.there; reserved = ap spi_asked d.asked ∙ same } })))
+    (counted_further d.conclusion d.further.child.spi counted table setup.moment e.child new new_table d.ends) kept
+
 answer_keeps : (prover : Prover) (setup : Setup) (old : Association) (table : Database) (number : ℕ) (plain : Plain) (a : Answered) (new : Association) (new_table : Database) (q : ℕ)
     → ¬ HoldsSpi old q → AnswersAuth prover setup old table number plain a new new_table → IsKept table q → IsKept new_table q
 answer_keeps prover setup old table number plain a new new_table q apart is kept =
@@ -131,13 +155,20 @@ way_keeps facts meaning setup old table octets m (effect.Refused fault) new new_
 way_keeps facts meaning setup old table octets m (effect.Repeated reply) new new_table q apart is kept = unchanged_keeps table new_table q is.same.pairs kept
 way_keeps facts meaning setup old table octets m (effect.Replied answered) new new_table q apart (inl is) kept =
     answer_keeps (prover_of meaning) setup old table m.header.id is.plain answered new new_table q apart is.done kept
-way_keeps facts meaning setup old table octets m (effect.Replied answered) new new_table q apart (inr is) kept =
+way_keeps facts meaning setup old table octets m (effect.Replied answered) new new_table q apart (inr (inr is)) kept =
+    let d = is.done in
+    let taken : Association = record old { incoming = d.incoming } in
+    further_if_keeps (is_closing_decision d.decision) None (further_pair d.decision) taken d.between setup.moment answered.child new new_table q apart (λ same. cc)
+    (answered_further (is_closing_decision d.decision) (further_pair d.decision) taken d.between setup.moment answered.child new new_table d.concluded) (room_keeps table d.between q d.room kept)
+way_keeps facts meaning setup old table octets m (effect.Replied answered) new new_table q apart (inr (inl is)) kept =
     closed_if_keeps (is_closing_verdict (verdict_on table.pairs old.serial is.done.payloads)) (gone_by (verdict_on table.pairs old.serial is.done.payloads)) (record old { incoming = is.done.incoming }) table setup.moment new new_table q apart is.done.concluded kept
 way_keeps facts meaning setup old table octets m (effect.Again next) new new_table q apart is kept = unchanged_keeps table new_table q is.pairs kept
 way_keeps facts meaning setup old table octets m (effect.Identified next) new new_table q apart is kept = unchanged_keeps table new_table q is.pairs kept
 way_keeps facts meaning setup old table octets m (effect.Counted ended) new new_table q apart (inl is) kept =
     end_keeps facts meaning.accepts setup old table m.header.id is.plain ended new new_table q apart is.done kept
-way_keeps facts meaning setup old table octets m (effect.Counted ended) new new_table q apart (inr is) kept =
+way_keeps facts meaning setup old table octets m (effect.Counted ended) new new_table q apart (inr (inr is)) kept =
+    further_counted_keeps facts meaning setup old table octets m ended new new_table q apart is kept
+way_keeps facts meaning setup old table octets m (effect.Counted ended) new new_table q apart (inr (inl is)) kept =
     closed_if_keeps (is_ended is.done.payloads is.done.request.purpose) (gone_with table.pairs old.serial is.done.request.purpose) (record old { outgoing = is.done.outgoing }) table setup.moment new new_table q (λ held. apart (counted_before facts old is.done.outgoing is.done.request m.header.id q is.done.counted held)) is.done.concluded kept
 
 pub others_keep : HeldFacts → (meaning : Meaning) (setup : Setup) (old : Association) (table : Database) (octets : Octets) (m : Message) (e : Effect) (new : Association) (new_table : Database) (q : ℕ)

@@ -8,13 +8,25 @@ use Rattle.wire.specs.declared.payload.Payload.{Payload}
 use Rattle.exchange.specs.declared.sealed.Plain.{Plain}
 use Rattle.sadb.specs.Database.{pair_at, BelongsTo, Database, Installs, IsAsBefore, PairMap, Releases, RemovesAllOf, Reserves}
 use Rattle.sadb.specs.declared.pair.Pair.{Pair}
-use Rattle.association.specs.Closing.{Closes, GivesUpSpis, HoldsSpi}
+use Rattle.suite.specs.declared.key_record.KeyRecord.{KeyRecord}
+use Rattle.association.specs.Closing.{Closes, GivesUpSpi, GivesUpSpis, HoldsSpi}
 use Rattle.association.specs.Phases.{established_spi}
 use Rattle.association.specs.declared.phase.Association.{Association}
 use Rattle.association.specs.declared.phase.AuthSent.{AuthSent}
 use Rattle.association.specs.declared.phase.HalfOpen.{HalfOpen}
 use Rattle.auth.specs.Proofs.{Accepts}
+use Rattle.base.specs.Octets.{Octets}
+use Rattle.children.specs.declared.asking.Asked.{Asked}
+use Rattle.children.specs.declared.responding.Made.{Made}
 use Rattle.children.specs.declared.responding.Response.TheVariants as response
+use Rattle.further.specs.Answering.{further_pair}
+use Rattle.further.specs.Concluding.{Concludes, IsConclusion}
+use Rattle.further.specs.Deciding.{DecidesFurther, DecidesFurtherBy, IsFurtherDecision}
+use Rattle.further.specs.Judging.{Admitted, FurtherJudgement, Refused}
+use Rattle.further.specs.declared.concluding.Conclusion.{Conclusion}
+use Rattle.further.specs.declared.concluding.Conclusion.TheVariants as conclusion
+use Rattle.further.specs.declared.deciding.Decision as deciding
+use Rattle.further.specs.declared.deciding.Decision.TheVariants as decided
 use Rattle.initial.specs.Answering.{outcome_of}
 use Rattle.initial.specs.Concluding.{AddsChild, ConcludesBy}
 use Rattle.initial.specs.Configs.{Setup}
@@ -26,6 +38,7 @@ use Rattle.initial.specs.declared.concluding.Outcome.{Outcome}
 use Rattle.initial.specs.declared.concluding.Outcome.TheVariants as outcome
 use Rattle.initial.specs.declared.deciding.Decision.{Decision}
 use Rattle.initial.specs.declared.deciding.Decision.TheVariants as decision
+use Rattle.effects.proofs.WayLemmas.{pair_made, FurtherIf}
 
 -- ---- maps
 
@@ -195,6 +208,43 @@ verdict_unused accepts setup ike sent (Some payloads) (outcome.Establishes pair 
 pub end_unused : (accepts : Accepts) (setup : Setup) (ike : ℕ) (sent : AuthSent) (plain : Plain) (o : Outcome) → Judges accepts setup ike sent plain o → UnusedBy ike o
 end_unused accepts setup ike sent plain o is = verdict_unused accepts setup ike sent is.payloads o is.due
 
+-- ---- what CREATE_CHILD_SA does
+
+further_unused_by : (setup : Setup) (ike : ℕ) (keys : KeyRecord) (table : Database) (j : FurtherJudgement) (d : deciding.Decision) → DecidesFurtherBy setup ike keys table j d → UnusedIn ike (further_pair d)
+further_unused_by setup ike keys table (Refused notice) (decided.Refused told) is = tt
+further_unused_by setup ike keys table (Refused notice) (decided.Made made) is = absurd is
+further_unused_by setup ike keys table (Admitted request) (decided.Refused told) is = tt
+further_unused_by setup ike keys table (Admitted request) (decided.Made made) is =
+    subst (λ (m : Made). IsUnused ike m.pair) (sym is.whole) (record { its = refl; live = refl; last = refl; blocks = setup.config.blocks; window = refl })
+
+further_decided : (setup : Setup) (ike : ℕ) (keys : KeyRecord) (table : Database) (deleting : Bool) (payloads : Option (List Payload)) (d : deciding.Decision) → IsFurtherDecision setup ike keys table deleting payloads d → UnusedIn ike (further_pair d)
+further_decided setup ike keys table deleting None (decided.Refused notice) is = tt
+further_decided setup ike keys table deleting None (decided.Made made) is = absurd is
+further_decided setup ike keys table deleting (Some payloads) d is = further_unused_by setup ike keys table is.judgement d is.due
+
+pub further_unused : (setup : Setup) (ike : ℕ) (keys : KeyRecord) (table : Database) (deleting : Bool) (plain : Plain) (d : deciding.Decision) → DecidesFurther setup ike keys table deleting plain d → UnusedIn ike (further_pair d)
+further_unused setup ike keys table deleting plain d is = further_decided setup ike keys table deleting is.payloads d is.due
+
+made_unused_by : (blocks ike : ℕ) (keys : KeyRecord) (asked : Asked) (own_nonce : Octets) (payloads : Option (List Payload)) (c : Conclusion) → IsConclusion blocks ike keys asked own_nonce payloads c → UnusedIn ike (pair_made c)
+made_unused_by blocks ike keys asked own_nonce payloads conclusion.Closes is = tt
+made_unused_by blocks ike keys asked own_nonce None (conclusion.Made pair) is = absurd is
+made_unused_by blocks ike keys asked own_nonce (Some answer) (conclusion.Made pair) is =
+    subst (λ (p : Pair). IsUnused ike p) (sym is.child.made) (record { its = refl; live = refl; last = refl; blocks = blocks; window = refl })
+made_unused_by blocks ike keys asked own_nonce payloads conclusion.NoChild is = tt
+
+pub made_unused : (blocks ike : ℕ) (keys : KeyRecord) (asked : Asked) (own_nonce : Octets) (plain : Plain) (c : Conclusion) → Concludes blocks ike keys asked own_nonce plain c → UnusedIn ike (pair_made c)
+made_unused blocks ike keys asked own_nonce plain c is = made_unused_by blocks ike keys asked own_nonce is.payloads c is.due
+
+given_up_same : (spi : Option ℕ) (old new : Database) → GivesUpSpi spi old new → HasSamePairs old new
+given_up_same None old new is = subst (λ (d : Database). HasSamePairs old d) (sym is) (itself_same old)
+given_up_same (Some spi) old new is = release_same old spi new is
+
+pub further_if_leaves : (closing : Bool) (spi : Option ℕ) (pair : Option Pair) (a : Association) (old between : Database) (moment : ℕ) (child : Option ℕ) (new : Association) (new_table : Database)
+    → HasSamePairs old between → UnusedIn a.serial pair → FurtherIf closing spi pair a between moment child new new_table → LeavesPairs old a.serial new_table
+further_if_leaves true spi pair a old between moment child new new_table same unused is =
+    over_leaves a old is.between moment new new_table (after old between is.between same (given_up_same spi between is.between is.given_up)) is.over
+further_if_leaves false spi pair a old between moment child new new_table same unused is = child_leaves old between a.serial spi pair child new_table same unused is.added
+
 -- ---- a pair that comes is told
 
 -- each pair was there, or is this child
@@ -244,3 +294,9 @@ concluded_told setup a old between (outcome.Establishes pair window) child new n
 pub closed_if_told : (ending : Bool) (serials : List ℕ) (a : Association) (table : Database) (moment : ℕ) (child : Option ℕ) (new : Association) (new_table : Database) → ClosesIf ending serials a table moment new new_table → ComesTold table child new_table
 closed_if_told true serials a table moment child new new_table is = over_told a table table moment child new new_table (itself_same table) is
 closed_if_told false serials a table moment child new new_table is = λ q p there. inl ((is.1.removed.kept q p).0 there).0
+
+pub further_if_told : (closing : Bool) (spi : Option ℕ) (pair : Option Pair) (a : Association) (old between : Database) (moment : ℕ) (child : Option ℕ) (new : Association) (new_table : Database)
+    → HasSamePairs old between → FurtherIf closing spi pair a between moment child new new_table → ComesTold old child new_table
+further_if_told true spi pair a old between moment child new new_table same is =
+    over_told a old is.between moment child new new_table (after old between is.between same (given_up_same spi between is.between is.given_up)) is.over
+further_if_told false spi pair a old between moment child new new_table same is = child_told old between spi pair child new_table same is.added

@@ -1,4 +1,4 @@
--- What stands in the messages of IKE_AUTH: the payloads of the child, and no other SA.
+-- What stands in the messages of IKE_AUTH and CREATE_CHILD_SA: the payloads of the child, and no other SA.
 use Rattle.std.proofs.Common.{◌≡◌, ◌++◌, ◌∷◌, [], ℕ, zero, suc, Bool, true, false, if◌then◌else◌, Contains, List, nat_lt, ap, refl, sym, ◌∙◌, arith}
 use Rattle.base.specs.Octets.{Octets}
 use Rattle.wire.specs.declared.payload.Payload.{Payload}
@@ -17,6 +17,7 @@ use Rattle.auth.specs.Windows.{window_payload, LEAST_WINDOW}
 use Rattle.auth.specs.declared.child.ChildAnswer.TheVariants as answered
 use Rattle.auth.specs.declared.identity.Identity.{Identity}
 use Rattle.children.specs.Asking.{HasChildPayloads}
+use Rattle.further.specs.Payloads.{further_payloads}
 
 abbrev pub told_if : Bool → ℕ → List Payload
 told_if told window = if told then window_payload window ∷ [] else []
@@ -84,3 +85,11 @@ answer_without own_method proof_of own what notice window proposals has = told_w
 pub notice_without : (notice : Notice) (proposals : List Proposal) → Contains (payload_of_notice notice ∷ []) (Sa proposals) → ⊥
 notice_without notice proposals (zero, below, at) = none_is _ proposals refl at
 notice_without notice proposals (suc k, below, at) = absurd (omega (arith, below))
+
+-- so has an answer that makes a further child
+pub further_sa : (child : ChildPayloads) (nonce : Octets) (proposals : List Proposal) → Contains (further_payloads child nonce) (Sa proposals) → child.proposals ≡ proposals
+further_sa child nonce proposals (zero, below, at) = same_sa child.proposals proposals at
+further_sa child nonce proposals (suc zero, below, at) = absurd (none_is _ proposals refl at)
+further_sa child nonce proposals (suc (suc zero), below, at) = absurd (none_is _ proposals refl at)
+further_sa child nonce proposals (suc (suc (suc zero)), below, at) = absurd (none_is _ proposals refl at)
+further_sa child nonce proposals (suc (suc (suc (suc k))), below, at) = absurd (omega (arith, below))

@@ -23,9 +23,6 @@ use Rattle.initial.specs.Concluding.{with_incoming, with_outgoing, ConcludesBy}
 use Rattle.initial.specs.Configs.{Setup}
 use Rattle.initial.specs.Deciding.{IsDecision, IsRead}
 use Rattle.initial.specs.Ending.{EndsAuth, IsVerdict}
-use Rattle.deletions.specs.Deciding.{is_closing_verdict, verdict_on}
-use Rattle.informational.specs.Answering.{gone_by}
-use Rattle.informational.specs.Counting.{gone_with, is_ended}
 use Rattle.informational.specs.Orders.{ClosesIf}
 use Rattle.effects.specs.Proving.{ProvesByMessage, ProvesByRequest, ProvesByResponse}
 use Rattle.effects.specs.Taking.{prover_of, Meaning, TakesMessage}
@@ -37,7 +34,7 @@ use Rattle.initial.specs.declared.deciding.Decision.TheVariants as decision
 use Rattle.initial.specs.declared.ending.Ended.{Ended}
 use Rattle.effects.specs.declared.taking.Effect.{Effect}
 use Rattle.effects.specs.declared.taking.Effect.TheVariants as effect
-use Rattle.effects.proofs.WayLemmas.{way_of, Way}
+use Rattle.effects.proofs.WayLemmas.{answered_later, counted_later, way_of, Way}
 
 -- what is known of who is accepted
 pub record Acceptance : Type 0 where
@@ -96,7 +93,7 @@ waiting_is_not sent keys is = cc
 asking_is_not : (sent : AuthSent) (keys : KeyRecord) → phase.AuthSent sent ≡ phase.Established keys → ⊥
 asking_is_not sent keys is = cc
 
--- whom INFORMATIONAL leaves established was so before
+-- whom a later exchange leaves established was so before
 closed_if_before : (ending : Bool) (serials : List ℕ) (a : Association) (table : Database) (moment : ℕ) (new : Association) (new_table : Database) (keys : KeyRecord)
     → ClosesIf ending serials a table moment new new_table → new.phase ≡ phase.Established keys → a.phase ≡ phase.Established keys
 closed_if_before true serials a table moment new new_table keys is established = absurd (closed_is_not _ moment keys (sym (ap phase_of is.content) ∙ established))
@@ -113,7 +110,8 @@ way_proves facts meaning setup old table octets m (effect.Replied answered) new 
       proved = inl (request_proves facts.acceptance (prover_of meaning) setup old table m.header.id is.plain answered new new_table keys is.done established);
     })
 way_proves facts meaning setup old table octets m (effect.Replied answered) new new_table keys (inr is) established =
-    inl (closed_if_before (is_closing_verdict (verdict_on table.pairs old.serial is.done.payloads)) (gone_by (verdict_on table.pairs old.serial is.done.payloads)) (with_incoming old is.done.incoming) table setup.moment new new_table keys is.done.concluded established)
+    let d = answered_later meaning setup old table octets m answered new new_table is in
+    inl (closed_if_before answered.closed d.ends.serials (with_incoming old d.incoming) d.ends.before setup.moment new d.ends.after keys d.ends.is established)
 way_proves facts meaning setup old table octets m (effect.Again next) new new_table keys is established =
     absurd (waiting_is_not _ keys (sym (ap phase_of is.done.content) ∙ established))
 way_proves facts meaning setup old table octets m (effect.Identified next) new new_table keys is established =
@@ -125,7 +123,8 @@ way_proves facts meaning setup old table octets m (effect.Counted ended) new new
       proved = inr (response_proves facts.acceptance meaning.accepts setup old table m.header.id is.plain ended new new_table keys is.done established);
     })
 way_proves facts meaning setup old table octets m (effect.Counted ended) new new_table keys (inr is) established =
-    inl (closed_if_before (is_ended is.done.payloads is.done.request.purpose) (gone_with table.pairs old.serial is.done.request.purpose) (with_outgoing old is.done.outgoing) table setup.moment new new_table keys is.done.concluded established)
+    let d = counted_later meaning setup old table octets m ended new new_table is in
+    inl (closed_if_before ended.closed d.ends.serials (with_outgoing old d.outgoing) d.ends.before setup.moment new d.ends.after keys d.ends.is established)
 
 pub message_proves : OpenedFacts → (meaning : Meaning) (setup : Setup) (old : Association) (table : Database) (octets : Octets) (m : Message) (e : Effect) (new : Association) (new_table : Database) (keys : KeyRecord)
     → TakesMessage meaning setup old table octets m e new new_table → new.phase ≡ phase.Established keys → (old.phase ≡ phase.Established keys) ⊎ ProvesByMessage meaning setup old octets m

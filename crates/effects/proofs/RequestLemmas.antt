@@ -1,5 +1,5 @@
 -- What a message does to the peer's requests of one association.
-use Rattle.std.proofs.Common.{◌≡◌, ◌≢◌, ◌==◌, ◌||◌, ◌⊎◌, inl, inr, ℕ, ◌+◌, ◌<◌, ◌≤◌, Bool, true, false, cond, max, Option, Some, None, ap, refl, subst, sym, ◌∙◌, arith, List}
+use Rattle.std.proofs.Common.{◌≡◌, ◌≢◌, ◌==◌, ◌||◌, ◌⊎◌, inl, inr, ℕ, ◌+◌, ◌≤◌, Bool, true, false, cond, max, Option, Some, None, ap, refl, subst, sym, ◌∙◌, arith, List}
 use Rattle.std.specs.Cmp.{nat_cmp_total, unsigned_tied}
 use Rattle.std.specs.FinMap as map
 use Rattle.std.specs.FinSet as set
@@ -8,7 +8,7 @@ use Rattle.std.specs.Prelude.{if◌then◌else◌}
 use Rattle.std.proofs.Math.Nat.{le-max_right}
 use Rattle.std.proofs.lemmas.Bool.Decides.{eqb_tells}
 use Rattle.base.specs.Octets.{Octets}
-use Rattle.wire.specs.Numbers.{CREATE_CHILD_SA, IKE_AUTH, IKE_SA_INIT, INFORMATIONAL}
+use Rattle.wire.specs.Numbers.{INFORMATIONAL}
 use Rattle.wire.specs.declared.message.Message.{Message}
 use Rattle.wire.specs.declared.payload.Payload.{Payload}
 use Rattle.suite.specs.declared.fresh.Fresh.{Fresh}
@@ -37,7 +37,6 @@ use Rattle.association.specs.declared.phase.HalfOpen.{HalfOpen}
 use Rattle.association.specs.declared.phase.InitSent.{InitSent}
 use Rattle.association.specs.declared.phase.Phase.{Phase}
 use Rattle.association.specs.declared.phase.Phase.TheVariants as phase
-use Rattle.association.specs.Purposes.{exchange_of}
 use Rattle.association.specs.declared.phase.Request.{Request}
 use Rattle.association.specs.declared.purpose.Purpose.TheVariants.{Begin, Identify}
 use Rattle.auth.specs.Proofs.{Accepts}
@@ -55,24 +54,18 @@ use Rattle.initial.specs.declared.beginning.Admitted.{Admitted}
 use Rattle.initial.specs.declared.beginning.Beginning.{Beginning}
 use Rattle.initial.specs.declared.concluding.Outcome.{Outcome}
 use Rattle.initial.specs.declared.concluding.Outcome.TheVariants as outcome
-use Rattle.deletions.specs.Deciding.{is_closing_verdict, verdict_on}
-use Rattle.informational.specs.Answering.{gone_by, AnswersInformational}
-use Rattle.informational.specs.Counting.{gone_with, is_ended}
 use Rattle.initial.specs.declared.deciding.Decision.{Decision}
 use Rattle.initial.specs.declared.deciding.Decision.TheVariants as decision
 use Rattle.informational.specs.Orders.{ClosesIf}
-use Rattle.informational.specs.Asking.{Asks}
-use Rattle.informational.specs.Ordering.{payloads_of_order, purpose_of}
-use Rattle.informational.specs.declared.ordering.Order.{Order}
-use Rattle.informational.specs.declared.ordering.Order.TheVariants as order
 use Rattle.effects.specs.Keeping.{HasKeys}
-use Rattle.effects.specs.Requests.{is_concluded, takes_requests, IsPassing, IsSoundlyHeld, KeepsPeersWindow, KeepsWindow, PutsIntoEffect, StaysConcluded}
-use Rattle.effects.specs.Taking.{prover_of, Does, DoesFurther, DoesRequest, DoesResponse, IsPassedOver, Meaning, TakesMessage}
+use Rattle.effects.specs.Requests.{is_concluded, IsPassing, IsSoundlyHeld, KeepsPeersWindow, KeepsWindow, PutsIntoEffect, StaysConcluded}
+use Rattle.effects.specs.Sending.{SendsRequest}
+use Rattle.effects.specs.Taking.{asked_further, prover_of, Does, DoesAnswer, DoesFurther, DoesRequest, DoesResponse, Meaning, TakesMessage}
 use Rattle.effects.specs.Waiting.{AreIssued, MayBeOutstanding, SuitPhase}
 use Rattle.effects.specs.declared.taking.Effect.{Effect}
 use Rattle.effects.specs.declared.taking.Effect.TheVariants as effect
 use Rattle.effects.proofs.KeepingLemmas.{established_keys}
-use Rattle.effects.proofs.WayLemmas.{way_of, Way}
+use Rattle.effects.proofs.WayLemmas.{answered_later, counted_later, further_later, informed_later, way_of, AnsweredLater, Way}
 
 -- what is known of the peer's requests
 pub record FollowLaws : Type 0 where
@@ -536,13 +529,13 @@ way_leaves laws windows meaning setup old table octets m (effect.Replied answere
     (decided_window windows meaning.accepts setup old.serial d.opened table d.decided.payloads d.decision d.decided.due) d.concluded)
     (subst (λ (p : Phase). SuitPhase p old.outgoing.outstanding → SuitPhase (established_of p) old.outgoing.outstanding) (sym d.was) (λ waits number request there. absurd (waits number request there)))
 way_leaves laws windows meaning setup old table octets m (effect.Replied answered) new new_table (inr is) =
-    let d = is.done in
+    let d = answered_later meaning setup old table octets m answered new new_table is in
     taken_leaves laws setup.config.window old d.ready d.incoming m.header.id answered.octets new d.prepared d.taken
-    (closing_concludes laws (is_closing_verdict (verdict_on table.pairs old.serial d.payloads)) (gone_by (verdict_on table.pairs old.serial d.payloads)) (with_incoming old d.incoming) table setup.moment new new_table (ap is_concluded d.established) d.concluded)
-    (λ concluded. size_if (is_closing_verdict (verdict_on table.pairs old.serial d.payloads)) (gone_by (verdict_on table.pairs old.serial d.payloads)) (with_incoming old d.incoming) table setup.moment new new_table d.concluded)
-    (inl (size_if (is_closing_verdict (verdict_on table.pairs old.serial d.payloads)) (gone_by (verdict_on table.pairs old.serial d.payloads)) (with_incoming old d.incoming) table setup.moment new new_table d.concluded))
-    (peers_if (is_closing_verdict (verdict_on table.pairs old.serial d.payloads)) (gone_by (verdict_on table.pairs old.serial d.payloads)) (with_incoming old d.incoming) table setup.moment new new_table d.concluded)
-    (subst (λ (p : Phase). SuitPhase p old.outgoing.outstanding → SuitPhase (established_of p) old.outgoing.outstanding) (sym d.established) (λ waits. waits))
+    (closing_concludes laws answered.closed d.ends.serials (with_incoming old d.incoming) d.ends.before setup.moment new d.ends.after (ap is_concluded d.was) d.ends.is)
+    (λ concluded. size_if answered.closed d.ends.serials (with_incoming old d.incoming) d.ends.before setup.moment new d.ends.after d.ends.is)
+    (inl (size_if answered.closed d.ends.serials (with_incoming old d.incoming) d.ends.before setup.moment new d.ends.after d.ends.is))
+    (peers_if answered.closed d.ends.serials (with_incoming old d.incoming) d.ends.before setup.moment new d.ends.after d.ends.is)
+    (subst (λ (p : Phase). SuitPhase p old.outgoing.outstanding → SuitPhase (established_of p) old.outgoing.outstanding) (sym d.was) (λ waits. waits))
 way_leaves laws windows meaning setup old table octets m (effect.Counted ended) new new_table (inl is) =
     let d = is.done in
     counted_leaves laws setup.config.window old (with_outgoing old d.outgoing) new refl refl refl refl
@@ -555,14 +548,14 @@ way_leaves laws windows meaning setup old table octets m (effect.Counted ended) 
     (subst (λ (p : Phase). SuitPhase p old.outgoing.outstanding → SuitPhase (established_of p) d.outgoing.outstanding) (sym d.was) (asked_once d.sent old.outgoing m.header.id d.request d.outgoing d.counted))
     (fewer_issued old.outgoing m.header.id d.request d.outgoing d.counted)
 way_leaves laws windows meaning setup old table octets m (effect.Counted ended) new new_table (inr is) =
-    let d = is.done in
+    let d = counted_later meaning setup old table octets m ended new new_table is in
     counted_leaves laws setup.config.window old (with_outgoing old d.outgoing) new refl refl refl refl
-    (closing_concludes laws (is_ended d.payloads d.request.purpose) (gone_with table.pairs old.serial d.request.purpose) (with_outgoing old d.outgoing) table setup.moment new new_table (ap is_concluded is.was) d.concluded)
-    (λ concluded. size_if (is_ended d.payloads d.request.purpose) (gone_with table.pairs old.serial d.request.purpose) (with_outgoing old d.outgoing) table setup.moment new new_table d.concluded)
-    (inl (size_if (is_ended d.payloads d.request.purpose) (gone_with table.pairs old.serial d.request.purpose) (with_outgoing old d.outgoing) table setup.moment new new_table d.concluded))
+    (closing_concludes laws ended.closed d.ends.serials (with_outgoing old d.outgoing) d.ends.before setup.moment new d.ends.after (ap is_concluded d.was) d.ends.is)
+    (λ concluded. size_if ended.closed d.ends.serials (with_outgoing old d.outgoing) d.ends.before setup.moment new d.ends.after d.ends.is)
+    (inl (size_if ended.closed d.ends.serials (with_outgoing old d.outgoing) d.ends.before setup.moment new d.ends.after d.ends.is))
     (counted_window old.outgoing m.header.id d.request d.outgoing d.counted)
-    (peers_if (is_ended d.payloads d.request.purpose) (gone_with table.pairs old.serial d.request.purpose) (with_outgoing old d.outgoing) table setup.moment new new_table d.concluded)
-    (subst (λ (p : Phase). SuitPhase p old.outgoing.outstanding → SuitPhase (established_of p) d.outgoing.outstanding) (sym is.was) (fewer_wait is.keys old.outgoing m.header.id d.request d.outgoing d.counted))
+    (peers_if ended.closed d.ends.serials (with_outgoing old d.outgoing) d.ends.before setup.moment new d.ends.after d.ends.is)
+    (subst (λ (p : Phase). SuitPhase p old.outgoing.outstanding → SuitPhase (established_of p) d.outgoing.outstanding) (sym d.was) (fewer_wait d.keys old.outgoing m.header.id d.request d.outgoing d.counted))
     (fewer_issued old.outgoing m.header.id d.request d.outgoing d.counted)
 way_leaves laws windows meaning setup old table octets m (effect.Again next) new new_table is = early_leaves laws setup.config.window old new is.sent (ap (λ (x : Association). x.incoming) is.done.content) is.was (λ opened opens. absurd (init_opens _ opened (sym (ap (λ (x : Association). x.phase) is.done.content) ∙ opens)))
     (λ keyed initiator zero. some_none keyed.keys (sym (ap (λ (x : Association). keys_in x.phase) is.done.content) ∙ keyed.are))
@@ -650,26 +643,21 @@ admitted_sound cipher group public_value shared_secret fresh moment serial offer
       peers = omega arith;
     })
 
-asks_informational : (order : Order) → exchange_of (purpose_of order) ≡ INFORMATIONAL
-asks_informational order.Probe = refl
-asks_informational (order.DeleteChild child spi) = refl
-asks_informational order.DeleteAssociation = refl
-
-pub probed_sound : (body_of : Keys → Octets → Octets → Octets → Octets) (setup : Setup) (order : Order) (old : Association) (octets : Octets) (new : Association)
-    → IsSoundlyHeld old → Asks body_of setup order old octets new → IsSoundlyHeld new
-probed_sound body_of setup order old octets new held is =
+pub requested_sound : (body_of : Keys → Octets → Octets → Octets → Octets) (setup : Setup) (old : Association) (octets : Octets) (new : Association)
+    → IsSoundlyHeld old → SendsRequest body_of setup old octets new → IsSoundlyHeld new
+requested_sound body_of setup old octets new held is =
     subst (λ (a : Association). IsSoundlyHeld a) (sym is.content)
     (record {
       in_effect = held.in_effect;
       near = held.near;
       concluded = held.concluded;
       named = held.named;
-      waits = issued_waits (with_outgoing old is.outgoing) (phase.Established is.keys) old.outgoing (new_request octets (purpose_of order) setup.moment) is.established is.issued
-          (subst (λ (p : Phase). SuitPhase p old.outgoing.outstanding) is.established held.waits) (asks_informational order);
-      issued = next_issued old.outgoing (new_request octets (purpose_of order) setup.moment) is.outgoing is.issued held.issued;
+      waits = issued_waits (with_outgoing old is.outgoing) (phase.Established is.keys) old.outgoing (new_request octets is.purpose setup.moment) is.established is.issued
+          (subst (λ (p : Phase). SuitPhase p old.outgoing.outstanding) is.established held.waits) is.later;
+      issued = next_issued old.outgoing (new_request octets is.purpose setup.moment) is.outgoing is.issued held.issued;
       took_none = λ waits. absurd (concluded_waits old.phase (ap is_concluded is.established) waits);
       took_first = λ opens. absurd (concluded_opens old.phase opens.opened (ap is_concluded is.established) opens.is);
-      peers = let same = issued_window old.outgoing (new_request octets (purpose_of order) setup.moment) is.outgoing is.issued in omega (arith, same, held.peers);
+      peers = let same = issued_window old.outgoing (new_request octets is.purpose setup.moment) is.outgoing is.issued in omega (arith, same, held.peers);
     })
 
 -- ---- which number comes into effect
@@ -686,31 +674,25 @@ taken_by old ready incoming number reply new prepared taken done = record {
   kept = ap (λ k. map.get k number) done.kept ∙ taken.own_reply;
 }
 
--- it is passed over
-record WasPassed (e : Effect) (old : Association) (table : Database) (new : Association) (new_table : Database) : Type 0 where
-  fault : MessageFault
-  is : e ≡ effect.Refused fault
-  passed : IsPassedOver old table new new_table
-
 -- a request that was answered took effect, by the exchange that belongs to its phase
 record Taken (old : Association) (m : Message) (e : Effect) (new : Association) : Type 0 where
-  admitted : takes_requests old.phase m.header.exchange ≡ true
+  admitted : admits old.phase m.header.exchange ≡ true
   answered : Answered
   said : e ≡ effect.Replied answered
   taken : WasTaken old m.header.id answered.octets new
 
-informed_taken : (laws : FollowLaws) (meaning : Meaning) (setup : Setup) (old : Association) (table : Database) (m : Message) (plain : Plain) (answered : Answered) (new : Association) (new_table : Database)
-    → takes_requests old.phase m.header.exchange ≡ true → AnswersInformational meaning.body_of setup old table m.header.id plain answered new new_table → Taken old m (effect.Replied answered) new
-informed_taken laws meaning setup old table m plain answered new new_table admitted is = record {
+later_taken : (laws : FollowLaws) (meaning : Meaning) (setup : Setup) (old : Association) (m : Message) (answered : Answered) (new : Association)
+    → admits old.phase m.header.exchange ≡ true → AnsweredLater meaning setup old m answered new → Taken old m (effect.Replied answered) new
+later_taken laws meaning setup old m answered new admitted d = record {
   admitted = admitted;
   answered = answered;
   said = refl;
-  taken = taken_by old is.ready is.incoming m.header.id answered.octets new is.prepared is.taken
-      (closing_concludes laws (is_closing_verdict (verdict_on table.pairs old.serial is.payloads)) (gone_by (verdict_on table.pairs old.serial is.payloads)) (with_incoming old is.incoming) table setup.moment new new_table (ap is_concluded is.established) is.concluded);
+  taken = taken_by old d.ready d.incoming m.header.id answered.octets new d.prepared d.taken
+      (closing_concludes laws answered.closed d.ends.serials (with_incoming old d.incoming) d.ends.before setup.moment new d.ends.after (ap is_concluded d.was) d.ends.is);
 }
 
 auth_taken : (laws : FollowLaws) (meaning : Meaning) (setup : Setup) (old : Association) (table : Database) (m : Message) (plain : Plain) (answered : Answered) (new : Association) (new_table : Database)
-    → takes_requests old.phase m.header.exchange ≡ true → AnswersAuth (prover_of meaning) setup old table m.header.id plain answered new new_table → Taken old m (effect.Replied answered) new
+    → admits old.phase m.header.exchange ≡ true → AnswersAuth (prover_of meaning) setup old table m.header.id plain answered new new_table → Taken old m (effect.Replied answered) new
 auth_taken laws meaning setup old table m plain answered new new_table admitted is = record {
   admitted = admitted;
   answered = answered;
@@ -720,23 +702,24 @@ auth_taken laws meaning setup old table m plain answered new new_table admitted 
 }
 
 further_taken : (laws : FollowLaws) (informational : Bool) (meaning : Meaning) (setup : Setup) (old : Association) (table : Database) (m : Message) (plain : Plain) (e : Effect) (new : Association) (new_table : Database)
-    → (informational ≡ true → takes_requests old.phase m.header.exchange ≡ true) → DoesFurther informational meaning setup old table m.header.id plain e new new_table
-    → WasPassed e old table new new_table ⊎ Taken old m e new
-further_taken laws true meaning setup old table m plain (effect.Replied answered) new new_table admitted is = inr (informed_taken laws meaning setup old table m plain answered new new_table (admitted refl) is)
+    → admits old.phase m.header.exchange ≡ true → DoesFurther informational meaning setup old table m.header.id plain e new new_table → Taken old m e new
+further_taken laws true meaning setup old table m plain (effect.Replied answered) new new_table admitted is =
+    later_taken laws meaning setup old m answered new admitted (informed_later meaning setup old table m plain answered new new_table is)
 further_taken laws true meaning setup old table m plain e new new_table admitted is = absurd is
-further_taken laws false meaning setup old table m plain (effect.Refused fault) new new_table admitted is = inl (record { fault = fault; is = refl; passed = is.1 })
+further_taken laws false meaning setup old table m plain (effect.Replied answered) new new_table admitted is =
+    later_taken laws meaning setup old m answered new admitted (further_later meaning setup old table m plain answered new new_table is)
 further_taken laws false meaning setup old table m plain e new new_table admitted is = absurd is
 
 request_taken : (laws : FollowLaws) (p : Phase) (meaning : Meaning) (setup : Setup) (old : Association) (table : Database) (m : Message) (plain : Plain) (e : Effect) (new : Association) (new_table : Database)
-    → old.phase ≡ p → admits p m.header.exchange ≡ true → DoesRequest meaning setup p m.header.exchange old table m.header.id plain e new new_table
-    → WasPassed e old table new new_table ⊎ Taken old m e new
+    → old.phase ≡ p → admits p m.header.exchange ≡ true → DoesRequest meaning setup p m.header.exchange old table m.header.id plain e new new_table → Taken old m e new
+request_taken laws (phase.InitSent sent) meaning setup old table m plain e new new_table was admitted is = absurd cc
+request_taken laws (phase.AuthSent sent) meaning setup old table m plain e new new_table was admitted is = absurd cc
 request_taken laws (phase.HalfOpen opened) meaning setup old table m plain (effect.Replied answered) new new_table was admitted is =
-    inr (auth_taken laws meaning setup old table m plain answered new new_table (ap (λ (p : Phase). takes_requests p m.header.exchange) was ∙ admitted) is)
+    auth_taken laws meaning setup old table m plain answered new new_table (ap (λ (p : Phase). admits p m.header.exchange) was ∙ admitted) is
 request_taken laws (phase.HalfOpen opened) meaning setup old table m plain e new new_table was admitted is = absurd is
 request_taken laws (phase.Established keys) meaning setup old table m plain e new new_table was admitted is =
-    further_taken laws (m.header.exchange == INFORMATIONAL) meaning setup old table m plain e new new_table (λ one. ap (λ (p : Phase). takes_requests p m.header.exchange) was ∙ one) is
-request_taken laws p meaning setup old table m plain (effect.Refused fault) new new_table was admitted is = inl (record { fault = fault; is = refl; passed = is.1 })
-request_taken laws p meaning setup old table m plain e new new_table was admitted is = absurd is
+    further_taken laws (m.header.exchange == INFORMATIONAL) meaning setup old table m plain e new new_table (ap (λ (p : Phase). admits p m.header.exchange) was ∙ admitted) is
+request_taken laws (phase.Closed keys at) meaning setup old table m plain e new new_table was admitted is = absurd cc
 
 -- ---- nothing but a request puts a number into effect
 
@@ -759,20 +742,25 @@ way_same laws meaning setup old table octets m (effect.Counted ended) new new_ta
     let d = is.done in
     inl (auth_concludes laws setup (with_outgoing old d.outgoing) table d.verdict ended.child new new_table d.sent.keys (ap established_of d.was) d.concluded).in_effect
 way_same laws meaning setup old table octets m (effect.Counted ended) new new_table (inr is) =
-    let d = is.done in
-    inl (closing_concludes laws (is_ended d.payloads d.request.purpose) (gone_with table.pairs old.serial d.request.purpose) (with_outgoing old d.outgoing) table setup.moment new new_table (ap is_concluded is.was) d.concluded).in_effect
+    let d = counted_later meaning setup old table octets m ended new new_table is in
+    inl (closing_concludes laws ended.closed d.ends.serials (with_outgoing old d.outgoing) d.ends.before setup.moment new d.ends.after (ap is_concluded d.was) d.ends.is).in_effect
 
 -- what a message that was answered is
 record IsRequest (r : Reception) : Type 0 where
   plain : Plain
   is : r ≡ TakesEffect plain
 
+replied_answer : (further : Bool) (setup : Setup) (old : Association) (table : Database) (number : ℕ) (plain : Plain) (answered : Answered) (new : Association) (new_table : Database)
+    → DoesAnswer further setup old table number plain (effect.Replied answered) new new_table → ⊥
+replied_answer true setup old table number plain answered new new_table is = is
+replied_answer false setup old table number plain answered new new_table is = is
+
 replied_response : (p : Phase) (meaning : Meaning) (setup : Setup) (old : Association) (table : Database) (number : ℕ) (plain : Plain) (answered : Answered) (new : Association) (new_table : Database)
     → DoesResponse meaning setup p old table number plain (effect.Replied answered) new new_table → ⊥
 replied_response (phase.InitSent sent) meaning setup old table number plain answered new new_table is = is
 replied_response (phase.AuthSent sent) meaning setup old table number plain answered new new_table is = is
 replied_response (phase.HalfOpen opened) meaning setup old table number plain answered new new_table is = is
-replied_response (phase.Established keys) meaning setup old table number plain answered new new_table is = is
+replied_response (phase.Established keys) meaning setup old table number plain answered new new_table is = replied_answer (asked_further old number) setup old table number plain answered new new_table is
 replied_response (phase.Closed keys at) meaning setup old table number plain answered new new_table is = is
 
 replied_reception : (r : Reception) (meaning : Meaning) (setup : Setup) (old : Association) (table : Database) (octets : Octets) (m : Message) (answered : Answered) (new : Association) (new_table : Database)
@@ -791,19 +779,16 @@ pub record ReceptionLaws : Type 0 where
   pub due : (plain_of : Opening) (a : Association) (octets : Octets) (m : Message) (plain : Plain) → IsEffective plain_of a octets m plain → IsReceived plain_of a octets m (TakesEffect plain)
 
 effective_request : (laws : FollowLaws) (meaning : Meaning) (setup : Setup) (old : Association) (table : Database) (octets : Octets) (m : Message) (plain : Plain) (e : Effect) (new : Association) (new_table : Database)
-    → IsEffective meaning.plain_of old octets m plain → Does meaning setup old table octets m (TakesEffect plain) e new new_table → WasPassed e old table new new_table ⊎ Taken old m e new
+    → IsEffective meaning.plain_of old octets m plain → Does meaning setup old table octets m (TakesEffect plain) e new new_table → Taken old m e new
 effective_request laws meaning setup old table octets m plain e new new_table effective is =
     request_taken laws old.phase meaning setup old table m plain e new new_table refl effective.admitted is
 
 no_change : (old new : Association) (number : ℕ) → new.incoming.in_effect ≡ old.incoming.in_effect → LacksNumber old.incoming.in_effect number → HasNumber new.incoming.in_effect number → ⊥
 no_change old new number same lacks has = yes_no (set.contains old.incoming.in_effect number) (ap (λ s. set.contains s number) (sym same) ∙ has) lacks
 
-put_by : (laws : FollowLaws) (meaning : Meaning) (setup : Setup) (old : Association) (table : Database) (octets : Octets) (m : Message) (plain : Plain) (e : Effect) (new : Association) (new_table : Database) (number : ℕ)
-    → IsEffective meaning.plain_of old octets m plain → WasPassed e old table new new_table ⊎ Taken old m e new
-    → LacksNumber old.incoming.in_effect number → HasNumber new.incoming.in_effect number → PutsIntoEffect meaning.plain_of old octets m e new number
-put_by laws meaning setup old table octets m plain e new new_table number effective (inl passed) lacks has =
-    absurd (no_change old new number (same_in_effect old new passed.passed.association) lacks has)
-put_by laws meaning setup old table octets m plain e new new_table number effective (inr taken) lacks has =
+put_by : (meaning : Meaning) (old : Association) (octets : Octets) (m : Message) (plain : Plain) (e : Effect) (new : Association) (number : ℕ)
+    → IsEffective meaning.plain_of old octets m plain → Taken old m e new → LacksNumber old.incoming.in_effect number → HasNumber new.incoming.in_effect number → PutsIntoEffect meaning.plain_of old octets m e new number
+put_by meaning old octets m plain e new number effective taken lacks has =
     let same : number ≡ m.header.id = came old.incoming.in_effect m.header.id number lacks (subst (λ (s : NumberSet). HasNumber s number) taken.taken.in_effect has) in
     record {
       request = effective.request;
@@ -827,43 +812,19 @@ put_into_effect laws facts meaning setup old table octets m e new new_table numb
           let done = subst (λ (x : Effect). Does meaning setup old table octets m is.reception x new new_table) replied.is is.done in
           let request = replied_reception is.reception meaning setup old table octets m replied.answered new new_table done in
           let effective = facts.effective meaning.plain_of old octets m request.plain (subst (λ (r : Reception). IsReceived meaning.plain_of old octets m r) request.is is.received) in
-          put_by laws meaning setup old table octets m request.plain e new new_table number effective
+          put_by meaning old octets m request.plain e new number effective
           (effective_request laws meaning setup old table octets m request.plain e new new_table effective (subst (λ (r : Reception). Does meaning setup old table octets m r e new new_table) request.is is.done)) lacks has
     ]
 
 -- ---- a new request always does
 
-admitted_too : (p : Phase) (exchange : ℕ) → takes_requests p exchange ≡ true → admits p exchange ≡ true
-admitted_too (phase.InitSent sent) exchange is = is
-admitted_too (phase.AuthSent sent) exchange is = is
-admitted_too (phase.HalfOpen opened) exchange is = is
-admitted_too (phase.Established keys) exchange is = or_true (exchange == CREATE_CHILD_SA) (exchange == INFORMATIONAL) is
-admitted_too (phase.Closed keys at) exchange is = is
-
-further_takes : (laws : FollowLaws) (informational : Bool) (meaning : Meaning) (setup : Setup) (old : Association) (table : Database) (m : Message) (plain : Plain) (e : Effect) (new : Association) (new_table : Database)
-    → informational ≡ true → takes_requests old.phase m.header.exchange ≡ true → DoesFurther informational meaning setup old table m.header.id plain e new new_table → Taken old m e new
-further_takes laws true meaning setup old table m plain (effect.Replied answered) new new_table one admitted is = informed_taken laws meaning setup old table m plain answered new new_table admitted is
-further_takes laws true meaning setup old table m plain e new new_table one admitted is = absurd is
-further_takes laws false meaning setup old table m plain e new new_table one admitted is = absurd cc
-
-request_takes : (laws : FollowLaws) (p : Phase) (meaning : Meaning) (setup : Setup) (old : Association) (table : Database) (m : Message) (plain : Plain) (e : Effect) (new : Association) (new_table : Database)
-    → old.phase ≡ p → takes_requests p m.header.exchange ≡ true → DoesRequest meaning setup p m.header.exchange old table m.header.id plain e new new_table → Taken old m e new
-request_takes laws (phase.InitSent sent) meaning setup old table m plain e new new_table was admitted is = absurd cc
-request_takes laws (phase.AuthSent sent) meaning setup old table m plain e new new_table was admitted is = absurd cc
-request_takes laws (phase.HalfOpen opened) meaning setup old table m plain (effect.Replied answered) new new_table was admitted is =
-    auth_taken laws meaning setup old table m plain answered new new_table (ap (λ (p : Phase). takes_requests p m.header.exchange) was ∙ admitted) is
-request_takes laws (phase.HalfOpen opened) meaning setup old table m plain e new new_table was admitted is = absurd is
-request_takes laws (phase.Established keys) meaning setup old table m plain e new new_table was admitted is =
-    further_takes laws (m.header.exchange == INFORMATIONAL) meaning setup old table m plain e new new_table admitted (ap (λ (p : Phase). takes_requests p m.header.exchange) was ∙ admitted) is
-request_takes laws (phase.Closed keys at) meaning setup old table m plain e new new_table was admitted is = absurd cc
-
 pub new_takes_effect : FollowLaws → ReceptionLaws → (meaning : Meaning) (setup : Setup) (old : Association) (table : Database) (octets : Octets) (m : Message) (e : Effect) (new : Association) (new_table : Database) (plain : Plain)
     → TakesMessage meaning setup old table octets m e new new_table → m.header.flags.response ≡ false → IsFreshRequest old.incoming m.header.id
-    → takes_requests old.phase m.header.exchange ≡ true → opened_by meaning.plain_of old octets m.payloads ≡ Some plain → HasNumber new.incoming.in_effect m.header.id
+    → admits old.phase m.header.exchange ≡ true → opened_by meaning.plain_of old octets m.payloads ≡ Some plain → HasNumber new.incoming.in_effect m.header.id
 new_takes_effect laws facts meaning setup old table octets m e new new_table plain is request fresh admitted opened =
-    let effective : IsEffective meaning.plain_of old octets m plain = record { request = request; fresh = fresh; admitted = admitted_too old.phase m.header.exchange admitted; opened = opened } in
+    let effective : IsEffective meaning.plain_of old octets m plain = record { request = request; fresh = fresh; admitted = admitted; opened = opened } in
     let received : is.reception ≡ TakesEffect plain = facts.determined meaning.plain_of old octets m is.reception (TakesEffect plain) is.received (facts.due meaning.plain_of old octets m plain effective) in
-    let taken = request_takes laws old.phase meaning setup old table m plain e new new_table refl admitted (subst (λ (r : Reception). Does meaning setup old table octets m r e new new_table) received is.done) in
+    let taken = request_taken laws old.phase meaning setup old table m plain e new new_table refl admitted (subst (λ (r : Reception). Does meaning setup old table octets m r e new new_table) received is.done) in
     subst (λ (s : NumberSet). HasNumber s m.header.id) (sym taken.taken.in_effect) (inserted old.incoming.in_effect m.header.id)
 
 -- ---- what comes again
@@ -959,12 +920,11 @@ kind_of (judged.Repeat reply) p exchange o r is = repeat_kind reply.now o r is
 kind_of judged.Forgotten p exchange o r is = refused why.Forgotten is
 kind_of judged.Outside p exchange o r is = refused why.OutsideWindow is
 
-put_now : (laws : FollowLaws) (meaning : Meaning) (setup : Setup) (old : Association) (table : Database) (octets : Octets) (m : Message) (plain : Plain) (e : Effect) (new : Association) (new_table : Database)
-    → IsEffective meaning.plain_of old octets m plain → WasPassed e old table new new_table ⊎ Taken old m e new → IsPassing e ⊎ PutsIntoEffect meaning.plain_of old octets m e new m.header.id
-put_now laws meaning setup old table octets m plain e new new_table is (inl passed) = inl (subst (λ (x : Effect). IsPassing x) (sym passed.is) tt)
-put_now laws meaning setup old table octets m plain e new new_table is (inr taken) =
-    inr (put_by laws meaning setup old table octets m plain e new new_table m.header.id is (inr taken) is.fresh.not_in_effect
-    (subst (λ (s : NumberSet). HasNumber s m.header.id) (sym taken.taken.in_effect) (inserted old.incoming.in_effect m.header.id)))
+put_now : (meaning : Meaning) (old : Association) (octets : Octets) (m : Message) (plain : Plain) (e : Effect) (new : Association)
+    → IsEffective meaning.plain_of old octets m plain → Taken old m e new → PutsIntoEffect meaning.plain_of old octets m e new m.header.id
+put_now meaning old octets m plain e new is taken =
+    put_by meaning old octets m plain e new m.header.id is taken is.fresh.not_in_effect
+    (subst (λ (s : NumberSet). HasNumber s m.header.id) (sym taken.taken.in_effect) (inserted old.incoming.in_effect m.header.id))
 
 by_kind : (laws : FollowLaws) (facts : ReceptionLaws) (meaning : Meaning) (setup : Setup) (old : Association) (table : Database) (octets : Octets) (m : Message) (e : Effect) (new : Association) (new_table : Database) (r : Reception)
     → IsReceived meaning.plain_of old octets m r → Does meaning setup old table octets m r e new new_table → Kind r → IsPassing e ⊎ PutsIntoEffect meaning.plain_of old octets m e new m.header.id
@@ -974,8 +934,8 @@ by_kind laws facts meaning setup old table octets m e new new_table r received i
     inl (subst (λ (x : Effect). IsPassing x) (sym (does_repeat meaning setup old table octets m reply e new new_table (subst (λ (x : Reception). Does meaning setup old table octets m x e new new_table) same is))) tt)
 by_kind laws facts meaning setup old table octets m e new new_table r received is (effective plain same) =
     let due = facts.effective meaning.plain_of old octets m plain (subst (λ (x : Reception). IsReceived meaning.plain_of old octets m x) same received) in
-    put_now laws meaning setup old table octets m plain e new new_table due
-    (effective_request laws meaning setup old table octets m plain e new new_table due (subst (λ (x : Reception). Does meaning setup old table octets m x e new new_table) same is))
+    inr (put_now meaning old octets m plain e new due
+    (effective_request laws meaning setup old table octets m plain e new new_table due (subst (λ (x : Reception). Does meaning setup old table octets m x e new new_table) same is)))
 
 pub passes_or_takes : FollowLaws → ReceptionLaws → (meaning : Meaning) (setup : Setup) (old : Association) (table : Database) (octets : Octets) (m : Message) (e : Effect) (new : Association) (new_table : Database)
     → TakesMessage meaning setup old table octets m e new new_table → m.header.flags.response ≡ false → IsPassing e ⊎ PutsIntoEffect meaning.plain_of old octets m e new m.header.id

@@ -1,5 +1,5 @@
 -- What a message leaves of an association.
-use Rattle.std.proofs.Common.{◌≡◌, ◌⊎◌, inl, inr, ℕ, ◌+◌, Bool, true, false, Option, Some, ap, refl, subst, sym, ◌∙◌, List}
+use Rattle.std.proofs.Common.{◌≡◌, ◌⊎◌, inl, inr, ℕ, ◌+◌, Bool, true, false, Option, Some, None, ap, refl, subst, sym, ◌∙◌, List}
 use Rattle.base.specs.Octets.{Octets}
 use Rattle.wire.specs.declared.message.Message.{Message}
 use Rattle.suite.specs.declared.key_record.KeyRecord.{KeyRecord}
@@ -26,6 +26,10 @@ use Rattle.deletions.specs.Deciding.{is_closing_verdict, verdict_on}
 use Rattle.informational.specs.Answering.{gone_by, AnswersInformational}
 use Rattle.informational.specs.Counting.{gone_with, is_ended}
 use Rattle.informational.specs.Orders.{ClosesIf}
+use Rattle.further.specs.Answering.{further_pair}
+use Rattle.further.specs.Deciding.{is_closing_decision}
+use Rattle.create_child.specs.Counting.{is_closing_conclusion}
+use Rattle.association.specs.AskedChildren.{asked_of}
 use Rattle.effects.specs.Taking.{prover_of, IsPassedOver, Meaning, KeepsIdentity, TakesMessage}
 use Rattle.initial.specs.declared.answering.Answered.{Answered}
 use Rattle.initial.specs.declared.concluding.Outcome.{Outcome}
@@ -33,8 +37,8 @@ use Rattle.initial.specs.declared.concluding.Outcome.TheVariants as outcome
 use Rattle.initial.specs.declared.ending.Ended.{Ended}
 use Rattle.effects.specs.declared.taking.Effect.{Effect}
 use Rattle.effects.specs.declared.taking.Effect.TheVariants as effect
-use Rattle.effects.proofs.PairLemmas.{answer_unused, closed_if_leaves, concluded_leaves, end_unused, itself_same, room_same, same_leaves, HasSamePairs}
-use Rattle.effects.proofs.WayLemmas.{way_of, CountedInformational, WasAsked, WasIdentified, Way}
+use Rattle.effects.proofs.PairLemmas.{answer_unused, closed_if_leaves, concluded_leaves, end_unused, further_if_leaves, further_unused, itself_same, made_unused, room_same, same_leaves, HasSamePairs}
+use Rattle.effects.proofs.WayLemmas.{answered_further, answered_later, counted_further, counted_later, pair_made, way_of, AnsweredFurther, CountedFurther, CountedInformational, EndsOrStays, WasAsked, WasIdentified, Way}
 
 -- a message that is passed over, or comes again, changes nothing
 abbrev pub Idle : Effect → Association → Database → Association → Database → Type 0
@@ -189,6 +193,37 @@ counted_leaves setup old table m e new new_table is =
       pairs = closed_if_leaves ending serials counted table setup.moment new new_table is.done.concluded;
     }
 
+ends_itself : (closing : Bool) (a : Association) (moment : ℕ) (new : Association) → EndsOrStays closing a moment new → KeepsIdentity a new
+ends_itself closing a moment new is = closed_if_itself closing is.serials a is.before moment new is.after is.is
+
+further_answered_leaves : (meaning : Meaning) (setup : Setup) (old : Association) (table : Database) (octets : Octets) (m : Message) (a : Answered) (new : Association) (new_table : Database)
+    → AnsweredFurther meaning setup old table octets m a new new_table → Leaves (effect.Replied a) old table new new_table
+further_answered_leaves meaning setup old table octets m a new new_table is =
+    let d = is.done in
+    let later = answered_later meaning setup old table octets m a new new_table (inr is) in
+    let taken : Association = record old { incoming = d.incoming } in
+    record {
+      idle = tt;
+      itself = like (record old { incoming = later.incoming }) old new refl refl refl refl refl (ends_itself a.closed (record old { incoming = later.incoming }) setup.moment new later.ends);
+      pairs = further_if_leaves (is_closing_decision d.decision) None (further_pair d.decision) taken table d.between setup.moment a.child new new_table (room_same table d.between d.room)
+          (further_unused setup old.serial d.keys table d.deleting is.plain d.decision d.decided)
+          (answered_further (is_closing_decision d.decision) (further_pair d.decision) taken d.between setup.moment a.child new new_table d.concluded);
+    }
+
+further_counted_leaves : (meaning : Meaning) (setup : Setup) (old : Association) (table : Database) (octets : Octets) (m : Message) (e : Ended) (new : Association) (new_table : Database)
+    → CountedFurther meaning setup old table octets m e new new_table → Leaves (effect.Counted e) old table new new_table
+further_counted_leaves meaning setup old table octets m e new new_table is =
+    let d = is.done in
+    let later = counted_later meaning setup old table octets m e new new_table (inr is) in
+    let counted : Association = record old { outgoing = d.outgoing } in
+    record {
+      idle = tt;
+      itself = like (record old { outgoing = later.outgoing }) old new refl refl refl refl refl (ends_itself e.closed (record old { outgoing = later.outgoing }) setup.moment new later.ends);
+      pairs = further_if_leaves (is_closing_conclusion d.conclusion) (Some d.further.child.spi) (pair_made d.conclusion) counted table table setup.moment e.child new new_table (itself_same table)
+          (made_unused setup.config.blocks old.serial d.keys (asked_of d.further.child) d.further.nonce is.plain d.conclusion d.concluded)
+          (counted_further d.conclusion d.further.child.spi counted table setup.moment e.child new new_table d.ends);
+    }
+
 asked_leaves : (meaning : Meaning) (setup : Setup) (old : Association) (table : Database) (m : Message) (next : Octets) (new : Association) (new_table : Database)
     → WasAsked meaning setup old table m next new new_table → Leaves (effect.Again next) old table new new_table
 asked_leaves meaning setup old table m next new new_table is =
@@ -234,11 +269,13 @@ way_leaves : (meaning : Meaning) (setup : Setup) (old : Association) (table : Da
 way_leaves meaning setup old table octets m (effect.Refused fault) new new_table is = leaves_all (effect.Refused fault) old new table new_table is
 way_leaves meaning setup old table octets m (effect.Repeated reply) new new_table is = leaves_all (effect.Repeated reply) old new table new_table is.same
 way_leaves meaning setup old table octets m (effect.Replied answered) new new_table (inl is) = answered_leaves (prover_of meaning) setup old table m.header.id is.plain answered new new_table is.done
-way_leaves meaning setup old table octets m (effect.Replied answered) new new_table (inr is) = informed_leaves meaning.body_of setup old table m.header.id is.plain answered new new_table is.done
+way_leaves meaning setup old table octets m (effect.Replied answered) new new_table (inr (inr is)) = further_answered_leaves meaning setup old table octets m answered new new_table is
+way_leaves meaning setup old table octets m (effect.Replied answered) new new_table (inr (inl is)) = informed_leaves meaning.body_of setup old table m.header.id is.plain answered new new_table is.done
 way_leaves meaning setup old table octets m (effect.Again next) new new_table is = asked_leaves meaning setup old table m next new new_table is
 way_leaves meaning setup old table octets m (effect.Identified next) new new_table is = identified_leaves meaning setup old table octets m next new new_table is
 way_leaves meaning setup old table octets m (effect.Counted ended) new new_table (inl is) = ended_leaves meaning.accepts setup old table m.header.id is.plain ended new new_table is.done
-way_leaves meaning setup old table octets m (effect.Counted ended) new new_table (inr is) = counted_leaves setup old table m ended new new_table is
+way_leaves meaning setup old table octets m (effect.Counted ended) new new_table (inr (inr is)) = further_counted_leaves meaning setup old table octets m ended new new_table is
+way_leaves meaning setup old table octets m (effect.Counted ended) new new_table (inr (inl is)) = counted_leaves setup old table m ended new new_table is
 
 leaves : (meaning : Meaning) (setup : Setup) (old : Association) (table : Database) (octets : Octets) (m : Message) (e : Effect) (new : Association) (new_table : Database)
     → TakesMessage meaning setup old table octets m e new new_table → Leaves e old table new new_table

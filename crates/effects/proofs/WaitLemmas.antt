@@ -1,11 +1,10 @@
 -- What waits for its answer after a message waited before, or goes out by it.
-use Rattle.std.proofs.Common.{◌≡◌, ◌==◌, ◌⊎◌, inl, inr, ℕ, ◌+◌, ◌<◌, arith, Bool, true, false, cond, Option, Some, None, ap, refl, subst, sym, ◌∙◌, List}
+use Rattle.std.proofs.Common.{◌≡◌, ◌⊎◌, inl, inr, ℕ, arith, Bool, true, false, cond, Option, Some, None, ap, refl, subst, sym, ◌∙◌, List}
 use Rattle.std.specs.Cmp.{nat_cmp_total, unsigned_tied}
 use Rattle.std.specs.FinMap as map
 use Rattle.std.specs.Ordering.{nat_cmp}
 use Rattle.std.proofs.lemmas.Bool.Decides.{eqb_tells}
 use Rattle.base.specs.Octets.{Octets}
-use Rattle.wire.specs.Numbers.{IKE_AUTH, IKE_SA_INIT, INFORMATIONAL}
 use Rattle.wire.specs.declared.message.Message.{Message}
 use Rattle.suite.specs.declared.fresh.Fresh.{Fresh}
 use Rattle.suite.specs.declared.keys.Keys.{Keys}
@@ -31,13 +30,8 @@ use Rattle.initial.specs.Issuing.{new_request, IssuesNext}
 use Rattle.initial.specs.declared.beginning.Beginning.{Beginning}
 use Rattle.initial.specs.declared.concluding.Outcome.{Outcome}
 use Rattle.initial.specs.declared.concluding.Outcome.TheVariants as outcome
-use Rattle.deletions.specs.Deciding.{is_closing_verdict, verdict_on}
-use Rattle.informational.specs.Answering.{gone_by}
-use Rattle.informational.specs.Counting.{gone_with, is_ended}
 use Rattle.informational.specs.Orders.{ClosesIf}
-use Rattle.informational.specs.Asking.{Asks}
-use Rattle.informational.specs.Ordering.{payloads_of_order, purpose_of}
-use Rattle.informational.specs.declared.ordering.Order.{Order}
+use Rattle.effects.specs.Sending.{SendsRequest}
 use Rattle.effects.specs.Taking.{Meaning, TakesMessage}
 use Rattle.effects.specs.Requests.{IsSoundlyHeld}
 use Rattle.effects.specs.Waiting.{asked_by, Ends, StartsWaiting, TakesCookie, SuitPhase, KeepTimers, WaitUntil}
@@ -45,7 +39,7 @@ use Rattle.effects.specs.declared.taking.Effect.{Effect}
 use Rattle.effects.specs.declared.taking.Effect.TheVariants as effect
 use Rattle.effects.proofs.MapLemmas.{some_none}
 use Rattle.effects.proofs.RequestLemmas.{put_at}
-use Rattle.effects.proofs.WayLemmas.{way_of, Way}
+use Rattle.effects.proofs.WayLemmas.{answered_later, counted_later, way_of, Way}
 
 -- all that waits waited before, and all that waited waits
 abbrev Fewer : OwnRequests Request → OwnRequests Request → Type 0
@@ -128,17 +122,17 @@ way_waits meaning setup old table octets m (effect.Replied answered) new new_tab
     let d = is.done in
     fewer_wait setup.moment None old new (concluded_fewer setup (with_incoming old d.incoming) d.between (outcome_of d.decision) answered.child new new_table d.concluded)
 way_waits meaning setup old table octets m (effect.Replied answered) new new_table held (inr is) =
-    let d = is.done in
-    fewer_wait setup.moment None old new (closed_fewer (is_closing_verdict (verdict_on table.pairs old.serial d.payloads)) (gone_by (verdict_on table.pairs old.serial d.payloads)) (with_incoming old d.incoming) table setup.moment new new_table d.concluded)
+    let d = answered_later meaning setup old table octets m answered new new_table is in
+    fewer_wait setup.moment None old new (closed_fewer answered.closed d.ends.serials (with_incoming old d.incoming) d.ends.before setup.moment new d.ends.after d.ends.is)
 way_waits meaning setup old table octets m (effect.Counted ended) new new_table held (inl is) =
     let d = is.done in
     fewer_wait setup.moment None old new
     (λ number request there. counted_fewer old.outgoing m.header.id d.request d.outgoing d.counted number request (concluded_fewer setup (with_outgoing old d.outgoing) table d.verdict ended.child new new_table d.concluded number request there))
 way_waits meaning setup old table octets m (effect.Counted ended) new new_table held (inr is) =
-    let d = is.done in
+    let d = counted_later meaning setup old table octets m ended new new_table is in
     fewer_wait setup.moment None old new
     (λ number request there. counted_fewer old.outgoing m.header.id d.request d.outgoing d.counted number request
-    (closed_fewer (is_ended d.payloads d.request.purpose) (gone_with table.pairs old.serial d.request.purpose) (with_outgoing old d.outgoing) table setup.moment new new_table d.concluded number request there))
+    (closed_fewer ended.closed d.ends.serials (with_outgoing old d.outgoing) d.ends.before setup.moment new d.ends.after d.ends.is number request there))
 way_waits meaning setup old table octets m (effect.Again next) new new_table held is =
     let takes : TakesCookie old new = record { before = is.sent; was = is.was; after = _; is = ap (λ (x : Association). x.phase) is.done.content; taken = refl } in
     λ number found there.
@@ -181,14 +175,14 @@ way_until meaning setup old table octets m (effect.Replied answered) new new_tab
     let d = is.done in
     replied_until old.outgoing new.outgoing answered.closed (is_closing (outcome_of d.decision)) d.closed (concluded_keeps setup (with_incoming old d.incoming) d.between (outcome_of d.decision) answered.child new new_table d.concluded)
 way_until meaning setup old table octets m (effect.Replied answered) new new_table held (inr is) =
-    let d = is.done in
-    replied_until old.outgoing new.outgoing answered.closed (is_closing_verdict (verdict_on table.pairs old.serial d.payloads)) d.closed (closed_keeps (is_closing_verdict (verdict_on table.pairs old.serial d.payloads)) (gone_by (verdict_on table.pairs old.serial d.payloads)) (with_incoming old d.incoming) table setup.moment new new_table d.concluded)
+    let d = answered_later meaning setup old table octets m answered new new_table is in
+    replied_until old.outgoing new.outgoing answered.closed answered.closed refl (closed_keeps answered.closed d.ends.serials (with_incoming old d.incoming) d.ends.before setup.moment new d.ends.after d.ends.is)
 way_until meaning setup old table octets m (effect.Counted ended) new new_table held (inl is) =
     let d = is.done in
     counted_until old.outgoing d.outgoing new.outgoing m.header.id d.request ended.closed (is_closing d.verdict) d.counted d.closed (concluded_keeps setup (with_outgoing old d.outgoing) table d.verdict ended.child new new_table d.concluded)
 way_until meaning setup old table octets m (effect.Counted ended) new new_table held (inr is) =
-    let d = is.done in
-    counted_until old.outgoing d.outgoing new.outgoing m.header.id d.request ended.closed (is_ended d.payloads d.request.purpose) d.counted d.closed (closed_keeps (is_ended d.payloads d.request.purpose) (gone_with table.pairs old.serial d.request.purpose) (with_outgoing old d.outgoing) table setup.moment new new_table d.concluded)
+    let d = counted_later meaning setup old table octets m ended new new_table is in
+    counted_until old.outgoing d.outgoing new.outgoing m.header.id d.request ended.closed ended.closed d.counted refl (closed_keeps ended.closed d.ends.serials (with_outgoing old d.outgoing) d.ends.before setup.moment new d.ends.after d.ends.is)
 way_until meaning setup old table octets m (effect.Again next) new new_table held is = λ number request there. inr (init_number old is.sent number request held is.was there)
 way_until meaning setup old table octets m (effect.Identified next) new new_table held is = λ number request there. inr (init_number old is.sent number request held is.was there)
 
@@ -238,17 +232,15 @@ way_closes meaning setup old table octets m (effect.Replied answered) new new_ta
     ends_too setup.moment answered.closed (is_closing (outcome_of d.decision)) (with_incoming old d.incoming) new keys at d.closed
     (concluded_closes setup (with_incoming old d.incoming) d.between (outcome_of d.decision) answered.child new new_table d.opened.keys keys at (ap established_of d.was) d.concluded)
 way_closes meaning setup old table octets m (effect.Replied answered) new new_table keys at (inr is) =
-    let d = is.done in
-    ends_too setup.moment answered.closed (is_closing_verdict (verdict_on table.pairs old.serial d.payloads)) (with_incoming old d.incoming) new keys at d.closed
-    (ending_closes (is_closing_verdict (verdict_on table.pairs old.serial d.payloads)) (gone_by (verdict_on table.pairs old.serial d.payloads)) (with_incoming old d.incoming) table setup.moment new new_table keys at d.concluded)
+    let d = answered_later meaning setup old table octets m answered new new_table is in
+    ending_closes answered.closed d.ends.serials (with_incoming old d.incoming) d.ends.before setup.moment new d.ends.after keys at d.ends.is
 way_closes meaning setup old table octets m (effect.Counted ended) new new_table keys at (inl is) =
     let d = is.done in
     ends_too setup.moment ended.closed (is_closing d.verdict) (with_outgoing old d.outgoing) new keys at d.closed
     (concluded_closes setup (with_outgoing old d.outgoing) table d.verdict ended.child new new_table d.sent.keys keys at (ap established_of d.was) d.concluded)
 way_closes meaning setup old table octets m (effect.Counted ended) new new_table keys at (inr is) =
-    let d = is.done in
-    ends_too setup.moment ended.closed (is_ended d.payloads d.request.purpose) (with_outgoing old d.outgoing) new keys at d.closed
-    (ending_closes (is_ended d.payloads d.request.purpose) (gone_with table.pairs old.serial d.request.purpose) (with_outgoing old d.outgoing) table setup.moment new new_table keys at d.concluded)
+    let d = counted_later meaning setup old table octets m ended new new_table is in
+    ending_closes ended.closed d.ends.serials (with_outgoing old d.outgoing) d.ends.before setup.moment new d.ends.after keys at d.ends.is
 way_closes meaning setup old table octets m (effect.Again next) new new_table keys at is = λ closed. absurd (init_closed _ keys at (sym (ap (λ (x : Association). x.phase) is.done.content) ∙ closed))
 way_closes meaning setup old table octets m (effect.Identified next) new new_table keys at is = λ closed. absurd (auth_closed _ keys at (sym (ap (λ (x : Association). x.phase) is.done.content) ∙ closed))
 
@@ -258,20 +250,20 @@ message_closes meaning setup old table octets m e new new_table keys at is = way
 
 -- ---- as an association asks, and begins
 
-pub probe_waits : (body_of : Keys → Octets → Octets → Octets → Octets) (setup : Setup) (order : Order) (old : Association) (octets : Octets) (new : Association) → IsSoundlyHeld old → Asks body_of setup order old octets new
+pub requested_waits : (body_of : Keys → Octets → Octets → Octets → Octets) (setup : Setup) (old : Association) (octets : Octets) (new : Association) → IsSoundlyHeld old → SendsRequest body_of setup old octets new
     → KeepTimers setup.moment (Some octets) old new
-probe_waits body_of setup order old octets new held is number found there =
-    elim (issued_put old.outgoing (new_request octets (purpose_of order) setup.moment) is.outgoing number found is.issued (sym (ap (λ (x : Association). map.get x.outgoing.outstanding number) is.content) ∙ there)) [
+requested_waits body_of setup old octets new held is number found there =
+    elim (issued_put old.outgoing (new_request octets is.purpose setup.moment) is.outgoing number found is.issued (sym (ap (λ (x : Association). map.get x.outgoing.outstanding number) is.content) ∙ there)) [
       | inl before ↦ inl before
-      | inr (here, now) ↦ inr (goes_out octets (purpose_of order) setup.moment old new number found
+      | inr (here, now) ↦ inr (goes_out octets is.purpose setup.moment old new number found
           (inl (none_by (map.get old.outgoing.outstanding number) (λ request stood. let less = held.issued number request stood in omega (arith, here, less)))) now)
     ]
 
-pub probe_keeps : (body_of : Keys → Octets → Octets → Octets → Octets) (setup : Setup) (order : Order) (old : Association) (octets : Octets) (new : Association) (number : ℕ) (request : Request) → IsSoundlyHeld old → Asks body_of setup order old octets new
+pub requested_keeps : (body_of : Keys → Octets → Octets → Octets → Octets) (setup : Setup) (old : Association) (octets : Octets) (new : Association) (number : ℕ) (request : Request) → IsSoundlyHeld old → SendsRequest body_of setup old octets new
     → map.get old.outgoing.outstanding number ≡ Some request → map.get new.outgoing.outstanding number ≡ Some request
-probe_keeps body_of setup order old octets new number request held is there =
+requested_keeps body_of setup old octets new number request held is there =
     let less = held.issued number request there in
-    let put = new_request octets (purpose_of order) setup.moment in
+    let put = new_request octets is.purpose setup.moment in
     elim (eqb_tells number old.outgoing.next) [
       | inl (one, same) ↦ absurd (omega (arith, same, less))
       | inr (none, apart) ↦ ap (λ (x : Association). map.get x.outgoing.outstanding number) is.content

@@ -1,27 +1,44 @@
 -- What a message did to an association, by what came of it.
-use Rattle.std.proofs.Common.{◌≡◌, ◌≢◌, ◌==◌, ◌⊎◌, inl, inr, ℕ, Bool, true, false, refl, subst, sym}
+use Rattle.std.proofs.Common.{◌≡◌, ◌≢◌, ◌==◌, ◌⊎◌, inl, inr, ℕ, Bool, true, false, List, [], Option, Some, None, arith, refl, subst, sym}
 use Rattle.base.specs.Octets.{Octets}
-use Rattle.wire.specs.Numbers.{INFORMATIONAL}
+use Rattle.wire.specs.Numbers.{CREATE_CHILD_SA, INFORMATIONAL}
 use Rattle.wire.specs.declared.message.Message.{Message}
+use Rattle.wire.specs.declared.payload.Payload.{Payload}
 use Rattle.suite.specs.declared.key_record.KeyRecord.{KeyRecord}
+use Rattle.exchange.specs.Headers.{keys_of}
+use Rattle.exchange.specs.Sealed.{IsSealed}
 use Rattle.exchange.specs.declared.sealed.Plain.{Plain}
+use Rattle.requests.specs.Incoming.{HasSameRequests, PeerRequests, TakesRequest}
+use Rattle.requests.specs.Outgoing.{CountsAnswer, OwnRequests}
 use Rattle.sadb.specs.Database.{Database}
+use Rattle.sadb.specs.declared.pair.Pair.{Pair}
 use Rattle.sa_init.specs.Reading.{IsResponse}
 use Rattle.sa_init.specs.declared.response.Response.{Response}
 use Rattle.sa_init.specs.declared.response.Response.TheVariants as response
+use Rattle.association.specs.Closing.{Closes, GivesUpSpi}
 use Rattle.association.specs.Receiving.{Answers, AnswersInitial, IsReceived, Reception, Refused, Repeat, TakesEffect}
 use Rattle.association.specs.declared.phase.Association.{Association}
 use Rattle.association.specs.declared.phase.InitSent.{InitSent}
 use Rattle.association.specs.declared.phase.Phase.{Phase}
 use Rattle.association.specs.declared.phase.Phase.TheVariants as phase
-use Rattle.initial.specs.Answering.{AnswersAuth}
+use Rattle.association.specs.declared.phase.Request.{Request}
+use Rattle.initial.specs.Answering.{reply_message, AnswersAuth}
+use Rattle.initial.specs.Concluding.{with_incoming, with_outgoing, AddsChild}
 use Rattle.initial.specs.Configs.{Setup}
 use Rattle.initial.specs.Ending.{EndsAuth}
 use Rattle.initial.specs.Reading.{waiting_of, BringsCookie, Continues, TellsIdentity}
-use Rattle.deletions.specs.Deciding.{is_closing_verdict, verdict_on}
+use Rattle.deletions.specs.Answering.{payloads_of_verdict}
+use Rattle.deletions.specs.Deciding.{verdict_on}
 use Rattle.informational.specs.Answering.{gone_by, AnswersInformational}
-use Rattle.informational.specs.Counting.{gone_with, is_ended, CountsInformational}
-use Rattle.effects.specs.Taking.{asker_of, prover_of, Does, DoesFurther, DoesRequest, DoesResponse, IsPassedOver, Meaning, Says, TakesMessage}
+use Rattle.informational.specs.Counting.{gone_with, CountsInformational}
+use Rattle.informational.specs.Orders.{ClosesIf, RemovesOwn}
+use Rattle.further.specs.Answering.{answer_to_further, further_answer, further_pair}
+use Rattle.further.specs.Deciding.{is_closing_decision}
+use Rattle.further.specs.declared.concluding.Conclusion.{Conclusion}
+use Rattle.further.specs.declared.concluding.Conclusion.TheVariants as conclusion
+use Rattle.create_child.specs.Answering.{AnswersFurther, ConcludesFurther}
+use Rattle.create_child.specs.Counting.{is_closing_conclusion, CountsFurther, EndsFurther}
+use Rattle.effects.specs.Taking.{asked_further, asker_of, prover_of, Does, DoesAnswer, DoesFurther, DoesRequest, DoesResponse, IsPassedOver, Meaning, Says, TakesMessage}
 use Rattle.initial.specs.declared.answering.Answered.{Answered}
 use Rattle.initial.specs.declared.ending.Ended.{Ended}
 use Rattle.initial.specs.declared.reading.Continued.{Continued}
@@ -33,7 +50,7 @@ pub record WasRepeated (meaning : Meaning) (old : Association) (table : Database
   pub received : IsReceived meaning.plain_of old octets m (Repeat reply)
   pub same : IsPassedOver old table new new_table
 
--- a request took effect: of IKE_AUTH, or of INFORMATIONAL
+-- a request took effect: of IKE_AUTH, of INFORMATIONAL, or of CREATE_CHILD_SA
 pub record AnsweredAuth (meaning : Meaning) (setup : Setup) (old : Association) (table : Database) (octets : Octets) (m : Message) (answered : Answered) (new : Association) (new_table : Database) : Type 0 where
   pub plain : Plain
   pub received : IsReceived meaning.plain_of old octets m (TakesEffect plain)
@@ -43,7 +60,12 @@ pub record AnsweredInformational (meaning : Meaning) (setup : Setup) (old : Asso
   pub plain : Plain
   pub done : AnswersInformational meaning.body_of setup old table m.header.id plain answered new new_table
 
--- a response was counted: to IKE_AUTH, or to INFORMATIONAL
+pub record AnsweredFurther (meaning : Meaning) (setup : Setup) (old : Association) (table : Database) (octets : Octets) (m : Message) (answered : Answered) (new : Association) (new_table : Database) : Type 0 where
+  pub plain : Plain
+  pub received : IsReceived meaning.plain_of old octets m (TakesEffect plain)
+  pub done : AnswersFurther meaning.body_of setup old table m.header.id plain answered new new_table
+
+-- a response was counted: to IKE_AUTH, to INFORMATIONAL, or to CREATE_CHILD_SA
 pub record CountedAuth (meaning : Meaning) (setup : Setup) (old : Association) (table : Database) (octets : Octets) (m : Message) (ended : Ended) (new : Association) (new_table : Database) : Type 0 where
   pub plain : Plain
   pub received : IsReceived meaning.plain_of old octets m (Answers plain)
@@ -54,6 +76,11 @@ pub record CountedInformational (setup : Setup) (old : Association) (table : Dat
   pub was : old.phase ≡ phase.Established keys
   pub plain : Plain
   pub done : CountsInformational setup old table m.header.id plain ended new new_table
+
+pub record CountedFurther (meaning : Meaning) (setup : Setup) (old : Association) (table : Database) (octets : Octets) (m : Message) (ended : Ended) (new : Association) (new_table : Database) : Type 0 where
+  pub plain : Plain
+  pub received : IsReceived meaning.plain_of old octets m (Answers plain)
+  pub done : CountsFurther setup old table m.header.id plain ended new new_table
 
 pub record WasAsked (meaning : Meaning) (setup : Setup) (old : Association) (table : Database) (m : Message) (next : Octets) (new : Association) (new_table : Database) : Type 0 where
   pub sent : InitSent
@@ -74,34 +101,43 @@ abbrev pub Way : Meaning → Setup → Association → Database → Octets → M
 Way meaning setup old table octets m (effect.Refused fault) new new_table = IsPassedOver old table new new_table
 Way meaning setup old table octets m (effect.Repeated reply) new new_table = WasRepeated meaning old table octets m reply new new_table
 Way meaning setup old table octets m (effect.Replied answered) new new_table =
-    AnsweredAuth meaning setup old table octets m answered new new_table ⊎ AnsweredInformational meaning setup old table m answered new new_table
+    AnsweredAuth meaning setup old table octets m answered new new_table
+    ⊎ (AnsweredInformational meaning setup old table m answered new new_table ⊎ AnsweredFurther meaning setup old table octets m answered new new_table)
 Way meaning setup old table octets m (effect.Again next) new new_table = WasAsked meaning setup old table m next new new_table
 Way meaning setup old table octets m (effect.Identified next) new new_table = WasIdentified meaning setup old table octets m next new new_table
 Way meaning setup old table octets m (effect.Counted ended) new new_table =
-    CountedAuth meaning setup old table octets m ended new new_table ⊎ CountedInformational setup old table m ended new new_table
+    CountedAuth meaning setup old table octets m ended new new_table
+    ⊎ (CountedInformational setup old table m ended new new_table ⊎ CountedFurther meaning setup old table octets m ended new new_table)
 
 further_way : (meaning : Meaning) (setup : Setup) (informational : Bool) (old : Association) (table : Database) (octets : Octets) (m : Message) (plain : Plain) (e : Effect) (new : Association) (new_table : Database)
-    → DoesFurther informational meaning setup old table m.header.id plain e new new_table → Way meaning setup old table octets m e new new_table
-further_way meaning setup true old table octets m plain (effect.Replied answered) new new_table is = inr (record { plain = plain; done = is })
-further_way meaning setup true old table octets m plain e new new_table is = absurd is
-further_way meaning setup false old table octets m plain (effect.Refused fault) new new_table is = is.1
-further_way meaning setup false old table octets m plain e new new_table is = absurd is
+    → IsReceived meaning.plain_of old octets m (TakesEffect plain) → DoesFurther informational meaning setup old table m.header.id plain e new new_table → Way meaning setup old table octets m e new new_table
+further_way meaning setup true old table octets m plain (effect.Replied answered) new new_table received is = inr (inl (record { plain = plain; done = is }))
+further_way meaning setup true old table octets m plain e new new_table received is = absurd is
+further_way meaning setup false old table octets m plain (effect.Replied answered) new new_table received is = inr (inr (record { plain = plain; received = received; done = is }))
+further_way meaning setup false old table octets m plain e new new_table received is = absurd is
 
 request_way : (meaning : Meaning) (setup : Setup) (p : Phase) (exchange : ℕ) (old : Association) (table : Database) (octets : Octets) (m : Message) (plain : Plain) (e : Effect) (new : Association) (new_table : Database)
     → IsReceived meaning.plain_of old octets m (TakesEffect plain) → DoesRequest meaning setup p exchange old table m.header.id plain e new new_table → Way meaning setup old table octets m e new new_table
 request_way meaning setup (phase.HalfOpen opened) exchange old table octets m plain (effect.Replied answered) new new_table received is = inl (record { plain = plain; received = received; done = is })
 request_way meaning setup (phase.HalfOpen opened) exchange old table octets m plain e new new_table received is = absurd is
 request_way meaning setup (phase.Established keys) exchange old table octets m plain e new new_table received is =
-    further_way meaning setup (exchange == INFORMATIONAL) old table octets m plain e new new_table is
+    further_way meaning setup (exchange == INFORMATIONAL) old table octets m plain e new new_table received is
 request_way meaning setup p exchange old table octets m plain (effect.Refused fault) new new_table received is = is.1
 request_way meaning setup p exchange old table octets m plain e new new_table received is = absurd is
+
+answer_way : (meaning : Meaning) (setup : Setup) (further : Bool) (keys : KeyRecord) (old : Association) (table : Database) (octets : Octets) (m : Message) (plain : Plain) (e : Effect) (new : Association) (new_table : Database)
+    → old.phase ≡ phase.Established keys → IsReceived meaning.plain_of old octets m (Answers plain) → DoesAnswer further setup old table m.header.id plain e new new_table → Way meaning setup old table octets m e new new_table
+answer_way meaning setup true keys old table octets m plain (effect.Counted ended) new new_table was received is = inr (inr (record { plain = plain; received = received; done = is }))
+answer_way meaning setup true keys old table octets m plain e new new_table was received is = absurd is
+answer_way meaning setup false keys old table octets m plain (effect.Counted ended) new new_table was received is = inr (inl (record { keys = keys; was = was; plain = plain; done = is }))
+answer_way meaning setup false keys old table octets m plain e new new_table was received is = absurd is
 
 response_way : (meaning : Meaning) (setup : Setup) (p : Phase) (old : Association) (table : Database) (octets : Octets) (m : Message) (plain : Plain) (e : Effect) (new : Association) (new_table : Database)
     → old.phase ≡ p → IsReceived meaning.plain_of old octets m (Answers plain) → DoesResponse meaning setup p old table m.header.id plain e new new_table → Way meaning setup old table octets m e new new_table
 response_way meaning setup (phase.AuthSent sent) old table octets m plain (effect.Counted ended) new new_table was received is = inl (record { plain = plain; received = received; done = is })
 response_way meaning setup (phase.AuthSent sent) old table octets m plain e new new_table was received is = absurd is
-response_way meaning setup (phase.Established keys) old table octets m plain (effect.Counted ended) new new_table was received is = inr (record { keys = keys; was = was; plain = plain; done = is })
-response_way meaning setup (phase.Established keys) old table octets m plain e new new_table was received is = absurd is
+response_way meaning setup (phase.Established keys) old table octets m plain e new new_table was received is =
+    answer_way meaning setup (asked_further old m.header.id) keys old table octets m plain e new new_table was received is
 response_way meaning setup p old table octets m plain (effect.Refused fault) new new_table was received is = is.1
 response_way meaning setup p old table octets m plain e new new_table was received is = absurd is
 
@@ -145,3 +181,152 @@ does_way meaning setup old table octets m r e new new_table received is = absurd
 pub way_of : (meaning : Meaning) (setup : Setup) (old : Association) (table : Database) (octets : Octets) (m : Message) (e : Effect) (new : Association) (new_table : Database)
     → TakesMessage meaning setup old table octets m e new new_table → Way meaning setup old table octets m e new new_table
 way_of meaning setup old table octets m e new new_table is = does_way meaning setup old table octets m is.reception e new new_table is.received is.done
+
+-- ---- what an exchange of CREATE_CHILD_SA comes to
+
+-- The association ends, and an SPI is given up with those that it holds; or it stays as it is, and a child is added or none.
+pub record EndsHolding (spi : Option ℕ) (a : Association) (table : Database) (moment : ℕ) (child : Option ℕ) (new : Association) (new_table : Database) : Type 0 where
+  pub none : child ≡ None
+  pub between : Database
+  pub given_up : GivesUpSpi spi table between
+  pub over : Closes a between moment new new_table
+
+pub record StaysWith (spi : Option ℕ) (pair : Option Pair) (a : Association) (table : Database) (child : Option ℕ) (new : Association) (new_table : Database) : Type 0 where
+  pub same : new ≡ a
+  pub added : AddsChild table spi pair child new_table
+
+abbrev pub FurtherIf : Bool → Option ℕ → Option Pair → Association → Database → ℕ → Option ℕ → Association → Database → Type 0
+FurtherIf true spi pair a table moment child new new_table = EndsHolding spi a table moment child new new_table
+FurtherIf false spi pair a table moment child new new_table = StaysWith spi pair a table child new new_table
+
+pub answered_further : (closing : Bool) (pair : Option Pair) (a : Association) (table : Database) (moment : ℕ) (child : Option ℕ) (new : Association) (new_table : Database)
+    → ConcludesFurther closing pair a table moment child new new_table → FurtherIf closing None pair a table moment child new new_table
+answered_further true pair a table moment child new new_table is = record { none = is.0; between = table; given_up = refl; over = is.1 }
+answered_further false None a table moment None new new_table is = record { same = is.0; added = is.1 }
+answered_further false None a table moment (Some serial) new new_table is = absurd is.1
+answered_further false (Some pair) a table moment None new new_table is = absurd is.1
+answered_further false (Some pair) a table moment (Some serial) new new_table is = record { same = is.0; added = is.1 }
+
+-- the pair that is made of a response
+abbrev pub pair_made : Conclusion → Option Pair
+pair_made conclusion.Closes = None
+pair_made (conclusion.Made pair) = Some pair
+pair_made conclusion.NoChild = None
+
+pub counted_further : (c : Conclusion) (spi : ℕ) (a : Association) (table : Database) (moment : ℕ) (child : Option ℕ) (new : Association) (new_table : Database)
+    → EndsFurther c spi a table moment child new new_table → FurtherIf (is_closing_conclusion c) (Some spi) (pair_made c) a table moment child new new_table
+counted_further conclusion.Closes spi a table moment child new new_table is = record { none = is.none; between = is.between; given_up = is.released; over = is.over }
+counted_further (conclusion.Made pair) spi a table moment child new new_table is =
+    subst (λ (c : Option ℕ). StaysWith (Some spi) (Some pair) a table c new new_table) (sym is.told) (record { same = is.same; added = is.installed })
+counted_further conclusion.NoChild spi a table moment child new new_table is =
+    subst (λ (c : Option ℕ). StaysWith (Some spi) None a table c new new_table) (sym is.none) (record { same = is.same; added = is.released })
+
+-- ---- what an exchange at an established association comes to, as far as the association goes
+
+pub record EndsOrStays (closing : Bool) (a : Association) (moment : ℕ) (new : Association) : Type 0 where
+  pub serials : List ℕ
+  pub before : Database
+  pub after : Database
+  pub is : ClosesIf closing serials a before moment new after
+
+removes_none : (ike : ℕ) (table : Database) → RemovesOwn ike [] table table
+removes_none ike table = record {
+  its_own = λ k d below. absurd (omega (arith, below));
+  removed = record {
+    kept = λ serial pair. (λ there. (there, λ named. absurd (omega (arith, named.1))), λ both. both.0);
+    content = refl;
+    room = omega arith;
+    no_more = omega arith;
+  };
+}
+
+pub further_ends : (closing : Bool) (spi : Option ℕ) (pair : Option Pair) (a : Association) (table : Database) (moment : ℕ) (child : Option ℕ) (new : Association) (new_table : Database)
+    → FurtherIf closing spi pair a table moment child new new_table → EndsOrStays closing a moment new
+further_ends true spi pair a table moment child new new_table is = record { serials = []; before = is.between; after = new_table; is = is.over }
+further_ends false spi pair a table moment child new new_table is = record { serials = []; before = new_table; after = new_table; is = (is.same, removes_none a.serial new_table) }
+
+pub record AnsweredLater (meaning : Meaning) (setup : Setup) (old : Association) (m : Message) (answered : Answered) (new : Association) : Type 0 where
+  pub keys : KeyRecord
+  pub was : old.phase ≡ phase.Established keys
+  pub exchange : ℕ
+  pub payloads : List Payload
+  pub sealed : IsSealed meaning.body_of (keys_of old.role keys) setup.fresh.seal (reply_message old exchange m.header.id payloads) answered.octets
+  pub incoming : PeerRequests
+  pub ready : PeerRequests
+  pub prepared : HasSameRequests old.incoming ready
+  pub taken : TakesRequest ready m.header.id answered.octets incoming
+  pub ends : EndsOrStays answered.closed (with_incoming old incoming) setup.moment new
+
+pub informed_later : (meaning : Meaning) (setup : Setup) (old : Association) (table : Database) (m : Message) (plain : Plain) (answered : Answered) (new : Association) (new_table : Database)
+    → AnswersInformational meaning.body_of setup old table m.header.id plain answered new new_table → AnsweredLater meaning setup old m answered new
+informed_later meaning setup old table m plain answered new new_table d =
+    record {
+      keys = d.keys;
+      was = d.established;
+      exchange = INFORMATIONAL;
+      payloads = payloads_of_verdict (verdict_on table.pairs old.serial d.payloads);
+      sealed = d.sealed;
+      incoming = d.incoming;
+      ready = d.ready;
+      prepared = d.prepared;
+      taken = d.taken;
+      ends = subst (λ (b : Bool). EndsOrStays b (with_incoming old d.incoming) setup.moment new) (sym d.closed)
+          (record { serials = gone_by (verdict_on table.pairs old.serial d.payloads); before = table; after = new_table; is = d.concluded });
+    }
+
+pub further_later : (meaning : Meaning) (setup : Setup) (old : Association) (table : Database) (m : Message) (plain : Plain) (answered : Answered) (new : Association) (new_table : Database)
+    → AnswersFurther meaning.body_of setup old table m.header.id plain answered new new_table → AnsweredLater meaning setup old m answered new
+further_later meaning setup old table m plain answered new new_table d =
+    record {
+      keys = d.keys;
+      was = d.established;
+      exchange = CREATE_CHILD_SA;
+      payloads = further_answer (answer_to_further d.decision) setup.fresh.nonce;
+      sealed = d.sealed;
+      incoming = d.incoming;
+      ready = d.ready;
+      prepared = d.prepared;
+      taken = d.taken;
+      ends = subst (λ (b : Bool). EndsOrStays b (with_incoming old d.incoming) setup.moment new) (sym d.closed)
+          (further_ends (is_closing_decision d.decision) None (further_pair d.decision) (with_incoming old d.incoming) d.between setup.moment answered.child new new_table
+          (answered_further (is_closing_decision d.decision) (further_pair d.decision) (with_incoming old d.incoming) d.between setup.moment answered.child new new_table d.concluded));
+    }
+
+pub answered_later : (meaning : Meaning) (setup : Setup) (old : Association) (table : Database) (octets : Octets) (m : Message) (answered : Answered) (new : Association) (new_table : Database)
+    → AnsweredInformational meaning setup old table m answered new new_table ⊎ AnsweredFurther meaning setup old table octets m answered new new_table → AnsweredLater meaning setup old m answered new
+answered_later meaning setup old table octets m answered new new_table (inl is) = informed_later meaning setup old table m is.plain answered new new_table is.done
+answered_later meaning setup old table octets m answered new new_table (inr is) = further_later meaning setup old table m is.plain answered new new_table is.done
+
+pub record CountedLater (setup : Setup) (old : Association) (m : Message) (ended : Ended) (new : Association) : Type 0 where
+  pub keys : KeyRecord
+  pub was : old.phase ≡ phase.Established keys
+  pub request : Request
+  pub outgoing : OwnRequests Request
+  pub counted : CountsAnswer old.outgoing m.header.id request outgoing
+  pub ends : EndsOrStays ended.closed (with_outgoing old outgoing) setup.moment new
+
+pub counted_later : (meaning : Meaning) (setup : Setup) (old : Association) (table : Database) (octets : Octets) (m : Message) (ended : Ended) (new : Association) (new_table : Database)
+    → CountedInformational setup old table m ended new new_table ⊎ CountedFurther meaning setup old table octets m ended new new_table → CountedLater setup old m ended new
+counted_later meaning setup old table octets m ended new new_table (inl is) =
+    let d = is.done in
+    record {
+      keys = is.keys;
+      was = is.was;
+      request = d.request;
+      outgoing = d.outgoing;
+      counted = d.counted;
+      ends = subst (λ (b : Bool). EndsOrStays b (with_outgoing old d.outgoing) setup.moment new) (sym d.closed)
+          (record { serials = gone_with table.pairs old.serial d.request.purpose; before = table; after = new_table; is = d.concluded });
+    }
+counted_later meaning setup old table octets m ended new new_table (inr is) =
+    let d = is.done in
+    record {
+      keys = d.keys;
+      was = d.established;
+      request = d.request;
+      outgoing = d.outgoing;
+      counted = d.counted;
+      ends = subst (λ (b : Bool). EndsOrStays b (with_outgoing old d.outgoing) setup.moment new) (sym d.closed)
+          (further_ends (is_closing_conclusion d.conclusion) (Some d.further.child.spi) (pair_made d.conclusion) (with_outgoing old d.outgoing) table setup.moment ended.child new new_table
+          (counted_further d.conclusion d.further.child.spi (with_outgoing old d.outgoing) table setup.moment ended.child new new_table d.ends));
+    }

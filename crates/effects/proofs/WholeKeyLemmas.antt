@@ -12,6 +12,7 @@ use Rattle.sa_init.specs.Judging.{OfferView}
 use Rattle.sa_init.specs.declared.response.Response.{Response}
 use Rattle.sa_init.specs.declared.response.Response.TheVariants as response
 use Rattle.sadb.specs.Database.{Database}
+use Rattle.sadb.specs.declared.pair.Pair.{Pair}
 use Rattle.association.specs.Phases.{established_of, keys_in}
 use Rattle.association.specs.Receiving.{Answers, AnswersInitial, Reception, Refused, Repeat, TakesEffect}
 use Rattle.association.specs.declared.phase.Association.{Association}
@@ -26,18 +27,22 @@ use Rattle.deletions.specs.Deciding.{is_closing_verdict, verdict_on}
 use Rattle.informational.specs.Answering.{gone_by}
 use Rattle.informational.specs.Counting.{gone_with, is_ended}
 use Rattle.informational.specs.Orders.{ClosesIf}
+use Rattle.further.specs.Answering.{further_pair}
+use Rattle.further.specs.Deciding.{is_closing_decision}
+use Rattle.create_child.specs.Counting.{is_closing_conclusion}
 use Rattle.effects.specs.Lengths.{AreWholeKeys, HoldsWholeKeys}
 use Rattle.initial.specs.Reading.{Asker, Continues}
-use Rattle.effects.specs.Taking.{asker_of, Does, IsPassedOver, Meaning, TakesMessage}
+use Rattle.effects.specs.Taking.{asked_further, asker_of, Does, IsPassedOver, Meaning, TakesMessage}
 use Rattle.initial.specs.declared.beginning.Admitted.{Admitted}
 use Rattle.initial.specs.declared.concluding.Outcome.{Outcome}
 use Rattle.initial.specs.declared.concluding.Outcome.TheVariants as outcome
 use Rattle.initial.specs.declared.reading.Continued.{Continued}
 use Rattle.initial.specs.declared.reading.Continued.TheVariants as continued
 use Rattle.effects.specs.declared.taking.Effect.{Effect}
-use Rattle.effects.proofs.DeterminedEffects.{refused_is, repeated_is, request_is, response_is, FurtherDone, RequestDone, ResponseDone}
+use Rattle.effects.proofs.DeterminedEffects.{refused_is, repeated_is, request_is, response_is, AnswerDone, FurtherDone, RequestDone, ResponseDone}
 use Rattle.effects.proofs.DeterminedLaws.{KeyLaws}
 use Rattle.effects.proofs.DeterminedReadings.{gives_whole}
+use Rattle.effects.proofs.WayLemmas.{answered_further, counted_further, pair_made, FurtherIf}
 
 abbrev held_keys : Association → Option KeyRecord
 held_keys a = keys_in a.phase
@@ -59,6 +64,11 @@ concluded_keys setup (outcome.Establishes pair window) old table child new new_t
 closed_if_keys : (ending : Bool) (serials : List ℕ) (old : Association) (table : Database) (moment : ℕ) (new : Association) (new_table : Database) → ClosesIf ending serials old table moment new new_table → held_keys new ≡ held_keys old
 closed_if_keys true serials old table moment new new_table is = ap held_keys is.content
 closed_if_keys false serials old table moment new new_table is = ap held_keys is.0
+
+further_if_keys : (closing : Bool) (spi : Option ℕ) (pair : Option Pair) (old : Association) (table : Database) (moment : ℕ) (child : Option ℕ) (new : Association) (new_table : Database)
+    → FurtherIf closing spi pair old table moment child new new_table → held_keys new ≡ held_keys old
+further_if_keys true spi pair old table moment child new new_table is = ap held_keys is.over.content
+further_if_keys false spi pair old table moment child new new_table is = ap held_keys is.same
 
 no_keys : (p : Phase) → keys_in p ≡ None → HoldsWholeKeys p
 no_keys p none keys is = absurd (cc)
@@ -87,7 +97,11 @@ module _ (meaning : Meaning) (setup : Setup) (number : ℕ) (plain : Plain) (old
   further_whole : (informational : Bool) → FurtherDone meaning setup number plain old table new new_table informational e → HoldsWholeKeys new.phase
   further_whole true is =
       whole_still old.phase new.phase (closed_if_keys (is_closing_verdict (verdict_on table.pairs old.serial is.answers.payloads)) (gone_by (verdict_on table.pairs old.serial is.answers.payloads)) (record old { incoming = is.answers.incoming }) table setup.moment new new_table is.answers.concluded) whole
-  further_whole false is = passed_whole old table new new_table whole is.passed
+  further_whole false is =
+      let d = is.answers in
+      let taken : Association = record old { incoming = d.incoming } in
+      whole_still old.phase new.phase (further_if_keys (is_closing_decision d.decision) None (further_pair d.decision) taken d.between setup.moment is.answered.child new new_table
+      (answered_further (is_closing_decision d.decision) (further_pair d.decision) taken d.between setup.moment is.answered.child new new_table d.concluded)) whole
 
   request_whole : (p : Phase) (exchange : ℕ) → RequestDone meaning setup number plain old table new new_table p exchange e → HoldsWholeKeys new.phase
   request_whole (phase.InitSent p) exchange is = passed_whole old table new new_table whole is.passed
@@ -97,12 +111,20 @@ module _ (meaning : Meaning) (setup : Setup) (number : ℕ) (plain : Plain) (old
   request_whole (phase.Established p) exchange is = further_whole (exchange == INFORMATIONAL) is
   request_whole (phase.Closed p at) exchange is = passed_whole old table new new_table whole is.passed
 
+  answer_whole : (further : Bool) → AnswerDone meaning setup number plain old table new new_table further e → HoldsWholeKeys new.phase
+  answer_whole true is =
+      let d = is.counts in
+      let counted : Association = record old { outgoing = d.outgoing } in
+      whole_still old.phase new.phase (further_if_keys (is_closing_conclusion d.conclusion) (Some d.further.child.spi) (pair_made d.conclusion) counted table setup.moment is.ended.child new new_table
+      (counted_further d.conclusion d.further.child.spi counted table setup.moment is.ended.child new new_table d.ends)) whole
+  answer_whole false is =
+      whole_still old.phase new.phase (closed_if_keys (is_ended is.counts.payloads is.counts.request.purpose) (gone_with table.pairs old.serial is.counts.request.purpose) (record old { outgoing = is.counts.outgoing }) table setup.moment new new_table is.counts.concluded) whole
+
   response_whole : (p : Phase) → ResponseDone meaning setup number plain old table new new_table p e → HoldsWholeKeys new.phase
   response_whole (phase.InitSent p) is = passed_whole old table new new_table whole is.passed
   response_whole (phase.AuthSent p) is = whole_still old.phase new.phase (concluded_keys setup is.ends.verdict (record old { outgoing = is.ends.outgoing }) table is.ended.child new new_table is.ends.concluded) whole
   response_whole (phase.HalfOpen p) is = passed_whole old table new new_table whole is.passed
-  response_whole (phase.Established p) is =
-      whole_still old.phase new.phase (closed_if_keys (is_ended is.counts.payloads is.counts.request.purpose) (gone_with table.pairs old.serial is.counts.request.purpose) (record old { outgoing = is.counts.outgoing }) table setup.moment new new_table is.counts.concluded) whole
+  response_whole (phase.Established p) is = answer_whole (asked_further old number) is
   response_whole (phase.Closed p at) is = passed_whole old table new new_table whole is.passed
 
 done_whole : KeyLaws → (meaning : Meaning) (setup : Setup) (old : Association) (table : Database) (octets : Octets) (m : Message) (r : Reception) (e : Effect) (new : Association) (new_table : Database)

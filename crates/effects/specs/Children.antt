@@ -1,8 +1,9 @@
--- What an association's first child is at each end, and of which messages (RFC 7296 sections 1.2, 2.9 and 2.17).
+-- What a child is at each end, and of which messages: the first one of an association, and further ones (RFC 7296 sections 1.2, 1.3.1, 2.9
+-- and 2.17).
 use Rattle.std.specs.Prelude.{◌≡◌, ◌⊎◌, ℕ, true, false, Some, List}
 use Rattle.std.specs.FinMap as map
 use Rattle.base.specs.Octets.{Octets}
-use Rattle.wire.specs.Numbers.{IKE_AUTH}
+use Rattle.wire.specs.Numbers.{CREATE_CHILD_SA, IKE_AUTH}
 use Rattle.wire.specs.Payloads.{SpellsChain}
 use Rattle.wire.specs.declared.message.Message.{Message}
 use Rattle.wire.specs.declared.payload.Payload.{Payload}
@@ -11,6 +12,7 @@ use Rattle.suite.specs.declared.key_record.KeyRecord.{KeyRecord}
 use Rattle.exchange.specs.Headers.{keys_of, sent_header}
 use Rattle.exchange.specs.Sealed.{IsSealed}
 use Rattle.exchange.specs.declared.child.ChildPayloads.{ChildPayloads}
+use Rattle.exchange.specs.declared.headers.Role.{Role}
 use Rattle.exchange.specs.declared.headers.Role.TheVariants.{Initiator, Responder}
 use Rattle.exchange.specs.declared.sealed.Plain.{Plain}
 use Rattle.policy.specs.Narrowing.{AnswersOffer, LieInsidePolicy}
@@ -21,18 +23,36 @@ use Rattle.association.specs.Receiving.{opened_by}
 use Rattle.association.specs.declared.phase.Association.{Association}
 use Rattle.association.specs.declared.phase.AuthSent.{AuthSent}
 use Rattle.association.specs.declared.phase.Phase.TheVariants as phase
-use Rattle.association.specs.declared.purpose.Purpose.TheVariants.{Identify}
+use Rattle.association.specs.declared.phase.Request.{Request}
+use Rattle.association.specs.declared.purpose.FurtherChild.{FurtherChild}
+use Rattle.association.specs.declared.purpose.Purpose.TheVariants.{CreateChild, Identify}
 use Rattle.children.specs.Accepting.{KeepsToRequest}
 use Rattle.children.specs.Asking.{child_request, HasChildPayloads}
 use Rattle.children.specs.Pairs.{HasFewSelectors, IsChild}
 use Rattle.initial.specs.Answering.{reply_message}
 use Rattle.initial.specs.Configs.{Setup}
 use Rattle.initial.specs.Issuing.{new_request}
+use Rattle.further.specs.Pairs.{IsFurtherChild}
+use Rattle.further.specs.Payloads.{further_payloads}
 use Rattle.effects.specs.Pairs.{IsUnused}
 use Rattle.effects.specs.Taking.{Meaning}
 use Rattle.initial.specs.declared.answering.Answered.{Answered}
 use Rattle.effects.specs.declared.taking.Effect.{Effect}
 use Rattle.effects.specs.declared.taking.Effect.TheVariants as effect
+
+-- the first child of an association, by IKE_AUTH, or a further one, by CREATE_CHILD_SA
+pub data ChildKind : Type 0 where
+  First : ChildKind
+  Further : ChildKind
+
+abbrev pub exchange_of_child : ChildKind → ℕ
+exchange_of_child First = IKE_AUTH
+exchange_of_child Further = CREATE_CHILD_SA
+
+-- the pair that the end of this role in its exchange has of the child, under the association's keys
+abbrev pub IsChildOf : ChildKind → Role → KeyRecord → List Payload → List Payload → Pair → Type 0
+IsChildOf First role keys request reply pair = IsChild role (first_child_keys keys) request reply pair
+IsChildOf Further role keys request reply pair = IsFurtherChild role keys request reply pair
 
 -- A child came: its association is established, its pair stands under the next serial, with no number sent or taken, and no other
 -- pair came.
@@ -43,10 +63,10 @@ pub record BringsChild (ike serial : ℕ) (table : Database) (keys : KeyRecord) 
   pub unused : IsUnused ike pair
   pub alone : (other : ℕ) (pair : Pair) → pair_at new_table.pairs other ≡ Some pair → (pair_at table.pairs other ≡ Some pair) ⊎ (other ≡ serial)
 
--- The responder's pair of a first child: it is made of the request and of its reply under the association's keys, its selectors lie inside
+-- The responder's pair of a child: it is made of the request and of its reply under the association's keys, its selectors lie inside
 -- those offered and inside one entry that protects, its numbers are extended only where that is allowed, and it has few selectors.
-pub record IsAnsweredChild (setup : Setup) (keys : KeyRecord) (request reply : List Payload) (pair : Pair) : Type 0 where
-  pub child : IsChild Responder (first_child_keys keys) request reply pair
+pub record IsAnsweredChild (kind : ChildKind) (setup : Setup) (keys : KeyRecord) (request reply : List Payload) (pair : Pair) : Type 0 where
+  pub child : IsChildOf kind Responder keys request reply pair
   pub offer : ChildPayloads
   pub offered : HasChildPayloads request offer
   pub remote : AnswersOffer pair.remote offer.ts_i
@@ -55,23 +75,30 @@ pub record IsAnsweredChild (setup : Setup) (keys : KeyRecord) (request reply : L
   pub extension : pair.inbound.association.extended ≡ true → setup.config.extended ≡ true
   pub few : HasFewSelectors pair
 
--- The initiator's pair: it is made of the reply and of whatever request asked for this child, and keeps to what was asked.
+-- The initiator's pair of a first child: it is made of the reply and of whatever request asked for this child, and keeps to what was asked.
 pub record IsAskedChild (child : AskedChildView) (keys : KeyRecord) (reply : List Payload) (pair : Pair) : Type 0 where
   pub made : (request : List Payload) → HasChildPayloads request (child_request (asked_of child)) → IsChild Initiator (first_child_keys keys) request reply pair
   pub keeps : KeepsToRequest (asked_of child) pair
   pub few : HasFewSelectors pair
 
+-- The pair of the end that asked for a further child: it is made of the reply and of the request that asked for this child with this nonce, and
+-- keeps to what was asked.
+pub record IsAskedFurther (further : FurtherChild) (keys : KeyRecord) (reply : List Payload) (pair : Pair) : Type 0 where
+  pub made : IsFurtherChild Initiator keys (further_payloads (child_request (asked_of further.child)) further.nonce) reply pair
+  pub keeps : KeepsToRequest (asked_of further.child) pair
+  pub few : HasFewSelectors pair
+
 -- A responder made it: of the payloads that the request opened to, and of those that were sealed in its answer.
-pub record AnswersForChild (meaning : Meaning) (setup : Setup) (old : Association) (octets : Octets) (m : Message) (answered : Answered) (keys : KeyRecord) (pair : Pair) : Type 0 where
+pub record AnswersForChild (kind : ChildKind) (meaning : Meaning) (setup : Setup) (old : Association) (octets : Octets) (m : Message) (answered : Answered) (keys : KeyRecord) (pair : Pair) : Type 0 where
   pub plain : Plain
   pub opened : opened_by meaning.plain_of old octets m.payloads ≡ Some plain
   pub request : List Payload
   pub read : SpellsChain plain.first request plain.octets
   pub reply : List Payload
-  pub sealed : IsSealed meaning.body_of (keys_of old.role keys) setup.fresh.seal (reply_message old IKE_AUTH m.header.id reply) answered.octets
-  pub is : IsAnsweredChild setup keys request reply pair
+  pub sealed : IsSealed meaning.body_of (keys_of old.role keys) setup.fresh.seal (reply_message old (exchange_of_child kind) m.header.id reply) answered.octets
+  pub is : IsAnsweredChild kind setup keys request reply pair
 
--- An initiator made it: the one that it waited for, of the payloads that the response opened to.
+-- An initiator made its first child: the one that it waited for, of the payloads that the response opened to.
 pub record EndsWithChild (meaning : Meaning) (old : Association) (octets : Octets) (m : Message) (keys : KeyRecord) (pair : Pair) : Type 0 where
   pub sent : AuthSent
   pub was : old.phase ≡ phase.AuthSent sent
@@ -82,23 +109,36 @@ pub record EndsWithChild (meaning : Meaning) (old : Association) (octets : Octet
   pub read : SpellsChain plain.first reply plain.octets
   pub is : IsAskedChild sent.child keys reply pair
 
+-- An end made a further child that it asked for: by the request of the response's number, of the payloads that the response opened to.
+pub record EndsWithFurther (meaning : Meaning) (old : Association) (octets : Octets) (m : Message) (keys : KeyRecord) (pair : Pair) : Type 0 where
+  pub was : old.phase ≡ phase.Established keys
+  pub request : Request
+  pub outstanding : map.get old.outgoing.outstanding m.header.id ≡ Some request
+  pub further : FurtherChild
+  pub asked : request.purpose ≡ CreateChild further
+  pub plain : Plain
+  pub opened : opened_by meaning.plain_of old octets m.payloads ≡ Some plain
+  pub reply : List Payload
+  pub read : SpellsChain plain.first reply plain.octets
+  pub is : IsAskedFurther further keys reply pair
+
 -- by what came of the message
 abbrev pub MadeBy : Meaning → Setup → Association → Octets → Message → Effect → KeyRecord → Pair → Type 0
 MadeBy meaning setup old octets m (effect.Refused fault) keys pair = ⊥
 MadeBy meaning setup old octets m (effect.Repeated said) keys pair = ⊥
-MadeBy meaning setup old octets m (effect.Replied answered) keys pair = AnswersForChild meaning setup old octets m answered keys pair
+MadeBy meaning setup old octets m (effect.Replied answered) keys pair = (kind : ChildKind) × AnswersForChild kind meaning setup old octets m answered keys pair
 MadeBy meaning setup old octets m (effect.Again next) keys pair = ⊥
 MadeBy meaning setup old octets m (effect.Identified next) keys pair = ⊥
-MadeBy meaning setup old octets m (effect.Counted ended) keys pair = EndsWithChild meaning old octets m keys pair
+MadeBy meaning setup old octets m (effect.Counted ended) keys pair = EndsWithChild meaning old octets m keys pair ⊎ EndsWithFurther meaning old octets m keys pair
 
--- A message made a first child, under this serial.
+-- A message made a child, under this serial.
 pub record MakesChild (meaning : Meaning) (setup : Setup) (old : Association) (table : Database) (octets : Octets) (m : Message) (e : Effect) (serial : ℕ) (new : Association) (new_table : Database) : Type 0 where
   pub keys : KeyRecord
   pub pair : Pair
   pub brings : BringsChild old.serial serial table keys pair new new_table
   pub made : MadeBy meaning setup old octets m e keys pair
 
--- An initiator asked for its child: the payloads of IKE_AUTH, sealed under its keys and kept as the request of number 1, ask for the
+-- An initiator asked for its first child: the payloads of IKE_AUTH, sealed under its keys and kept as the request of number 1, ask for the
 -- child that it waits for from then on.
 pub record AsksForChild (meaning : Meaning) (setup : Setup) (octets : Octets) (new : Association) : Type 0 where
   pub sent : AuthSent

@@ -9,3 +9,4 @@ pub mod Waiting
 pub mod Requests
 pub mod Moves
 pub mod Openings
+pub mod Sending

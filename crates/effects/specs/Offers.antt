@@ -2,7 +2,6 @@
 use Rattle.std.specs.Prelude.{◌≡◌, ℕ, Some, List, [], ◌∷◌, All, Contains, slice_get}
 use Rattle.base.specs.Octets.{Octets}
 use Rattle.wire.specs.Messages.{SpellsPlainly}
-use Rattle.wire.specs.Numbers.{IKE_AUTH}
 use Rattle.wire.specs.Payloads.{SpellsChain}
 use Rattle.wire.specs.declared.message.Message.{Message}
 use Rattle.wire.specs.declared.payload.Payload.{Payload}
@@ -53,10 +52,10 @@ pub record AnswersPlain (plain : Plain) (answered : List Proposal) : Type 0 wher
   pub read : SpellsChain plain.first request plain.octets
   pub answers : AnswersSa request answered
 
--- each SA in the answer to IKE_AUTH answers the request's
-pub record AnswersAuthSa (body_of : Keys → Octets → Octets → Octets → Octets) (setup : Setup) (old : Association) (number : ℕ) (plain : Plain) (octets : Octets) : Type 0 where
+-- each SA in the answer to a request of this exchange under keys answers the request's
+pub record AnswersSealedSa (exchange : ℕ) (body_of : Keys → Octets → Octets → Octets → Octets) (setup : Setup) (old : Association) (number : ℕ) (plain : Plain) (octets : Octets) : Type 0 where
   pub keys : KeyRecord
   pub are : keys_in old.phase ≡ Some keys
   pub reply : List Payload
-  pub sealed : IsSealed body_of (keys_of old.role keys) setup.fresh.seal (reply_message old IKE_AUTH number reply) octets
+  pub sealed : IsSealed body_of (keys_of old.role keys) setup.fresh.seal (reply_message old exchange number reply) octets
   pub answers : (answered : List Proposal) → Contains reply (Sa answered) → AnswersPlain plain answered

@@ -1,20 +1,19 @@
 -- The peer's requests of one association: which octets are one, which take effect, and what holds of the replies that are kept
 -- (RFC 7296 sections 2.1 to 2.3 and 3.1).
-use Rattle.std.specs.Prelude.{◌≡◌, ◌≢◌, ◌==◌, ◌⊎◌, ◌≤◌, ℕ, Bool, true, false, Some, max}
+use Rattle.std.specs.Prelude.{◌≡◌, ◌≢◌, ◌⊎◌, ◌≤◌, ℕ, Bool, true, false, Some, max}
 use Rattle.std.specs.FinMap as map
 use Rattle.base.specs.Octets.{Octets}
 use Rattle.wire.specs.Messages.{Spells}
-use Rattle.wire.specs.Numbers.{IKE_AUTH, INFORMATIONAL}
 use Rattle.wire.specs.declared.message.Message.{Message}
 use Rattle.exchange.specs.declared.headers.Role.TheVariants.{Initiator}
 use Rattle.exchange.specs.declared.sealed.Plain.{Plain}
 use Rattle.requests.specs.Incoming.{IsFreshRequest, IsLeftBehind}
 use Rattle.requests.specs.Numbers.{HasNumber}
 use Rattle.association.specs.Finding.{has_pair, sent_by_other}
-use Rattle.association.specs.Receiving.{opened_by, Opening}
+use Rattle.association.specs.Receiving.{admits, opened_by, Opening}
 use Rattle.association.specs.declared.phase.Association.{Association}
 use Rattle.association.specs.declared.phase.Phase.{Phase}
-use Rattle.association.specs.declared.phase.Phase.TheVariants.{HalfOpen, Established, Closed}
+use Rattle.association.specs.declared.phase.Phase.TheVariants.{Established, Closed}
 use Rattle.auth.specs.Windows.{IsWindow, WIDEST_WINDOW}
 use Rattle.initial.specs.Answering.{IsHalfOpen}
 use Rattle.initial.specs.Ending.{IsAuthSent}
@@ -24,12 +23,6 @@ use Rattle.effects.specs.Keeping.{HasKeys}
 use Rattle.effects.specs.Waiting.{AreIssued, TookFirstRequest, TookNoRequest, SuitPhase}
 use Rattle.effects.specs.declared.taking.Effect.{Effect}
 use Rattle.effects.specs.declared.taking.Effect.TheVariants as effect
-
--- The exchanges whose requests take effect in a phase. What a phase admits has CREATE_CHILD_SA too, whose requests are not known yet.
-abbrev pub takes_requests : Phase → ℕ → Bool
-takes_requests (HalfOpen opened) exchange = exchange == IKE_AUTH
-takes_requests (Established keys) exchange = exchange == INFORMATIONAL
-takes_requests _ exchange = false
 
 -- The octets open as this request of the association: they spell a message with its SPIs, from the peer by the flag I, with R clear, whose
 -- only payload is an encrypted one that opens under the peer's keys.
@@ -49,14 +42,14 @@ pub record IsNew (plain_of : Opening) (a : Association) (octets : Octets) (numbe
   pub exchange : ℕ
   pub opens : OpensAs plain_of a octets exchange number
   pub fresh : IsFreshRequest a.incoming number
-  pub admitted : takes_requests a.phase exchange ≡ true
+  pub admitted : admits a.phase exchange ≡ true
 
 -- a message that put this number into effect: a new request, which was answered, and its reply is kept
 pub record PutsIntoEffect (plain_of : Opening) (old : Association) (octets : Octets) (m : Message) (e : Effect) (new : Association) (number : ℕ) : Type 0 where
   pub request : m.header.flags.response ≡ false
   pub number_is : m.header.id ≡ number
   pub fresh : IsFreshRequest old.incoming number
-  pub admitted : takes_requests old.phase m.header.exchange ≡ true
+  pub admitted : admits old.phase m.header.exchange ≡ true
   pub plain : Plain
   pub opened : opened_by plain_of old octets m.payloads ≡ Some plain
   pub answered : Answered

@@ -1,7 +1,8 @@
 -- What a message does to the association that it is for (RFC 7296 sections 1.2, 1.4, 2.1 to 2.4).
-use Rattle.std.specs.Prelude.{◌≡◌, ◌==◌, ◌⊎◌, ℕ, Bool, true, false, Option}
+use Rattle.std.specs.Prelude.{◌≡◌, ◌==◌, ◌⊎◌, ℕ, Bool, true, false, Option, Some, None}
 use Rattle.base.specs.Octets.{Octets}
-use Rattle.wire.specs.Numbers.{INFORMATIONAL}
+use Rattle.std.specs.FinMap as map
+use Rattle.wire.specs.Numbers.{CREATE_CHILD_SA, INFORMATIONAL}
 use Rattle.wire.specs.declared.message.Message.{Message}
 use Rattle.suite.specs.declared.keys.Keys.{Keys}
 use Rattle.suite.specs.declared.sealer.Cipher.{Cipher}
@@ -9,11 +10,13 @@ use Rattle.exchange.specs.declared.sealed.Plain.{Plain}
 use Rattle.sadb.specs.Database.{Database}
 use Rattle.children.specs.declared.fault.ChildFault.{ChildFault}
 use Rattle.children.specs.declared.fault.ChildFault.TheVariants as child
+use Rattle.association.specs.Purposes.{asks_for_child}
 use Rattle.association.specs.Receiving.{Answers, AnswersInitial, IsReceived, Opening, Reception, Refused, Repeat, TakesEffect}
 use Rattle.association.specs.declared.fault.MessageFault.TheVariants.{WrongPhase}
 use Rattle.association.specs.declared.phase.Association.{Association}
 use Rattle.association.specs.declared.phase.Phase.{Phase}
 use Rattle.association.specs.declared.phase.Phase.TheVariants as phase
+use Rattle.association.specs.declared.phase.Request.{Request}
 use Rattle.auth.specs.Proofs.{Accepts}
 use Rattle.initial.specs.Answering.{AnswersAuth, IsHalfOpen, Prover}
 use Rattle.initial.specs.Configs.{Setup}
@@ -21,6 +24,9 @@ use Rattle.initial.specs.Ending.{EndsAuth, IsAuthSent}
 use Rattle.initial.specs.Reading.{Asker, IsInitSent, ReadsResponse}
 use Rattle.informational.specs.Answering.{AnswersInformational}
 use Rattle.informational.specs.Counting.{CountsInformational}
+use Rattle.informational.specs.Orders.{IsEstablished}
+use Rattle.create_child.specs.Answering.{AnswersFurther}
+use Rattle.create_child.specs.Counting.{CountsFurther}
 use Rattle.initial.specs.declared.reading.Continued.{Continued}
 use Rattle.initial.specs.declared.reading.Continued.TheVariants as continued
 use Rattle.effects.specs.declared.taking.Effect.{Effect}
@@ -63,17 +69,24 @@ pub record IsPassedOver (old : Association) (table : Database) (new : Associatio
 abbrev pub AwaitsAuth : Phase → Type 0
 AwaitsAuth p = IsHalfOpen p ⊎ IsAuthSent p
 
--- what memory can be wanted for, by the phase: the message; where a child may be made, also its replay window, its selectors and its
--- place in the table
-abbrev pub CanWant : Phase → ChildFault → Type 0
-CanWant p f = (f ≡ child.Message) ⊎ AwaitsAuth p
+-- CREATE_CHILD_SA at an established association: by it a further child is made
+pub record IsForFurther (p : Phase) (exchange : ℕ) : Type 0 where
+  pub established : IsEstablished p
+  pub exchange_is : exchange ≡ CREATE_CHILD_SA
 
--- what a request of these payloads does at an established association: that of INFORMATIONAL; CREATE_CHILD_SA is not known yet
+-- what memory can be wanted for, by the phase and the exchange: the message; where a child may be made, also its replay window, its
+-- selectors and its place in the table
+abbrev pub CanWant : Phase → ℕ → ChildFault → Type 0
+CanWant p exchange f = (f ≡ child.Message) ⊎ (AwaitsAuth p ⊎ IsForFurther p exchange)
+
+-- what a request of these payloads does at an established association: that of INFORMATIONAL, or else of CREATE_CHILD_SA, since no other
+-- belongs there
 abbrev pub DoesFurther : Bool → Meaning → Setup → Association → Database → ℕ → Plain → Effect → Association → Database → Type 0
 DoesFurther true meaning setup old table number plain (effect.Replied answered) new new_table =
     AnswersInformational meaning.body_of setup old table number plain answered new new_table
 DoesFurther true meaning setup old table number plain e new new_table = ⊥
-DoesFurther false meaning setup old table number plain (effect.Refused fault) new new_table = (fault ≡ WrongPhase) × IsPassedOver old table new new_table
+DoesFurther false meaning setup old table number plain (effect.Replied answered) new new_table =
+    AnswersFurther meaning.body_of setup old table number plain answered new new_table
 DoesFurther false meaning setup old table number plain e new new_table = ⊥
 
 -- what a request of this exchange and these payloads does: IKE_AUTH to a half-open association, and others to an established one
@@ -86,15 +99,28 @@ DoesRequest meaning setup (phase.Established keys) exchange old table number pla
 DoesRequest meaning setup p exchange old table number plain (effect.Refused fault) new new_table = (fault ≡ WrongPhase) × IsPassedOver old table new new_table
 DoesRequest meaning setup p exchange old table number plain e new new_table = ⊥
 
--- what a response of these payloads does: that to IKE_AUTH, and at an established association that to INFORMATIONAL, since no request of
--- another exchange goes out there
+-- whether the request of this number that waits for its answer asked for a further child
+abbrev pub has_asked : Option Request → Bool
+has_asked None = false
+has_asked (Some request) = asks_for_child request.purpose
+
+abbrev pub asked_further : Association → ℕ → Bool
+asked_further a number = has_asked (map.get a.outgoing.outstanding number)
+
+-- what a response of these payloads does at an established association, by whether its request asked for a further child
+abbrev pub DoesAnswer : Bool → Setup → Association → Database → ℕ → Plain → Effect → Association → Database → Type 0
+DoesAnswer true setup old table number plain (effect.Counted ended) new new_table = CountsFurther setup old table number plain ended new new_table
+DoesAnswer true setup old table number plain e new new_table = ⊥
+DoesAnswer false setup old table number plain (effect.Counted ended) new new_table = CountsInformational setup old table number plain ended new new_table
+DoesAnswer false setup old table number plain e new new_table = ⊥
+
+-- what a response of these payloads does: that to IKE_AUTH, and others at an established association
 abbrev pub DoesResponse : Meaning → Setup → Phase → Association → Database → ℕ → Plain → Effect → Association → Database → Type 0
 DoesResponse meaning setup (phase.AuthSent sent) old table number plain (effect.Counted ended) new new_table =
     EndsAuth meaning.accepts setup old table number plain ended new new_table
 DoesResponse meaning setup (phase.AuthSent sent) old table number plain e new new_table = ⊥
-DoesResponse meaning setup (phase.Established keys) old table number plain (effect.Counted ended) new new_table =
-    CountsInformational setup old table number plain ended new new_table
-DoesResponse meaning setup (phase.Established keys) old table number plain e new new_table = ⊥
+DoesResponse meaning setup (phase.Established keys) old table number plain e new new_table =
+    DoesAnswer (asked_further old number) setup old table number plain e new new_table
 DoesResponse meaning setup p old table number plain (effect.Refused fault) new new_table = (fault ≡ WrongPhase) × IsPassedOver old table new new_table
 DoesResponse meaning setup p old table number plain e new new_table = ⊥
 

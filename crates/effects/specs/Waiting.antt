@@ -4,7 +4,7 @@ use Rattle.std.specs.FinMap as map
 use Rattle.std.specs.FinSet as set
 use Rattle.std.specs.Ordering.{nat_cmp}
 use Rattle.base.specs.Octets.{Octets}
-use Rattle.wire.specs.Numbers.{INFORMATIONAL, IKE_AUTH, IKE_SA_INIT}
+use Rattle.wire.specs.Numbers.{CREATE_CHILD_SA, INFORMATIONAL}
 use Rattle.exchange.specs.declared.headers.Role.TheVariants.{Initiator, Responder}
 use Rattle.requests.specs.Incoming.{no_requests, after_number_0}
 use Rattle.requests.specs.Outgoing.{OwnRequests}
@@ -19,12 +19,16 @@ use Rattle.association.specs.declared.purpose.Purpose.TheVariants.{Begin, Identi
 use Rattle.effects.specs.declared.taking.Effect.{Effect}
 use Rattle.effects.specs.declared.taking.Effect.TheVariants as effect
 
+-- by an exchange of an established association: INFORMATIONAL, or CREATE_CHILD_SA
+abbrev pub IsAskedLater : Purpose → Type 0
+IsAskedLater asked = (exchange_of asked ≡ INFORMATIONAL) ⊎ (exchange_of asked ≡ CREATE_CHILD_SA)
+
 -- a request of this number, which asks this, may wait for its answer in the phase
 abbrev pub MayBeOutstanding : Phase → ℕ → Purpose → Type 0
 MayBeOutstanding (InitSent sent) number asked = (number ≡ 0) × (asked ≡ Begin)
 MayBeOutstanding (AuthSent sent) number asked = (number ≡ 1) × (asked ≡ Identify)
 MayBeOutstanding (HalfOpen opened) number asked = ⊥
-MayBeOutstanding (Established keys) number asked = exchange_of asked ≡ INFORMATIONAL
+MayBeOutstanding (Established keys) number asked = IsAskedLater asked
 MayBeOutstanding (Closed keys at) number asked = ⊥
 
 -- no other waits

@@ -1,8 +1,9 @@
 //! What follows from the definitions alone. No function here does anything.
 ghost use Rattle.std.specs.Prelude.{◌≡◌, ◌≢◌, ◌==◌, ◌⊎◌, ◌+◌, ◌<◌, ◌≤◌, ◌∷◌, ℕ, List, [], Option, Some, None, true, false, length};
 ghost use Rattle.base.specs.Octets.{Octets, AreOctets};
+ghost use Rattle.base.specs.declared.selector.Selector.{Selector};
 ghost use Rattle.wire.specs.Messages.{Spells};
-ghost use Rattle.wire.specs.Numbers.{IKE_SA_INIT};
+ghost use Rattle.wire.specs.Numbers.{CREATE_CHILD_SA, IKE_AUTH, IKE_SA_INIT};
 ghost use Rattle.wire.specs.declared.message.Message.{Message};
 ghost use Rattle.wire.specs.declared.payload.Payload.{Payload};
 ghost use Rattle.suite.specs.declared.fresh.Fresh.{Fresh};
@@ -17,7 +18,7 @@ ghost use Rattle.association.specs.AskedChildren.{AskedChildView};
 ghost use Rattle.association.specs.Phases.{keys_in};
 ghost use Rattle.association.specs.Finding.{is_meant};
 ghost use Rattle.association.specs.Purposes.{exchange_of};
-ghost use Rattle.association.specs.Receiving.{opened_by, IsRepeating, Opening};
+ghost use Rattle.association.specs.Receiving.{admits, opened_by, IsRepeating, Opening};
 ghost use Rattle.association.specs.declared.fault.MessageFault.TheVariants as why;
 ghost use Rattle.association.specs.declared.phase.HalfOpen.{HalfOpen};
 ghost use Rattle.requests.specs.Following.{FollowsIncoming};
@@ -42,17 +43,20 @@ ghost use Rattle.initial.specs.Beginning.{begun, half_open, Admits, Begins};
 ghost use Rattle.effects.specs.Children.{AsksForChild, IsAsking, MakesChild};
 ghost use Rattle.initial.specs.Configs.{Setup, IsConfig};
 ghost use Rattle.informational.specs.Asking.{Asks};
+ghost use Rattle.create_child.specs.Answering.{AnswersFurther};
+ghost use Rattle.create_child.specs.Asking.{AsksForFurther};
 ghost use Rattle.informational.specs.declared.ordering.Order.{Order};
 ghost use Rattle.moments.specs.Due.{is_over, SendsAgain};
 ghost use Rattle.moments.specs.Held.{IsClosedAt, IsInTime};
 ghost use Rattle.effects.specs.Moves.{ledger, moves_of, Close, Issue, KeepsReply, Lead, Make, Remove, WaitsWith};
 ghost use Rattle.initial.specs.Ending.{EndsAuth};
 ghost use Rattle.effects.specs.Keeping.{child_in, octets_of_effect, IsShort, KeepsShort, KeyedBy};
-ghost use Rattle.effects.specs.Requests.{is_concluded, takes_requests, IsPassing, IsSoundlyHeld, KeepsPeersWindow, KeepsWindow, PutsIntoEffect, StaysConcluded};
+ghost use Rattle.effects.specs.Requests.{is_concluded, IsPassing, IsSoundlyHeld, KeepsPeersWindow, KeepsWindow, PutsIntoEffect, StaysConcluded};
 ghost use Rattle.effects.specs.Waiting.{asked_by, Ends, KeepTimers, WaitUntil};
-ghost use Rattle.effects.specs.Offers.{AnswersAuthSa, AnswersInitialSa};
+ghost use Rattle.effects.specs.Offers.{AnswersInitialSa, AnswersSealedSa};
 ghost use Rattle.effects.specs.Openings.{OpensAsMessage, OpensWhatItSeals};
 ghost use Rattle.effects.specs.Lengths.{HoldsWholeKeys, TellsLengths};
+ghost use Rattle.effects.specs.Sending.{SendsRequest};
 ghost use Rattle.effects.specs.Proving.{ProvesByMessage, ProvesByRequest, ProvesByResponse};
 ghost use Rattle.initial.specs.declared.answering.Answered.{Answered};
 ghost use Rattle.initial.specs.declared.beginning.Admitted.{Admitted};
@@ -75,11 +79,16 @@ use children::laws::{
     children_are_determined, pairs_are_children, pairs_have_few_selectors,
     responses_keep_to_their_offers, what_is_accepted_was_asked,
 };
+use create_child::laws::what_is_answered_is_given_back;
 use deletions::laws::removals_are_determined;
 use exchange::laws::{
     ciphers_tell_lengths, ends_agree, sealed_messages_are_determined, what_counts_fits,
 };
 use exchange::sealed_messages_open;
+use further::laws::{
+    further_children_are_determined, further_children_keep_to_their_offers,
+    further_pairs_are_children, further_pairs_have_few_selectors,
+};
 use moments::laws::{nothing_is_due_afterwards, who_is_gone_was_asked};
 use requests::laws::{
     later_incoming_are_determined, later_incoming_follow, later_outgoing_are_determined,
@@ -98,6 +107,7 @@ pub fn spis_stay_reserved()
     spis_stay_held();
     children_are_asked_for();
     who_is_closed_holds_none();
+    what_is_answered_is_given_back();
 }
 
 /// A message leaves an association its serial, its role and its SPIs, but that an initiator learns the responder's; no association
@@ -149,7 +159,8 @@ pub fn no_spi_comes()
 }
 
 /// An association holds an SPI from the order on that asked for the child: one that begins holds that of its first child alone, one that
-/// this end admits holds none, and one that asks whether the peer is there, or for a deletion, holds none that it did not hold.
+/// this end admits holds none, and one that asks whether the peer is there, or for a deletion, holds none that it did not hold. What it
+/// holds as it asks for a further child, [`create_child::laws::a_further_spi_is_held`] tells.
 pub fn spis_come_by_orders()
     ensures begun { (cipher : Cipher) (group : ℕ) (public_value : Octets → Octets) (fresh : Fresh) (moment serial : ℕ)
         (beginning : Beginning) (child : AskedChildView) (spi : ℕ) → Begins cipher group public_value fresh moment beginning
@@ -229,10 +240,11 @@ pub fn keys_stay()
     repeats_say_why();
 }
 
-/// A child that a message made is what the payloads of IKE_AUTH say (RFC 7296, sections 1.2, 2.9 and 2.17): at a responder those that the
-/// request opened to and those that were sealed in the answer, at an initiator those that the response opened to and those that asked
-/// for the child. Its association is established, and its pair, under the association's keys, is the only one that came. An initiator
-/// that waits for a child waited for it before, or asks for it now.
+/// A child that a message made is what the payloads of its exchange say, of IKE_AUTH the first one and of CREATE_CHILD_SA a further one
+/// (RFC 7296, sections 1.2, 1.3.1, 2.9 and 2.17): at the end that answers those that the request opened to and those that were sealed in the
+/// answer, at the end that asked those that the response opened to and those that asked for the child. Its association is established,
+/// and its pair, under the association's keys, is the only one that came. An initiator that waits for its first child waited for it before,
+/// or asks for it now.
 pub fn children_are_made_of_their_messages()
     ensures made { (meaning : Meaning) (setup : Setup) (old : Association) (table : Database) (octets : Octets) (m : Message)
         (effect : Effect) (serial : ℕ) (new : Association) (new_table : Database) → IsSoundTable table
@@ -255,10 +267,13 @@ pub fn children_are_made_of_their_messages()
     what_is_read_fits();
     what_counts_fits();
     receptions_say_why();
+    further_pairs_are_children();
+    further_children_keep_to_their_offers();
+    further_pairs_have_few_selectors();
 }
 
 /// An SA in an answer has one proposal, with the number and the protocol of one that was offered and one of its transforms of each type
-/// (RFC 7296, section 3.3.1): in the answer to IKE_SA_INIT, and in each SA of that to IKE_AUTH.
+/// (RFC 7296, section 3.3.1): in the answer to IKE_SA_INIT, and in each SA of that to IKE_AUTH or CREATE_CHILD_SA.
 pub fn answers_keep_to_their_offers()
     ensures initial { (cipher : Cipher) (group : ℕ) (public_value : Octets → Octets)
         (shared_secret : Octets → Octets → Option Octets) (secrets : CookieSecrets) (sender : Sender) (half_open held : ℕ)
@@ -269,7 +284,11 @@ pub fn answers_keep_to_their_offers()
     ensures auth { (prover : Prover) (setup : Setup) (old : Association) (table : Database) (number : ℕ) (plain : Plain)
         (answered : Answered) (new : Association) (new_table : Database)
         → AnswersAuth prover setup old table number plain answered new new_table
-        → AnswersAuthSa prover.body_of setup old number plain answered.octets }
+        → AnswersSealedSa IKE_AUTH prover.body_of setup old number plain answered.octets }
+    ensures further { (body_of : Keys → Octets → Octets → Octets → Octets) (setup : Setup) (old : Association) (table : Database)
+        (number : ℕ) (plain : Plain) (answered : Answered) (new : Association) (new_table : Database)
+        → AnswersFurther body_of setup old table number plain answered new new_table
+        → AnswersSealedSa CREATE_CHILD_SA body_of setup old number plain answered.octets }
 {
     ends_agree();
 }
@@ -352,6 +371,7 @@ pub fn effects_are_determined()
     children_are_determined();
     derived_keys_are_keys();
     endings_are_determined();
+    further_children_are_determined();
     removals_are_determined();
     later_incoming_are_determined();
     later_outgoing_are_determined::<Request>();
@@ -363,24 +383,42 @@ pub fn effects_are_determined()
     sealed_messages_are_determined();
 }
 
-/// A request of INFORMATIONAL of this end has at most 3000 octets, as all has that its association keeps to send again; and it
-/// goes out in one way, by what is held of the association, whatever room there is. Of the cipher it is asked that it tells lengths, as its
-/// law says, of the association that its keys are whole, as they stay ([`keys_stay_whole`]).
+/// What is ordered of an established association sends one request to the peer: whether it is there, for a deletion, or for a further child.
+pub fn orders_send_requests()
+    ensures ordered { (body_of : Keys → Octets → Octets → Octets → Octets) (setup : Setup) (order : Order) (old : Association) (octets : Octets)
+        (new : Association) → Asks body_of setup order old octets new → SendsRequest body_of setup old octets new }
+    ensures further { (body_of : Keys → Octets → Octets → Octets → Octets) (setup : Setup) (local remote : Selector) (old : Association)
+        (table : Database) (octets : Octets) (new : Association) (new_table : Database)
+        → AsksForFurther body_of setup local remote old table octets new new_table → SendsRequest body_of setup old octets new }
+{}
+
+/// A request of this end at an established association has at most 3000 octets, as all has that its association keeps to send again; and
+/// what is ordered goes out in one way, by what is held of the association, and for a further child of the table, whatever room there is.
+/// Of the cipher it is asked that it tells lengths, as its law says, of the association that its keys are whole, as they stay
+/// ([`keys_stay_whole`]).
 pub fn orders_are_short_and_determined()
-    ensures kept { (body_of : Keys → Octets → Octets → Octets → Octets) (setup : Setup) (order : Order) (old : Association) (octets : Octets)
-        (new : Association) → KeepsShort old → Asks body_of setup order old octets new → KeepsShort new × IsShort octets }
+    ensures kept { (body_of : Keys → Octets → Octets → Octets → Octets) (setup : Setup) (old : Association) (octets : Octets)
+        (new : Association) → KeepsShort old → SendsRequest body_of setup old octets new → KeepsShort new × IsShort octets }
     ensures determined { (body_of : Keys → Octets → Octets → Octets → Octets) (setup : Setup) (order : Order) (old other a b : Association)
         (one two : Octets) → TellsLengths body_of setup.fresh.seal → HoldsWholeKeys old.phase
         → association_content old ≡ association_content other → Asks body_of setup order old one a → Asks body_of setup order other two b
         → (one ≡ two) × (association_content a ≡ association_content b) }
+    ensures further { (body_of : Keys → Octets → Octets → Octets → Octets) (setup : Setup) (local remote : Selector)
+        (old other a b : Association) (table another a_table b_table : Database) (one two : Octets)
+        → TellsLengths body_of setup.fresh.seal → HoldsWholeKeys old.phase
+        → association_content old ≡ association_content other → table_content table ≡ table_content another
+        → AsksForFurther body_of setup local remote old table one a a_table
+        → AsksForFurther body_of setup local remote other another two b b_table
+        → (one ≡ two) × (association_content a ≡ association_content b) × (table_content a_table ≡ table_content b_table) }
 {
     later_outgoing_are_determined::<Request>();
+    later_tables_are_determined();
     sealed_messages_are_determined();
 }
 
 /// A number comes into effect by a request alone that bears it: its number did not take effect before and lies in the window, its exchange
 /// belongs to the phase, and it opens under the peer's keys; it was answered, and its reply is kept. And each such request comes into
-/// effect, but for CREATE_CHILD_SA, which is not known yet (RFC 7296, sections 2.1 to 2.3).
+/// effect (RFC 7296, sections 2.1 to 2.3).
 pub fn requests_take_effect()
     ensures alone { (meaning : Meaning) (setup : Setup) (old : Association) (table : Database) (octets : Octets) (m : Message)
         (effect : Effect) (new : Association) (new_table : Database) (number : ℕ)
@@ -390,7 +428,7 @@ pub fn requests_take_effect()
     ensures always { (meaning : Meaning) (setup : Setup) (old : Association) (table : Database) (octets : Octets) (m : Message)
         (effect : Effect) (new : Association) (new_table : Database) (plain : Plain)
         → TakesMessage meaning setup old table octets m effect new new_table → m.header.flags.response ≡ false
-        → IsFreshRequest old.incoming m.header.id → takes_requests old.phase m.header.exchange ≡ true
+        → IsFreshRequest old.incoming m.header.id → admits old.phase m.header.exchange ≡ true
         → opened_by meaning.plain_of old octets m.payloads ≡ Some plain → HasNumber new.incoming.in_effect m.header.id }
     ensures otherwise { (meaning : Meaning) (setup : Setup) (old : Association) (table : Database) (octets : Octets) (m : Message)
         (effect : Effect) (new : Association) (new_table : Database)
@@ -439,8 +477,8 @@ pub fn requests_are_remembered()
         (request : Octets) (admitted : Admitted)
         → Admits cipher group public_value shared_secret fresh moment serial offer spi_i request admitted
         → IsSoundlyHeld admitted.association }
-    ensures probed { (body_of : Keys → Octets → Octets → Octets → Octets) (setup : Setup) (order : Order) (old : Association) (octets : Octets)
-        (new : Association) → IsSoundlyHeld old → Asks body_of setup order old octets new → IsSoundlyHeld new }
+    ensures requested { (body_of : Keys → Octets → Octets → Octets → Octets) (setup : Setup) (old : Association) (octets : Octets)
+        (new : Association) → IsSoundlyHeld old → SendsRequest body_of setup old octets new → IsSoundlyHeld new }
 {
     later_incoming_follow();
     windows_are_read_again();
@@ -456,8 +494,8 @@ pub fn messages_make_moves()
         (effect : Effect) (new : Association) (new_table : Database) → IsSoundlyHeld old → IsConfig setup.config
         → TakesMessage meaning setup old table octets m effect new new_table
         → Lead (moves_of m.header.id (keys_in new.phase) effect) (ledger old) (ledger new) }
-    ensures probe { (body_of : Keys → Octets → Octets → Octets → Octets) (setup : Setup) (order : Order) (old : Association) (octets : Octets)
-        (new : Association) → Asks body_of setup order old octets new
+    ensures requested { (body_of : Keys → Octets → Octets → Octets → Octets) (setup : Setup) (old : Association) (octets : Octets)
+        (new : Association) → SendsRequest body_of setup old octets new
         → Lead (Issue old.outgoing.next octets ∷ []) (ledger old) (ledger new) }
     ensures admitted { (cipher : Cipher) (group : ℕ) (public_value : Octets → Octets)
         (shared_secret : Octets → Octets → Option Octets) (fresh : Fresh) (moment serial : ℕ) (offer : OfferView) (spi_i : ℕ)
@@ -511,9 +549,9 @@ pub fn messages_open()
         → OpensWhatItSeals meaning.body_of meaning.plain_of setup.fresh.seal → HoldsWholeKeys new.phase
         → TakesMessage meaning setup old table octets m (Identified next) new new_table
         → OpensAsMessage meaning.plain_of new new.role false 1 next }
-    ensures probe { (body_of : Keys → Octets → Octets → Octets → Octets) (plain_of : Opening) (setup : Setup) (order : Order) (old : Association)
+    ensures requested { (body_of : Keys → Octets → Octets → Octets → Octets) (plain_of : Opening) (setup : Setup) (old : Association)
         (octets : Octets) (new : Association) → OpensWhatItSeals body_of plain_of setup.fresh.seal → HoldsWholeKeys old.phase
-        → Asks body_of setup order old octets new → OpensAsMessage plain_of new new.role false old.outgoing.next octets }
+        → SendsRequest body_of setup old octets new → OpensAsMessage plain_of new new.role false old.outgoing.next octets }
     ensures taken { (meaning : Meaning) (setup : Setup) (old : Association) (table : Database) (octets : Octets) (m : Message)
         (answered : Answered) (new : Association) (new_table : Database) → Spells m octets → is_meant m.header old ≡ true
         → TakesMessage meaning setup old table octets m (Replied answered) new new_table
@@ -549,8 +587,8 @@ pub fn nothing_comes_due()
         (request : Octets) (admitted : Admitted)
         → Admits cipher group public_value shared_secret fresh moment serial offer spi_i request admitted
         → IsInTime moment admitted.association }
-    ensures probed { (body_of : Keys → Octets → Octets → Octets → Octets) (setup : Setup) (order : Order) (old : Association) (octets : Octets)
-        (new : Association) → IsInTime setup.moment old → Asks body_of setup order old octets new → IsInTime setup.moment new }
+    ensures requested { (body_of : Keys → Octets → Octets → Octets → Octets) (setup : Setup) (old : Association) (octets : Octets)
+        (new : Association) → IsInTime setup.moment old → SendsRequest body_of setup old octets new → IsInTime setup.moment new }
 {
     nothing_is_due_afterwards();
 }
@@ -577,11 +615,11 @@ pub fn requests_wait_on()
         → Begins cipher group public_value fresh moment beginning
         → map.get (begun serial beginning child).outgoing.outstanding number ≡ Some request
         → (beginning.octets ≡ request.octets) × (request.timer ≡ record { sent = moment; repeats = 0 }) }
-    ensures probed { (body_of : Keys → Octets → Octets → Octets → Octets) (setup : Setup) (order : Order) (old : Association) (octets : Octets)
-        (new : Association) → IsSoundlyHeld old → Asks body_of setup order old octets new
+    ensures requested { (body_of : Keys → Octets → Octets → Octets → Octets) (setup : Setup) (old : Association) (octets : Octets)
+        (new : Association) → IsSoundlyHeld old → SendsRequest body_of setup old octets new
         → KeepTimers setup.moment (Some octets) old new }
-    ensures asked { (body_of : Keys → Octets → Octets → Octets → Octets) (setup : Setup) (order : Order) (old : Association) (octets : Octets)
-        (new : Association) (number : ℕ) (request : Request) → IsSoundlyHeld old → Asks body_of setup order old octets new
+    ensures beside { (body_of : Keys → Octets → Octets → Octets → Octets) (setup : Setup) (old : Association) (octets : Octets)
+        (new : Association) (number : ℕ) (request : Request) → IsSoundlyHeld old → SendsRequest body_of setup old octets new
         → map.get old.outgoing.outstanding number ≡ Some request → map.get new.outgoing.outstanding number ≡ Some request }
 {}
 

@@ -2,8 +2,8 @@
 //! association, to the table of associations for ESP, and what is sent back.
 //!
 //! [`take_message`] asks [`association::receive`] what the message is, by its number, its exchange, the phase and what it opens to;
-//! then [`initial`] or [`informational`] does what its payloads say. What that may do to the association's keys, to its children and to
-//! what it keeps is in [`laws`], stated without the cases of the exchanges.
+//! then [`initial`], [`informational`] or [`create_child`] does what its payloads say. What that may do to the association's keys, to its
+//! children and to what it keeps is in [`laws`], stated without the cases of the exchanges.
 //!
 //! ```text
 //! match take_message(alloc, &step, &mut association, &mut table, &datagram, &message)? {

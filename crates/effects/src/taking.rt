@@ -1,23 +1,21 @@
 //! What a message does to the association that it is for.
-ghost use Rattle.std.specs.Prelude.{◌≡◌, ◌==◌, IfOk, IfErr};
+ghost use Rattle.std.specs.Prelude.{◌≡◌, ◌==◌, true, IfOk, IfErr};
 ghost use Rattle.wire.specs.Messages.{Spells};
 ghost use Rattle.wire.specs.Numbers.{INFORMATIONAL};
 ghost use Rattle.requests.specs.Incoming.{IsFreshRequest};
-ghost use Rattle.requests.specs.Outgoing.{IsOutstanding};
 ghost use Rattle.sadb.specs.Database.{IsAsBefore};
 ghost use Rattle.association.specs.Closing.{HoldsReserved};
-ghost use Rattle.association.specs.Receiving.{IsAnsweringInitial, IsReceived};
+ghost use Rattle.association.specs.Receiving.{admits, IsAnsweringInitial, IsDue, IsReceived};
 ghost use Rattle.initial.specs.Configs.{setup_of, IsConfig};
 ghost use Rattle.initial.specs.Reading.{IsInitSent};
 ghost use Rattle.informational.specs.Orders.{IsEstablished};
-ghost use Rattle.effects.specs.Taking.{reception_of, CanWant, DoesFurther, DoesInitial, DoesRequest, DoesResponse, TakesMessage};
+ghost use Rattle.effects.specs.Taking.{asked_further, reception_of, CanWant, DoesAnswer, DoesFurther, DoesInitial, DoesRequest, DoesResponse, TakesMessage};
 
 use association::laws::receptions_say_why;
 use association::{Association, MessageFault, Phase, Received, receive};
 use base::Items;
 use children::ChildFault;
 use exchange::Plain;
-use informational::{answer, count};
 use initial::{Answered, Continued, Ended, Step, answer_auth, end_auth, read_response};
 use sadb::Table;
 use std::alloc::{AllocError, Global};
@@ -44,12 +42,12 @@ pub enum Effect {
 
 /// Takes a message for the association that [`association::find`] found for it. What it is, [`association::receive`] tells; a
 /// response to IKE_SA_INIT is taken by [`read_response`], IKE_AUTH by [`answer_auth`], and its response by [`end_auth`]; at an
-/// established association INFORMATIONAL is taken by [`informational::answer`], and its response by [`informational::count`].
-/// Requests of CREATE_CHILD_SA are passed over ([`MessageFault::WrongPhase`]).
+/// established association INFORMATIONAL is taken by [`informational::answer`], and its response by [`informational::count`], and
+/// CREATE_CHILD_SA by [`create_child::answer`], and its response by [`create_child::count`].
 ///
 /// The octets are those that the message was decoded from, and the SPIs that the association holds for children are reserved in the
 /// table. An error is for want of memory alone, and changes nothing but the table's room: [`ChildFault::Message`], or where
-/// IKE_AUTH makes a child also one of the other three.
+/// IKE_AUTH or CREATE_CHILD_SA makes a child also one of the other three.
 pub fn take_message<C: Sealer + Agreement + Proof>(
     alloc: Global,
     step: &Step<'_, C>,
@@ -75,10 +73,9 @@ pub fn take_message<C: Sealer + Agreement + Proof>(
         })
         (setup_of step.now) association.old table.old octets.now message.now effect association.new table.new) }
     ensures refused { IfErr result (λ _. (association.new ≡ association.old) × IsAsBefore table.old table.new) }
-    ensures wanted { IfErr result (CanWant association.old.phase) }
+    ensures wanted { IfErr result (CanWant association.old.phase message.now.header.exchange) }
 {
     receptions_say_why();
-    let number = message.header.id;
     match received(alloc, step.caller, association, octets, message)? {
         Taken::Refused(fault) => Ok(Effect::Refused(fault)),
         Taken::Repeat(reply) => Ok(Effect::Repeated(reply)),
@@ -89,10 +86,10 @@ pub fn take_message<C: Sealer + Agreement + Proof>(
             association,
             table,
             message.header.exchange,
-            number,
+            message.header.id,
             &plain,
         ),
-        Taken::Response(plain) => take_response(alloc, step, association, table, number, &plain),
+        Taken::Response(plain) => take_response(alloc, step, association, table, message, &plain),
     }
 }
 
@@ -168,6 +165,7 @@ fn take_request<C: Sealer + Agreement + Proof>(
 ) -> Result<Effect, ChildFault>
     requires config { IsConfig step.now.config.now }
     requires fresh { IsFreshRequest association.old.incoming number }
+    requires admitted { admits association.old.phase exchange ≡ true }
     requires reserved { HoldsReserved association.old table.old }
     ensures taken { IfOk result (λ effect. DoesRequest
         (record {
@@ -183,14 +181,14 @@ fn take_request<C: Sealer + Agreement + Proof>(
         })
         (setup_of step.now) association.old.phase exchange association.old table.old number plain.now effect association.new table.new) }
     ensures refused { IfErr result (λ _. (association.new ≡ association.old) × IsAsBefore table.old table.new) }
-    ensures wanted { IfErr result (CanWant association.old.phase) }
+    ensures wanted { IfErr result (CanWant association.old.phase exchange) }
 {
     match &association.phase {
         Phase::HalfOpen(_) => {
             let answered = answer_auth(alloc, step, association, table, number, plain)?;
             Ok(Effect::Replied(answered))
         }
-        Phase::Established(_) => Ok(take_further(
+        Phase::Established(_) => take_further(
             alloc,
             step,
             association,
@@ -198,12 +196,12 @@ fn take_request<C: Sealer + Agreement + Proof>(
             exchange,
             number,
             plain,
-        )?),
+        ),
         _ => Ok(Effect::Refused(MessageFault::WrongPhase)),
     }
 }
 
-// A request at an established association.
+// A request at an established association: of INFORMATIONAL, or else of CREATE_CHILD_SA.
 fn take_further<C: Sealer + Agreement + Proof>(
     alloc: Global,
     step: &Step<'_, C>,
@@ -212,9 +210,11 @@ fn take_further<C: Sealer + Agreement + Proof>(
     exchange: u8,
     number: u32,
     plain: &Plain,
-) -> Result<Effect, AllocError>
+) -> Result<Effect, ChildFault>
+    requires config { IsConfig step.now.config.now }
     requires established { IsEstablished association.old.phase }
     requires fresh { IsFreshRequest association.old.incoming number }
+    requires admitted { admits association.old.phase exchange ≡ true }
     requires reserved { HoldsReserved association.old table.old }
     ensures taken { IfOk result (λ effect. DoesFurther (exchange == INFORMATIONAL)
         (record {
@@ -229,12 +229,14 @@ fn take_further<C: Sealer + Agreement + Proof>(
           accepts = C.accepts step.now.caller.now;
         })
         (setup_of step.now) association.old table.old number plain.now effect association.new table.new) }
-    ensures refused { IfErr result (λ _. (association.new ≡ association.old) × (table.new ≡ table.old)) }
+    ensures refused { IfErr result (λ _. (association.new ≡ association.old) × IsAsBefore table.old table.new) }
+    ensures wanted { IfErr result (CanWant association.old.phase exchange) }
 {
-    if exchange != INFORMATIONAL {
-        return Ok(Effect::Refused(MessageFault::WrongPhase));
-    }
-    let answered = answer(alloc, step, association, table, number, plain)?;
+    let answered = if exchange == INFORMATIONAL {
+        informational::answer(alloc, step, association, table, number, plain)?
+    } else {
+        create_child::answer(alloc, step, association, table, number, plain)?
+    };
     Ok(Effect::Replied(answered))
 }
 
@@ -243,11 +245,11 @@ fn take_response<C: Sealer + Agreement + Proof>(
     step: &Step<'_, C>,
     association: &mut Association,
     table: &mut Table,
-    number: u32,
+    message: &Message,
     plain: &Plain,
 ) -> Result<Effect, ChildFault>
     requires config { IsConfig step.now.config.now }
-    requires outstanding { IsOutstanding association.old.outgoing number }
+    requires due { IsDue association.old message.now }
     requires reserved { HoldsReserved association.old table.old }
     ensures taken { IfOk result (λ effect. DoesResponse
         (record {
@@ -261,19 +263,53 @@ fn take_response<C: Sealer + Agreement + Proof>(
           proof_of = C.proof_of step.now.caller.now;
           accepts = C.accepts step.now.caller.now;
         })
-        (setup_of step.now) association.old.phase association.old table.old number plain.now effect association.new table.new) }
+        (setup_of step.now) association.old.phase association.old table.old message.now.header.id plain.now effect association.new table.new) }
     ensures refused { IfErr result (λ _. (association.new ≡ association.old) × (table.new ≡ table.old)) }
-    ensures wanted { IfErr result (CanWant association.old.phase) }
+    ensures wanted { IfErr result (CanWant association.old.phase message.now.header.exchange) }
 {
     match &association.phase {
         Phase::AuthSent(_) => {
-            let ended = end_auth(alloc, step, association, table, number, plain)?;
+            let ended = end_auth(alloc, step, association, table, message.header.id, plain)?;
             Ok(Effect::Counted(ended))
         }
-        Phase::Established(_) => {
-            let ended = count(alloc, step, association, table, number, plain)?;
-            Ok(Effect::Counted(ended))
-        }
+        Phase::Established(_) => take_answer(alloc, step, association, table, message, plain),
         _ => Ok(Effect::Refused(MessageFault::WrongPhase)),
+    }
+}
+
+// A response at an established association, by what its request asked for.
+fn take_answer<C>(
+    alloc: Global,
+    step: &Step<'_, C>,
+    association: &mut Association,
+    table: &mut Table,
+    message: &Message,
+    plain: &Plain,
+) -> Result<Effect, ChildFault>
+    requires config { IsConfig step.now.config.now }
+    requires established { IsEstablished association.old.phase }
+    requires due { IsDue association.old message.now }
+    requires reserved { HoldsReserved association.old table.old }
+    ensures taken { IfOk result (λ effect. DoesAnswer (asked_further association.old message.now.header.id)
+        (setup_of step.now) association.old table.old message.now.header.id plain.now effect association.new table.new) }
+    ensures refused { IfErr result (λ _. (association.new ≡ association.old) × (table.new ≡ table.old)) }
+    ensures wanted { IfErr result (CanWant association.old.phase message.now.header.exchange) }
+{
+    let number = message.header.id;
+    let ended = if asked_further(association, number) {
+        create_child::count(alloc, step, association, table, number, plain)?
+    } else {
+        informational::count(alloc, step, association, table, number, plain)?
+    };
+    Ok(Effect::Counted(ended))
+}
+
+// Whether the request of this number asked for a further child.
+fn asked_further(association: &Association, number: u32) -> bool
+    ensures { result ≡ asked_further association.now number }
+{
+    match association.outgoing.get(number) {
+        Some(request) => request.purpose.asks_for_child(),
+        None => false,
     }
 }

@@ -1,4 +1,4 @@
-use Rattle.std.proofs.Common.{◌≡◌, Bool, Option, subst, sym, ◌∙◌}
+use Rattle.std.proofs.Common.{Bool, Option, subst, sym, ◌∙◌}
 use Rattle.base.specs.Octets.{Octets}
 use Rattle.wire.specs.Numbers.{CREATE_CHILD_SA}
 use Rattle.exchange.specs.Headers.{keys_of}

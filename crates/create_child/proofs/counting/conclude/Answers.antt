@@ -1,4 +1,4 @@
-use Rattle.std.proofs.Common.{◌≡◌, ℕ, None, refl, subst, sym}
+use Rattle.std.proofs.Common.{ℕ, None, refl, subst, sym}
 use Rattle.association.specs.Closing.{HoldsSpi}
 use Rattle.association.specs.declared.phase.Association.{Association}
 use Rattle.further.specs.declared.concluding.Conclusion.{Conclusion}

@@ -1,4 +1,4 @@
-use Rattle.effects.proofs.OfferLemmas.{auth_answers, initial_answers}
+use Rattle.effects.proofs.OfferLemmas.{auth_answers, further_answers, initial_answers}
 use Rattle.effects.proofs.laws.answers_keep_to_their_offers.Goals as goal
 
 pub returns-clause-initial : goal.returns-clause-initial
@@ -6,3 +6,6 @@ returns-clause-initial c = initial_answers (record { taken = c.ends_agree.ensure
 
 pub returns-clause-auth : goal.returns-clause-auth
 returns-clause-auth c = auth_answers (record { taken = c.ends_agree.ensures.taken })
+
+pub returns-clause-further : goal.returns-clause-further
+returns-clause-further c = further_answers (record { taken = c.ends_agree.ensures.taken })

@@ -3,7 +3,8 @@ use Rattle.effects.proofs.laws.children_are_made_of_their_messages.Goals as goal
 
 pub returns-clause-made : goal.returns-clause-made
 returns-clause-made c =
-    makes_child (record {
+    makes_child
+    (record {
       made = c.pairs_are_children.ensures.made;
       accepted = c.pairs_are_children.ensures.accepted;
       asked = c.what_is_accepted_was_asked.ensures;
@@ -17,6 +18,16 @@ returns-clause-made c =
       ts_r = c.what_counts_fits.ensures.ts_r;
       effective = c.receptions_say_why.ensures.effective;
       answering = c.receptions_say_why.ensures.answering;
+    })
+    (record {
+      made = c.further_pairs_are_children.ensures.made;
+      accepted = c.further_pairs_are_children.ensures.accepted;
+      offer = c.further_children_keep_to_their_offers.ensures.offer;
+      policy = c.further_children_keep_to_their_offers.ensures.policy;
+      extension = c.further_children_keep_to_their_offers.ensures.extension;
+      asked = c.further_children_keep_to_their_offers.ensures.accepted;
+      few_made = c.further_pairs_have_few_selectors.ensures.made;
+      few_accepted = c.further_pairs_have_few_selectors.ensures.accepted;
     })
 
 pub returns-clause-asked : goal.returns-clause-asked

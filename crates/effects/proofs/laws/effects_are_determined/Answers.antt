@@ -32,5 +32,6 @@ returns c =
         gone = c.removals_are_determined.ensures;
         ended = c.endings_are_determined.ensures;
       };
+      further = record { decided = c.further_children_are_determined.ensures.decided; concluded = c.further_children_are_determined.ensures.concluded };
       receptions = record { one = c.receptions_are_determined.ensures; by_content = c.receptions_go_by_content.ensures };
     })

@@ -1,4 +1,4 @@
-use Rattle.effects.proofs.RequestLemmas.{admitted_sound, begun_sound, keeps_peers, keeps_window, probed_sound, requests_follow, stays_concluded, stays_half_open, stays_sound, FollowLaws}
+use Rattle.effects.proofs.RequestLemmas.{admitted_sound, begun_sound, keeps_peers, keeps_window, requested_sound, requests_follow, stays_concluded, stays_half_open, stays_sound, FollowLaws}
 use Rattle.effects.proofs.laws.requests_are_remembered.Goals as goal
 
 pub returns : goal.returns
@@ -17,7 +17,7 @@ returns c =
       sound = stays_sound incoming c.windows_are_read_again.ensures.bounds;
       begun = begun_sound;
       admitted = admitted_sound;
-      probed = probed_sound;
+      requested = requested_sound;
       window = keeps_window incoming c.windows_are_read_again.ensures.bounds;
       peers = keeps_peers incoming c.windows_are_read_again.ensures.bounds;
     }

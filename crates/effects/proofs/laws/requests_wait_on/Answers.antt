@@ -1,4 +1,4 @@
-use Rattle.effects.proofs.WaitLemmas.{begun_waits, message_closes, message_until, message_waits, probe_keeps, probe_waits}
+use Rattle.effects.proofs.WaitLemmas.{begun_waits, message_closes, message_until, message_waits, requested_keeps, requested_waits}
 use Rattle.effects.proofs.laws.requests_wait_on.Goals as goal
 
 pub returns-clause-taken : goal.returns-clause-taken
@@ -13,8 +13,8 @@ returns-clause-closed c = message_closes
 pub returns-clause-begun : goal.returns-clause-begun
 returns-clause-begun c = begun_waits
 
-pub returns-clause-probed : goal.returns-clause-probed
-returns-clause-probed c = probe_waits
+pub returns-clause-requested : goal.returns-clause-requested
+returns-clause-requested c = requested_waits
 
-pub returns-clause-asked : goal.returns-clause-asked
-returns-clause-asked c = probe_keeps
+pub returns-clause-beside : goal.returns-clause-beside
+returns-clause-beside c = requested_keeps

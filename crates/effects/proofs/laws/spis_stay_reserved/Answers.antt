@@ -9,4 +9,4 @@ returns c = spis_stay (record {
   counting = c.children_are_asked_for.ensures.counting;
   replacing = c.children_are_asked_for.ensures.replacing;
   fewer = c.spis_stay_held.ensures.fewer;
-})
+}) c.what_is_answered_is_given_back.ensures
