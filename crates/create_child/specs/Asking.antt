@@ -40,6 +40,9 @@ pub record AsksForFurther (body_of : Keys → Octets → Octets → Octets → O
   pub keys : KeyRecord
   pub established : old.phase ≡ phase.Established keys
   pub not_deleting : ¬ AwaitsDeletion old.outgoing
+  -- the table gives an SPI
+  pub not_full : ¬ IsFull table
+  pub not_spent : ¬ IsSpent table
   pub between : Database
   pub room : IsAsBefore table between
   pub spi : ℕ

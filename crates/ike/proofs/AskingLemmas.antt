@@ -16,12 +16,12 @@ use Rattle.association.specs.declared.phase.Association.{Association}
 use Rattle.association.specs.declared.phase.Request.{Request}
 use Rattle.initial.specs.Concluding.{with_outgoing}
 use Rattle.initial.specs.Configs.{Setup}
-use Rattle.informational.specs.Asking.{Asks}
 use Rattle.informational.specs.declared.fault.OrderFault.{OrderFault}
 use Rattle.effects.specs.Taking.{KeepsIdentity}
-use Rattle.informational.specs.declared.ordering.Order.{Order}
+use Rattle.create_child.specs.declared.fault.AskFault.{AskFault}
+use Rattle.effects.specs.Sending.{SendsRequest}
 use Rattle.ike.specs.Machines.{association_of, has_serial, Held}
-use Rattle.ike.specs.Asking.{fault_of_order, AsksAt, RefusesAskingAt, RefusesThere}
+use Rattle.ike.specs.Asking.{fault_of_ask, fault_of_order, AsksAt, RefusesAskingAt, RefusesFurtherAt, RefusesFurtherThere, RefusesThere}
 use Rattle.ike.specs.declared.fault.IkeFault.{IkeFault}
 use Rattle.ike.specs.declared.fault.IkeFault.TheVariants as fault
 use Rattle.ike.specs.Soundness.{AreSound}
@@ -31,7 +31,7 @@ use Rattle.ike.proofs.SerialLemmas.{replaced_found, replaced_stands, same_one, s
 itself : (a : Association) (outgoing : OwnRequests Request) → KeepsIdentity a (with_outgoing a outgoing)
 itself a outgoing = record { serial = refl; role = refl; spi_i = refl; spi_r = inl refl; waiting = λ w. w; asking = λ s. inr s; half_open = λ h. h }
 
-module _ (body_of : Keys → Octets → Octets → Octets → Octets) (setup : Setup) (order : Order) (a : Association) (octets : Octets) (b : Association) (is : Asks body_of setup order a octets b) where
+module _ (body_of : Keys → Octets → Octets → Octets → Octets) (setup : Setup) (a : Association) (octets : Octets) (b : Association) (is : SendsRequest body_of setup a octets b) where
   pub probed_itself : KeepsIdentity a b
   probed_itself = subst (λ x. KeepsIdentity a x) (sym is.content) (itself a is.outgoing)
 
@@ -71,10 +71,10 @@ module _ (body_of : Keys → Octets → Octets → Octets → Octets) (setup : S
       ∙ (position-Some (has_serial ike) old.associations is.place is.association is.first).1)
 
   pub changed_itself : KeepsIdentity is.association is.changed
-  changed_itself = probed_itself body_of setup is.order is.association is.octets is.changed is.asks
+  changed_itself = probed_itself body_of setup is.association is.octets is.changed is.sends
 
   pub changed_phase : is.changed.phase ≡ is.association.phase
-  changed_phase = probed_phase body_of setup is.order is.association is.octets is.changed is.asks
+  changed_phase = probed_phase body_of setup is.association is.octets is.changed is.sends
 
   -- the first with the serial
   pub probed_first : association_of ike old.associations ≡ Some is.association
@@ -161,6 +161,13 @@ refused_order ike place held o reason first is same =
 
 pub refused_none : (ike : ℕ) (held : Held) (reason : IkeFault) → position (has_serial ike) held.associations ≡ None → reason ≡ fault.Message UnknownAssociation → RefusesAskingAt (association_of ike held.associations) reason
 refused_none ike held reason none same = subst (λ (x : Option Association). RefusesAskingAt x reason) (sym (found_none ike held.associations none)) same
+
+pub refused_further : (ike place : ℕ) (held : Held) (table : Database) (f : AskFault) (reason : IkeFault) → position (has_serial ike) held.associations ≡ Some place → RefusesFurtherThere place held table f → reason ≡ fault_of_ask f → RefusesFurtherAt (association_of ike held.associations) table reason
+refused_further ike place held table f reason first is same =
+    subst (λ (x : Option Association). RefusesFurtherAt x table reason) (sym (found_first ike held.associations place is.association first is.there)) (f, is.refuses, same)
+
+pub refused_nowhere : (ike : ℕ) (held : Held) (table : Database) (reason : IkeFault) → position (has_serial ike) held.associations ≡ None → reason ≡ fault.Message UnknownAssociation → RefusesFurtherAt (association_of ike held.associations) table reason
+refused_nowhere ike held table reason none same = subst (λ (x : Option Association). RefusesFurtherAt x table reason) (sym (found_none ike held.associations none)) same
 
 pub none_of : (o : Option ℕ) → ((x : ℕ) → o ≡ Some x → ⊥) → o ≡ None
 none_of None never = refl

@@ -21,7 +21,7 @@ use Rattle.ike.specs.Steps.{is_tick, InputView, Steps}
 use Rattle.ike.specs.declared.output.Stepped.{Stepped}
 use Rattle.ike.proofs.SerialLemmas.{grown_found, grown_others, replaced_found, replaced_others}
 use Rattle.ike.proofs.AskingLemmas.{changed_itself, probed_serial}
-use Rattle.ike.proofs.WayLemmas.{admitted, probed, rested, started, step_way, took, Takes, Way}
+use Rattle.ike.proofs.WayLemmas.{admitted, probed, rested, started, step_way, took, LeavesOrdered, LeavesReserved, Takes, Way}
 
 -- what is known of a message's effect
 pub record ChangeFacts : Type 0 where
@@ -56,6 +56,10 @@ reserved_left old between ike spi new room is =
       each = λ q p there. inl (subst (λ (m : PairMap). pair_at m q ≡ Some p) pairs there);
       others = λ q p below there other. subst (λ (m : PairMap). pair_at m q ≡ Some p) (sym pairs) there;
     }
+
+one_leaves : (table : Database) (ike : ℕ) (new : Database) → LeavesOrdered ike table new ⊎ LeavesReserved table new → LeavesPairs table ike new ⊎ MarksOne table ike new
+one_leaves table ike new (inl is) = order_leaves is.order table ike new is.own is.marked
+one_leaves table ike new (inr is) = inl (reserved_left table is.between ike is.spi new is.room is.reserved)
 
 took_changes : (facts : ChangeFacts) (meaning : Meaning) (setup : Setup) (octets : Octets) (old : Held) (table : Database) (stepped : Stepped) (new : Held) (new_table : Database)
     → Takes meaning setup octets old table stepped new new_table → ChangesOne old new table new_table
@@ -106,7 +110,7 @@ way_changes facts meaning setup octets old table stepped new new_table (probed i
           ∙ replaced_others old.associations p.place p.association p.changed p.association.serial p.there refl stays.serial;
       each = λ other apart. ap (λ (h : Held). association_of other h.associations) p.content
           ∙ replaced_found old.associations p.place p.association p.changed other p.there apart stays.serial;
-      pairs = subst (λ n. LeavesPairs table n new_table ⊎ MarksOne table n new_table) (sym (probed_serial meaning.body_of setup is.ike old stepped new p)) (order_leaves p.order table is.ike new_table is.own is.marked);
+      pairs = subst (λ n. LeavesPairs table n new_table ⊎ MarksOne table n new_table) (sym (probed_serial meaning.body_of setup is.ike old stepped new p)) (one_leaves table is.ike new_table is.leaves);
     }
 way_changes facts meaning setup octets old table stepped new new_table (started is) =
     let s = is.starts in

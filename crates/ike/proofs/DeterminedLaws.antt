@@ -1,5 +1,7 @@
 -- What the laws of lower crates say is determined.
 use Rattle.std.proofs.Common.{◌≡◌, ℕ, List, Option, map}
+use Rattle.base.specs.declared.selector.Selector.{Selector}
+use Rattle.create_child.specs.Asking.{AsksForFurther}
 use Rattle.base.specs.Octets.{AreOctets, Octets}
 use Rattle.wire.specs.Messages.{Spells, SpellsPlainly}
 use Rattle.wire.specs.Refusals.{IsFaultOf}
@@ -59,11 +61,15 @@ pub record TableLaws : Type 0 where
   pub prepared : (old new : Database) → IsAsBefore old new → table_content new ≡ table_content old
   pub reserved : (old other a b : Database) (spi mark : ℕ) → table_content old ≡ table_content other → Reserves old spi a → Reserves other mark b → (spi ≡ mark) × (table_content a ≡ table_content b)
 
--- of orders to ask whether the peer is there, and of moments
+-- of orders that ask the peer something, and of moments
 pub record OrderLaws : Type 0 where
   pub probe : (body_of : Keys → Octets → Octets → Octets → Octets) (setup : Setup) (order : Order) (old other a b : Association) (one two : Octets)
       → TellsLengths body_of setup.fresh.seal → HoldsWholeKeys old.phase → association_content old ≡ association_content other
       → Asks body_of setup order old one a → Asks body_of setup order other two b → (one ≡ two) × (association_content a ≡ association_content b)
+  pub further : (body_of : Keys → Octets → Octets → Octets → Octets) (setup : Setup) (local remote : Selector) (old other a b : Association) (table another a_table b_table : Database) (one two : Octets)
+      → TellsLengths body_of setup.fresh.seal → HoldsWholeKeys old.phase → association_content old ≡ association_content other → table_content table ≡ table_content another
+      → AsksForFurther body_of setup local remote old table one a a_table → AsksForFurther body_of setup local remote other another two b b_table
+      → (one ≡ two) × (association_content a ≡ association_content b) × (table_content a_table ≡ table_content b_table)
   pub ticks : (now : ℕ) (old other a b : List Association) (table another a_table b_table : Database) (one two : Ticked)
       → map association_content old ≡ map association_content other → table_content table ≡ table_content another
       → Ticks now old table one a a_table → Ticks now other another two b b_table

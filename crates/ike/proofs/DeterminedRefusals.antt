@@ -10,23 +10,23 @@ use Rattle.sadb.specs.Contents.{table_content}
 use Rattle.sadb.specs.Database.{Database, IsFull, IsSpent}
 use Rattle.sa_init.specs.Cookies.{CookieSecrets}
 use Rattle.sa_init.specs.Judging.{Accepted, ASSOCIATION_LIMIT, JudgementView, OfferView}
-use Rattle.association.specs.declared.fault.MessageFault.TheVariants.{UnknownAssociation, WrongPhase}
 use Rattle.initial.specs.Configs.{Setup}
 use Rattle.effects.specs.Taking.{Meaning}
 use Rattle.ike.specs.Contents.{held_content, machine_content}
 use Rattle.ike.specs.Faults.{is_want_of_memory}
 use Rattle.ike.specs.Machines.{is_bad_spi, setup_at, Held, Machine, SERIAL_END}
 use Rattle.ike.specs.Receiving.{is_answered, is_initial_request, is_sound_initial, CanMake, CannotMake, DoesJudgement, IsJudged, RefusesDatagram, RefusesInitial, TakesDatagram, TakesNew, TakesRead, TakesRequestAt, TakesSound}
-use Rattle.ike.specs.Starting.{new_order_fault, order_fault_of, protecting_entry, GivesNoSpi, RefusesStart, Starts}
+use Rattle.policy.specs.Decisions.{local_side, remote_side}
+use Rattle.ike.specs.Starting.{new_order_fault, order_fault_of, protecting_entry, BeginsBy, GivesNoSpi, RefusesBeginning, RefusesFurtherBy, RefusesStart, Starts}
 use Rattle.ike.specs.Steps as steps
 use Rattle.ike.specs.Steps.{InputView, Start, Secret, Refuses, RefusesSecret, Steps}
 use Rattle.ike.specs.declared.fault.IkeFault.{IkeFault}
 use Rattle.ike.specs.declared.fault.IkeFault.TheVariants as fault
 use Rattle.ike.specs.declared.output.Stepped.{Stepped}
-use Rattle.ike.proofs.ContentLemmas.{same_answered, same_bad, same_length, same_list, same_next, same_serials}
+use Rattle.ike.proofs.ContentLemmas.{same_answered, same_bad, same_length, same_list, same_next}
 use Rattle.ike.proofs.DeterminedLaws.{Laws}
 use Rattle.ike.proofs.DeterminedSteps.{one_judgement, same_setup}
-use Rattle.ike.proofs.OrderLemmas.{moment_refused, one_asking_refusal, asked_or_refused}
+use Rattle.ike.proofs.OrderLemmas.{asked_or_refused, further_or_refused, moment_refused, one_asking_refusal, one_further_refusal}
 
 -- ---- requests of IKE_SA_INIT
 
@@ -171,11 +171,9 @@ same_new_fault old other spi same =
     ∙ ap (λ (n : ℕ). new_fault (length other.associations) n (is_bad_spi spi old.associations)) (same_next old other same)
     ∙ ap (new_fault (length other.associations) other.next) (same_bad old.associations other.associations (same_list old other same) spi)
 
-same_order_fault : (o : Option Entry) (ike : Option ℕ) (old other : Held) (spi : ℕ) → held_content old ≡ held_content other → order_fault_of o ike old spi ≡ order_fault_of o ike other spi
-same_order_fault None ike old other spi same = refl
-same_order_fault (Some entry) (Some serial) old other spi same =
-    ap (λ (b : Bool). Some (if b then fault.Message WrongPhase else fault.Message UnknownAssociation)) (same_serials old.associations other.associations (same_list old other same) serial)
-same_order_fault (Some entry) None old other spi same = same_new_fault old other spi same
+same_order_fault : (o : Option Entry) (old other : Held) (spi : ℕ) → held_content old ≡ held_content other → order_fault_of o old spi ≡ order_fault_of o other spi
+same_order_fault None old other spi same = refl
+same_order_fault (Some entry) old other spi same = same_new_fault old other spi same
 
 -- why the table gives no SPI
 abbrev Withholds : Database → IkeFault → Type 0
@@ -216,22 +214,31 @@ given_or_not table another (fault.Memory f) alike not_full not_spent is = refl
 same_reason : (one two : IkeFault) → Some one ≡ Some two → one ≡ two
 same_reason one two same = cc
 
-start_or_refused : Laws → (meaning : Meaning) (setup : Setup) (ike : Option ℕ) (place : ℕ) (old other : Held) (table another : Database) (stepped : Stepped) (new : Held) (new_table : Database) (reason : IkeFault)
+begun_or_refused : Laws → (meaning : Meaning) (setup : Setup) (place : ℕ) (old other : Held) (table another : Database) (stepped : Stepped) (new : Held) (new_table : Database) (reason : IkeFault)
     → held_content old ≡ held_content other → table_content table ≡ table_content another
-    → Starts meaning setup ike place old table stepped new new_table → RefusesStart setup.entries setup.fresh ike place other another reason → is_want_of_memory reason ≡ true
-start_or_refused laws meaning setup ike place old other table another stepped new new_table reason same alike starts refuses =
-    let fault_same = same_order_fault (protecting_entry setup.entries place) ike old other setup.fresh.spi same in
+    → BeginsBy meaning setup place old table stepped new new_table → RefusesBeginning setup.entries setup.fresh place other another reason → is_want_of_memory reason ≡ true
+begun_or_refused laws meaning setup place old other table another stepped new new_table reason same alike starts refuses =
+    let fault_same = same_order_fault (protecting_entry setup.entries place) old other setup.fresh.spi same in
     let between : table_content starts.between ≡ table_content another = laws.tables.prepared table starts.between starts.room ∙ alike in
     elim refuses [
       | inl is ↦ absurd (cc (starts.allowed.none, fault_same, is))
       | inr is ↦ given_or_not starts.between another reason between starts.done.not_full starts.done.not_spent is.1
     ]
 
-one_start_refusal : (entries : List Entry) (fresh : Fresh) (ike : Option ℕ) (place : ℕ) (old other : Held) (table another : Database) (one two : IkeFault)
+start_or_refused : Laws → (meaning : Meaning) (setup : Setup) (ike : Option ℕ) (place : ℕ) (old other : Held) (table another : Database) (stepped : Stepped) (new : Held) (new_table : Database) (reason : IkeFault)
+    → held_content old ≡ held_content other → table_content table ≡ table_content another
+    → Starts meaning setup ike place old table stepped new new_table → RefusesStart setup.entries setup.fresh ike place other another reason → is_want_of_memory reason ≡ true
+start_or_refused laws meaning setup None place old other table another stepped new new_table reason same alike starts refuses =
+    begun_or_refused laws meaning setup place old other table another stepped new new_table reason same alike starts refuses
+start_or_refused laws meaning setup (Some ike) place old other table another stepped new new_table reason same alike starts refuses =
+    further_or_refused meaning.body_of setup ike (local_side starts.entry) (remote_side starts.entry) old other table another stepped new new_table reason same alike starts.asks
+    (subst (λ (o : Option Entry). RefusesFurtherBy o ike other another reason) starts.protects refuses)
+
+one_beginning_refusal : (entries : List Entry) (fresh : Fresh) (place : ℕ) (old other : Held) (table another : Database) (one two : IkeFault)
     → held_content old ≡ held_content other → table_content table ≡ table_content another → is_want_of_memory one ≡ false → is_want_of_memory two ≡ false
-    → RefusesStart entries fresh ike place old table one → RefusesStart entries fresh ike place other another two → one ≡ two
-one_start_refusal entries fresh ike place old other table another one two same alike not_one not_two refuses also =
-    let fault_same = same_order_fault (protecting_entry entries place) ike old other fresh.spi same in
+    → RefusesBeginning entries fresh place old table one → RefusesBeginning entries fresh place other another two → one ≡ two
+one_beginning_refusal entries fresh place old other table another one two same alike not_one not_two refuses also =
+    let fault_same = same_order_fault (protecting_entry entries place) old other fresh.spi same in
     elim refuses [
       | inl is ↦ elim also [
         | inl too ↦ same_reason one two (sym is ∙ fault_same ∙ too)
@@ -242,6 +249,14 @@ one_start_refusal entries fresh ike place old other table another one two same a
         | inr too ↦ one_withholding table another one two alike (withholds table one not_one is.1) (withholds another two not_two too.1)
       ]
     ]
+
+one_start_refusal : (entries : List Entry) (fresh : Fresh) (ike : Option ℕ) (place : ℕ) (old other : Held) (table another : Database) (one two : IkeFault)
+    → held_content old ≡ held_content other → table_content table ≡ table_content another → is_want_of_memory one ≡ false → is_want_of_memory two ≡ false
+    → RefusesStart entries fresh ike place old table one → RefusesStart entries fresh ike place other another two → one ≡ two
+one_start_refusal entries fresh None place old other table another one two same alike not_one not_two refuses also =
+    one_beginning_refusal entries fresh place old other table another one two same alike not_one not_two refuses also
+one_start_refusal entries fresh (Some ike) place old other table another one two same alike not_one not_two refuses also =
+    one_further_refusal (protecting_entry entries place) ike old other table another one two same alike not_one not_two refuses also
 
 -- ---- secrets
 

@@ -29,7 +29,6 @@ use Rattle.effects.specs.Taking.{Meaning}
 use Rattle.initial.specs.declared.beginning.Admitted.{Admitted}
 use Rattle.initial.specs.declared.beginning.Beginning.{Beginning}
 use Rattle.effects.specs.declared.taking.Effect.{Effect}
-use Rattle.informational.specs.Asking.{Asks}
 use Rattle.informational.specs.declared.ordering.Order.{Order}
 use Rattle.informational.specs.declared.ordering.Order.TheVariants as asked
 use Rattle.ike.specs.declared.asking.Demand.{Demand}
@@ -40,10 +39,12 @@ use Rattle.ike.specs.Contents.{held_content, machine_content}
 use Rattle.ike.specs.Lengths.{HoldWholeKeys, IsTold}
 use Rattle.ike.specs.Machines.{half_open_count, has_serial, setup_at, Held, Machine}
 use Rattle.ike.specs.Outputs.{asking_step, half_open_step, plain_step, stepped_of}
-use Rattle.ike.specs.Asking.{AsksAt, AsksFor, AsksThat}
+use Rattle.base.specs.declared.selector.Selector.{Selector}
+use Rattle.policy.specs.Decisions.{local_side, remote_side}
+use Rattle.ike.specs.Asking.{AsksAt, AsksFor, AsksFurther, AsksThat}
 use Rattle.effects.specs.Keeping.{kept_reply}
 use Rattle.ike.specs.Receiving.{is_answered, is_initial_request, is_sound_initial, sender_of, AdmitsNext, DoesJudgement, FailsToRead, IsJudged, PassesOver, ReadsDatagram, Repeats, SaysNotice, TakesAt, TakesDatagram, TakesFound, TakesNew, TakesOffer, TakesRead, TakesRequestAt, TakesSound}
-use Rattle.ike.specs.Starting.{child_by, protecting_entry, Starts}
+use Rattle.ike.specs.Starting.{child_by, protecting_entry, BeginsBy, FurthersBy}
 use Rattle.ike.specs.Steps as steps
 use Rattle.ike.specs.Ticking.{TakesMoment}
 use Rattle.ike.specs.Steps.{InputView, Start, Secret, Steps}
@@ -235,9 +236,9 @@ module _ (laws : Laws) (meaning : Meaning) (setup : Setup) (old other : Held) (s
 
   -- ---- orders
 
-  one_start : (ike : Option ℕ) (place : ℕ) (table another : Database) (one two : Stepped) (a b : Held) (a_table b_table : Database) → table_content table ≡ table_content another
-      → Starts meaning setup ike place old table one a a_table → Starts meaning setup ike place other another two b b_table → SameLeft one two a b a_table b_table
-  one_start ike place table another one two a b a_table b_table alike is also =
+  one_start : (place : ℕ) (table another : Database) (one two : Stepped) (a b : Held) (a_table b_table : Database) → table_content table ≡ table_content another
+      → BeginsBy meaning setup place old table one a a_table → BeginsBy meaning setup place other another two b b_table → SameLeft one two a b a_table b_table
+  one_start place table another one two a b a_table b_table alike is also =
       let next : old.next ≡ other.next = same_next old other same in
       let entry : is.entry ≡ also.entry = same_choice (protecting_entry setup.entries place) is.entry also.entry is.allowed.protects also.allowed.protects in
       let between : table_content is.between ≡ table_content also.between = laws.tables.prepared table is.between is.room ∙ alike ∙ sym (laws.tables.prepared another also.between also.room) in
@@ -266,29 +267,53 @@ module _ (laws : Laws) (meaning : Meaning) (setup : Setup) (old other : Held) (s
 same_place_of : (o : Option ℕ) (one two : ℕ) → o ≡ Some one → o ≡ Some two → one ≡ two
 same_place_of o one two is also = cc
 
+-- the association that asks is one, by what is held
+record SameAsker (is_place also_place : ℕ) (a b : Association) : Type 0 where
+  place : is_place ≡ also_place
+  association : association_content a ≡ association_content b
+
+module _ (body_of : Keys → Octets → Octets → Octets → Octets) (setup : Setup) (ike : ℕ) (old other : Held) (same : held_content old ≡ held_content other) (one two : Stepped) (a b : Held) (is : AsksAt body_of setup ike old one a) (also : AsksAt body_of setup ike other two b) where
+  same_asker : SameAsker is.place also.place is.association also.association
+  same_asker =
+      let place : is.place ≡ also.place = same_place_of (position (has_serial ike) other.associations) is.place also.place (sym (same_first old.associations other.associations (same_list old other same) ike) ∙ is.first) also.first in
+      let there : slice_get other.associations is.place ≡ Some also.association = subst (λ n. slice_get other.associations n ≡ Some also.association) (sym place) also.there in
+      record {
+        place = place;
+        association = same_there old.associations other.associations (same_list old other same) is.place is.association also.association is.there there;
+      }
+
+  left_asked : (a_table b_table : Database) → is.octets ≡ also.octets → association_content is.changed ≡ association_content also.changed → table_content a_table ≡ table_content b_table → SameLeft one two a b a_table b_table
+  left_asked a_table b_table octets changed table =
+      let number : is.association.outgoing.next ≡ also.association.outgoing.next = ap (λ (z : Association). z.outgoing.next) same_asker.association in
+      record {
+        stepped = is.said ∙ ap (λ n. asking_step ike n is.octets) number ∙ ap (asking_step ike also.association.outgoing.next) octets ∙ sym also.said;
+        held =
+            ap held_content is.content
+            ∙ same_after_change old other same is.place is.changed also.changed changed
+            ∙ ap (λ n. held_content (record other { associations = slice_set other.associations n also.changed })) same_asker.place
+            ∙ sym (ap held_content also.content);
+        table = table;
+      }
+
 one_probing : Laws → (body_of : Keys → Octets → Octets → Octets → Octets) (setup : Setup) (ike : ℕ) (order : Order) (old other : Held) (one two : Stepped) (a b : Held) (table another a_table b_table : Database)
     → TellsLengths body_of setup.fresh.seal → HoldWholeKeys old → held_content old ≡ held_content other → table_content table ≡ table_content another
     → AsksThat body_of setup ike order old table one a a_table → AsksThat body_of setup ike order other another two b b_table → SameLeft one two a b a_table b_table
 one_probing laws body_of setup ike order old other one two a b table another a_table b_table tells whole same alike first second =
     let is = first.asks in
     let also = second.asks in
-    let place : is.place ≡ also.place = same_place_of (position (has_serial ike) other.associations) is.place also.place (sym (same_first old.associations other.associations (same_list old other same) ike) ∙ is.first) also.first in
-    let there : slice_get other.associations is.place ≡ Some also.association = subst (λ n. slice_get other.associations n ≡ Some also.association) (sym place) also.there in
-    let association : association_content is.association ≡ association_content also.association =
-    same_there old.associations other.associations (same_list old other same) is.place is.association also.association is.there there in
-    let did = laws.orders.probe body_of setup order is.association also.association is.changed also.changed is.octets also.octets tells (whole is.place is.association is.there) association
-    (subst (λ (o : Order). Asks body_of setup o is.association is.octets is.changed) first.ordered is.asks)
-    (subst (λ (o : Order). Asks body_of setup o also.association also.octets also.changed) second.ordered also.asks) in
-    let number : is.association.outgoing.next ≡ also.association.outgoing.next = ap (λ (z : Association). z.outgoing.next) association in
-    record {
-      stepped = is.said ∙ ap (λ n. asking_step ike n is.octets) number ∙ ap (asking_step ike also.association.outgoing.next) did.0 ∙ sym also.said;
-      held =
-          ap held_content is.content
-          ∙ same_after_change old other same is.place is.changed also.changed did.1
-          ∙ ap (λ n. held_content (record other { associations = slice_set other.associations n also.changed })) place
-          ∙ sym (ap held_content also.content);
-      table = marked_alike order table another a_table b_table alike first.marked second.marked;
-    }
+    let asker = same_asker body_of setup ike old other same one two a b is also in
+    let did = laws.orders.probe body_of setup order is.association also.association is.changed also.changed is.octets also.octets tells (whole is.place is.association is.there) asker.association first.ordered second.ordered in
+    left_asked body_of setup ike old other same one two a b is also a_table b_table did.0 did.1 (marked_alike order table another a_table b_table alike first.marked second.marked)
+
+one_further : Laws → (body_of : Keys → Octets → Octets → Octets → Octets) (setup : Setup) (ike : ℕ) (local remote : Selector) (old other : Held) (one two : Stepped) (a b : Held) (table another a_table b_table : Database)
+    → TellsLengths body_of setup.fresh.seal → HoldWholeKeys old → held_content old ≡ held_content other → table_content table ≡ table_content another
+    → AsksFurther body_of setup ike local remote old table one a a_table → AsksFurther body_of setup ike local remote other another two b b_table → SameLeft one two a b a_table b_table
+one_further laws body_of setup ike local remote old other one two a b table another a_table b_table tells whole same alike first second =
+    let is = first.asks in
+    let also = second.asks in
+    let asker = same_asker body_of setup ike old other same one two a b is also in
+    let did = laws.orders.further body_of setup local remote is.association also.association is.changed also.changed table another a_table b_table is.octets also.octets tells (whole is.place is.association is.there) asker.association alike first.further second.further in
+    left_asked body_of setup ike old other same one two a b is also a_table b_table did.0 did.1 did.2
 
 same_pair : (one other : Pair) → Some one ≡ Some other → one ≡ other
 same_pair one other same = cc
@@ -359,11 +384,20 @@ one_step laws meaning entries (steps.Message from octets fresh) old other a b ta
     subst (λ (c : CookieSecrets). TakesDatagram meaning (setup_at old entries fresh) c from octets other.held another two b.held b_table) (sym (ap (λ (m : Machine). m.cookies) same)) by_setup in
     same_whole one two old other a b a_table b_table same is.0 also.0
     (one_datagram laws meaning (setup_at old entries fresh) old.held other.held (ap (λ (m : Machine). m.held) same) table another alike told.1 whole old.cookies from octets one two a.held b.held a_table b_table told.0 is.1 taken)
-one_step laws meaning entries (Start ike place fresh) old other a b table another a_table b_table one two told whole same alike is also =
-    let starts : Starts meaning (setup_at old entries fresh) ike place other.held another two b.held b_table =
-    subst (λ (s : Setup). Starts meaning s ike place other.held another two b.held b_table) (same_setup old other entries fresh same) also.1 in
+one_step laws meaning entries (Start None place fresh) old other a b table another a_table b_table one two told whole same alike is also =
+    let begins : BeginsBy meaning (setup_at old entries fresh) place other.held another two b.held b_table =
+    subst (λ (s : Setup). BeginsBy meaning s place other.held another two b.held b_table) (same_setup old other entries fresh same) also.1 in
     same_whole one two old other a b a_table b_table same is.0 also.0
-    (one_start laws meaning (setup_at old entries fresh) old.held other.held (ap (λ (m : Machine). m.held) same) ike place table another one two a.held b.held a_table b_table alike is.1 starts)
+    (one_start laws meaning (setup_at old entries fresh) old.held other.held (ap (λ (m : Machine). m.held) same) place table another one two a.held b.held a_table b_table alike is.1 begins)
+one_step laws meaning entries (Start (Some ike) place fresh) old other a b table another a_table b_table one two told whole same alike is also =
+    let setup : Setup = setup_at old entries fresh in
+    let furthers : FurthersBy meaning setup ike place other.held another two b.held b_table =
+    subst (λ (s : Setup). FurthersBy meaning s ike place other.held another two b.held b_table) (same_setup old other entries fresh same) also.1 in
+    let entry : furthers.entry ≡ is.1.entry = same_choice (protecting_entry entries place) furthers.entry is.1.entry furthers.protects is.1.protects in
+    let asks : AsksFurther meaning.body_of setup ike (local_side is.1.entry) (remote_side is.1.entry) other.held another two b.held b_table =
+    subst (λ (e : Entry). AsksFurther meaning.body_of setup ike (local_side e) (remote_side e) other.held another two b.held b_table) entry furthers.asks in
+    same_whole one two old other a b a_table b_table same is.0 also.0
+    (one_further laws meaning.body_of setup ike (local_side is.1.entry) (remote_side is.1.entry) old.held other.held one two a.held b.held table another a_table b_table told whole (ap (λ (m : Machine). m.held) same) alike is.1.asks asks)
 one_step laws meaning entries (steps.Order what fresh) old other a b table another a_table b_table one two told whole same alike is also =
     let asks : AsksFor meaning.body_of (setup_at old entries fresh) what other.held another two b.held b_table =
     subst (λ (s : Setup). AsksFor meaning.body_of s what other.held another two b.held b_table) (same_setup old other entries fresh same) also.1 in

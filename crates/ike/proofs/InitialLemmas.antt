@@ -34,7 +34,7 @@ use Rattle.ike.proofs.RepeatLemmas.{none_passes, opened_of, same_octets_itself}
 use Rattle.ike.proofs.RequestLemmas.{finds_of, only_says, some_none, yes_no, Laws, Quiet}
 use Rattle.ike.proofs.SerialLemmas.{grown_found, grown_stands, replaced_found, same_one, sound_found}
 use Rattle.ike.proofs.TickLemmas.{found_at, ticked_stood, TicksHold}
-use Rattle.ike.proofs.WayLemmas.{admitted, datagram_way, probed, rested, started, step_way, took, Way, asked_one}
+use Rattle.ike.proofs.WayLemmas.{admitted, asked_one, datagram_way, further_one, probed, rested, started, step_way, took, Way}
 
 -- ---- it comes again
 
@@ -167,8 +167,12 @@ step_admits laws ticks meaning entries (steps.Message from octets fresh) old tab
     let by = datagram_admits laws meaning (setup_at old entries fresh) octets old.held table stepped new.held new_table serial b opened sound.held (record { none = none; there = there }) half
     (datagram_way meaning (setup_at old entries fresh) old.cookies from octets old.held table stepped new.held new_table is.1) in
     record { request = by.0; said = by.1 }
-step_admits laws ticks meaning entries (steps.Start ike place fresh) old table stepped new new_table serial b opened sound is none there half =
+step_admits laws ticks meaning entries (steps.Start None place fresh) old table stepped new new_table serial b opened sound is none there half =
     absurd (begun_opened old.held table _ _ new.held serial b opened sound.held refl refl is.1.done.content (record { none = none; there = there }) half)
+step_admits laws ticks meaning entries (steps.Start (Some asker) place fresh) old table stepped new new_table serial b opened sound is none there half =
+    let one = further_one meaning (setup_at old entries fresh) asker place old.held table stepped new.held new_table is.1 in
+    let was = probed_stood meaning.body_of (setup_at old entries fresh) one.ike old.held stepped new.held one.probes table serial b sound.held there in
+    absurd (some_none was.was (sym none ∙ was.stood))
 step_admits laws ticks meaning entries (steps.Order what fresh) old table stepped new new_table serial b opened sound is none there half =
     let one = asked_one meaning (setup_at old entries fresh) what old.held table stepped new.held new_table is.1 in
     let was = probed_stood meaning.body_of (setup_at old entries fresh) one.ike old.held stepped new.held one.probes table serial b sound.held there in

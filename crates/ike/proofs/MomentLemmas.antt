@@ -1,5 +1,5 @@
 -- What is due comes with the first moment that reaches it.
-use Rattle.std.proofs.Common.{◌≡◌, inl, inr, ℕ, zero, suc, ◌++◌, ◌∷◌, [], Bool, true, false, List, Option, Some, All, max, ap, refl, subst, sym, ◌∙◌}
+use Rattle.std.proofs.Common.{◌≡◌, inl, inr, ℕ, zero, suc, ◌++◌, ◌∷◌, [], Bool, true, false, List, Option, Some, All, max, ap, refl, subst, sym, ◌∙◌, None}
 use Rattle.std.proofs.lemmas.List.Elements.{All-from_recursion, recursion_from_All}
 use Rattle.std.specs.List.{flat_map, slice_get, AllByRecursion, AllZip}
 use Rattle.std.specs.Prelude.{◌≤◌, slice_set}
@@ -18,7 +18,7 @@ use Rattle.initial.specs.Beginning.{begun, Admits, Begins}
 use Rattle.initial.specs.Configs.{Setup}
 use Rattle.initial.specs.declared.beginning.Admitted.{Admitted}
 use Rattle.initial.specs.declared.beginning.Beginning.{Beginning}
-use Rattle.informational.specs.Asking.{Asks}
+use Rattle.effects.specs.Sending.{SendsRequest}
 use Rattle.moments.specs.Due.{closed_of, held_of, sent_of}
 use Rattle.moments.specs.Held.{HasBegun, IsInTime, LeavesPairsBut, StaysItself}
 use Rattle.moments.specs.Ticking.{Ticks}
@@ -26,7 +26,6 @@ use Rattle.moments.specs.declared.ticking.Ticked.{Ticked}
 use Rattle.effects.specs.Taking.{Meaning, TakesMessage}
 use Rattle.effects.specs.declared.taking.Effect.{Effect}
 use Rattle.effects.specs.declared.taking.Effect.TheVariants as effect
-use Rattle.informational.specs.declared.ordering.Order.{Order}
 use Rattle.ike.specs.Machines.{setup_at, Held, Machine}
 use Rattle.ike.specs.Moments.{tells_moment, ComesTo, IsTimely, StaysAt}
 use Rattle.ike.specs.Soundness.{IsSoundMachine}
@@ -39,7 +38,7 @@ use Rattle.ike.specs.declared.output.IkeOutput.{IkeOutput}
 use Rattle.ike.specs.declared.output.IkeOutput.TheVariants as output
 use Rattle.ike.specs.declared.output.Stepped.{Stepped}
 use Rattle.ike.proofs.WaitLemmas.{step_times, WaitLaws}
-use Rattle.ike.proofs.WayLemmas.{admitted, datagram_way, probed, rested, started, step_way, took, GoesOut, SomeWay, Way, asked_one}
+use Rattle.ike.proofs.WayLemmas.{admitted, asked_one, datagram_way, further_one, probed, rested, started, step_way, took, GoesOut, Way}
 
 pub record TimelyLaws : Type 0 where
   pub taken : (meaning : Meaning) (setup : Setup) (old : Association) (table : Database) (octets : Octets) (m : Message) (e : Effect) (new : Association) (new_table : Database)
@@ -48,8 +47,8 @@ pub record TimelyLaws : Type 0 where
       → Begins cipher group public_value fresh moment beginning → IsInTime moment (begun serial beginning child)
   pub admits : (cipher : Cipher) (group : ℕ) (public_value : Octets → Octets) (shared_secret : Octets → Octets → Option Octets) (fresh : Fresh) (moment serial : ℕ) (offer : OfferView) (spi_i : ℕ) (request : Octets) (admitted : Admitted)
       → Admits cipher group public_value shared_secret fresh moment serial offer spi_i request admitted → IsInTime moment admitted.association
-  pub probes : (body_of : Keys → Octets → Octets → Octets → Octets) (setup : Setup) (order : Order) (old : Association) (octets : Octets) (new : Association)
-      → IsInTime setup.moment old → Asks body_of setup order old octets new → IsInTime setup.moment new
+  pub requested : (body_of : Keys → Octets → Octets → Octets → Octets) (setup : Setup) (old : Association) (octets : Octets) (new : Association)
+      → IsInTime setup.moment old → SendsRequest body_of setup old octets new → IsInTime setup.moment new
   pub ticks : (earlier now : ℕ) (old : List Association) (table : Database) (ticked : Ticked) (new : List Association) (new_table : Database) → earlier ≤ now → All (HasBegun earlier) old → Ticks now old table ticked new new_table
       → All (IsInTime now) new
   pub pairs : (now : ℕ) (old : List Association) (table : Database) (ticked : Ticked) (new : List Association) (new_table : Database) → Ticks now old table ticked new new_table → LeavesPairsBut ticked.closed table new_table
@@ -108,7 +107,7 @@ way_timely laws meaning setup octets old table stepped new new_table all (probed
     let p = is.probes in
     timely_as setup.moment (record old { associations = slice_set old.associations p.place p.changed }) new p.content
     (all_replaced (IsInTime setup.moment) old.associations p.place p.changed all
-    (laws.probes meaning.body_of setup p.order p.association p.octets p.changed (at_place (IsInTime setup.moment) old.associations p.place p.association all p.there) p.asks))
+    (laws.requested meaning.body_of setup p.association p.octets p.changed (at_place (IsInTime setup.moment) old.associations p.place p.association all p.there) p.sends))
 
 -- where the time stands still
 still_timely : (old new : Machine) → new.moment ≡ old.moment → AllTimely old.moment new.held → IsTimely new
@@ -130,9 +129,12 @@ step_timely laws meaning entries (steps.Message from octets fresh) old table ste
     still_timely old new (ap (λ (m : Machine). m.moment) is.0)
     (way_timely laws meaning (setup_at old entries fresh) octets old.held table stepped new.held new_table (all_of old timely)
     (datagram_way meaning (setup_at old entries fresh) old.cookies from octets old.held table stepped new.held new_table is.1))
-step_timely laws meaning entries (steps.Start ike place fresh) old table stepped new new_table timely is =
+step_timely laws meaning entries (steps.Start None place fresh) old table stepped new new_table timely is =
     still_timely old new (ap (λ (m : Machine). m.moment) is.0)
-    (way_timely laws meaning (setup_at old entries fresh) [] old.held table stepped new.held new_table (all_of old timely) (started (record { ike = ike; place = place; starts = is.1 })))
+    (way_timely laws meaning (setup_at old entries fresh) [] old.held table stepped new.held new_table (all_of old timely) (started (record { place = place; starts = is.1 })))
+step_timely laws meaning entries (steps.Start (Some asker) place fresh) old table stepped new new_table timely is =
+    still_timely old new (ap (λ (m : Machine). m.moment) is.0)
+    (way_timely laws meaning (setup_at old entries fresh) [] old.held table stepped new.held new_table (all_of old timely) (probed (further_one meaning (setup_at old entries fresh) asker place old.held table stepped new.held new_table is.1)))
 step_timely laws meaning entries (steps.Order what fresh) old table stepped new new_table timely is =
     still_timely old new (ap (λ (m : Machine). m.moment) is.0)
     (way_timely laws meaning (setup_at old entries fresh) [] old.held table stepped new.held new_table (all_of old timely) (probed (asked_one meaning (setup_at old entries fresh) what old.held table stepped new.held new_table is.1)))

@@ -24,7 +24,7 @@ use Rattle.initial.specs.Configs.{IsConfig, Setup}
 use Rattle.initial.specs.declared.answering.Answered.{Answered}
 use Rattle.initial.specs.declared.beginning.Admitted.{Admitted}
 use Rattle.initial.specs.declared.ending.Ended.{Ended}
-use Rattle.informational.specs.Asking.{Asks}
+use Rattle.effects.specs.Sending.{SendsRequest}
 use Rattle.moments.specs.Due.{has_failed, held_of, is_over, SendsAgain}
 use Rattle.moments.specs.Held as moments
 use Rattle.moments.specs.Ticking.{Ticks}
@@ -37,7 +37,6 @@ use Rattle.effects.specs.Requests.{IsSoundlyHeld}
 use Rattle.effects.specs.Taking.{Meaning, KeepsIdentity, TakesMessage}
 use Rattle.effects.specs.declared.taking.Effect.{Effect}
 use Rattle.effects.specs.declared.taking.Effect.TheVariants as effect
-use Rattle.informational.specs.declared.ordering.Order.{Order}
 use Rattle.ike.specs.Machines.{association_of, has_serial, setup_at, Held, Machine}
 use Rattle.ike.specs.Moves.{ledger_at, HasFresh, HasSeal, IsKeyless, IssuesOpenly, KeysCome, MoveComes, MoveOpens, MovesAt, OpensFresh, SaysNoMore, Tells, TellsAgain, TellsClosed}
 use Rattle.ike.specs.Outputs.{asking_step, half_open_step, plain_step, request_mark, stepped_of}
@@ -53,7 +52,7 @@ use Rattle.ike.proofs.RequestLemmas.{found_first, held_soundly, some_none, yes_n
 use Rattle.ike.proofs.SerialLemmas.{grown_found, grown_stands, none_next, replaced_found, replaced_stands, same_one, sound_found}
 use Rattle.ike.proofs.TellingLemmas.{asking_says, asking_silent, closes_now, closes_one, effect_says, effect_silent, half_open_says, half_open_silent, request_silent, said_silent, sends_now, silent_tells, tick_says, ClosesNow, IsEffectOf, IsSilent, SendsNow, TickFacts}
 use Rattle.ike.proofs.TickLemmas.{found_at}
-use Rattle.ike.proofs.WayLemmas.{admitted, datagram_way, probed, rested, started, took, AsksOne, StartsOne, Way, asked_one}
+use Rattle.ike.proofs.WayLemmas.{admitted, asked_one, datagram_way, further_one, probed, rested, started, took, AsksOne, StartsOne, Way}
 
 -- what is known of moves at one association
 pub record MoveLaws : Type 0 where
@@ -61,8 +60,8 @@ pub record MoveLaws : Type 0 where
       → TakesMessage meaning setup old table octets m e new new_table → KeepsIdentity old new
   pub message : (meaning : Meaning) (setup : Setup) (old : Association) (table : Database) (octets : Octets) (m : Message) (e : Effect) (new : Association) (new_table : Database)
       → IsSoundlyHeld old → IsConfig setup.config → TakesMessage meaning setup old table octets m e new new_table → Lead (moves_of m.header.id (keys_in new.phase) e) (ledger old) (ledger new)
-  pub probe : (body_of : Keys → Octets → Octets → Octets → Octets) (setup : Setup) (order : Order) (old : Association) (octets : Octets) (new : Association)
-      → Asks body_of setup order old octets new → Lead (Issue old.outgoing.next octets ∷ []) (ledger old) (ledger new)
+  pub requested : (body_of : Keys → Octets → Octets → Octets → Octets) (setup : Setup) (old : Association) (octets : Octets) (new : Association)
+      → SendsRequest body_of setup old octets new → Lead (Issue old.outgoing.next octets ∷ []) (ledger old) (ledger new)
   pub admits : (cipher : Cipher) (group : ℕ) (public_value : Octets → Octets) (shared_secret : Octets → Octets → Option Octets) (fresh : Fresh) (moment serial : ℕ) (offer : OfferView) (spi_i : ℕ) (request : Octets) (admitted : Admitted)
       → Admits cipher group public_value shared_secret fresh moment serial offer spi_i request admitted → (keys : KeyRecord) × Lead (Make keys ∷ []) None (ledger admitted.association)
   pub initial : (meaning : Meaning) (setup : Setup) (old : Association) (table : Database) (octets : Octets) (m : Message) (next : Octets) (new : Association) (new_table : Database)
@@ -77,8 +76,8 @@ pub record MoveLaws : Type 0 where
   pub identity : (meaning : Meaning) (setup : Setup) (old : Association) (table : Database) (octets : Octets) (m : Message) (next : Octets) (new : Association) (new_table : Database)
       → OpensWhatItSeals meaning.body_of meaning.plain_of setup.fresh.seal → HoldsWholeKeys new.phase → TakesMessage meaning setup old table octets m (effect.Identified next) new new_table
       → OpensAsMessage meaning.plain_of new new.role false 1 next
-  pub probed : (body_of : Keys → Octets → Octets → Octets → Octets) (plain_of : Opening) (setup : Setup) (order : Order) (old : Association) (octets : Octets) (new : Association)
-      → OpensWhatItSeals body_of plain_of setup.fresh.seal → HoldsWholeKeys old.phase → Asks body_of setup order old octets new
+  pub asked : (body_of : Keys → Octets → Octets → Octets → Octets) (plain_of : Opening) (setup : Setup) (old : Association) (octets : Octets) (new : Association)
+      → OpensWhatItSeals body_of plain_of setup.fresh.seal → HoldsWholeKeys old.phase → SendsRequest body_of setup old octets new
       → OpensAsMessage plain_of new new.role false old.outgoing.next octets
   pub taken : (meaning : Meaning) (setup : Setup) (old : Association) (table : Database) (octets : Octets) (m : Message) (answered : Answered) (new : Association) (new_table : Database)
       → Spells m octets → is_meant m.header old ≡ true → TakesMessage meaning setup old table octets m (effect.Replied answered) new new_table
@@ -256,7 +255,7 @@ probed_moves laws input meaning setup old table stepped new new_table serial sea
       | inl (here, before, after) ↦ record {
         moves = moves;
         few = omega arith;
-        lead = leads_by old new serial (Some p.association) (Some p.changed) moves before after (laws.probe meaning.body_of setup p.order p.association p.octets p.changed p.asks);
+        lead = leads_by old new serial (Some p.association) (Some p.changed) moves before after (laws.requested meaning.body_of setup p.association p.octets p.changed p.sends);
         told = (
           (
             ap (λ (s : Stepped). s.output) p.said ∙ ap (λ n. output.Request n p.octets) (sym (here ∙ probed_serial meaning.body_of setup is.ike old stepped new p)),
@@ -269,7 +268,7 @@ probed_moves laws input meaning setup old table stepped new new_table serial sea
             (asking_says (association_of serial old.associations) serial p.association.outgoing.next p.octets));
         came = (tt, tt);
         opened = λ opens. (
-          record { association = p.changed; there = after; opens = laws.probed meaning.body_of meaning.plain_of setup p.order p.association p.octets p.changed (sealed opens) (sound.each p.place p.association p.there).whole p.asks },
+          record { association = p.changed; there = after; opens = laws.asked meaning.body_of meaning.plain_of setup p.association p.octets p.changed (sealed opens) (sound.each p.place p.association p.there).whole p.sends },
           tt,
         );
       }
@@ -556,8 +555,10 @@ pub step_moves : MoveLaws → TicksLeave → (meaning : Meaning) (entries : List
 step_moves laws leave meaning entries (steps.Message from octets fresh) old table stepped new new_table serial sound is =
     way_moves laws meaning (setup_at old entries fresh) from octets old.held table stepped new.held new_table serial sound.held sound.config
     (datagram_way meaning (setup_at old entries fresh) old.cookies from octets old.held table stepped new.held new_table is.1)
-step_moves laws leave meaning entries (steps.Start ike place fresh) old table stepped new new_table serial sound is =
-    started_moves (steps.Start ike place fresh) meaning (setup_at old entries fresh) old.held table stepped new.held new_table serial sound.held (record { ike = ike; place = place; starts = is.1 })
+step_moves laws leave meaning entries (steps.Start None place fresh) old table stepped new new_table serial sound is =
+    started_moves (steps.Start None place fresh) meaning (setup_at old entries fresh) old.held table stepped new.held new_table serial sound.held (record { place = place; starts = is.1 })
+step_moves laws leave meaning entries (steps.Start (Some asker) place fresh) old table stepped new new_table serial sound is =
+    probed_moves laws (steps.Start (Some asker) place fresh) meaning (setup_at old entries fresh) old.held table stepped new.held new_table serial (λ opens. opens) sound.held (further_one meaning (setup_at old entries fresh) asker place old.held table stepped new.held new_table is.1)
 step_moves laws leave meaning entries (steps.Order what fresh) old table stepped new new_table serial sound is =
     probed_moves laws (steps.Order what fresh) meaning (setup_at old entries fresh) old.held table stepped new.held new_table serial (λ opens. opens) sound.held (asked_one meaning (setup_at old entries fresh) what old.held table stepped new.held new_table is.1)
 step_moves laws leave meaning entries (steps.Secret secret) old table stepped new new_table serial sound is =

@@ -4,8 +4,10 @@ use Rattle.std.specs.FinMap as numbers
 use Rattle.std.specs.Option.{option_map}
 use Rattle.suite.specs.declared.keys.Keys.{Keys}
 use Rattle.base.specs.Octets.{Octets}
+use Rattle.base.specs.declared.selector.Selector.{Selector}
+use Rattle.policy.specs.declared.entry.Entry.{Entry}
 use Rattle.sadb.specs.Contents.{table_content}
-use Rattle.sadb.specs.Database.{pair_at, Database}
+use Rattle.sadb.specs.Database.{pair_at, Database, IsFull, IsSpent}
 use Rattle.sadb.specs.declared.pair.Pair.{Pair}
 use Rattle.sadb.specs.declared.pair.State.{State}
 use Rattle.sadb.specs.declared.pair.State.TheVariants as state
@@ -22,10 +24,15 @@ use Rattle.informational.specs.Asking.{Asks}
 use Rattle.informational.specs.declared.fault.OrderFault.{OrderFault}
 use Rattle.informational.specs.declared.fault.OrderFault.TheVariants as order
 use Rattle.informational.specs.declared.ordering.Order.{Order}
+use Rattle.informational.specs.declared.ordering.Order.TheVariants as asked
+use Rattle.create_child.specs.Asking.{AsksForFurther, MayAsk, RefusesFurther}
+use Rattle.create_child.specs.declared.fault.AskFault.{AskFault}
+use Rattle.create_child.specs.declared.fault.AskFault.TheVariants as ask
 use Rattle.ike.specs.Contents.{held_content}
 use Rattle.ike.specs.Faults.{is_want_of_memory}
 use Rattle.ike.specs.Machines.{association_of, has_serial, Held}
-use Rattle.ike.specs.Asking.{fault_of_order, AsksAt, AsksFor, RefusesAsking, RefusesAskingAt, RefusesChild, RefusesChildBy}
+use Rattle.ike.specs.Asking.{fault_of_ask, fault_of_order, AsksFor, AsksFurther, AsksThat, RefusesAsking, RefusesAskingAt, RefusesChild, RefusesChildBy, RefusesFurtherAt}
+use Rattle.ike.specs.Starting.{RefusesFurtherBy}
 use Rattle.ike.specs.declared.asking.Demand.{Demand}
 use Rattle.ike.specs.declared.asking.Demand.TheVariants as demand
 use Rattle.ike.specs.Ticking.{RefusesMoment}
@@ -129,27 +136,115 @@ may_before old ready room may =
       not_spent = m.not_spent;
     }) may
 
-not_refused : (body_of : Keys → Octets → Octets → Octets → Octets) (setup : Setup) (order : Order) (a b : Association) (octets : Octets) (changed : Association) → association_content a ≡ association_content b
-    → Asks body_of setup order a octets changed → (o : OrderFault) → RefusesOrder b o → is_want_of_memory (fault_of_order o) ≡ true
-not_refused body_of setup o a b octets changed same is order.WrongPhase refuses = absurd (refuses (established_as a b same (record { keys = is.keys; is = is.established })))
-not_refused body_of setup o a b octets changed same is order.Busy refuses =
-    absurd (full_as b.outgoing a.outgoing (sym (same_outgoing a b same)) refuses.1 is.not_deleting (may_before a.outgoing is.issued.ready is.issued.prepared is.issued.issued.allowed).not_busy)
-not_refused body_of setup o a b octets changed same is order.NumbersSpent refuses =
-    absurd ((may_before a.outgoing is.issued.ready is.issued.prepared is.issued.issued.allowed).not_spent (spent_as b.outgoing a.outgoing (sym (same_outgoing a b same)) refuses.3))
-not_refused body_of setup o a b octets changed same is order.Memory refuses = refl
+ordered_may : (body_of : Keys → Octets → Octets → Octets → Octets) (setup : Setup) (order : Order) (a : Association) (octets : Octets) (changed : Association) → Asks body_of setup order a octets changed → MayAsk a
+ordered_may body_of setup order a octets changed is =
+    record { established = record { keys = is.keys; is = is.established }; not_deleting = is.not_deleting; allowed = may_before a.outgoing is.issued.ready is.issued.prepared is.issued.issued.allowed }
 
-done_or_not : (body_of : Keys → Octets → Octets → Octets → Octets) (setup : Setup) (order : Order) (a : Association) (p : Option Association) (octets : Octets) (changed : Association) (reason : IkeFault)
-    → Some (association_content a) ≡ option_map association_content p → Asks body_of setup order a octets changed → RefusesAskingAt p reason → is_want_of_memory reason ≡ true
-done_or_not body_of setup o a None octets changed reason same is refuses = absurd cc
-done_or_not body_of setup o a (Some b) octets changed reason same is refuses =
+further_may : (body_of : Keys → Octets → Octets → Octets → Octets) (setup : Setup) (local remote : Selector) (a : Association) (table : Database) (octets : Octets) (changed : Association) (new_table : Database)
+    → AsksForFurther body_of setup local remote a table octets changed new_table → MayAsk a
+further_may body_of setup local remote a table octets changed new_table is =
+    record { established = record { keys = is.keys; is = is.established }; not_deleting = is.not_deleting; allowed = may_before a.outgoing is.issued.ready is.issued.prepared is.issued.issued.allowed }
+
+not_refused : (a b : Association) → association_content a ≡ association_content b → MayAsk a → (o : OrderFault) → RefusesOrder b o → is_want_of_memory (fault_of_order o) ≡ true
+not_refused a b same may order.WrongPhase refuses = absurd (refuses (established_as a b same may.established))
+not_refused a b same may order.Busy refuses = absurd (full_as b.outgoing a.outgoing (sym (same_outgoing a b same)) refuses.1 may.not_deleting may.allowed.not_busy)
+not_refused a b same may order.NumbersSpent refuses = absurd (may.allowed.not_spent (spent_as b.outgoing a.outgoing (sym (same_outgoing a b same)) refuses.3))
+not_refused a b same may order.Memory refuses = refl
+
+done_or_not : (a : Association) (p : Option Association) (reason : IkeFault) → Some (association_content a) ≡ option_map association_content p → MayAsk a → RefusesAskingAt p reason → is_want_of_memory reason ≡ true
+done_or_not a None reason same may refuses = absurd cc
+done_or_not a (Some b) reason same may refuses =
     let alike : association_content a ≡ association_content b = cc in
-    ap is_want_of_memory refuses.2 ∙ not_refused body_of setup o a b octets changed alike is refuses.0 refuses.1
+    ap is_want_of_memory refuses.2 ∙ not_refused a b alike may refuses.0 refuses.1
 
-pub probe_or_refused : (body_of : Keys → Octets → Octets → Octets → Octets) (setup : Setup) (serial : ℕ) (old other : Held) (stepped : Stepped) (new : Held) (reason : IkeFault) → held_content old ≡ held_content other
-    → AsksAt body_of setup serial old stepped new → RefusesAskingAt (association_of serial other.associations) reason → is_want_of_memory reason ≡ true
-probe_or_refused body_of setup serial old other stepped new reason same is refuses =
-    done_or_not body_of setup is.order is.association (association_of serial other.associations) is.octets is.changed reason
-    (sym (ap (option_map association_content) (probed_first body_of setup serial old stepped new is)) ∙ same_association serial old other same) is.asks refuses
+pub probe_or_refused : (body_of : Keys → Octets → Octets → Octets → Octets) (setup : Setup) (serial : ℕ) (order : Order) (old other : Held) (table : Database) (stepped : Stepped) (new : Held) (new_table : Database) (reason : IkeFault)
+    → held_content old ≡ held_content other → AsksThat body_of setup serial order old table stepped new new_table → RefusesAskingAt (association_of serial other.associations) reason → is_want_of_memory reason ≡ true
+probe_or_refused body_of setup serial order old other table stepped new new_table reason same is refuses =
+    let a = is.asks in
+    done_or_not a.association (association_of serial other.associations) reason
+    (sym (ap (option_map association_content) (probed_first body_of setup serial old stepped new a)) ∙ same_association serial old other same)
+    (ordered_may body_of setup order a.association a.octets a.changed is.ordered) refuses
+
+-- ---- a further child
+
+not_refused_further : (a b : Association) (table another : Database) → association_content a ≡ association_content b → table_content table ≡ table_content another → MayAsk a → ¬ IsFull table → ¬ IsSpent table
+    → (f : AskFault) → RefusesFurther b another f → is_want_of_memory (fault_of_ask f) ≡ true
+not_refused_further a b table another same alike may not_full not_spent ask.WrongPhase refuses = not_refused a b same may order.WrongPhase refuses
+not_refused_further a b table another same alike may not_full not_spent ask.Busy refuses = not_refused a b same may order.Busy refuses
+not_refused_further a b table another same alike may not_full not_spent ask.NumbersSpent refuses = not_refused a b same may order.NumbersSpent refuses
+not_refused_further a b table another same alike may not_full not_spent ask.TableFull refuses = absurd (not_full (subst (λ (d : Database). IsFull d) (sym alike) refuses.1))
+not_refused_further a b table another same alike may not_full not_spent ask.SpisSpent refuses = absurd (not_spent (subst (λ (d : Database). IsSpent d) (sym alike) refuses.2))
+not_refused_further a b table another same alike may not_full not_spent ask.TableMemory refuses = refl
+not_refused_further a b table another same alike may not_full not_spent ask.Memory refuses = refl
+
+further_or_not : (a : Association) (p : Option Association) (table another : Database) (reason : IkeFault) → Some (association_content a) ≡ option_map association_content p → table_content table ≡ table_content another
+    → MayAsk a → ¬ IsFull table → ¬ IsSpent table → RefusesFurtherAt p another reason → is_want_of_memory reason ≡ true
+further_or_not a None table another reason same alike may not_full not_spent refuses = absurd cc
+further_or_not a (Some b) table another reason same alike may not_full not_spent refuses =
+    let here : association_content a ≡ association_content b = cc in
+    ap is_want_of_memory refuses.2 ∙ not_refused_further a b table another here alike may not_full not_spent refuses.0 refuses.1
+
+pub further_or_refused : (body_of : Keys → Octets → Octets → Octets → Octets) (setup : Setup) (serial : ℕ) (local remote : Selector) (old other : Held) (table another : Database) (stepped : Stepped) (new : Held) (new_table : Database) (reason : IkeFault)
+    → held_content old ≡ held_content other → table_content table ≡ table_content another → AsksFurther body_of setup serial local remote old table stepped new new_table
+    → RefusesFurtherAt (association_of serial other.associations) another reason → is_want_of_memory reason ≡ true
+further_or_refused body_of setup serial local remote old other table another stepped new new_table reason same alike is refuses =
+    let a = is.asks in
+    further_or_not a.association (association_of serial other.associations) table another reason
+    (sym (ap (option_map association_content) (probed_first body_of setup serial old stepped new a)) ∙ same_association serial old other same) alike
+    (further_may body_of setup local remote a.association table a.octets a.changed new_table is.further) is.further.not_full is.further.not_spent refuses
+
+-- what may be asked is not refused, but for the table or for want of memory
+may_clash : (a b : Association) → association_content a ≡ association_content b → MayAsk a → (o : OrderFault) → RefusesOrder b o → is_want_of_memory (fault_of_order o) ≡ false → ⊥
+may_clash a b same may o refuses other = memory_only (is_want_of_memory (fault_of_order o)) (not_refused a b same may o refuses) other
+
+one_ask : (a b : Association) (table another : Database) → association_content a ≡ association_content b → table_content table ≡ table_content another → (one two : AskFault)
+    → is_want_of_memory (fault_of_ask one) ≡ false → is_want_of_memory (fault_of_ask two) ≡ false → RefusesFurther a table one → RefusesFurther b another two → fault_of_ask one ≡ fault_of_ask two
+one_ask a b table another same alike ask.TableMemory two not_one not_two is also = absurd (memory_only true refl not_one)
+one_ask a b table another same alike ask.Memory two not_one not_two is also = absurd (memory_only true refl not_one)
+one_ask a b table another same alike one ask.TableMemory not_one not_two is also = absurd (memory_only true refl not_two)
+one_ask a b table another same alike one ask.Memory not_one not_two is also = absurd (memory_only true refl not_two)
+one_ask a b table another same alike ask.WrongPhase ask.WrongPhase not_one not_two is also = refl
+one_ask a b table another same alike ask.WrongPhase ask.Busy not_one not_two is also = one_order a b same order.WrongPhase order.Busy (is, refl) (also, refl)
+one_ask a b table another same alike ask.WrongPhase ask.NumbersSpent not_one not_two is also = one_order a b same order.WrongPhase order.NumbersSpent (is, refl) (also, refl)
+one_ask a b table another same alike ask.WrongPhase ask.TableFull not_one not_two is also = absurd (may_clash b a (sym same) also.0 order.WrongPhase is refl)
+one_ask a b table another same alike ask.WrongPhase ask.SpisSpent not_one not_two is also = absurd (may_clash b a (sym same) also.0 order.WrongPhase is refl)
+one_ask a b table another same alike ask.Busy ask.WrongPhase not_one not_two is also = one_order a b same order.Busy order.WrongPhase (is, refl) (also, refl)
+one_ask a b table another same alike ask.Busy ask.Busy not_one not_two is also = refl
+one_ask a b table another same alike ask.Busy ask.NumbersSpent not_one not_two is also = one_order a b same order.Busy order.NumbersSpent (is, refl) (also, refl)
+one_ask a b table another same alike ask.Busy ask.TableFull not_one not_two is also = absurd (may_clash b a (sym same) also.0 order.Busy is refl)
+one_ask a b table another same alike ask.Busy ask.SpisSpent not_one not_two is also = absurd (may_clash b a (sym same) also.0 order.Busy is refl)
+one_ask a b table another same alike ask.NumbersSpent ask.WrongPhase not_one not_two is also = one_order a b same order.NumbersSpent order.WrongPhase (is, refl) (also, refl)
+one_ask a b table another same alike ask.NumbersSpent ask.Busy not_one not_two is also = one_order a b same order.NumbersSpent order.Busy (is, refl) (also, refl)
+one_ask a b table another same alike ask.NumbersSpent ask.NumbersSpent not_one not_two is also = refl
+one_ask a b table another same alike ask.NumbersSpent ask.TableFull not_one not_two is also = absurd (may_clash b a (sym same) also.0 order.NumbersSpent is refl)
+one_ask a b table another same alike ask.NumbersSpent ask.SpisSpent not_one not_two is also = absurd (may_clash b a (sym same) also.0 order.NumbersSpent is refl)
+one_ask a b table another same alike ask.TableFull ask.WrongPhase not_one not_two is also = absurd (may_clash a b same is.0 order.WrongPhase also refl)
+one_ask a b table another same alike ask.TableFull ask.Busy not_one not_two is also = absurd (may_clash a b same is.0 order.Busy also refl)
+one_ask a b table another same alike ask.TableFull ask.NumbersSpent not_one not_two is also = absurd (may_clash a b same is.0 order.NumbersSpent also refl)
+one_ask a b table another same alike ask.TableFull ask.TableFull not_one not_two is also = refl
+one_ask a b table another same alike ask.TableFull ask.SpisSpent not_one not_two is also = absurd (also.1 (subst (λ (d : Database). IsFull d) alike is.1))
+one_ask a b table another same alike ask.SpisSpent ask.WrongPhase not_one not_two is also = absurd (may_clash a b same is.0 order.WrongPhase also refl)
+one_ask a b table another same alike ask.SpisSpent ask.Busy not_one not_two is also = absurd (may_clash a b same is.0 order.Busy also refl)
+one_ask a b table another same alike ask.SpisSpent ask.NumbersSpent not_one not_two is also = absurd (may_clash a b same is.0 order.NumbersSpent also refl)
+one_ask a b table another same alike ask.SpisSpent ask.TableFull not_one not_two is also = absurd (is.1 (subst (λ (d : Database). IsFull d) (sym alike) also.1))
+one_ask a b table another same alike ask.SpisSpent ask.SpisSpent not_one not_two is also = refl
+
+one_further_at : (o p : Option Association) (table another : Database) (one two : IkeFault) → option_map association_content o ≡ option_map association_content p → table_content table ≡ table_content another
+    → is_want_of_memory one ≡ false → is_want_of_memory two ≡ false → RefusesFurtherAt o table one → RefusesFurtherAt p another two → one ≡ two
+one_further_at None None table another one two same alike not_one not_two is also = is ∙ sym also
+one_further_at None (Some b) table another one two same alike not_one not_two is also = absurd cc
+one_further_at (Some a) None table another one two same alike not_one not_two is also = absurd cc
+one_further_at (Some a) (Some b) table another one two same alike not_one not_two is also =
+    let here : association_content a ≡ association_content b = cc in
+    is.2
+    ∙ one_ask a b table another here alike is.0 also.0 (sym (ap is_want_of_memory is.2) ∙ not_one) (sym (ap is_want_of_memory also.2) ∙ not_two) is.1 also.1
+    ∙ sym also.2
+
+pub one_further_refusal : (entry : Option Entry) (serial : ℕ) (old other : Held) (table another : Database) (one two : IkeFault) → held_content old ≡ held_content other → table_content table ≡ table_content another
+    → is_want_of_memory one ≡ false → is_want_of_memory two ≡ false → RefusesFurtherBy entry serial old table one → RefusesFurtherBy entry serial other another two → one ≡ two
+one_further_refusal None serial old other table another one two same alike not_one not_two is also = is ∙ sym also
+one_further_refusal (Some entry) serial old other table another one two same alike not_one not_two is also =
+    one_further_at (association_of serial old.associations) (association_of serial other.associations) table another one two (same_association serial old other same) alike not_one not_two is also
 
 -- ---- what is ordered
 
@@ -177,13 +272,13 @@ one_asking_refusal (demand.DeleteIke ike) old other table another one two same a
 pub asked_or_refused : (body_of : Keys → Octets → Octets → Octets → Octets) (setup : Setup) (what : Demand) (old other : Held) (table another : Database) (stepped : Stepped) (new : Held) (new_table : Database) (reason : IkeFault)
     → held_content old ≡ held_content other → table_content table ≡ table_content another → AsksFor body_of setup what old table stepped new new_table → RefusesAsking what other another reason
     → is_want_of_memory reason ≡ true
-asked_or_refused body_of setup (demand.Probe ike) old other table another stepped new new_table reason same alike is refuses = probe_or_refused body_of setup ike old other stepped new reason same is.asks refuses
+asked_or_refused body_of setup (demand.Probe ike) old other table another stepped new new_table reason same alike is refuses = probe_or_refused body_of setup ike asked.Probe old other table stepped new new_table reason same is refuses
 asked_or_refused body_of setup (demand.DeleteChild serial) old other table another stepped new new_table reason same alike is refuses =
     let there : pair_at another.pairs serial ≡ Some is.pair = sym (ap (λ (d : Database). pair_at d.pairs serial) alike) ∙ is.there in
     let by : RefusesChildBy is.pair.state (association_of is.pair.ike other.associations) reason = subst (λ (p : Option Pair). RefusesChild p other reason) there refuses in
-    probe_or_refused body_of setup is.pair.ike old other stepped new reason same is.asks.asks
+    probe_or_refused body_of setup is.pair.ike (asked.DeleteChild serial is.pair.inbound.association.spi) old other table stepped new new_table reason same is.asks
     (subst (λ (s : State). RefusesChildBy s (association_of is.pair.ike other.associations) reason) is.live by)
-asked_or_refused body_of setup (demand.DeleteIke ike) old other table another stepped new new_table reason same alike is refuses = probe_or_refused body_of setup ike old other stepped new reason same is.asks refuses
+asked_or_refused body_of setup (demand.DeleteIke ike) old other table another stepped new new_table reason same alike is refuses = probe_or_refused body_of setup ike asked.DeleteAssociation old other table stepped new new_table reason same is refuses
 
 pub moment_refused : (reason : IkeFault) → RefusesMoment reason → is_want_of_memory reason ≡ true
 moment_refused (fault.Unread f) is = absurd is

@@ -43,7 +43,7 @@ use Rattle.ike.proofs.RequestLemmas.{and_left, below, finds_of, first_of, found_
 use Rattle.ike.proofs.RequestLemmas.{asked, took_it, unchanged}
 use Rattle.ike.proofs.SerialLemmas.{grown_found, replaced_found, replaced_stands, same_one, sound_found}
 use Rattle.ike.proofs.TickLemmas.{ticked_stood, TicksHold}
-use Rattle.ike.proofs.WayLemmas.{admitted, datagram_way, probed, rested, started, took, Way, asked_one}
+use Rattle.ike.proofs.WayLemmas.{admitted, asked_one, datagram_way, further_one, probed, rested, started, took, Way}
 
 -- what more is known of one message's effect
 pub record MoreLaws : Type 0 where
@@ -165,8 +165,11 @@ step_replied more meaning entries (steps.Message from octets fresh) old table st
   | inl unread ↦ let clash = sym (ap (λ (s : Stepped). s.output) unread.passed.said) ∙ said in absurd cc
   | inr read ↦ read_replies more (is_initial_request read.message.header) meaning (setup_at old entries fresh) old.cookies from octets read.message old.held table stepped new.held new_table reply closed sound.held read.spelled refl said read.done
 ]
-step_replied more meaning entries (steps.Start ike place fresh) old table stepped new new_table reply closed sound is said =
+step_replied more meaning entries (steps.Start None place fresh) old table stepped new new_table reply closed sound is said =
     let clash = sym (ap (λ (s : Stepped). s.output) is.1.done.said) ∙ said in absurd cc
+step_replied more meaning entries (steps.Start (Some asker) place fresh) old table stepped new new_table reply closed sound is said =
+    let one = further_one meaning (setup_at old entries fresh) asker place old.held table stepped new.held new_table is.1 in
+    let clash = sym (ap (λ (s : Stepped). s.output) one.probes.said) ∙ said in absurd cc
 step_replied more meaning entries (steps.Order what fresh) old table stepped new new_table reply closed sound is said =
     let one = asked_one meaning (setup_at old entries fresh) what old.held table stepped new.held new_table is.1 in
     let clash = sym (ap (λ (s : Stepped). s.output) one.probes.said) ∙ said in absurd cc
@@ -279,7 +282,10 @@ step_repeats_only more meaning entries (steps.Message from octets fresh) old tab
   | inl unread ↦ let clash = sym (ap (λ (s : Stepped). s.output) unread.passed.said) ∙ said in absurd cc
   | inr read ↦ read_repeats more (is_initial_request read.message.header) meaning (setup_at old entries fresh) old.cookies from octets fresh read.message old.held table stepped new.held new_table reply sound.held read.spelled said read.done
 ]
-step_repeats_only more meaning entries (steps.Start ike place fresh) old table stepped new new_table reply sound is said = let clash = sym (ap (λ (s : Stepped). s.output) is.1.done.said) ∙ said in absurd cc
+step_repeats_only more meaning entries (steps.Start None place fresh) old table stepped new new_table reply sound is said = let clash = sym (ap (λ (s : Stepped). s.output) is.1.done.said) ∙ said in absurd cc
+step_repeats_only more meaning entries (steps.Start (Some asker) place fresh) old table stepped new new_table reply sound is said =
+    let one = further_one meaning (setup_at old entries fresh) asker place old.held table stepped new.held new_table is.1 in
+    let clash = sym (ap (λ (s : Stepped). s.output) one.probes.said) ∙ said in absurd cc
 step_repeats_only more meaning entries (steps.Order what fresh) old table stepped new new_table reply sound is said =
     let one = asked_one meaning (setup_at old entries fresh) what old.held table stepped new.held new_table is.1 in
     let clash = sym (ap (λ (s : Stepped). s.output) one.probes.said) ∙ said in absurd cc
@@ -302,8 +308,10 @@ pub step_window : MoreLaws → TicksHold → (meaning : Meaning) (entries : List
     (serial : ℕ) (a b : Association) → IsSoundMachine old table → Steps meaning entries input old table stepped new new_table → IsHeldThrough serial old.held new.held a b → KeepsWindow old.config.window a b
 step_window more ticks meaning entries (steps.Message from octets fresh) old table stepped new new_table serial a b sound is held =
     way_window more meaning (setup_at old entries fresh) octets old.held table stepped new.held new_table serial a b sound.held held (datagram_way meaning (setup_at old entries fresh) old.cookies from octets old.held table stepped new.held new_table is.1)
-step_window more ticks meaning entries (steps.Start ike place fresh) old table stepped new new_table serial a b sound is held =
-    way_window more meaning (setup_at old entries fresh) [] old.held table stepped new.held new_table serial a b sound.held held (started (record { ike = ike; place = place; starts = is.1 }))
+step_window more ticks meaning entries (steps.Start None place fresh) old table stepped new new_table serial a b sound is held =
+    way_window more meaning (setup_at old entries fresh) [] old.held table stepped new.held new_table serial a b sound.held held (started (record { place = place; starts = is.1 }))
+step_window more ticks meaning entries (steps.Start (Some asker) place fresh) old table stepped new new_table serial a b sound is held =
+    way_window more meaning (setup_at old entries fresh) [] old.held table stepped new.held new_table serial a b sound.held held (probed (further_one meaning (setup_at old entries fresh) asker place old.held table stepped new.held new_table is.1))
 step_window more ticks meaning entries (steps.Order what fresh) old table stepped new new_table serial a b sound is held =
     way_window more meaning (setup_at old entries fresh) [] old.held table stepped new.held new_table serial a b sound.held held (probed (asked_one meaning (setup_at old entries fresh) what old.held table stepped new.held new_table is.1))
 step_window more ticks meaning entries (steps.Secret secret) old table stepped new new_table serial a b sound is held =
@@ -388,8 +396,10 @@ pub step_gone : Laws → TicksLeave → (meaning : Meaning) (entries : List Entr
     → association_of serial new.held.associations ≡ None → IsGivenUp input old a
 step_gone laws leave meaning entries (steps.Message from octets fresh) old table stepped new new_table serial a sound is stands none =
     absurd (way_keeps laws meaning (setup_at old entries fresh) octets old.held table stepped new.held new_table serial a sound.held stands none (datagram_way meaning (setup_at old entries fresh) old.cookies from octets old.held table stepped new.held new_table is.1))
-step_gone laws leave meaning entries (steps.Start ike place fresh) old table stepped new new_table serial a sound is stands none =
-    absurd (way_keeps laws meaning (setup_at old entries fresh) [] old.held table stepped new.held new_table serial a sound.held stands none (started (record { ike = ike; place = place; starts = is.1 })))
+step_gone laws leave meaning entries (steps.Start None place fresh) old table stepped new new_table serial a sound is stands none =
+    absurd (way_keeps laws meaning (setup_at old entries fresh) [] old.held table stepped new.held new_table serial a sound.held stands none (started (record { place = place; starts = is.1 })))
+step_gone laws leave meaning entries (steps.Start (Some asker) place fresh) old table stepped new new_table serial a sound is stands none =
+    absurd (way_keeps laws meaning (setup_at old entries fresh) [] old.held table stepped new.held new_table serial a sound.held stands none (probed (further_one meaning (setup_at old entries fresh) asker place old.held table stepped new.held new_table is.1)))
 step_gone laws leave meaning entries (steps.Order what fresh) old table stepped new new_table serial a sound is stands none =
     absurd (way_keeps laws meaning (setup_at old entries fresh) [] old.held table stepped new.held new_table serial a sound.held stands none (probed (asked_one meaning (setup_at old entries fresh) what old.held table stepped new.held new_table is.1)))
 step_gone laws leave meaning entries (steps.Secret secret) old table stepped new new_table serial a sound is stands none =

@@ -1,5 +1,5 @@
 -- Who is established proved itself, by the ways of a step.
-use Rattle.std.proofs.Common.{◌≡◌, ◌⊎◌, inl, inr, ℕ, List, Option, Some, ap, refl, subst, sym, ◌∙◌, max}
+use Rattle.std.proofs.Common.{◌≡◌, ◌⊎◌, inl, inr, ℕ, List, Option, Some, ap, refl, subst, sym, ◌∙◌, max, None}
 use Rattle.std.proofs.lemmas.Bool.Decides.{eqb_tells}
 use Rattle.base.specs.Octets.{Octets}
 use Rattle.wire.specs.declared.message.Message.{Message}
@@ -21,7 +21,7 @@ use Rattle.ike.specs.Asking.{AsksAt}
 use Rattle.ike.specs.Proving.{ProvedItself, WasKnown}
 use Rattle.ike.specs.Receiving.{with_next}
 use Rattle.ike.specs.Soundness.{AreSound, IsSoundMachine}
-use Rattle.ike.specs.Starting.{child_by, Starts}
+use Rattle.ike.specs.Starting.{child_by, BeginsBy}
 use Rattle.ike.specs.Steps.{InputView, Steps}
 use Rattle.ike.specs.Steps as steps
 use Rattle.ike.specs.Ticking.{TakesHeld}
@@ -29,7 +29,7 @@ use Rattle.ike.specs.declared.output.Stepped.{Stepped}
 use Rattle.ike.proofs.SerialLemmas.{grown_found, grown_stands, replaced_found, replaced_stands, same_one, sound_found}
 use Rattle.ike.proofs.AskingLemmas.{probed_stood}
 use Rattle.ike.proofs.TickLemmas.{ticked_stood, TicksHold}
-use Rattle.ike.proofs.WayLemmas.{admitted, datagram_way, probed, rested, started, took, Takes, Way, asked_one}
+use Rattle.ike.proofs.WayLemmas.{admitted, asked_one, datagram_way, further_one, probed, rested, started, took, Takes, Way}
 
 -- what is known of a message's effect
 pub record ProvingFacts : Type 0 where
@@ -79,9 +79,9 @@ opened_stands opened keys e = cc
 waiting_stands : (sent : InitSent) (keys : KeyRecord) → phase.InitSent sent ≡ phase.Established keys → ⊥
 waiting_stands sent keys e = cc
 
-started_stood : (meaning : Meaning) (setup : Setup) (order : Option ℕ) (place : ℕ) (old : Held) (table : Database) (stepped : Stepped) (new : Held) (new_table : Database) (ike : ℕ) (a : Association) (keys : KeyRecord)
-    → AreSound old table → Starts meaning setup order place old table stepped new new_table → association_of ike new.associations ≡ Some a → a.phase ≡ phase.Established keys → StoodSo ike keys old
-started_stood meaning setup order place old table stepped new new_table ike a keys sound is stands established =
+started_stood : (meaning : Meaning) (setup : Setup) (place : ℕ) (old : Held) (table : Database) (stepped : Stepped) (new : Held) (new_table : Database) (ike : ℕ) (a : Association) (keys : KeyRecord)
+    → AreSound old table → BeginsBy meaning setup place old table stepped new new_table → association_of ike new.associations ≡ Some a → a.phase ≡ phase.Established keys → StoodSo ike keys old
+started_stood meaning setup place old table stepped new new_table ike a keys sound is stands established =
     came_stood old table (begun old.next is.beginning (child_by is.entry is.done.spi setup.config.extended)) new ike a keys sound refl is.done.content (λ e. waiting_stands _ keys e) stands established
 
 took_known : (facts : ProvingFacts) (meaning : Meaning) (setup : Setup) (octets : Octets) (old : Held) (table : Database) (stepped : Stepped) (new : Held) (new_table : Database) (ike : ℕ) (a : Association) (keys : KeyRecord)
@@ -148,7 +148,7 @@ way_known facts meaning setup octets old table stepped new new_table ike a keys 
 way_known facts meaning setup octets old table stepped new new_table ike a keys sound (probed is) stands established =
     still_known meaning setup octets ike keys old (probed_so meaning setup is.ike old table stepped new ike a keys sound is.probes stands established)
 way_known facts meaning setup octets old table stepped new new_table ike a keys sound (started is) stands established =
-    still_known meaning setup octets ike keys old (started_stood meaning setup is.ike is.place old table stepped new new_table ike a keys sound is.starts stands established)
+    still_known meaning setup octets ike keys old (started_stood meaning setup is.place old table stepped new new_table ike a keys sound is.starts stands established)
 
 pub step_known : ProvingFacts → TicksHold → (meaning : Meaning) (entries : List Entry) (input : InputView) (old : Machine) (table : Database) (stepped : Stepped) (new : Machine) (new_table : Database) (ike : ℕ) (a : Association) (keys : KeyRecord)
     → IsSoundMachine old table → Steps meaning entries input old table stepped new new_table → association_of ike new.held.associations ≡ Some a → a.phase ≡ phase.Established keys
@@ -157,8 +157,12 @@ step_known facts held meaning entries (steps.Message from octets fresh) old tabl
     let known = way_known facts meaning (setup_at old entries fresh) octets old.held table stepped new.held new_table ike a keys sound.held
     (datagram_way meaning (setup_at old entries fresh) old.cookies from octets old.held table stepped new.held new_table is.1) stands established in
     record { was = known.was; stood = known.stood; known = known.known }
-step_known facts held meaning entries (steps.Start order place fresh) old table stepped new new_table ike a keys sound is stands established =
-    let stood = started_stood meaning (setup_at old entries fresh) order place old.held table stepped new.held new_table ike a keys sound.held is.1 stands established in
+step_known facts held meaning entries (steps.Start None place fresh) old table stepped new new_table ike a keys sound is stands established =
+    let stood = started_stood meaning (setup_at old entries fresh) place old.held table stepped new.held new_table ike a keys sound.held is.1 stands established in
+    record { was = stood.was; stood = stood.stood; known = inl stood.established }
+step_known facts held meaning entries (steps.Start (Some asker) place fresh) old table stepped new new_table ike a keys sound is stands established =
+    let one = further_one meaning (setup_at old entries fresh) asker place old.held table stepped new.held new_table is.1 in
+    let stood = probed_so meaning (setup_at old entries fresh) one.ike old.held table stepped new.held ike a keys sound.held one.probes stands established in
     record { was = stood.was; stood = stood.stood; known = inl stood.established }
 step_known facts held meaning entries (steps.Order what fresh) old table stepped new new_table ike a keys sound is stands established =
     let one = asked_one meaning (setup_at old entries fresh) what old.held table stepped new.held new_table is.1 in

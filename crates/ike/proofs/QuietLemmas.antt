@@ -15,7 +15,7 @@ use Rattle.initial.specs.Configs.{Setup}
 use Rattle.effects.specs.Taking.{Meaning, TakesMessage}
 use Rattle.effects.specs.declared.taking.Effect.{Effect}
 use Rattle.effects.specs.declared.taking.Effect.TheVariants as effect
-use Rattle.ike.proofs.WayLemmas.{asked_one}
+use Rattle.ike.proofs.WayLemmas.{asked_one, further_one}
 use Rattle.ike.specs.Machines.{setup_at, Held, Machine}
 use Rattle.ike.specs.Outputs.{half_open_step, stepped_of, IsQuiet}
 use Rattle.ike.specs.Receiving.{is_answered, is_initial_request, is_sound_initial, DoesJudgement, TakesAt, TakesDatagram, TakesFound, TakesOffer, TakesRead, TakesRequestAt, TakesSound}
@@ -116,8 +116,11 @@ pub quiet_step : (facts : Quietness) (meaning : Meaning) (entries : List Entry) 
 quiet_step facts meaning entries (steps.Message from octets fresh) old table stepped new new_table is quiet =
     let still = quiet_datagram facts meaning (setup_at old entries fresh) old.cookies from octets old.held table stepped new.held new_table quiet is.1 in
     (whole old new is.0 still.0, still.1)
-quiet_step facts meaning entries (steps.Start ike place fresh) old table stepped new new_table is quiet =
+quiet_step facts meaning entries (steps.Start None place fresh) old table stepped new new_table is quiet =
     absurd (quiet_like stepped _ is.1.done.said quiet)
+quiet_step facts meaning entries (steps.Start (Some asker) place fresh) old table stepped new new_table is quiet =
+    let one = further_one meaning (setup_at old entries fresh) asker place old.held table stepped new.held new_table is.1 in
+    absurd (quiet_like stepped _ one.probes.said quiet)
 quiet_step facts meaning entries (steps.Order what fresh) old table stepped new new_table is quiet =
     let one = asked_one meaning (setup_at old entries fresh) what old.held table stepped new.held new_table is.1 in
     absurd (quiet_like stepped _ one.probes.said quiet)

@@ -28,7 +28,7 @@ use Rattle.sadb.specs.Database.{Database}
 use Rattle.sa_init.specs.Cookies.{CookieSecrets}
 use Rattle.association.specs.Finding.{answers_initial, found, has_pair, is_meant, is_waiting, missing, place_or, sent_by_other}
 use Rattle.association.specs.Phases.{keys_in}
-use Rattle.association.specs.Receiving.{opened_by, opened_under, Opening}
+use Rattle.association.specs.Receiving.{admits, opened_by, opened_under, Opening}
 use Rattle.association.specs.declared.fault.MessageFault.{MessageFault}
 use Rattle.association.specs.declared.fault.MessageFault.TheVariants as why
 use Rattle.association.specs.declared.phase.Association.{Association}
@@ -37,7 +37,7 @@ use Rattle.association.specs.declared.phase.Phase.TheVariants as phase
 use Rattle.initial.specs.Configs.{Setup}
 use Rattle.moments.specs.Holding.{HoldsOn}
 use Rattle.effects.specs.Keeping.{HasKeys}
-use Rattle.effects.specs.Requests.{is_concluded, takes_requests, IsNew, IsSoundlyHeld, OpensAs, PutsIntoEffect, StaysConcluded}
+use Rattle.effects.specs.Requests.{is_concluded, IsNew, IsSoundlyHeld, OpensAs, PutsIntoEffect, StaysConcluded}
 use Rattle.effects.specs.Taking.{Meaning, KeepsIdentity, TakesMessage}
 use Rattle.effects.specs.declared.taking.Effect.{Effect}
 use Rattle.effects.specs.declared.taking.Effect.TheVariants as effect
@@ -58,7 +58,7 @@ use Rattle.ike.proofs.AskingLemmas.{changed_itself, changed_phase}
 use Rattle.ike.proofs.RepeatLemmas.{none_passes}
 use Rattle.ike.proofs.SerialLemmas.{grown_found, replaced_found, replaced_stands, same_one, sound_found}
 use Rattle.ike.proofs.TickLemmas.{found_at, on_concluded, on_half_open, ticked_stood, TicksHold}
-use Rattle.ike.proofs.WayLemmas.{admitted, datagram_way, probed, rested, started, step_way, took, Takes, Way, asked_one}
+use Rattle.ike.proofs.WayLemmas.{admitted, asked_one, datagram_way, further_one, probed, rested, started, step_way, took, Takes, Way}
 
 -- what is known of one message's effect on one association
 pub record Laws : Type 0 where
@@ -69,7 +69,7 @@ pub record Laws : Type 0 where
       → PutsIntoEffect meaning.plain_of old octets m effect new number
   pub always : (meaning : Meaning) (setup : Setup) (old : Association) (table : Database) (octets : Octets) (m : Message) (effect : Effect) (new : Association) (new_table : Database) (plain : Plain)
       → TakesMessage meaning setup old table octets m effect new new_table → m.header.flags.response ≡ false → IsFreshRequest old.incoming m.header.id
-      → takes_requests old.phase m.header.exchange ≡ true → opened_by meaning.plain_of old octets m.payloads ≡ Some plain → HasNumber new.incoming.in_effect m.header.id
+      → admits old.phase m.header.exchange ≡ true → opened_by meaning.plain_of old octets m.payloads ≡ Some plain → HasNumber new.incoming.in_effect m.header.id
   pub follows : (meaning : Meaning) (setup : Setup) (old : Association) (table : Database) (octets : Octets) (m : Message) (effect : Effect) (new : Association) (new_table : Database)
       → TakesMessage meaning setup old table octets m effect new new_table → FollowsIncoming old.incoming new.incoming
   pub concluded : (meaning : Meaning) (setup : Setup) (old : Association) (table : Database) (octets : Octets) (m : Message) (effect : Effect) (new : Association) (new_table : Database)
@@ -208,7 +208,7 @@ way_change laws meaning setup octets old table stepped new new_table serial a b 
     elim (replaced_same old table p.place p.association p.changed new serial a b sound p.there stays.serial p.content held.before held.after) [
       | inl is_same ↦ unchanged is_same
       | inr (was, is_now) ↦ asked
-          (ap (λ (x : Association). x.incoming) is_now ∙ ap (λ (x : Association). x.incoming) p.asks.content ∙ ap (λ (x : Association). x.incoming) (sym was))
+          (ap (λ (x : Association). x.incoming) is_now ∙ ap (λ (x : Association). x.incoming) p.sends.content ∙ ap (λ (x : Association). x.incoming) (sym was))
           (ap (λ (x : Association). x.phase) is_now ∙ changed_phase meaning.body_of setup is.ike old stepped new p ∙ ap (λ (x : Association). x.phase) (sym was))
     ]
 
@@ -450,7 +450,7 @@ probed_never meaning setup ike old table stepped new serial a b number sound p h
     let stays = changed_itself meaning.body_of setup ike old stepped new p in
     elim (replaced_same old table p.place p.association p.changed new serial a b sound p.there stays.serial p.content held.before held.after) [
       | inl is_same ↦ never a b number (ap (λ (x : Association). x.incoming) is_same) comes
-      | inr (was, is_now) ↦ never a b number (ap (λ (x : Association). x.incoming) is_now ∙ ap (λ (x : Association). x.incoming) p.asks.content ∙ ap (λ (x : Association). x.incoming) (sym was)) comes
+      | inr (was, is_now) ↦ never a b number (ap (λ (x : Association). x.incoming) is_now ∙ ap (λ (x : Association). x.incoming) p.sends.content ∙ ap (λ (x : Association). x.incoming) (sym was)) comes
     ]
 
 pub step_brings : Laws → TicksHold → (meaning : Meaning) (entries : List Entry) (input : InputView) (old : Machine) (table : Database) (stepped : Stepped) (new : Machine) (new_table : Database)
@@ -461,8 +461,11 @@ step_brings laws ticks meaning entries (steps.Message from octets fresh) old tab
     let by = change_brings laws meaning setup octets stepped table a b number comes
     (way_change laws meaning setup octets old.held table stepped new.held new_table serial a b sound.held held (datagram_way meaning setup old.cookies from octets old.held table stepped new.held new_table is.1)) in
     (by.new_one, by.answered)
-step_brings laws ticks meaning entries (steps.Start ike place fresh) old table stepped new new_table serial a b number sound is held comes =
+step_brings laws ticks meaning entries (steps.Start None place fresh) old table stepped new new_table serial a b number sound is held comes =
     absurd (never a b number (ap (λ (x : Association). x.incoming) (grown_same old.held table serial _ b new.held sound.held refl is.1.done.content a held.before held.after)) comes)
+step_brings laws ticks meaning entries (steps.Start (Some asker) place fresh) old table stepped new new_table serial a b number sound is held comes =
+    let one = further_one meaning (setup_at old entries fresh) asker place old.held table stepped new.held new_table is.1 in
+    absurd (probed_never meaning (setup_at old entries fresh) one.ike old.held table stepped new.held serial a b number sound.held one.probes held comes)
 step_brings laws ticks meaning entries (steps.Order what fresh) old table stepped new new_table serial a b number sound is held comes =
     let one = asked_one meaning (setup_at old entries fresh) what old.held table stepped new.held new_table is.1 in
     absurd (probed_never meaning (setup_at old entries fresh) one.ike old.held table stepped new.held serial a b number sound.held one.probes held comes)
@@ -486,7 +489,7 @@ step_takes laws meaning entries (steps.Message from octets fresh) old table step
     let takes : TakesMessage meaning setup a table octets o.message t.effect t.changed new_table = subst (λ (x : Association). TakesMessage meaning setup x table octets o.message t.effect t.changed new_table) it.is t.takes in
     let stays = laws.itself meaning setup t.association table octets o.message t.effect t.changed new_table t.takes in
     let has : HasNumber t.changed.incoming.in_effect h.id = laws.always meaning setup a table octets o.message t.effect t.changed new_table o.plain takes o.request
-    (subst (λ n. IsFreshRequest a.incoming n) (sym o.number_is) new_one.fresh) (ap (takes_requests a.phase) o.exchange_is ∙ new_one.admitted) o.opened in
+    (subst (λ n. IsFreshRequest a.incoming n) (sym o.number_is) new_one.fresh) (ap (admits a.phase) o.exchange_is ∙ new_one.admitted) o.opened in
     let serial_is : t.association.serial ≡ serial = ap (λ (x : Association). x.serial) it.is ∙ (found_at old.held.associations serial a stands).serial_is in
     record {
       association = t.changed;

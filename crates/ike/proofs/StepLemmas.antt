@@ -7,9 +7,11 @@ use Rattle.std.proofs.lemmas.Option.{slice_get_within}
 use Rattle.std.proofs.lemmas.Bool.{eq-eqb}
 use Rattle.std.proofs.lemmas.Bool.Decides.{leb_tells}
 use Rattle.base.specs.Octets.{Octets}
+use Rattle.base.specs.declared.selector.Selector.{Selector}
 use Rattle.wire.specs.Messages.{Spells}
 use Rattle.wire.specs.declared.message.Message.{Message}
 use Rattle.wire.specs.declared.payload.Payload.{Payload}
+use Rattle.policy.specs.Decisions.{local_side, remote_side}
 use Rattle.policy.specs.declared.entry.Entry.{Entry}
 use Rattle.suite.specs.declared.fresh.Fresh.{Fresh}
 use Rattle.suite.specs.declared.key_record.KeyRecord.{KeyRecord}
@@ -33,6 +35,7 @@ use Rattle.initial.specs.Answering.{IsHalfOpen}
 use Rattle.initial.specs.Ending.{IsAuthSent}
 use Rattle.initial.specs.Reading.{IsInitSent}
 use Rattle.informational.specs.Asking.{Asks}
+use Rattle.create_child.specs.Asking.{AsksForFurther}
 use Rattle.moments.specs.Holding.{HoldSome, HoldsNone}
 use Rattle.moments.specs.Ticking.{Ticks}
 use Rattle.moments.specs.declared.ticking.Ticked.{Ticked}
@@ -43,18 +46,21 @@ use Rattle.initial.specs.Beginning.{begun, half_open as half_open_association, A
 use Rattle.effects.specs.Keeping.{IsShort, KeepsShort}
 use Rattle.effects.specs.Lengths.{HoldsWholeKeys}
 use Rattle.effects.specs.Requests.{IsSoundlyHeld}
+use Rattle.effects.specs.Sending.{SendsRequest}
 use Rattle.initial.specs.declared.beginning.Admitted.{Admitted}
 use Rattle.initial.specs.declared.beginning.Beginning.{Beginning}
 use Rattle.informational.specs.declared.ordering.Order.{Order}
+use Rattle.informational.specs.declared.ordering.Order.TheVariants as asked
 use Rattle.informational.specs.Ordering.{MarksFor}
 use Rattle.ike.proofs.MarkLemmas.{marked_reserved}
-use Rattle.ike.proofs.WayLemmas.{asked_one}
 use Rattle.ike.specs.Machines.{half_open_count, is_bad_spi, own_spi, setup_at, Held, Machine, SERIAL_END}
 use Rattle.ike.specs.Receiving.{is_initial_request, is_sound_initial, is_answered, is_answered_phase, same_octets, with_next, AdmitsNext, CanMake, DoesJudgement, IsInitialRequest, TakesAt, TakesDatagram, TakesFound, TakesOffer, TakesRead, TakesRequestAt, TakesSound}
-use Rattle.ike.specs.Asking.{AsksAt}
-use Rattle.ike.specs.Soundness.{AreSound, At, IsSoundMachine}
+use Rattle.ike.specs.Asking.{AsksAt, AsksFor, AsksThat}
+use Rattle.ike.specs.declared.asking.Demand.{Demand}
+use Rattle.ike.specs.declared.asking.Demand.TheVariants as demand
+use Rattle.ike.specs.Soundness.{AreSound, At, IsSound, IsSoundMachine}
 use Rattle.ike.specs.Ticking.{TakesHeld}
-use Rattle.ike.specs.Starting.{child_by, new_order_fault, order_fault_of, protecting_entry, Starts}
+use Rattle.ike.specs.Starting.{child_by, new_order_fault, order_fault_of, protecting_entry, BeginsBy, FurthersBy}
 use Rattle.ike.specs.Steps.{InputView, Refuses, Steps}
 use Rattle.ike.specs.Steps as steps
 use Rattle.ike.specs.declared.fault.IkeFault.{IkeFault}
@@ -102,12 +108,18 @@ pub record Laws : Type 0 where
   pub room : (cipher : Cipher) (group : ℕ) (secrets : CookieSecrets) (sender : Sender) (half_open held : ℕ) (payloads : List Payload) (offer : OfferView)
       → IsJudgement cipher group secrets sender half_open held payloads (Accepted offer) → (half_open < HALF_OPEN_LIMIT) × (held < ASSOCIATION_LIMIT)
 
--- what is known of a probe, and of a moment
+-- what is known of requests that go out, and of a moment
 pub record OrderLaws : Type 0 where
-  pub probed : (body_of : Keys → Octets → Octets → Octets → Octets) (setup : Setup) (order : Order) (old : Association) (octets : Octets) (new : Association) → KeepsShort old → Asks body_of setup order old octets new → KeepsShort new × IsShort octets
-  pub probed_soundly : (body_of : Keys → Octets → Octets → Octets → Octets) (setup : Setup) (order : Order) (old : Association) (octets : Octets) (new : Association) → IsSoundlyHeld old → Asks body_of setup order old octets new → IsSoundlyHeld new
+  pub requested : (body_of : Keys → Octets → Octets → Octets → Octets) (setup : Setup) (old : Association) (octets : Octets) (new : Association) → KeepsShort old → SendsRequest body_of setup old octets new → KeepsShort new × IsShort octets
+  pub requested_soundly : (body_of : Keys → Octets → Octets → Octets → Octets) (setup : Setup) (old : Association) (octets : Octets) (new : Association) → IsSoundlyHeld old → SendsRequest body_of setup old octets new → IsSoundlyHeld new
   pub asked : (body_of : Keys → Octets → Octets → Octets → Octets) (setup : Setup) (order : Order) (old : Association) (octets : Octets) (new : Association) (spi : ℕ) → Asks body_of setup order old octets new → HoldsSpi new spi → HoldsSpi old spi
   pub asking : (body_of : Keys → Octets → Octets → Octets → Octets) (setup : Setup) (order : Order) (old : Association) (octets : Octets) (new : Association) (table : Database) → Asks body_of setup order old octets new → HoldsReserved old table → HoldsReserved new table
+  pub further_held : (body_of : Keys → Octets → Octets → Octets → Octets) (setup : Setup) (local remote : Selector) (old : Association) (table : Database) (octets : Octets) (new : Association) (new_table : Database) (spi : ℕ)
+      → AsksForFurther body_of setup local remote old table octets new new_table → HoldsSpi new spi → HoldsSpi old spi ⊎ (spi ≡ table.start + table.given)
+  pub further_reserved : (body_of : Keys → Octets → Octets → Octets → Octets) (setup : Setup) (local remote : Selector) (old : Association) (table : Database) (octets : Octets) (new : Association) (new_table : Database)
+      → IsSoundTable table → HoldsReserved old table → AsksForFurther body_of setup local remote old table octets new new_table → HoldsReserved new new_table
+  pub further_others : (body_of : Keys → Octets → Octets → Octets → Octets) (setup : Setup) (local remote : Selector) (old : Association) (table : Database) (octets : Octets) (new : Association) (new_table : Database) (spi : ℕ)
+      → AsksForFurther body_of setup local remote old table octets new new_table → IsReserved table spi → IsReserved new_table spi
   pub held : (now : ℕ) (old : List Association) (table : Database) (ticked : Ticked) (new : List Association) (new_table : Database) → Ticks now old table ticked new new_table → HoldSome now old new
   pub reserved : (now : ℕ) (old : List Association) (table : Database) (ticked : Ticked) (new : List Association) (new_table : Database) (spi : ℕ)
       → HoldsNone now old spi → IsReserved table spi → Ticks now old table ticked new new_table → IsReserved new_table spi
@@ -351,10 +363,9 @@ free_of old spi none =
       usable = no_fault (is_bad_spi spi old.associations) _ _ after_spent;
     }
 
-order_free : (entry : Option Entry) (ike : Option ℕ) (old : Held) (spi : ℕ) → order_fault_of entry ike old spi ≡ None → IsFree old spi
-order_free None ike old spi none = absurd cc
-order_free (Some entry) (Some serial) old spi none = absurd cc
-order_free (Some entry) None old spi none = free_of old spi none
+order_free : (entry : Option Entry) (old : Held) (spi : ℕ) → order_fault_of entry old spi ≡ None → IsFree old spi
+order_free None old spi none = absurd cc
+order_free (Some entry) old spi none = free_of old spi none
 
 or_true : (b c : Bool) → c ≡ true → (b || c) ≡ true
 or_true true c is = refl
@@ -375,11 +386,11 @@ still_reserved old spi new q is there =
     subst (λ (d : Database). IsReserved d q) (sym is.content)
     (set.contains-insert nat_cmp_total old.reserved spi q ∙ or_true _ (set.contains old.reserved q) there)
 
-start_sound : (laws : Laws) (meaning : Meaning) (setup : Setup) (ike : Option ℕ) (place : ℕ) (old : Held) (table : Database) (stepped : Stepped) (new : Held) (new_table : Database)
-    → IsSoundTable table → AreSound old table → Starts meaning setup ike place old table stepped new new_table → AreSound new new_table
-start_sound laws meaning setup ike place old table stepped new new_table sound_table sound is =
+start_sound : (laws : Laws) (meaning : Meaning) (setup : Setup) (place : ℕ) (old : Held) (table : Database) (stepped : Stepped) (new : Held) (new_table : Database)
+    → IsSoundTable table → AreSound old table → BeginsBy meaning setup place old table stepped new new_table → AreSound new new_table
+start_sound laws meaning setup place old table stepped new new_table sound_table sound is =
     let b : Association = begun old.next is.beginning (child_by is.entry is.done.spi setup.config.extended) in
-    let free = order_free (protecting_entry setup.entries place) ike old setup.fresh.spi is.allowed.none in
+    let free = order_free (protecting_entry setup.entries place) old setup.fresh.spi is.allowed.none in
     let between_reserved : (q : ℕ) → IsReserved table q → IsReserved is.between q = λ q there. subst (λ (d : Database). IsReserved d q) (sym is.room.content) there in
     let same_next : is.between.start + is.between.given ≡ table.start + table.given = ap (λ (d : Database). d.start + d.given) is.room.content in
     subst (λ (h : Held). AreSound h new_table) (sym is.done.content)
@@ -400,16 +411,50 @@ start_sound laws meaning setup ike place old table stepped new new_table sound_t
     let is_new : spi ≡ is.done.spi = laws.begins_one meaning.cipher meaning.group meaning.public_value setup.fresh setup.moment old.next is.beginning (child_by is.entry is.done.spi setup.config.extended) spi is.begins e in
     absurd (omega (arith, given, is_new, same_next, is.done.reserved.in_order)))))
 
--- ---- an order to ask whether the peer is there
+-- ---- a request of an association that stands
+
+-- what becomes of the SPIs that an association holds as it asks: each stays reserved, and those that come were not
+record AskedSpis (a : Association) (table : Database) (b : Association) (new_table : Database) : Type 0 where
+  reserved : HoldsReserved b new_table
+  others : (spi : ℕ) → IsReserved table spi → IsReserved new_table spi
+  come : (spi : ℕ) → HoldsSpi b spi → HoldsSpi a spi ⊎ (¬ IsReserved table spi)
+
+ordered_spis : (laws : OrderLaws) (body_of : Keys → Octets → Octets → Octets → Octets) (setup : Setup) (order : Order) (a : Association) (octets : Octets) (b : Association) (table new_table : Database)
+    → HoldsReserved a table → Asks body_of setup order a octets b → MarksFor order table new_table → AskedSpis a table b new_table
+ordered_spis laws body_of setup order a octets b table new_table was asks marked =
+    record {
+      reserved = other_holds table new_table b (λ spi held there. marked_reserved order table new_table spi marked there) (laws.asking body_of setup order a octets b table asks was);
+      others = λ spi there. marked_reserved order table new_table spi marked there;
+      come = λ spi held. inl (laws.asked body_of setup order a octets b spi asks held);
+    }
+
+further_spis : (laws : OrderLaws) (body_of : Keys → Octets → Octets → Octets → Octets) (setup : Setup) (local remote : Selector) (a : Association) (octets : Octets) (b : Association) (table new_table : Database)
+    → IsSoundTable table → HoldsReserved a table → AsksForFurther body_of setup local remote a table octets b new_table → AskedSpis a table b new_table
+further_spis laws body_of setup local remote a octets b table new_table sound_table was asks =
+    record {
+      reserved = laws.further_reserved body_of setup local remote a table octets b new_table sound_table was asks;
+      others = λ spi there. laws.further_others body_of setup local remote a table octets b new_table spi asks there;
+      come = λ spi held.
+          elim (laws.further_held body_of setup local remote a table octets b new_table spi asks held) [
+            | inl before ↦ inl before
+            | inr next ↦ inr (λ there. let given = (sound_table.reserved_given spi there).before_next in omega (arith, given, next))
+          ];
+    }
+
+-- no other holds what comes
+none_shared : (a b c : Association) (table new_table : Database) (next : ℕ) → AskedSpis a table b new_table → IsSound c next table → ((spi : ℕ) → HoldsSpi c spi → ¬ HoldsSpi a spi) → (spi : ℕ) → HoldsSpi c spi → ¬ HoldsSpi b spi
+none_shared a b c table new_table next spis sound apart spi held its = elim (spis.come spi its) [
+  | inl before ↦ apart spi held before
+  | inr none ↦ none (sound.reserved.reserved spi held)
+]
 
 probed_joins : (laws : OrderLaws) (body_of : Keys → Octets → Octets → Octets → Octets) (setup : Setup) (ike : ℕ) (old : Held) (table new_table : Database) (stepped : Stepped) (new : Held)
-    → AreSound old table → (is : AsksAt body_of setup ike old stepped new) → MarksFor is.order table new_table → Joins old is.place is.changed old.next table new_table
-probed_joins laws body_of setup ike old table new_table stepped new sound is marked =
+    → AreSound old table → (is : AsksAt body_of setup ike old stepped new) → AskedSpis is.association table is.changed new_table → Joins old is.place is.changed old.next table new_table
+probed_joins laws body_of setup ike old table new_table stepped new sound is spis =
     let was = sound.each is.place is.association is.there in
     let stays = changed_itself body_of setup ike old stepped new is in
     let phase_is = changed_phase body_of setup ike old stepped new is in
     let own : own_spi is.changed ≡ own_spi is.association = own_stays is.association is.changed (λ w. was.initiator (inl w)) stays in
-    let none : (spi : ℕ) → HoldsSpi is.changed spi → HoldsSpi is.association spi = λ spi e. laws.asked body_of setup is.order is.association is.octets is.changed spi is.asks e in
     let opens : StaysOpened is.association is.changed = λ opened here. sym phase_is ∙ here in
     record {
       sound = record {
@@ -418,26 +463,60 @@ probed_joins laws body_of setup ike old table new_table stepped new sound is mar
         own = λ e. was.own (sym own ∙ e);
         initiator = λ w. stays.role ∙ was.initiator (waited_before is.association is.changed stays w);
         responder = λ h. stays.role ∙ was.responder (stays.half_open h);
-        reserved = other_holds table new_table is.changed (λ spi held there. marked_reserved is.order table new_table spi marked there)
-            (laws.asking body_of setup is.order is.association is.octets is.changed table is.asks was.reserved);
-        short = (laws.probed body_of setup is.order is.association is.octets is.changed was.short is.asks).0;
-        soundly = laws.probed_soundly body_of setup is.order is.association is.octets is.changed was.soundly is.asks;
+        reserved = spis.reserved;
+        short = (laws.requested body_of setup is.association is.octets is.changed was.short is.sends).0;
+        soundly = laws.requested_soundly body_of setup is.association is.octets is.changed was.soundly is.sends;
         asked = λ opened here. was.asked opened (opens opened here);
         whole = subst HoldsWholeKeys (sym phase_is) was.whole;
       };
       more = omega arith;
-      others = λ k c spi other there held reserved. marked_reserved is.order table new_table spi marked reserved;
-      before = λ k c less there. apart_before is.association is.changed c own stays opens none (sound.apart k is.place c is.association less there is.there);
-      after = λ k c less there. apart_after is.association is.changed c own stays opens none (sound.apart is.place k is.association c less is.there there);
+      others = λ k c spi other there held reserved. spis.others spi reserved;
+      before = λ k c less there.
+          let apart = sound.apart k is.place c is.association less there is.there in
+          record {
+            rising = subst (λ n. c.serial < n) (sym stays.serial) apart.rising;
+            own = λ e. apart.own (e ∙ own);
+            held = none_shared is.association is.changed c table new_table old.next spis (sound.each k c there) apart.held;
+            asked = λ one two is_one also. apart.asked one two is_one (opens two also);
+          };
+      after = λ k c less there.
+          let apart = sound.apart is.place k is.association c less is.there there in
+          record {
+            rising = subst (λ n. n < c.serial) (sym stays.serial) apart.rising;
+            own = λ e. apart.own (sym own ∙ e);
+            held = λ spi its held. none_shared is.association is.changed c table new_table old.next spis (sound.each k c there) (λ q there_too before. apart.held q before there_too) spi held its;
+            asked = λ one two is_one also. apart.asked one two (opens one is_one) also;
+          };
     }
 
 probed_sound : (laws : OrderLaws) (body_of : Keys → Octets → Octets → Octets → Octets) (setup : Setup) (ike : ℕ) (old : Held) (table new_table : Database) (stepped : Stepped) (new : Held)
-    → AreSound old table → (is : AsksAt body_of setup ike old stepped new) → MarksFor is.order table new_table → AreSound new new_table
-probed_sound laws body_of setup ike old table new_table stepped new sound is marked =
+    → AreSound old table → (is : AsksAt body_of setup ike old stepped new) → AskedSpis is.association table is.changed new_table → AreSound new new_table
+probed_sound laws body_of setup ike old table new_table stepped new sound is spis =
     subst (λ (h : Held). AreSound h new_table) (sym is.content)
     (sound_replaced old is.place is.changed table new_table
     (count_replaced old.associations is.place is.association is.changed is.there (changed_itself body_of setup ike old stepped new is).half_open)
-    sound (probed_joins laws body_of setup ike old table new_table stepped new sound is marked))
+    sound (probed_joins laws body_of setup ike old table new_table stepped new sound is spis))
+
+that_sound : (laws : OrderLaws) (body_of : Keys → Octets → Octets → Octets → Octets) (setup : Setup) (ike : ℕ) (order : Order) (old : Held) (table : Database) (stepped : Stepped) (new : Held) (new_table : Database)
+    → AreSound old table → AsksThat body_of setup ike order old table stepped new new_table → AreSound new new_table
+that_sound laws body_of setup ike order old table stepped new new_table sound is =
+    let a = is.asks in
+    probed_sound laws body_of setup ike old table new_table stepped new sound a
+    (ordered_spis laws body_of setup order a.association a.octets a.changed table new_table (sound.each a.place a.association a.there).reserved is.ordered is.marked)
+
+order_sound : (laws : OrderLaws) (body_of : Keys → Octets → Octets → Octets → Octets) (setup : Setup) (what : Demand) (old : Held) (table : Database) (stepped : Stepped) (new : Held) (new_table : Database)
+    → AreSound old table → AsksFor body_of setup what old table stepped new new_table → AreSound new new_table
+order_sound laws body_of setup (demand.Probe ike) old table stepped new new_table sound is = that_sound laws body_of setup ike asked.Probe old table stepped new new_table sound is
+order_sound laws body_of setup (demand.DeleteChild child) old table stepped new new_table sound is =
+    that_sound laws body_of setup is.pair.ike (asked.DeleteChild child is.pair.inbound.association.spi) old table stepped new new_table sound is.asks
+order_sound laws body_of setup (demand.DeleteIke ike) old table stepped new new_table sound is = that_sound laws body_of setup ike asked.DeleteAssociation old table stepped new new_table sound is
+
+further_sound : (laws : OrderLaws) (meaning : Meaning) (setup : Setup) (ike place : ℕ) (old : Held) (table : Database) (stepped : Stepped) (new : Held) (new_table : Database)
+    → IsSoundTable table → AreSound old table → FurthersBy meaning setup ike place old table stepped new new_table → AreSound new new_table
+further_sound laws meaning setup ike place old table stepped new new_table sound_table sound is =
+    let a = is.asks.asks in
+    probed_sound laws meaning.body_of setup ike old table new_table stepped new sound a
+    (further_spis laws meaning.body_of setup (local_side is.entry) (remote_side is.entry) a.association a.octets a.changed table new_table sound_table (sound.each a.place a.association a.there).reserved is.asks.further)
 
 -- ---- a moment
 
@@ -452,11 +531,12 @@ step_held : (laws : Laws) (orders : OrderLaws) (meaning : Meaning) (entries : Li
     → IsSoundTable table → AreSound old.held table → Steps meaning entries input old table stepped new new_table → AreSound new.held new_table
 step_held laws orders meaning entries (steps.Message from octets fresh) old table stepped new new_table sound_table sound is =
     datagram_sound laws meaning (setup_at old entries fresh) old.cookies from octets old.held table stepped new.held new_table sound_table sound is.1
-step_held laws orders meaning entries (steps.Start ike place fresh) old table stepped new new_table sound_table sound is =
-    start_sound laws meaning (setup_at old entries fresh) ike place old.held table stepped new.held new_table sound_table sound is.1
+step_held laws orders meaning entries (steps.Start None place fresh) old table stepped new new_table sound_table sound is =
+    start_sound laws meaning (setup_at old entries fresh) place old.held table stepped new.held new_table sound_table sound is.1
+step_held laws orders meaning entries (steps.Start (Some ike) place fresh) old table stepped new new_table sound_table sound is =
+    further_sound orders meaning (setup_at old entries fresh) ike place old.held table stepped new.held new_table sound_table sound is.1
 step_held laws orders meaning entries (steps.Order what fresh) old table stepped new new_table sound_table sound is =
-    let one = asked_one meaning (setup_at old entries fresh) what old.held table stepped new.held new_table is.1 in
-    probed_sound orders meaning.body_of (setup_at old entries fresh) one.ike old.held table new_table stepped new.held sound one.probes one.marked
+    order_sound orders meaning.body_of (setup_at old entries fresh) what old.held table stepped new.held new_table sound is.1
 step_held laws orders meaning entries (steps.Tick moment) old table stepped new new_table sound_table sound is =
     passed_sound orders (max old.moment moment) old.held table new.held new_table stepped sound is.takes
 step_held laws orders meaning entries (steps.Secret secret) old table stepped new new_table sound_table sound is =

@@ -29,7 +29,7 @@ use Rattle.initial.specs.Configs.{Setup}
 use Rattle.effects.specs.Keeping.{child_in, octets_of_effect, HasKeys, IsShort, KeepsShort, KeyedBy}
 use Rattle.effects.specs.Pairs.{IsUnused}
 use Rattle.effects.specs.Taking.{Meaning, KeepsIdentity, TakesMessage}
-use Rattle.informational.specs.Asking.{Asks}
+use Rattle.effects.specs.Sending.{SendsRequest}
 use Rattle.moments.specs.Due.{outstanding_count}
 use Rattle.moments.specs.Held.{IsOutstandingOf}
 use Rattle.moments.specs.Holding.{LeavesFewer}
@@ -40,10 +40,9 @@ use Rattle.initial.specs.declared.beginning.Admitted.{Admitted}
 use Rattle.initial.specs.declared.beginning.Beginning.{Beginning}
 use Rattle.effects.specs.declared.taking.Effect.{Effect}
 use Rattle.effects.specs.declared.taking.Effect.TheVariants as effect
-use Rattle.informational.specs.declared.ordering.Order.{Order}
 use Rattle.ike.specs.Pairs.{IsMarked}
 use Rattle.ike.proofs.MarkLemmas.{marked_pairs}
-use Rattle.ike.specs.Children.{AsksFirstChild, AsksNow, MakesFirstChild, WaitedBefore}
+use Rattle.ike.specs.Children.{AsksFirstChild, AsksNow, MakesChildOf, WaitedBefore}
 use Rattle.ike.specs.Machines.{association_of, keys_of_serial, setup_at, Held, Machine}
 use Rattle.ike.specs.Outputs.{asking_step, child_of, half_open_step, octets_in, plain_step, stepped_of}
 use Rattle.ike.specs.Asking.{AsksAt}
@@ -62,7 +61,7 @@ use Rattle.ike.specs.declared.output.Stepped.{Stepped}
 use Rattle.ike.proofs.AskingLemmas.{changed_itself, changed_phase, probed_serial, probed_stands, probed_stood}
 use Rattle.ike.proofs.TickLemmas.{on_keys, ticked_stood, TicksHold}
 use Rattle.ike.proofs.SerialLemmas.{grown_found, grown_keys, keys_of, last_there, none_next, replaced_found, set_there, sound_found}
-use Rattle.ike.proofs.WayLemmas.{admitted, datagram_way, probed, rested, started, step_way, took, AdmitsOne, GoesOut, PassesMoment, AsksOne, StartsOne, Takes, Way}
+use Rattle.ike.proofs.WayLemmas.{admitted, datagram_way, probed, rested, started, step_way, took, AdmitsOne, AsksOne, GoesOut, LeavesOrdered, LeavesReserved, PassesMoment, StartsOne, Takes, Way}
 
 -- what is known of requests that go out again
 abbrev pub TicksAgain : Type 0
@@ -72,7 +71,7 @@ TicksAgain = (now : ℕ) (old new : List Association) (table new_table : Databas
 
 -- what is known of what an association keeps
 pub record ShortFacts : Type 0 where
-  pub probed : (body_of : Keys → Octets → Octets → Octets → Octets) (setup : Setup) (order : Order) (old : Association) (octets : Octets) (new : Association) → KeepsShort old → Asks body_of setup order old octets new → KeepsShort new × IsShort octets
+  pub requested : (body_of : Keys → Octets → Octets → Octets → Octets) (setup : Setup) (old : Association) (octets : Octets) (new : Association) → KeepsShort old → SendsRequest body_of setup old octets new → KeepsShort new × IsShort octets
   pub sent : (meaning : Meaning) (setup : Setup) (old : Association) (table : Database) (octets : Octets) (m : Message) (effect : Effect) (new : Association) (new_table : Database) (said : Octets)
       → KeepsShort old → TakesMessage meaning setup old table octets m effect new new_table → octets_of_effect effect ≡ Some said → IsShort said
   pub begins : (cipher : Cipher) (group : ℕ) (public_value : Octets → Octets) (fresh : Fresh) (moment serial : ℕ) (beginning : Beginning) (child : AskedChildView)
@@ -127,7 +126,7 @@ way_short facts meaning setup octets old table stepped new new_table sound (admi
     (sym (ap (λ (s : Stepped). octets_in s.output) a.said) ∙ e)
 way_short facts meaning setup octets old table stepped new new_table sound (probed is) =
     let p = is.probes in
-    λ o e. short_one p.octets o (facts.probed meaning.body_of setup p.order p.association p.octets p.changed (sound.each p.place p.association p.there).short p.asks).1
+    λ o e. short_one p.octets o (facts.requested meaning.body_of setup p.association p.octets p.changed (sound.each p.place p.association p.there).short p.sends).1
     (sym (ap (λ (s : Stepped). octets_in s.output) p.said) ∙ e)
 way_short facts meaning setup octets old table stepped new new_table sound (started is) =
     let s = is.starts in
@@ -528,20 +527,26 @@ named_or_marked : (stepped : Stepped) (table : Database) (serial : ℕ) (pair : 
 named_or_marked stepped table serial pair (inl there) = inl there
 named_or_marked stepped table serial pair (inr marked) = inr (inr marked)
 
+one_pairs : (ike : ℕ) (table new_table : Database) (serial : ℕ) (pair : Pair) → LeavesOrdered ike table new_table ⊎ LeavesReserved table new_table → pair_at new_table.pairs serial ≡ Some pair
+    → (pair_at table.pairs serial ≡ Some pair) ⊎ IsMarked table serial pair
+one_pairs ike table new_table serial pair (inl is) there = marked_pairs is.order table new_table serial pair is.marked there
+one_pairs ike table new_table serial pair (inr is) there =
+    inl (sym (ap (λ (d : Database). pair_at d.pairs serial) is.reserved.content ∙ ap (λ (d : Database). pair_at d.pairs serial) is.room.content) ∙ there)
+
 -- an association that asks has keys, and all others have those that they had
 probed_traced : (meaning : Meaning) (setup : Setup) (old : Held) (table : Database) (stepped : Stepped) (new : Held) (new_table : Database)
     → AreSound old table → AsksOne meaning setup old table stepped new new_table → IsTraced old table stepped new new_table
 probed_traced meaning setup old table stepped new new_table sound is =
     let p = is.probes in
     let stands = probed_stands meaning.body_of setup is.ike old stepped new p table sound in
-    let has : HasKeys p.changed.phase = record { keys = p.asks.keys; are = ap keys_in (changed_phase meaning.body_of setup is.ike old stepped new p ∙ p.asks.established) } in
+    let has : HasKeys p.changed.phase = record { keys = p.sends.keys; are = ap keys_in (changed_phase meaning.body_of setup is.ike old stepped new p ∙ p.sends.established) } in
     let traced : IsTraced old table (asking_step is.ike p.association.outgoing.next p.octets) new new_table = record {
       octets = λ mark e. refl;
       sent = λ mark e. holds_keys new is.ike mark.ike p.changed (mark_named _ mark e) stands has;
       keyed = λ other e. absurd (none_out other e);
       child = λ made e. absurd (none_out made e);
       keys = λ serial keys are. inl (probed_had meaning setup is.ike old table stepped new p serial keys sound are);
-      pairs = λ serial pair there. named_or_marked _ table serial pair (marked_pairs p.order table new_table serial pair is.marked there);
+      pairs = λ serial pair there. named_or_marked _ table serial pair (one_pairs is.ike table new_table serial pair is.leaves there);
     } in
     subst (λ (s : Stepped). IsTraced old table s new new_table) (sym p.said) traced
 
@@ -614,11 +619,11 @@ step_keys facts held meaning entries input old table stepped new new_table seria
       on_keys passes.now before.was a before.on ∙ sym (ap keys_of before.stood) ∙ are
 ]
 
--- ---- first children
+-- ---- children
 
 took_makes : (facts : TraceFacts) (meaning : Meaning) (setup : Setup) (octets : Octets) (old : Held) (table : Database) (stepped : Stepped) (made : MadeChild) (new : Held) (new_table : Database)
     → IsSoundTable table → AreSound old table → AreSound new new_table → Takes meaning setup octets old table stepped new new_table → stepped.trace.child ≡ Some made
-    → MakesFirstChild meaning setup octets old table stepped made new new_table
+    → MakesChildOf meaning setup octets old table stepped made new new_table
 took_makes facts meaning setup octets old table stepped made new new_table sound_table sound now is named =
     let t = is.takes in
     let by = (traced_by t.association.serial is.message.header.id t.effect).child made (sym (ap (λ (s : Stepped). s.trace.child) t.said) ∙ named) in
@@ -642,7 +647,7 @@ none_made stepped said made is named = none_out made (sym (ap (λ (s : Stepped).
 
 way_makes : (facts : TraceFacts) (meaning : Meaning) (setup : Setup) (octets : Octets) (old : Held) (table : Database) (stepped : Stepped) (made : MadeChild) (new : Held) (new_table : Database)
     → IsSoundTable table → AreSound old table → AreSound new new_table → Way meaning setup octets old table stepped new new_table → stepped.trace.child ≡ Some made
-    → MakesFirstChild meaning setup octets old table stepped made new new_table
+    → MakesChildOf meaning setup octets old table stepped made new new_table
 way_makes facts meaning setup octets old table stepped made new new_table sound_table sound now (rested is) named = absurd (none_made stepped is.said made is.is named)
 way_makes facts meaning setup octets old table stepped made new new_table sound_table sound now (took is) named = took_makes facts meaning setup octets old table stepped made new new_table sound_table sound now is named
 way_makes facts meaning setup octets old table stepped made new new_table sound_table sound now (admitted is) named = absurd (none_out made (sym (ap (λ (s : Stepped). s.trace.child) is.admits.said) ∙ named))
@@ -652,7 +657,7 @@ way_makes facts meaning setup octets old table stepped made new new_table sound_
 
 pub step_makes : TraceFacts → (meaning : Meaning) (entries : List Entry) (from octets : Octets) (fresh : Fresh) (old : Machine) (table : Database) (stepped : Stepped) (made : MadeChild) (new : Machine) (new_table : Database)
     → IsSoundTable table → IsSoundMachine old table → Steps meaning entries (steps.Message from octets fresh) old table stepped new new_table → stepped.trace.child ≡ Some made
-    → MakesFirstChild meaning (setup_at old entries fresh) octets old.held table stepped made new.held new_table
+    → MakesChildOf meaning (setup_at old entries fresh) octets old.held table stepped made new.held new_table
 step_makes facts meaning entries from octets fresh old table stepped made new new_table sound_table sound is named =
     way_makes facts meaning (setup_at old entries fresh) octets old.held table stepped made new.held new_table sound_table sound.held
     (facts.sound meaning entries (steps.Message from octets fresh) old table stepped new new_table sound_table sound is).held

@@ -20,14 +20,13 @@ use Rattle.association.specs.declared.phase.Request.{Request}
 use Rattle.initial.specs.Beginning.{begun, Begins}
 use Rattle.initial.specs.Configs.{Setup}
 use Rattle.initial.specs.declared.beginning.Beginning.{Beginning}
-use Rattle.informational.specs.Asking.{Asks}
+use Rattle.effects.specs.Sending.{SendsRequest}
 use Rattle.effects.specs.Taking.{Meaning, KeepsIdentity, TakesMessage}
 use Rattle.effects.specs.Requests.{IsSoundlyHeld}
 use Rattle.effects.specs.Waiting.{asked_by, Ends, StartsWaiting, KeepTimers, WaitUntil}
 use Rattle.effects.specs.Waiting as effects
 use Rattle.effects.specs.declared.taking.Effect.{Effect}
 use Rattle.effects.specs.declared.taking.Effect.TheVariants as effect
-use Rattle.informational.specs.declared.ordering.Order.{Order}
 use Rattle.ike.specs.Machines.{association_of, setup_at, Held, Machine}
 use Rattle.ike.specs.Moments.{StandsIn, StartsToWait, StopsWaiting, WaitsAt}
 use Rattle.ike.specs.Moves.{TellsClosed}
@@ -42,7 +41,7 @@ use Rattle.ike.specs.declared.output.Stepped.{Stepped}
 use Rattle.ike.proofs.MoveLemmas.{at_changed, at_grown}
 use Rattle.ike.proofs.AskingLemmas.{changed_itself, probed_serial}
 use Rattle.ike.proofs.SerialLemmas.{same_one}
-use Rattle.ike.proofs.WayLemmas.{admitted, datagram_way, probed, rested, started, took, AdmitsOne, AsksOne, StartsOne, Takes, Way, asked_one}
+use Rattle.ike.proofs.WayLemmas.{admitted, asked_one, datagram_way, further_one, probed, rested, started, took, AdmitsOne, AsksOne, StartsOne, Takes, Way}
 
 -- what is known of one association
 pub record WaitLaws : Type 0 where
@@ -59,9 +58,9 @@ pub record WaitLaws : Type 0 where
   pub begun : (cipher : Cipher) (group : ℕ) (public_value : Octets → Octets) (fresh : Fresh) (moment serial : ℕ) (beginning : Beginning) (child : AskedChildView) (number : ℕ) (request : Request)
       → Begins cipher group public_value fresh moment beginning → map.get (begun serial beginning child).outgoing.outstanding number ≡ Some request
       → (beginning.octets ≡ request.octets) × (request.timer ≡ record { sent = moment; repeats = 0 })
-  pub probed : (body_of : Keys → Octets → Octets → Octets → Octets) (setup : Setup) (order : Order) (old : Association) (octets : Octets) (new : Association) → IsSoundlyHeld old → Asks body_of setup order old octets new
+  pub requested : (body_of : Keys → Octets → Octets → Octets → Octets) (setup : Setup) (old : Association) (octets : Octets) (new : Association) → IsSoundlyHeld old → SendsRequest body_of setup old octets new
       → KeepTimers setup.moment (Some octets) old new
-  pub asked : (body_of : Keys → Octets → Octets → Octets → Octets) (setup : Setup) (order : Order) (old : Association) (octets : Octets) (new : Association) (number : ℕ) (request : Request) → IsSoundlyHeld old → Asks body_of setup order old octets new
+  pub beside : (body_of : Keys → Octets → Octets → Octets → Octets) (setup : Setup) (old : Association) (octets : Octets) (new : Association) (number : ℕ) (request : Request) → IsSoundlyHeld old → SendsRequest body_of setup old octets new
       → map.get old.outgoing.outstanding number ≡ Some request → map.get new.outgoing.outstanding number ≡ Some request
 
 -- what a step that is no moment leaves of what waits, and of phases that have a time
@@ -187,19 +186,19 @@ probed_times laws meaning setup old table stepped new new_table serial sound is 
     let stays = changed_itself meaning.body_of setup is.ike old stepped new p in
     let named : p.association.serial ≡ is.ike = probed_serial meaning.body_of setup is.ike old stepped new p in
     let held = (sound.each p.place p.association p.there).soundly in
-    let known : p.changed.phase ≡ phase.Established p.asks.keys = ap (λ (x : Association). x.phase) p.asks.content ∙ p.asks.established in
+    let known : p.changed.phase ≡ phase.Established p.sends.keys = ap (λ (x : Association). x.phase) p.sends.content ∙ p.sends.established in
     elim (at_changed old table p.place p.association p.changed new serial sound p.there stays.serial p.content) [
       | inl (here, before, after) ↦ record {
         waits = λ number request. waits_there setup.moment old stepped new serial p.association p.changed (Some p.octets) number request before after
-            (laws.probed meaning.body_of setup p.order p.association p.octets p.changed held p.asks)
+            (laws.requested meaning.body_of setup p.association p.octets p.changed held p.sends)
             (λ octets out. ap (λ (x : Stepped). x.output) p.said ∙ ap (λ n. output.Request n p.octets) (sym (here ∙ named)) ∙ ap (λ (o : Octets). output.Request serial o) (same_octets p.octets octets out));
         waited = λ number request waits. inl (record {
           association = p.changed;
           there = after;
-          waits = laws.asked meaning.body_of setup p.order p.association p.octets p.changed number request held p.asks (waits_of old serial number request p.association before waits);
+          waits = laws.beside meaning.body_of setup p.association p.octets p.changed number request held p.sends (waits_of old serial number request p.association before waits);
         });
-        closed = λ keys at stands. absurd (established_closed p.asks.keys keys at (sym known ∙ phase_of new serial (phase.Closed keys at) p.changed after stands));
-        half_open = λ opened stands. absurd (established_opens p.asks.keys opened (sym known ∙ phase_of new serial (phase.HalfOpen opened) p.changed after stands));
+        closed = λ keys at stands. absurd (established_closed p.sends.keys keys at (sym known ∙ phase_of new serial (phase.Closed keys at) p.changed after stands));
+        half_open = λ opened stands. absurd (established_opens p.sends.keys opened (sym known ∙ phase_of new serial (phase.HalfOpen opened) p.changed after stands));
       }
       | inr (apart, same) ↦ times_apart setup.moment old stepped new serial same
     ]
@@ -265,8 +264,10 @@ pub step_times : WaitLaws → (meaning : Meaning) (entries : List Entry) (input 
 step_times laws meaning entries (steps.Message from octets fresh) old table stepped new new_table serial none sound is =
     way_times laws meaning (setup_at old entries fresh) octets old.held table stepped new.held new_table serial sound.held
     (datagram_way meaning (setup_at old entries fresh) old.cookies from octets old.held table stepped new.held new_table is.1)
-step_times laws meaning entries (steps.Start ike place fresh) old table stepped new new_table serial none sound is =
-    started_times laws meaning (setup_at old entries fresh) old.held table stepped new.held new_table serial sound.held (record { ike = ike; place = place; starts = is.1 })
+step_times laws meaning entries (steps.Start None place fresh) old table stepped new new_table serial none sound is =
+    started_times laws meaning (setup_at old entries fresh) old.held table stepped new.held new_table serial sound.held (record { place = place; starts = is.1 })
+step_times laws meaning entries (steps.Start (Some asker) place fresh) old table stepped new new_table serial none sound is =
+    probed_times laws meaning (setup_at old entries fresh) old.held table stepped new.held new_table serial sound.held (further_one meaning (setup_at old entries fresh) asker place old.held table stepped new.held new_table is.1)
 step_times laws meaning entries (steps.Order what fresh) old table stepped new new_table serial none sound is =
     probed_times laws meaning (setup_at old entries fresh) old.held table stepped new.held new_table serial sound.held (asked_one meaning (setup_at old entries fresh) what old.held table stepped new.held new_table is.1)
 step_times laws meaning entries (steps.Secret secret) old table stepped new new_table serial none sound is =

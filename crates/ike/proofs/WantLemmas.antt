@@ -21,9 +21,9 @@ read_there next items old place a same within value =
     subst (λ (h : Held). slice_get h.associations place ≡ Some a) same
     (slice_get_read items (length items) place a refl (subst (λ (h : Held). place < length h.associations) (sym same) within) value)
 
-pub wants_there : (old : Held) (place : ℕ) (a : Association) (f : ChildFault) → slice_get old.associations place ≡ Some a → CanWant a.phase f → WantsFound (Ok place) old f
-wants_there old place a f there (inl is) = inl is
-wants_there old place a f there (inr makes) = inr (record { association = a; there = there; makes = makes })
+pub wants_there : (old : Held) (place exchange : ℕ) (a : Association) (f : ChildFault) → slice_get old.associations place ≡ Some a → CanWant a.phase exchange f → WantsFound (Ok place) exchange old f
+wants_there old place exchange a f there (inl is) = inl is
+wants_there old place exchange a f there (inr makes) = inr (record { association = a; there = there; makes = makes })
 
 pub withheld : (d : Database) (f : TableFault) → IsTableRefusal d f → GivesNoSpi d (fault_of_table f)
 withheld d table.Full is = is

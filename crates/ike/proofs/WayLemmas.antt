@@ -1,12 +1,12 @@
 -- What a step did, by the ways in which it can do something.
-use Rattle.std.proofs.Common.{◌≡◌, ◌⊎◌, inl, inr, ℕ, Bool, true, false, [], List, Option, Some, None, Result, Ok, Err, ap, max, refl, subst, sym}
+use Rattle.std.proofs.Common.{◌≡◌, ◌⊎◌, inl, inr, ℕ, Bool, true, false, [], List, Option, Some, None, Result, Ok, Err, ap, max, refl}
 use Rattle.std.specs.List.{position, slice_get}
 use Rattle.base.specs.Octets.{Octets}
 use Rattle.wire.specs.Messages.{Spells}
 use Rattle.wire.specs.declared.message.Message.{Message}
 use Rattle.policy.specs.declared.entry.Entry.{Entry}
 use Rattle.suite.specs.declared.fresh.Fresh.{Fresh}
-use Rattle.sadb.specs.Database.{Database}
+use Rattle.sadb.specs.Database.{Database, IsAsBefore, Reserves}
 use Rattle.sa_init.specs.Cookies.{CookieSecrets}
 use Rattle.sa_init.specs.Judging.{Accepted, Answered, Full, Incomplete, JudgementView, OfferView}
 use Rattle.association.specs.Finding.{found}
@@ -25,7 +25,7 @@ use Rattle.ike.specs.Asking.{AsksAt, AsksFor, AsksThat}
 use Rattle.ike.specs.Pairs.{IsOwnFor}
 use Rattle.ike.specs.declared.asking.Demand.{Demand}
 use Rattle.ike.specs.declared.asking.Demand.TheVariants as demand
-use Rattle.ike.specs.Starting.{Starts}
+use Rattle.ike.specs.Starting.{BeginsBy, FurthersBy}
 use Rattle.ike.specs.Ticking.{TakesHeld}
 use Rattle.ike.specs.Steps.{is_tick, InputView, Steps}
 use Rattle.ike.specs.Steps as steps
@@ -77,25 +77,41 @@ pub record AdmitsOne (meaning : Meaning) (setup : Setup) (octets : Octets) (old 
 
 -- an association is begun
 pub record StartsOne (meaning : Meaning) (setup : Setup) (old : Held) (table : Database) (stepped : Stepped) (new : Held) (new_table : Database) : Type 0 where
-  pub ike : Option ℕ
   pub place : ℕ
-  pub starts : Starts meaning setup ike place old table stepped new new_table
+  pub starts : BeginsBy meaning setup place old table stepped new new_table
+
+-- what an order leaves of the table: a pair of the association's is marked, or nothing is changed
+pub record LeavesOrdered (ike : ℕ) (table new_table : Database) : Type 0 where
+  pub order : Order
+  pub own : IsOwnFor order table.pairs ike
+  pub marked : MarksFor order table new_table
+
+-- or the next SPI is reserved
+pub record LeavesReserved (table new_table : Database) : Type 0 where
+  pub between : Database
+  pub room : IsAsBefore table between
+  pub spi : ℕ
+  pub reserved : Reserves between spi new_table
 
 -- an association asks its peer something
 pub record AsksOne (meaning : Meaning) (setup : Setup) (old : Held) (table : Database) (stepped : Stepped) (new : Held) (new_table : Database) : Type 0 where
   pub ike : ℕ
   pub probes : AsksAt meaning.body_of setup ike old stepped new
-  pub own : IsOwnFor probes.order table.pairs ike
-  pub marked : MarksFor probes.order table new_table
+  pub leaves : LeavesOrdered ike table new_table ⊎ LeavesReserved table new_table
 
 that_one : (meaning : Meaning) (setup : Setup) (ike : ℕ) (order : Order) (old : Held) (table : Database) (stepped : Stepped) (new : Held) (new_table : Database)
     → IsOwnFor order table.pairs ike → AsksThat meaning.body_of setup ike order old table stepped new new_table → AsksOne meaning setup old table stepped new new_table
 that_one meaning setup ike order old table stepped new new_table own is = record {
   ike = ike;
   probes = is.asks;
-  own = subst (λ (o : Order). IsOwnFor o table.pairs ike) (sym is.ordered) own;
-  marked = subst (λ (o : Order). MarksFor o table new_table) (sym is.ordered) is.marked;
+  leaves = inl (record { order = order; own = own; marked = is.marked });
 }
+
+pub further_one : (meaning : Meaning) (setup : Setup) (ike place : ℕ) (old : Held) (table : Database) (stepped : Stepped) (new : Held) (new_table : Database)
+    → FurthersBy meaning setup ike place old table stepped new new_table → AsksOne meaning setup old table stepped new new_table
+further_one meaning setup ike place old table stepped new new_table is =
+    let f = is.asks.further in
+    record { ike = ike; probes = is.asks.asks; leaves = inr (record { between = f.between; room = f.room; spi = f.spi; reserved = f.reserved }) }
 
 pub asked_one : (meaning : Meaning) (setup : Setup) (what : Demand) (old : Held) (table : Database) (stepped : Stepped) (new : Held) (new_table : Database)
     → AsksFor meaning.body_of setup what old table stepped new new_table → AsksOne meaning setup old table stepped new new_table
@@ -193,8 +209,10 @@ step_way meaning entries (steps.Message from octets fresh) old table stepped new
       octets = octets;
       way = datagram_way meaning (setup_at old entries fresh) old.cookies from octets old.held table stepped new.held new_table is.1;
     })
-step_way meaning entries (steps.Start ike place fresh) old table stepped new new_table is =
-    inl (record { setup = setup_at old entries fresh; octets = []; way = started (record { ike = ike; place = place; starts = is.1 }) })
+step_way meaning entries (steps.Start None place fresh) old table stepped new new_table is =
+    inl (record { setup = setup_at old entries fresh; octets = []; way = started (record { place = place; starts = is.1 }) })
+step_way meaning entries (steps.Start (Some ike) place fresh) old table stepped new new_table is =
+    inl (record { setup = setup_at old entries fresh; octets = []; way = probed (further_one meaning (setup_at old entries fresh) ike place old.held table stepped new.held new_table is.1) })
 step_way meaning entries (steps.Order what fresh) old table stepped new new_table is =
     inl (record { setup = setup_at old entries fresh; octets = []; way = probed (asked_one meaning (setup_at old entries fresh) what old.held table stepped new.held new_table is.1) })
 step_way meaning entries (steps.Tick moment) old table stepped new new_table is =

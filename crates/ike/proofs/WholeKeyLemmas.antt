@@ -22,11 +22,11 @@ use Rattle.initial.specs.declared.beginning.Admitted.{Admitted}
 use Rattle.initial.specs.declared.beginning.Beginning.{Beginning}
 use Rattle.initial.specs.declared.config.Config.{Config}
 use Rattle.effects.specs.declared.taking.Effect.{Effect}
-use Rattle.ike.proofs.WayLemmas.{asked_one}
+use Rattle.ike.proofs.WayLemmas.{asked_one, further_one}
 use Rattle.ike.specs.Lengths.{HoldWholeKeys}
 use Rattle.ike.specs.Machines.{new_machine, setup_at, Held, Machine}
 use Rattle.ike.specs.Receiving.{is_answered, is_initial_request, is_sound_initial, with_next, DoesJudgement, TakesDatagram, TakesFound, TakesOffer, TakesRead, TakesRequestAt, TakesSound}
-use Rattle.ike.specs.Starting.{child_by, Starts}
+use Rattle.ike.specs.Starting.{child_by, BeginsBy}
 use Rattle.ike.specs.Steps as steps
 use Rattle.ike.specs.Steps.{InputView, Start, Secret, Steps}
 use Rattle.ike.specs.declared.output.Stepped.{Stepped}
@@ -99,8 +99,8 @@ module _ (laws : KeyLaws) (meaning : Meaning) (setup : Setup) (old : Held) (whol
     | inr reads ↦ read (is_initial_request reads.message.header) cookies from octets reads.message table new_table reads.done
   ]
 
-  started : (ike : Option ℕ) (place : ℕ) (table new_table : Database) → Starts meaning setup ike place old table stepped new new_table → HoldWholeKeys new
-  started ike place table new_table is =
+  started : (place : ℕ) (table new_table : Database) → BeginsBy meaning setup place old table stepped new new_table → HoldWholeKeys new
+  started place table new_table is =
       let child = child_by is.entry is.done.spi setup.config.extended in
       subst HoldWholeKeys (sym is.done.content) (after_next old (begun old.next is.beginning child) whole (no_keys old.next is.beginning child))
 
@@ -108,8 +108,13 @@ pub stepped_whole : KeyLaws → (meaning : Meaning) (entries : List Entry) (give
     → HoldWholeKeys old.held → Steps meaning entries given old table stepped new new_table → HoldWholeKeys new.held
 stepped_whole laws meaning entries (steps.Message from octets fresh) old table stepped new new_table whole is =
     datagram laws meaning (setup_at old entries fresh) old.held whole new.held stepped old.cookies from octets table new_table is.1
-stepped_whole laws meaning entries (Start ike place fresh) old table stepped new new_table whole is =
-    started laws meaning (setup_at old entries fresh) old.held whole new.held stepped ike place table new_table is.1
+stepped_whole laws meaning entries (Start None place fresh) old table stepped new new_table whole is =
+    started laws meaning (setup_at old entries fresh) old.held whole new.held stepped place table new_table is.1
+stepped_whole laws meaning entries (steps.Start (Some asker) place fresh) old table stepped new new_table whole is =
+    let one = further_one meaning (setup_at old entries fresh) asker place old.held table stepped new.held new_table is.1 in
+    let p = one.probes in
+    subst HoldWholeKeys (sym p.content)
+    (after_change old.held p.place p.changed whole (subst HoldsWholeKeys (sym (changed_phase meaning.body_of (setup_at old entries fresh) one.ike old.held stepped new.held p)) (whole p.place p.association p.there)))
 stepped_whole laws meaning entries (steps.Order what fresh) old table stepped new new_table whole is =
     let one = asked_one meaning (setup_at old entries fresh) what old.held table stepped new.held new_table is.1 in
     let p = one.probes in

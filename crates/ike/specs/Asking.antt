@@ -1,8 +1,9 @@
--- The orders that ask the peer something under an association that stands: whether it is there, or that a child or the association is
--- deleted (RFC 7296 sections 1.4, 1.4.1 and 2.4).
+-- The orders that ask the peer something under an association that stands: whether it is there, that a child or the association is deleted, or
+-- for a further child (RFC 7296 sections 1.3.1, 1.4, 1.4.1 and 2.4).
 use Rattle.std.specs.Prelude.{◌≡◌, ℕ, Option, Some, None, slice_get, slice_set}
 use Rattle.std.specs.List.{position}
 use Rattle.base.specs.Octets.{Octets}
+use Rattle.base.specs.declared.selector.Selector.{Selector}
 use Rattle.suite.specs.declared.keys.Keys.{Keys}
 use Rattle.sadb.specs.Database.{pair_at, Database}
 use Rattle.sadb.specs.declared.pair.Pair.{Pair}
@@ -20,6 +21,10 @@ use Rattle.informational.specs.declared.fault.OrderFault.{OrderFault}
 use Rattle.informational.specs.declared.fault.OrderFault.TheVariants as order
 use Rattle.informational.specs.declared.ordering.Order.{Order}
 use Rattle.informational.specs.declared.ordering.Order.TheVariants as asked
+use Rattle.create_child.specs.Asking.{AsksForFurther, RefusesFurther}
+use Rattle.create_child.specs.declared.fault.AskFault.{AskFault}
+use Rattle.create_child.specs.declared.fault.AskFault.TheVariants as ask
+use Rattle.effects.specs.Sending.{SendsRequest}
 use Rattle.ike.specs.Machines.{association_of, has_serial, Held}
 use Rattle.ike.specs.Outputs.{asking_step}
 use Rattle.ike.specs.declared.asking.Demand.{Demand}
@@ -28,23 +33,22 @@ use Rattle.ike.specs.declared.fault.IkeFault.{IkeFault}
 use Rattle.ike.specs.declared.fault.IkeFault.TheVariants as fault
 use Rattle.ike.specs.declared.output.Stepped.{Stepped}
 
--- the association with this serial asks something, and no other is changed
+-- the association with this serial sends a request to its peer, and no other is changed
 pub record AsksAt (body_of : Keys → Octets → Octets → Octets → Octets) (setup : Setup) (ike : ℕ) (old : Held) (stepped : Stepped) (new : Held) : Type 0 where
-  pub order : Order
   pub place : ℕ
   pub first : position (has_serial ike) old.associations ≡ Some place
   pub association : Association
   pub there : slice_get old.associations place ≡ Some association
   pub octets : Octets
   pub changed : Association
-  pub asks : Asks body_of setup order association octets changed
+  pub sends : SendsRequest body_of setup association octets changed
   pub said : stepped ≡ asking_step ike association.outgoing.next octets
   pub content : new ≡ record old { associations = slice_set old.associations place changed }
 
 -- it asks this; the pair of a child that is to be deleted is Deleting from then on
 pub record AsksThat (body_of : Keys → Octets → Octets → Octets → Octets) (setup : Setup) (ike : ℕ) (order : Order) (old : Held) (table : Database) (stepped : Stepped) (new : Held) (new_table : Database) : Type 0 where
   pub asks : AsksAt body_of setup ike old stepped new
-  pub ordered : asks.order ≡ order
+  pub ordered : Asks body_of setup order asks.association asks.octets asks.changed
   pub marked : MarksFor order table new_table
 
 -- the association of a child that is there, and Live, asks that it is deleted, by the SPI under which this end receives
@@ -53,6 +57,11 @@ pub record DeletesChild (body_of : Keys → Octets → Octets → Octets → Oct
   pub there : pair_at table.pairs serial ≡ Some pair
   pub live : pair.state ≡ Live
   pub asks : AsksThat body_of setup pair.ike (asked.DeleteChild serial pair.inbound.association.spi) old table stepped new new_table
+
+-- it asks for a further child with these selectors of this end's side and of the peer's, whose SPI the table gives
+pub record AsksFurther (body_of : Keys → Octets → Octets → Octets → Octets) (setup : Setup) (ike : ℕ) (local remote : Selector) (old : Held) (table : Database) (stepped : Stepped) (new : Held) (new_table : Database) : Type 0 where
+  pub asks : AsksAt body_of setup ike old stepped new
+  pub further : AsksForFurther body_of setup local remote asks.association table asks.octets asks.changed new_table
 
 abbrev pub AsksFor : (Keys → Octets → Octets → Octets → Octets) → Setup → Demand → Held → Database → Stepped → Held → Database → Type 0
 AsksFor body_of setup (Probe ike) old table stepped new new_table = AsksThat body_of setup ike asked.Probe old table stepped new new_table
@@ -73,6 +82,34 @@ pub record RefusesThere (place : ℕ) (old : Held) (o : OrderFault) : Type 0 whe
   pub association : Association
   pub there : slice_get old.associations place ≡ Some association
   pub refuses : RefusesOrder association o
+
+-- so with a further child
+pub record AsksFurtherThere (body_of : Keys → Octets → Octets → Octets → Octets) (setup : Setup) (place : ℕ) (local remote : Selector) (old : Held) (table : Database) (issued : Issued) (new : Held) (new_table : Database) : Type 0 where
+  pub association : Association
+  pub there : slice_get old.associations place ≡ Some association
+  pub changed : Association
+  pub asks : AsksForFurther body_of setup local remote association table issued.octets changed new_table
+  pub number : issued.number ≡ association.outgoing.next
+  pub content : new ≡ record old { associations = slice_set old.associations place changed }
+
+pub record RefusesFurtherThere (place : ℕ) (old : Held) (table : Database) (f : AskFault) : Type 0 where
+  pub association : Association
+  pub there : slice_get old.associations place ≡ Some association
+  pub refuses : RefusesFurther association table f
+
+abbrev pub fault_of_ask : AskFault → IkeFault
+fault_of_ask ask.WrongPhase = fault.Message WrongPhase
+fault_of_ask ask.Busy = fault.Busy
+fault_of_ask ask.NumbersSpent = fault.NumbersSpent
+fault_of_ask ask.TableFull = fault.TableFull
+fault_of_ask ask.SpisSpent = fault.SpisSpent
+fault_of_ask ask.TableMemory = fault.Memory child.Table
+fault_of_ask ask.Memory = fault.Memory child.Message
+
+-- there is no such association, or no further child can be asked for under it
+abbrev pub RefusesFurtherAt : Option Association → Database → IkeFault → Type 0
+RefusesFurtherAt None table reason = reason ≡ fault.Message UnknownAssociation
+RefusesFurtherAt (Some a) table reason = (f : AskFault) × (RefusesFurther a table f) × (reason ≡ fault_of_ask f)
 
 abbrev pub fault_of_order : OrderFault → IkeFault
 fault_of_order order.WrongPhase = fault.Message WrongPhase

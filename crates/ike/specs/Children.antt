@@ -1,4 +1,4 @@
--- Which messages a first child is made of (RFC 7296 sections 1.2 and 2.17).
+-- Which messages a child is made of (RFC 7296 sections 1.2, 1.3.1 and 2.17).
 use Rattle.std.specs.Prelude.{◌≡◌, ℕ, Some}
 use Rattle.base.specs.Octets.{Octets}
 use Rattle.wire.specs.Messages.{Spells}
@@ -18,7 +18,7 @@ use Rattle.ike.specs.declared.output.MadeChild.{MadeChild}
 use Rattle.ike.specs.declared.output.Stepped.{Stepped}
 
 -- the datagram is a message that made this child, of the association with its serial
-pub record MakesFirstChild (meaning : Meaning) (setup : Setup) (octets : Octets) (old : Held) (table : Database) (stepped : Stepped) (made : MadeChild) (new : Held) (new_table : Database) : Type 0 where
+pub record MakesChildOf (meaning : Meaning) (setup : Setup) (octets : Octets) (old : Held) (table : Database) (stepped : Stepped) (made : MadeChild) (new : Held) (new_table : Database) : Type 0 where
   pub message : Message
   pub spelled : Spells message octets
   pub number : made.number ≡ message.header.id

@@ -1,6 +1,5 @@
--- The order to ask for a child, with a new association (RFC 7296 section 1.2).
+-- The order to ask for a child, with a new association or under one that stands (RFC 7296 sections 1.2 and 1.3.1).
 use Rattle.std.specs.Prelude.{◌⊎◌, ◌≡◌, ◌==◌, ◌<◌, ℕ, Bool, Option, Some, None, List, length, slice_get, nat_le, if◌then◌else◌}
-use Rattle.std.specs.List.{list_any}
 use Rattle.policy.specs.Decisions.{local_side, remote_side}
 use Rattle.policy.specs.declared.entry.Action.{Action}
 use Rattle.policy.specs.declared.entry.Action.TheVariants as action
@@ -10,12 +9,12 @@ use Rattle.sadb.specs.Database.{Database, IsAsBefore, IsFull, IsSpent, Reserves}
 use Rattle.sa_init.specs.Judging.{ASSOCIATION_LIMIT}
 use Rattle.children.specs.declared.fault.ChildFault.TheVariants as child
 use Rattle.association.specs.AskedChildren.{AskedChildView}
-use Rattle.association.specs.declared.fault.MessageFault.TheVariants.{UnknownAssociation, WrongPhase}
 use Rattle.initial.specs.Beginning.{begun, Begins}
 use Rattle.initial.specs.Configs.{Setup}
 use Rattle.effects.specs.Taking.{Meaning}
 use Rattle.initial.specs.declared.beginning.Beginning.{Beginning}
-use Rattle.ike.specs.Machines.{has_serial, is_bad_spi, Held, SERIAL_END}
+use Rattle.ike.specs.Asking.{AsksFurther, RefusesFurtherAt}
+use Rattle.ike.specs.Machines.{association_of, is_bad_spi, Held, SERIAL_END}
 use Rattle.ike.specs.Outputs.{plain_step}
 use Rattle.ike.specs.Receiving.{with_next}
 use Rattle.ike.specs.declared.fault.IkeFault.{IkeFault}
@@ -43,26 +42,20 @@ new_order_fault old spi =
     else if is_bad_spi spi old.associations then Some fault.BadFresh
     else None
 
--- a further child of an association that is held can't be asked for yet
-abbrev pub further_order_fault : Held → ℕ → IkeFault
-further_order_fault old serial =
-    if list_any (has_serial serial) old.associations then fault.Message WrongPhase else fault.Message UnknownAssociation
+abbrev pub order_fault_of : Option Entry → Held → ℕ → Option IkeFault
+order_fault_of None old spi = Some fault.Unprotected
+order_fault_of (Some entry) old spi = new_order_fault old spi
 
-abbrev pub order_fault_of : Option Entry → Option ℕ → Held → ℕ → Option IkeFault
-order_fault_of None ike old spi = Some fault.Unprotected
-order_fault_of (Some entry) (Some serial) old spi = Some (further_order_fault old serial)
-order_fault_of (Some entry) None old spi = new_order_fault old spi
-
-abbrev pub order_fault : List Entry → Option ℕ → ℕ → Fresh → Held → Option IkeFault
-order_fault entries ike place fresh old = order_fault_of (protecting_entry entries place) ike old fresh.spi
+abbrev pub order_fault : List Entry → ℕ → Fresh → Held → Option IkeFault
+order_fault entries place fresh old = order_fault_of (protecting_entry entries place) old fresh.spi
 
 -- the child that is asked for by an entry: the whole of both its sides
 abbrev pub child_by : Entry → ℕ → Bool → AskedChildView
 child_by entry spi extended = record { spi = spi; local = local_side entry; remote = remote_side entry; extended = extended }
 
 -- an association may be begun, of this serial, by this entry
-pub record IsAllowed (entries : List Entry) (ike : Option ℕ) (place : ℕ) (fresh : Fresh) (old : Held) (serial : ℕ) (entry : Entry) : Type 0 where
-  pub none : order_fault entries ike place fresh old ≡ None
+pub record IsAllowed (entries : List Entry) (place : ℕ) (fresh : Fresh) (old : Held) (serial : ℕ) (entry : Entry) : Type 0 where
+  pub none : order_fault entries place fresh old ≡ None
   pub protects : protecting_entry entries place ≡ Some entry
   pub next : serial ≡ old.next
   pub left : old.next < SERIAL_END
@@ -76,14 +69,25 @@ pub record BeginsNext (entry : Entry) (extended : Bool) (beginning : Beginning) 
   pub said : stepped ≡ plain_step (Request old.next beginning.octets)
   pub content : new ≡ with_next old (begun old.next beginning (child_by entry spi extended))
 
-pub record Starts (meaning : Meaning) (setup : Setup) (ike : Option ℕ) (place : ℕ) (old : Held) (table : Database) (stepped : Stepped) (new : Held) (new_table : Database) : Type 0 where
+pub record BeginsBy (meaning : Meaning) (setup : Setup) (place : ℕ) (old : Held) (table : Database) (stepped : Stepped) (new : Held) (new_table : Database) : Type 0 where
   pub entry : Entry
-  pub allowed : IsAllowed setup.entries ike place setup.fresh old old.next entry
+  pub allowed : IsAllowed setup.entries place setup.fresh old old.next entry
   pub beginning : Beginning
   pub begins : Begins meaning.cipher meaning.group meaning.public_value setup.fresh setup.moment beginning
   pub between : Database
   pub room : IsAsBefore table between
   pub done : BeginsNext entry setup.config.extended beginning old between stepped new new_table
+
+-- the association with this serial asks for a further child by an entry: the whole of both its sides (section 1.3.1)
+pub record FurthersBy (meaning : Meaning) (setup : Setup) (ike place : ℕ) (old : Held) (table : Database) (stepped : Stepped) (new : Held) (new_table : Database) : Type 0 where
+  pub entry : Entry
+  pub protects : protecting_entry setup.entries place ≡ Some entry
+  pub asks : AsksFurther meaning.body_of setup ike (local_side entry) (remote_side entry) old table stepped new new_table
+
+-- a child is asked for with a new association, or by the one with this serial
+abbrev pub Starts : Meaning → Setup → Option ℕ → ℕ → Held → Database → Stepped → Held → Database → Type 0
+Starts meaning setup None place old table stepped new new_table = BeginsBy meaning setup place old table stepped new new_table
+Starts meaning setup (Some ike) place old table stepped new new_table = FurthersBy meaning setup ike place old table stepped new new_table
 
 -- The table gives no SPI; or it would, and there is no memory: for the table, where it has no room left, or for the message.
 abbrev pub GivesNoSpi : Database → IkeFault → Type 0
@@ -92,8 +96,17 @@ GivesNoSpi table fault.SpisSpent = (¬ IsFull table) × IsSpent table
 GivesNoSpi table (fault.Memory f) = (¬ IsFull table) × (¬ IsSpent table) × ((f ≡ child.Message) ⊎ ((f ≡ child.Table) × (table.room ≡ 0)))
 GivesNoSpi table reason = ⊥
 
--- why the order is refused: as said; or since the table gives no SPI, or for want of memory
+-- why no association is begun: as said; or since the table gives no SPI, or for want of memory
+abbrev pub RefusesBeginning : List Entry → Fresh → ℕ → Held → Database → IkeFault → Type 0
+RefusesBeginning entries fresh place old table reason =
+    (order_fault entries place fresh old ≡ Some reason)
+    ⊎ ((order_fault entries place fresh old ≡ None) × GivesNoSpi table reason)
+
+-- why no further child is asked for: no entry protects, or as the association with this serial refuses it
+abbrev pub RefusesFurtherBy : Option Entry → ℕ → Held → Database → IkeFault → Type 0
+RefusesFurtherBy None ike old table reason = reason ≡ fault.Unprotected
+RefusesFurtherBy (Some entry) ike old table reason = RefusesFurtherAt (association_of ike old.associations) table reason
+
 abbrev pub RefusesStart : List Entry → Fresh → Option ℕ → ℕ → Held → Database → IkeFault → Type 0
-RefusesStart entries fresh ike place old table reason =
-    (order_fault entries ike place fresh old ≡ Some reason)
-    ⊎ ((order_fault entries ike place fresh old ≡ None) × GivesNoSpi table reason)
+RefusesStart entries fresh None place old table reason = RefusesBeginning entries fresh place old table reason
+RefusesStart entries fresh (Some ike) place old table reason = RefusesFurtherBy (protecting_entry entries place) ike old table reason

@@ -1,16 +1,20 @@
 //! The orders that ask the peer something under an association that stands.
 ghost use Rattle.std.specs.Prelude.{◌≡◌, ◌<◌, Some, IfOk, IfErr, length};
 ghost use Rattle.std.specs.List.{position};
+ghost use Rattle.policy.specs.Narrowing.{IsSendableSelector};
+ghost use Rattle.sadb.specs.Database.{IsAsBefore};
 ghost use Rattle.initial.specs.Configs.{setup_of};
 ghost use Rattle.informational.specs.Ordering.{IsOfLive};
-ghost use Rattle.ike.specs.Asking.{AsksFor, AsksThat, AsksThere, RefusesAsking, RefusesAskingAt, RefusesThere};
+ghost use Rattle.ike.specs.Asking.{AsksFor, AsksFurther, AsksFurtherThere, AsksThat, AsksThere, RefusesAsking, RefusesAskingAt, RefusesFurtherAt, RefusesFurtherThere, RefusesThere};
 ghost use Rattle.ike.specs.Machines.{association_of, has_serial};
 ghost use Rattle.ike.specs.Outputs.{asking_step};
 
 use crate::held::Held;
 use crate::{IkeFault, IkeOutput, Mark, Stepped, Trace};
 use association::{Association, MessageFault};
-use base::Items;
+use base::{Items, Selector};
+use create_child::AskFault;
+use effects::laws::orders_send_requests;
 use informational::{Issued, Order, OrderFault};
 use initial::Step;
 use sadb::{State, Table};
@@ -97,6 +101,7 @@ fn ask_by<C: Sealer>(
     ensures refused { IfErr result (λ reason. RefusesAskingAt (association_of ike held.old.associations) reason
         × (held.new ≡ held.old) × (table.new ≡ table.old)) }
 {
+    orders_send_requests();
     let Some(place) = place_of(ike, held.associations()) else {
         return Err(IkeFault::Message(MessageFault::UnknownAssociation));
     };
@@ -121,6 +126,53 @@ fn ask_at<C: Sealer>(
 {
     let association = &mut held.associations[place];
     let issued = informational::ask(alloc, step, association, table, order)?;
+    Ok(issued)
+}
+
+/// Asks the peer of the association with this serial for a further child, with these selectors of this end's side and of the peer's.
+pub(crate) fn ask_further<C: Sealer>(
+    alloc: Global,
+    step: &Step<'_, C>,
+    held: &mut Held,
+    table: &mut Table,
+    ike: u32,
+    local: &Selector,
+    remote: &Selector,
+) -> Result<Stepped, IkeFault>
+    requires local { IsSendableSelector local.now }
+    requires remote { IsSendableSelector remote.now }
+    ensures asked { IfOk result (λ stepped. AsksFurther C.body_of (setup_of step.now) ike local.now remote.now
+        held.old table.old stepped held.new table.new) }
+    ensures refused { IfErr result (λ reason. RefusesFurtherAt (association_of ike held.old.associations) table.old reason
+        × (held.new ≡ held.old) × IsAsBefore table.old table.new) }
+{
+    orders_send_requests();
+    let Some(place) = place_of(ike, held.associations()) else {
+        return Err(IkeFault::Message(MessageFault::UnknownAssociation));
+    };
+    let Issued { number, octets } = ask_further_at(alloc, step, held, table, place, local, remote)?;
+    Ok(asking(ike, number, octets))
+}
+
+fn ask_further_at<C: Sealer>(
+    alloc: Global,
+    step: &Step<'_, C>,
+    held: &mut Held,
+    table: &mut Table,
+    place: usize,
+    local: &Selector,
+    remote: &Selector,
+) -> Result<Issued, AskFault>
+    requires within { place < length held.old.associations }
+    requires local { IsSendableSelector local.now }
+    requires remote { IsSendableSelector remote.now }
+    ensures asked { IfOk result (λ issued. AsksFurtherThere C.body_of (setup_of step.now) place local.now remote.now
+        held.old table.old issued held.new table.new) }
+    ensures refused { IfErr result (λ fault. RefusesFurtherThere place held.old table.old fault
+        × (held.new ≡ held.old) × IsAsBefore table.old table.new) }
+{
+    let association = &mut held.associations[place];
+    let issued = create_child::ask(alloc, step, association, table, local, remote)?;
     Ok(issued)
 }
 

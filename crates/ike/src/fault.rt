@@ -4,6 +4,7 @@ ghost use Rattle.ike.specs.Faults.{code_of_ike_fault};
 
 use association::MessageFault;
 use children::ChildFault;
+use create_child::AskFault;
 use informational::OrderFault;
 use sadb::TableFault;
 use std::alloc::AllocError;
@@ -103,6 +104,25 @@ impl From<TableFault> for IkeFault {
             TableFault::Full => IkeFault::TableFull,
             TableFault::Spent => IkeFault::SpisSpent,
             TableFault::Memory => IkeFault::Memory(ChildFault::Table),
+        }
+    }
+}
+
+impl From<AskFault> for IkeFault {
+    ghost use Rattle.std.specs.Prelude.{◌≡◌};
+    ghost use Rattle.ike.specs.Asking.{fault_of_ask};
+
+    ghost from_gives = { λ f e. e ≡ fault_of_ask f };
+
+    fn from(fault: AskFault) -> IkeFault {
+        match fault {
+            AskFault::WrongPhase => IkeFault::Message(MessageFault::WrongPhase),
+            AskFault::Busy => IkeFault::Busy,
+            AskFault::NumbersSpent => IkeFault::NumbersSpent,
+            AskFault::TableFull => IkeFault::TableFull,
+            AskFault::SpisSpent => IkeFault::SpisSpent,
+            AskFault::TableMemory => IkeFault::Memory(ChildFault::Table),
+            AskFault::Memory => IkeFault::Memory(ChildFault::Message),
         }
     }
 }

@@ -13,7 +13,7 @@ pub enum IkeInput<'a> {
         fresh: &'a Fresh,
     },
     /// Ask the peer for a child by an entry of the policy, its number counted from 0: with a new association where no serial is
-    /// given. A further child of an association that is held is refused (E32) until that exchange is there.
+    /// given, and otherwise a further child of the association with this serial (RFC 7296, section 1.3.1).
     Start {
         ike: Option<u32>,
         entry: u32,

@@ -17,11 +17,13 @@ ghost use Rattle.association.specs.declared.phase.AuthSent.{AuthSent};
 ghost use Rattle.association.specs.declared.phase.Phase.TheVariants as phase;
 ghost use Rattle.children.specs.Asking.{child_request, HasChildPayloads};
 ghost use Rattle.children.specs.Pairs.{HasFewSelectors};
-ghost use Rattle.effects.specs.Children.{IsAnsweredChild, IsAskedChild};
+ghost use Rattle.association.specs.declared.purpose.FurtherChild.{FurtherChild};
+ghost use Rattle.further.specs.Payloads.{further_payloads};
+ghost use Rattle.effects.specs.Children.{First, Further, IsAnsweredChild, IsAskedChild, IsAskedFurther};
 ghost use Rattle.initial.specs.Configs.{Setup};
 ghost use Rattle.effects.specs.Keeping.{IsShort};
 ghost use Rattle.effects.specs.Taking.{Meaning};
-ghost use Rattle.ike.specs.Children.{AsksFirstChild, MakesFirstChild, AsksNow, WaitedBefore};
+ghost use Rattle.ike.specs.Children.{AsksFirstChild, MakesChildOf, AsksNow, WaitedBefore};
 ghost use Rattle.ike.specs.Machines.{half_open_count, keys_of_serial, setup_at, Machine, new_machine, association_of};
 ghost use Rattle.ike.specs.Moments.{ComesTo, IsTimely, StaysAt};
 ghost use Rattle.ike.specs.Moves.{HasFresh, MovesAt, OpensFresh};
@@ -54,10 +56,11 @@ ghost use Rattle.ike.specs.declared.fault.IkeFault.{IkeFault};
 ghost use Rattle.ike.specs.declared.output.Stepped.{Stepped};
 
 use children::laws::children_mirror;
+use create_child::laws::a_further_spi_is_held;
 use effects::laws::{
-    associations_stay_themselves, beginnings_are_determined, children_are_made_of_their_messages,
-    effects_are_determined, keys_stay, messages_make_moves, messages_open, no_spi_comes,
-    nothing_comes_due, orders_are_short_and_determined, pairs_that_come_are_told, requests_wait_on,
+    associations_stay_themselves, beginnings_are_determined, effects_are_determined, keys_stay,
+    messages_make_moves, messages_open, no_spi_comes, nothing_comes_due,
+    orders_are_short_and_determined, pairs_that_come_are_told, requests_wait_on,
     spis_come_by_orders, spis_stay_reserved, what_goes_out_again_is_kept, what_is_kept_is_short,
     what_is_passed_over_changes_nothing, what_is_sealed_opens, what_others_hold_stays,
 };
@@ -91,6 +94,7 @@ pub fn soundness_stays()
     associations_stay_themselves();
     what_is_kept_is_short();
     acceptance_is_limited();
+    a_further_spi_is_held();
     orders_are_short_and_determined();
     effects::laws::keys_stay_whole();
     effects::laws::requests_are_remembered();
@@ -150,7 +154,7 @@ pub fn traces_name_what_is_held()
     soundness_stays();
     associations_stay_themselves();
     keys_stay();
-    children_are_made_of_their_messages();
+    effects::laws::children_are_made_of_their_messages();
     pairs_that_come_are_told();
     some_are_held_on();
     what_comes_is_due();
@@ -168,16 +172,17 @@ pub fn one_association_is_changed()
     effects::laws::pairs_stay_as_they_were();
 }
 
-/// A first child that a step made is what the payloads of IKE_AUTH say (RFC 7296, sections 1.2, 2.9 and 2.17): those of the datagram, and
-/// at a responder those that its answer seals, at an initiator those of the request that asked for the child. And an initiator whose
-/// keys a step made asks for its child by the request that goes out: who waits for the response waited before, or asks now.
-pub fn first_children_are_made_of_their_messages()
+/// A child that a step made is what the payloads of its exchange say, of IKE_AUTH the first one and of CREATE_CHILD_SA a further one
+/// (RFC 7296, sections 1.2, 1.3.1, 2.9 and 2.17): those of the datagram, and at the end that answers those that its answer seals, at the end
+/// that asked those of the request that asked for the child. And an initiator whose keys a step made asks for its first child by the
+/// request that goes out: who waits for the response waited before, or asks now.
+pub fn children_are_made_of_their_messages()
     ensures made { (meaning : Meaning) (entries : List Entry) (from octets : Octets) (fresh : Fresh) (old : Machine)
         (table : Database) (stepped : Stepped) (made : MadeChild) (new : Machine) (new_table : Database)
         → IsSoundTable table → IsSoundMachine old table
         → Steps meaning entries (Message from octets fresh) old table stepped new new_table
         → stepped.trace.child ≡ Some made
-        → MakesFirstChild meaning (setup_at old entries fresh) octets old.held table stepped made new.held new_table }
+        → MakesChildOf meaning (setup_at old entries fresh) octets old.held table stepped made new.held new_table }
     ensures asked { (meaning : Meaning) (entries : List Entry) (from octets : Octets) (fresh : Fresh) (old : Machine)
         (table : Database) (stepped : Stepped) (ike : ℕ) (next : Octets) (new : Machine) (new_table : Database)
         → IsSoundTable table → IsSoundMachine old table
@@ -194,7 +199,7 @@ pub fn first_children_are_made_of_their_messages()
     soundness_stays();
     associations_stay_themselves();
     keys_stay();
-    children_are_made_of_their_messages();
+    effects::laws::children_are_made_of_their_messages();
     some_are_held_on();
 }
 
@@ -205,7 +210,7 @@ pub fn children_have_few_selectors()
         → IsSoundMachine old table → Steps meaning entries input old table stepped new new_table
         → stepped.trace.child ≡ Some made → pair_at new_table.pairs made.serial ≡ Some pair → HasFewSelectors pair }
 {
-    first_children_are_made_of_their_messages();
+    children_are_made_of_their_messages();
 }
 
 /// The two ends' pairs of one first child mirror each other: the initiator's, of the reply, and the responder's, of that reply and of a
@@ -213,9 +218,20 @@ pub fn children_have_few_selectors()
 pub fn first_children_mirror()
     ensures { (setup : Setup) (keys others : KeyRecord) (child : AskedChildView) (request reply : List Payload) (a b : Pair)
         → keys ≡ others → HasChildPayloads request (child_request (asked_of child)) → IsAskedChild child keys reply a
-        → IsAnsweredChild setup others request reply b → Mirrors a b }
+        → IsAnsweredChild First setup others request reply b → Mirrors a b }
 {
     children_mirror();
+}
+
+/// So do those of a further child: of the end that asked, of the reply, and of the end that answered, of that reply and of the request that
+/// asked for this child with this nonce, under equal keys.
+pub fn further_children_mirror()
+    ensures { (setup : Setup) (keys others : KeyRecord) (further : FurtherChild) (reply : List Payload) (a b : Pair)
+        → keys ≡ others → IsAskedFurther further keys reply a
+        → IsAnsweredChild Further setup others (further_payloads (child_request (asked_of further.child)) further.nonce) reply b
+        → Mirrors a b }
+{
+    further::laws::further_children_mirror();
 }
 
 /// Who is established proved itself (RFC 7296, section 2.15): an association that is established after a step was established before, or

@@ -27,8 +27,8 @@ use suite::{Agreement, KeyRecord, Proof, Sealer};
 
 /// The IKE machine of one end: its associations with one peer, of which at most 128 are held.
 ///
-/// An SPI that an association holds for its first child is reserved in the table that every step is given; it is always the same
-/// table.
+/// The SPIs that an association holds for children that it asked for are reserved in the table that every step is given; it is always the
+/// same table.
 #[derive(Drop)]
 pub struct Ike {
     config: Config,
@@ -88,11 +88,12 @@ impl Ike {
     /// is refused (`Err`) by [`IkeFault::NumbersSpent`] or [`IkeFault::BadFresh`], where it would make an association, and for want
     /// of memory, but for a datagram whose length, length field or version is at fault.
     ///
-    /// An order to start is refused, in this order: [`IkeFault::Unprotected`] (E23); for a further child E28 or E32; E25 where 128
-    /// associations are held, E36, E37; then E25 or E26 by the table; and for want of memory. The orders to ask whether the peer is there,
-    /// and to delete a child or an association, are refused, in this order: E28 where no child or association has the serial, E32 where
-    /// the association is not established or the child is being deleted, E35 where the peer's window is full or the association is being
-    /// deleted, E36, and for want of memory. Another secret is refused by E36, and a moment for want of memory alone.
+    /// An order to ask for a child is refused, in this order: [`IkeFault::Unprotected`] (E23); with a new association E25 where 128
+    /// associations are held, E36, E37; for a further child E28 where no association has the serial, E32 where it is not established, E35
+    /// where the peer's window is full or the association is being deleted, E36; then E25 or E26 by the table; and for want of memory. The
+    /// orders to ask whether the peer is there, and to delete a child or an association, are refused, in this order: E28 where no child
+    /// or association has the serial, E32 where the association is not established or the child is being deleted, E35 and E36 as for a
+    /// further child, and for want of memory. Another secret is refused by E36, and a moment for want of memory alone.
     ///
     /// What is refused changes nothing but the table's room.
     pub fn step<C: Sealer + Agreement + Proof>(

@@ -1,4 +1,4 @@
-//! The order to ask for a child, with a new association.
+//! The order to ask for a child, with a new association or under one that stands.
 ghost use Rattle.std.specs.Prelude.{◌≡◌, ◌<◌, Some, None, IfOk, IfErr};
 ghost use Rattle.policy.specs.Decisions.{local_side, remote_side};
 ghost use Rattle.policy.specs.Entries.{IsSoundEntry};
@@ -6,11 +6,12 @@ ghost use Rattle.policy.specs.Narrowing.{IsSendableSelector};
 ghost use Rattle.sadb.specs.Database.{IsAsBefore, IsFull, IsReady, IsReserved, IsSpent, Reserves};
 ghost use Rattle.initial.specs.Configs.{setup_of};
 ghost use Rattle.ike.specs.Machines.{SERIAL_END};
-ghost use Rattle.ike.specs.Starting.{further_order_fault, if_protects, new_order_fault, order_fault, protecting_entry, BeginsNext, GivesNoSpi, IsAllowed, RefusesStart, Starts};
+ghost use Rattle.ike.specs.Starting.{if_protects, new_order_fault, order_fault, protecting_entry, BeginsBy, BeginsNext, FurthersBy, GivesNoSpi, IsAllowed, RefusesBeginning, RefusesFurtherBy, RefusesStart, Starts};
 
-use crate::held::{Held, has_serial, is_bad_spi};
+use crate::asking::ask_further;
+use crate::held::{Held, is_bad_spi};
 use crate::{IkeFault, IkeOutput, Stepped};
-use association::{AskedChild, MessageFault};
+use association::AskedChild;
 use base::Selector;
 use initial::{Beginning, Step, begin};
 use policy::{Action, Entry};
@@ -19,7 +20,7 @@ use sadb::{Spi, Table};
 use std::alloc::{AllocError, Global};
 use suite::{Agreement, Proof, Sealer};
 
-/// Begins an association whose first child is that of an entry of the policy, by its number.
+/// Asks for the child of an entry of the policy, by its number: with a new association, or under the one with this serial.
 pub(crate) fn start<C: Sealer + Agreement + Proof>(
     alloc: Global,
     step: &Step<'_, C>,
@@ -44,7 +45,37 @@ pub(crate) fn start<C: Sealer + Agreement + Proof>(
     ensures refused { IfErr result (λ reason. RefusesStart step.now.policy.now step.now.fresh.now ike place held.old table.old reason
         × (held.new ≡ held.old) × IsAsBefore table.old table.new) }
 {
-    let allowed = check_order(step, held, ike, place)?;
+    match ike {
+        None => begin_by(alloc, step, held, table, place),
+        Some(ike) => further_by(alloc, step, held, table, ike, place),
+    }
+}
+
+// Begins an association whose first child is that of an entry.
+fn begin_by<C: Sealer + Agreement + Proof>(
+    alloc: Global,
+    step: &Step<'_, C>,
+    held: &mut Held,
+    table: &mut Table,
+    place: u32,
+) -> Result<Stepped, IkeFault>
+    ensures started { IfOk result (λ stepped. BeginsBy
+        (record {
+          cipher = C.cipher;
+          body_of = C.body_of;
+          plain_of = C.plain_of;
+          group = C.group_number;
+          public_value = C.public_value;
+          shared_secret = C.shared_secret;
+          own_method = C.own_method step.now.caller.now;
+          proof_of = C.proof_of step.now.caller.now;
+          accepts = C.accepts step.now.caller.now;
+        })
+        (setup_of step.now) place held.old table.old stepped held.new table.new) }
+    ensures refused { IfErr result (λ reason. RefusesBeginning step.now.policy.now step.now.fresh.now place held.old table.old reason
+        × (held.new ≡ held.old) × IsAsBefore table.old table.new) }
+{
+    let allowed = check_order(step, held, place)?;
     prepare(table)?;
     let beginning = begin(alloc, step)?;
     Ok(begin_next(
@@ -57,6 +88,36 @@ pub(crate) fn start<C: Sealer + Agreement + Proof>(
     )?)
 }
 
+// Asks for the child of an entry under the association with this serial.
+fn further_by<C: Sealer + Agreement + Proof>(
+    alloc: Global,
+    step: &Step<'_, C>,
+    held: &mut Held,
+    table: &mut Table,
+    ike: u32,
+    place: u32,
+) -> Result<Stepped, IkeFault>
+    ensures asked { IfOk result (λ stepped. FurthersBy
+        (record {
+          cipher = C.cipher;
+          body_of = C.body_of;
+          plain_of = C.plain_of;
+          group = C.group_number;
+          public_value = C.public_value;
+          shared_secret = C.shared_secret;
+          own_method = C.own_method step.now.caller.now;
+          proof_of = C.proof_of step.now.caller.now;
+          accepts = C.accepts step.now.caller.now;
+        })
+        (setup_of step.now) ike place held.old table.old stepped held.new table.new) }
+    ensures refused { IfErr result (λ reason. RefusesFurtherBy (protecting_entry step.now.policy.now place) ike held.old table.old reason
+        × (held.new ≡ held.old) × IsAsBefore table.old table.new) }
+{
+    let entry = sound_entry(step, place)?;
+    let (local, remote) = sides(&entry);
+    ask_further(alloc, step, held, table, ike, &local, &remote)
+}
+
 /// What may be begun: an association of this serial, by this entry.
 #[derive(Clone, Copy)]
 struct Allowed {
@@ -64,24 +125,26 @@ struct Allowed {
     entry: Entry,
 }
 
-fn check_order<C>(
-    step: &Step<'_, C>,
-    held: &Held,
-    ike: Option<u32>,
-    place: u32,
-) -> Result<Allowed, IkeFault>
-    ensures allowed { IfOk result (λ a. IsAllowed step.now.policy.now ike place step.now.fresh.now held.now a.serial a.entry) }
+fn check_order<C>(step: &Step<'_, C>, held: &Held, place: u32) -> Result<Allowed, IkeFault>
+    ensures allowed { IfOk result (λ a. IsAllowed step.now.policy.now place step.now.fresh.now held.now a.serial a.entry) }
     ensures sound { IfOk result (λ a. IsSoundEntry a.entry) }
-    ensures refused { IfErr result (λ reason. order_fault step.now.policy.now ike place step.now.fresh.now held.now ≡ Some reason) }
+    ensures refused { IfErr result (λ reason. order_fault step.now.policy.now place step.now.fresh.now held.now ≡ Some reason) }
 {
-    let Some(entry) = protecting_entry(step.policy.entries(), place) else {
-        return Err(IkeFault::Unprotected);
-    };
-    let serial = match ike {
-        Some(serial) => return Err(further_order_fault(held, serial)),
-        None => new_serial(held, step.fresh.spi)?,
-    };
+    let entry = sound_entry(step, place)?;
+    let serial = new_serial(held, step.fresh.spi)?;
     Ok(Allowed { serial, entry })
+}
+
+// The entry of this number that protects, which is as entries of a policy are.
+fn sound_entry<C>(step: &Step<'_, C>, place: u32) -> Result<Entry, IkeFault>
+    ensures entry { IfOk result (λ entry. protecting_entry step.now.policy.now place ≡ Some entry) }
+    ensures sound { IfOk result IsSoundEntry }
+    ensures refused { IfErr result (λ reason. (reason ≡ IkeFault.Unprotected) × (protecting_entry step.now.policy.now place ≡ None)) }
+{
+    match protecting_entry(step.policy.entries(), place) {
+        Some(entry) => Ok(entry),
+        None => Err(IkeFault::Unprotected),
+    }
 }
 
 // The entry of this number, where it protects.
@@ -100,17 +163,6 @@ fn if_protects(entry: &Entry) -> Option<Entry>
     match entry.action {
         Action::Protect => Some(*entry),
         Action::Bypass | Action::Discard => None,
-    }
-}
-
-// Why no further child can be asked for.
-fn further_order_fault(held: &Held, serial: u32) -> IkeFault
-    ensures { result ≡ further_order_fault held.now serial }
-{
-    if has_serial(serial, held.associations()) {
-        IkeFault::Message(MessageFault::WrongPhase)
-    } else {
-        IkeFault::Message(MessageFault::UnknownAssociation)
     }
 }
 

@@ -22,17 +22,16 @@ returns-clause-asked g c =
     let there = c.in_ok-number.ensures.asked in
     record {
       asks = record {
-        order = c.args.order;
         place = c.in-Some.place;
         first = sym (ap (position (has_serial c.args.ike)) c.associations.ensures) ∙ sym c.place_of.ensures ∙ c.in-Some.is;
         association = there.association;
         there = there.there;
         octets = c.in_ok-number.field-0.octets;
         changed = there.changed;
-        asks = there.asks;
+        sends = c.orders_send_requests.ensures.ordered _ _ c.args.order there.association c.in_ok-number.field-0.octets there.changed there.asks;
         said = c.asking.ensures ∙ ap (λ n. asking_step c.args.ike n c.in_ok-number.field-0.octets) there.number;
         content = there.content;
       };
-      ordered = refl;
+      ordered = there.asks;
       marked = there.marked;
     }

@@ -1,6 +1,6 @@
-use Rattle.std.proofs.Common.{◌≡◌, ap, Some, sym, subst, ◌∙◌}
+use Rattle.std.proofs.Common.{ap, sym, subst, ◌∙◌}
 use Rattle.std.specs.Option.{option_copied}
-use Rattle.sadb.specs.Database.{pair_at, Database}
+use Rattle.sadb.specs.Database.{Database}
 use Rattle.sadb.specs.declared.pair.Pair.{Pair}
 use Rattle.initial.specs.Configs.{setup_of}
 use Rattle.informational.specs.declared.ordering.Order.TheVariants as asked

@@ -3,5 +3,5 @@ use Rattle.ike.proofs.laws.children_have_few_selectors.Goals as goal
 
 pub returns : goal.returns
 returns c =
-    let law : FirstLaw = record { made = c.first_children_are_made_of_their_messages.ensures.made } in
+    let law : FirstLaw = record { made = c.children_are_made_of_their_messages.ensures.made } in
     few_selectors law

@@ -22,10 +22,13 @@ returns c =
       admits_none = c.spis_come_by_orders.ensures.admitted;
       room = c.acceptance_is_limited.ensures.room;
     }) (record {
-      probed = c.orders_are_short_and_determined.ensures.kept;
-      probed_soundly = c.requests_are_remembered.ensures.probed;
+      requested = c.orders_are_short_and_determined.ensures.kept;
+      requested_soundly = c.requests_are_remembered.ensures.requested;
       asked = c.spis_come_by_orders.ensures.asked;
       asking = c.spis_come_by_orders.ensures.asking;
+      further_held = c.a_further_spi_is_held.ensures.held;
+      further_reserved = c.a_further_spi_is_held.ensures.reserved;
+      further_others = c.a_further_spi_is_held.ensures.others;
       held = c.some_are_held_on.ensures.held;
       reserved = c.some_are_held_on.ensures.reserved;
     })

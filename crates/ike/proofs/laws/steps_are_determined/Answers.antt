@@ -6,7 +6,7 @@ use Rattle.ike.proofs.laws.steps_are_determined.Goals as goal
 pub returns : goal.returns
 returns c =
     let laws : Laws = record {
-      orders = record { probe = c.orders_are_short_and_determined.ensures.determined; ticks = c.ticks_are_determined.ensures };
+      orders = record { probe = c.orders_are_short_and_determined.ensures.determined; further = c.orders_are_short_and_determined.ensures.further; ticks = c.ticks_are_determined.ensures };
       messages = record {
         message = c.octets_spell_one_message.ensures.message;
         fault = c.first_faults_are_determined.ensures.message;

@@ -11,7 +11,7 @@ returns c =
       taken = c.nothing_comes_due.ensures.taken;
       begins = c.nothing_comes_due.ensures.begun;
       admits = c.nothing_comes_due.ensures.admitted;
-      probes = c.nothing_comes_due.ensures.probed;
+      requested = c.nothing_comes_due.ensures.requested;
       ticks = c.nothing_is_due_afterwards.ensures.held;
       pairs = c.pairs_go_with_their_associations.ensures;
       comes = c.what_comes_is_due.ensures;
@@ -24,7 +24,7 @@ returns c =
       closed = c.requests_wait_on.ensures.closed;
       opened = c.requests_are_remembered.ensures.half_open;
       begun = c.requests_wait_on.ensures.begun;
-      probed = c.requests_wait_on.ensures.probed;
-      asked = c.requests_wait_on.ensures.asked;
+      requested = c.requests_wait_on.ensures.requested;
+      beside = c.requests_wait_on.ensures.beside;
     } in
     record { first = λ config. All-nil (IsInTime 0); timely = step_timely laws; comes = step_comes laws; unrefused = λ meaning entries moment machine table reason is. moment_refused reason is; stays = step_stays waits }

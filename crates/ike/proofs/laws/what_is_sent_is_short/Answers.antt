@@ -4,7 +4,7 @@ use Rattle.ike.proofs.laws.what_is_sent_is_short.Goals as goal
 pub returns-clause-sent : goal.returns-clause-sent
 returns-clause-sent c =
     step_short (record {
-      probed = c.orders_are_short_and_determined.ensures.kept;
+      requested = c.orders_are_short_and_determined.ensures.kept;
       sent = c.what_is_kept_is_short.ensures.sent;
       begins = c.what_is_kept_is_short.ensures.begun;
       admits = c.what_is_kept_is_short.ensures.admitted;

@@ -1,5 +1,5 @@
 use Rattle.ike.proofs.TraceLemmas.{step_asks, step_makes, step_waits}
-use Rattle.ike.proofs.laws.first_children_are_made_of_their_messages.Goals as goal
+use Rattle.ike.proofs.laws.children_are_made_of_their_messages.Goals as goal
 
 pub returns-clause-made : goal.returns-clause-made
 returns-clause-made c =

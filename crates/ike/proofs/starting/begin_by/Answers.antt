@@ -1,5 +1,5 @@
 use Rattle.std.proofs.Common.{refl}
-use Rattle.ike.proofs.starting.start.Goals as goal
+use Rattle.ike.proofs.starting.begin_by.Goals as goal
 
 pub returns-clause-started : goal.returns-clause-started
 returns-clause-started g c =
