@@ -149,7 +149,7 @@ module _ (laws : Laws) (meaning : Meaning) (entries : List Entry) (old other : M
   one_doing : (given : Input) → IsGiven meaning given → HoldWholeKeys old.held → DoesInput meaning entries given old table one trace a a_table → DoesInput meaning entries given other another two mark b b_table
       → SameDoing one two trace mark a b a_table b_table
   one_doing (input.Ike from octets fresh) told whole is also = one_ike (ike.Message from octets fresh) told whole is also
-  one_doing (input.Start serial entry fresh) told whole is also = one_ike (ike.Start serial entry fresh) tt whole is also
+  one_doing (input.Start serial entry fresh) told whole is also = one_ike (ike.Start serial entry fresh) told whole is also
   one_doing (input.Probe serial fresh) told whole is also = one_ike (ike.Order (demand.Probe serial) fresh) told whole is also
   one_doing (input.DeleteChild serial fresh) told whole is also = one_ike (ike.Order (demand.DeleteChild serial) fresh) told whole is also
   one_doing (input.DeleteIke serial fresh) told whole is also = one_ike (ike.Order (demand.DeleteIke serial) fresh) told whole is also

@@ -9,6 +9,7 @@ use Rattle.gateway.specs.declared.input.Input.TheVariants as input
 -- A datagram of IKE is of octets, and a cipher tells how long bodies are with the octets that are fresh.
 abbrev pub IsGiven : Meaning → Input → Type 0
 IsGiven meaning (input.Ike from octets fresh) = IsTold meaning (ike.Message from octets fresh)
+IsGiven meaning (input.Start serial entry fresh) = IsTold meaning (ike.Start serial entry fresh)
 IsGiven meaning (input.Probe serial fresh) = IsTold meaning (ike.Order (demand.Probe serial) fresh)
 IsGiven meaning (input.DeleteChild serial fresh) = IsTold meaning (ike.Order (demand.DeleteChild serial) fresh)
 IsGiven meaning (input.DeleteIke serial fresh) = IsTold meaning (ike.Order (demand.DeleteIke serial) fresh)

@@ -25,7 +25,7 @@ pub enum Input {
         packet: Items<u8>,
     },
     /// The order to ask the peer for a child by an entry of the policy, its number counted from 0: with a new IKE association where
-    /// no serial is given.
+    /// no serial is given, and otherwise a further child of the one with this serial (RFC 7296, section 1.3.1).
     Start {
         ike: Option<u32>,
         entry: u32,

@@ -1,5 +1,7 @@
 //! The machine of one end by its own step: requests whose numbers and SPIs no script writes.
 mod deleting;
+mod further;
+mod sealing;
 
 use crate::tests::gateways::sample::{config, fresh, policy};
 use association::MessageFault;
@@ -55,6 +57,13 @@ impl Side {
             Ok(stepped) => Ok(stepped.output),
             Err(_) => Err(Fail::new("refused")),
         }
+    }
+
+    /// Why an order is refused.
+    fn refusal(&mut self, alloc: Global, input: &IkeInput<'_>) -> Option<IkeFault> {
+        self.ike
+            .step(alloc, input, &mut self.table, &self.policy, &ScriptCaller)
+            .err()
     }
 
     /// What is said of a datagram.

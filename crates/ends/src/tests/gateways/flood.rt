@@ -72,7 +72,7 @@ fn bad_fresh_spis_of_requests(rt: HostRuntime) -> Result<(), Fail> {
     Ok(())
 }
 
-// An order for a further child, which is not there yet: of no association, and of one that waits.
+// An order for a further child: of no association, and of one that waits.
 #[test]
 fn further_children(rt: HostRuntime) -> Result<(), Fail> {
     let mut gateway = gateway(rt.alloc(), End::A)?;

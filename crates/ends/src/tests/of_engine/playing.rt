@@ -1,6 +1,7 @@
 //! Scripts played over readers and writers in memory.
 mod deleting;
 mod failures;
+mod further;
 mod probes;
 mod refusals;
 mod runs;

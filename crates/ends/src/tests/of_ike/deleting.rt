@@ -1,56 +1,36 @@
 //! Deletions that no script writes (RFC 7296, sections 1.4.1, 2.5, 2.21.3 and 3.11).
-use super::{Side, established, sent};
+use super::sealing::{INFORMATIONAL, INVALID_SYNTAX, NOTIFY, Sent, asked, counted};
+use super::{Side, agree, established, sent};
 use crate::tests::gateways::sample::fresh;
 use base::Items;
-use ike::{Demand, IkeInput, IkeOutput};
-use mac::icv;
-use std::alloc::{AllocError, Global};
+use gateway::End;
+use ike::{Demand, IkeInput};
+use std::alloc::Global;
 use std::test::Fail;
 
-const INITIATOR: u8 = 0x08;
-
-const RESPONSE: u8 = 0x20;
-
-/// Types of payloads: a notice, a Delete, one that nobody knows.
-const NOTIFY: u8 = 41;
-
+/// The type of a Delete.
 const DELETE: u8 = 42;
 
+/// The type of a payload that nobody knows.
 const UNKNOWN: u8 = 200;
 
-/// A message of INFORMATIONAL under A's SPI 1 and B's 2 whose payloads are these octets, as the caller of scripts seals it under A's key.
-fn message(
-    alloc: Global,
-    flags: u8,
-    number: u32,
-    first: u8,
-    payloads: &[u8],
-    key: &[u8; 32],
-) -> Result<Vec<u8>, Fail> {
-    let inner = u16::try_from(payloads.len()).map_err(|_| "too long")?;
-    let sealed = inner.checked_add(21).ok_or("too long")?;
-    let whole = sealed.checked_add(28).ok_or("too long")?;
-    let mut octets = head(alloc, flags, number)?;
-    octets.extend_from_slice(&u32::from(whole).to_be_bytes())?;
-    octets.extend_from_slice(&[first, 0])?;
-    octets.extend_from_slice(&sealed.to_be_bytes())?;
-    octets.extend_from_slice(payloads)?;
-    octets.push(0)?;
-    let check = icv(key, &[&octets]);
-    octets.extend_from_slice(&check)?;
-    Ok(octets)
+/// A's message of INFORMATIONAL of this number, whose first payload is a Delete.
+fn delete(number: u32) -> Sent {
+    Sent {
+        exchange: INFORMATIONAL,
+        number,
+        first: DELETE,
+    }
 }
 
-fn head(alloc: Global, flags: u8, number: u32) -> Result<Vec<u8>, AllocError> {
-    let mut octets = Vec::new(alloc);
-    octets.extend_from_slice(&[0, 0, 0, 0, 0, 0, 0, 1, 0, 0, 0, 0, 0, 0, 0, 2])?;
-    octets.extend_from_slice(&[46, 0x20, 37, flags])?;
-    octets.extend_from_slice(&number.to_be_bytes())?;
-    Ok(octets)
-}
+/// An SPI of no pair.
+const NOWHERE: u32 = 263;
 
-/// A Delete of ESP that names an SPI of no pair so many times.
-fn deletion(alloc: Global, count: u16) -> Result<Vec<u8>, Fail> {
+/// The SPI under which A receives by its first child: those of its children are counted from it.
+const FIRST: u32 = 4096;
+
+/// A Delete of ESP that names an SPI so many times.
+fn deletion(alloc: Global, spi: u32, count: u16) -> Result<Vec<u8>, Fail> {
     let length = count.checked_mul(4).ok_or("too long")?;
     let length = length.checked_add(8).ok_or("too long")?;
     let mut octets = Vec::new(alloc);
@@ -59,30 +39,9 @@ fn deletion(alloc: Global, count: u16) -> Result<Vec<u8>, Fail> {
     octets.extend_from_slice(&[3, 4])?;
     octets.extend_from_slice(&count.to_be_bytes())?;
     for _ in 0..count {
-        octets.extend_from_slice(&[0, 0, 1, 7])?;
+        octets.extend_from_slice(&spi.to_be_bytes())?;
     }
     Ok(octets)
-}
-
-/// How many octets answer, and whether the association is closed by it.
-fn answered(output: IkeOutput) -> Option<(usize, bool)> {
-    match output {
-        IkeOutput::Reply { octets, closed } => Some((octets.len(), closed.is_some())),
-        _ => None,
-    }
-}
-
-/// What B says of a request with these payloads.
-fn asked(
-    alloc: Global,
-    b: &mut Side,
-    number: u32,
-    first: u8,
-    payloads: &[u8],
-    key: &[u8; 32],
-) -> Result<Option<(usize, bool)>, Fail> {
-    let octets = message(alloc, INITIATOR, number, first, payloads, key)?;
-    Ok(answered(b.take(alloc, &octets, 40)?))
 }
 
 /// As many SPIs as one message may name, and one more: INVALID_SYNTAX, which closes.
@@ -90,36 +49,59 @@ fn asked(
 fn how_many_are_named(rt: HostRuntime) -> Result<(), Fail> {
     let alloc = rt.alloc();
     let (mut b, key) = established(alloc)?;
-    let most = deletion(alloc, 512)?;
-    let said = asked(alloc, &mut b, 2, DELETE, &most, &key)?;
+    let most = deletion(alloc, NOWHERE, 512)?;
+    let said = asked(alloc, &mut b, delete(2), &most, &key)?;
     assert_eq!(rt; said, Some((49, false)));
-    let more = deletion(alloc, 513)?;
-    let said = asked(alloc, &mut b, 3, DELETE, &more, &key)?;
+    let more = deletion(alloc, NOWHERE, 513)?;
+    let said = asked(alloc, &mut b, delete(3), &more, &key)?;
     assert_eq!(rt; said, Some((57, true)));
     assert!(rt; b.table.after(0).is_none());
     Ok(())
 }
 
-/// Beside a payload that is not known and critical nothing is deleted: the child's SPI is 4096, from which A's are counted.
+/// Beside a payload that is not known and critical nothing is deleted.
 #[test]
 fn beside_a_critical_payload(rt: HostRuntime) -> Result<(), Fail> {
     let alloc = rt.alloc();
     let (mut b, key) = established(alloc)?;
     let both = [UNKNOWN, 0, 0, 12, 3, 4, 0, 1, 0, 0, 0x10, 0, 0, 0x80, 0, 4];
-    let said = asked(alloc, &mut b, 2, DELETE, &both, &key)?;
+    let said = asked(alloc, &mut b, delete(2), &both, &key)?;
     assert_eq!(rt; said, Some((58, false)));
     assert!(rt; b.table.after(0).is_some());
     // Alone it is.
-    let said = asked(
-        alloc,
-        &mut b,
-        3,
-        DELETE,
-        &[0, 0, 0, 12, 3, 4, 0, 1, 0, 0, 0x10, 0],
-        &key,
-    )?;
+    let alone = deletion(alloc, FIRST, 1)?;
+    let said = asked(alloc, &mut b, delete(3), &alone, &key)?;
     assert_eq!(rt; said, Some((61, false)));
     assert!(rt; b.table.after(0).is_none());
+    Ok(())
+}
+
+/// A child that is named twice goes once, and is named once in the answer.
+#[test]
+fn named_twice(rt: HostRuntime) -> Result<(), Fail> {
+    let alloc = rt.alloc();
+    let (mut b, key) = established(alloc)?;
+    let twice = deletion(alloc, FIRST, 2)?;
+    let said = asked(alloc, &mut b, delete(2), &twice, &key)?;
+    assert_eq!(rt; said, Some((61, false)));
+    assert!(rt; b.table.after(0).is_none());
+    Ok(())
+}
+
+/// Under one association the child of another is not deleted.
+#[test]
+fn of_another_association(rt: HostRuntime) -> Result<(), Fail> {
+    let alloc = rt.alloc();
+    let mut a = Side::new(alloc, End::A)?;
+    let mut b = Side::new(alloc, End::B)?;
+    agree(alloc, &mut a, &mut b, 1)?;
+    agree(alloc, &mut a, &mut b, 3)?;
+    let key = b.ike.keys_of(1).ok_or("no keys")?.sk_ai;
+    let other = deletion(alloc, FIRST + 1, 1)?;
+    let said = asked(alloc, &mut b, delete(2), &other, &key)?;
+    assert_eq!(rt; said, Some((49, false)));
+    assert!(rt; b.table.after(0).is_some());
+    assert!(rt; b.table.after(1).is_some());
     Ok(())
 }
 
@@ -133,29 +115,19 @@ fn ask(alloc: Global, b: &mut Side, what: Demand) -> Result<Items<u8>, Fail> {
     sent(b.step(alloc, &order)?)
 }
 
-/// Whether B counts the answer to its first request, and is closed by it.
-fn counted(
-    alloc: Global,
-    b: &mut Side,
-    first: u8,
-    payloads: &[u8],
-    key: &[u8; 32],
-) -> Result<Option<bool>, Fail> {
-    let octets = message(alloc, INITIATOR | RESPONSE, 0, first, payloads, key)?;
-    match b.take(alloc, &octets, 42)? {
-        IkeOutput::Counted { closed, .. } => Ok(Some(closed.is_some())),
-        _ => Ok(None),
-    }
-}
-
 /// INVALID_SYNTAX in an answer closes, whatever was asked.
 #[test]
 fn told_bad_syntax(rt: HostRuntime) -> Result<(), Fail> {
     let alloc = rt.alloc();
     let (mut b, key) = established(alloc)?;
     let _ = ask(alloc, &mut b, Demand::Probe { ike: 1 })?;
-    let said = counted(alloc, &mut b, NOTIFY, &[0, 0, 0, 8, 0, 0, 0, 7], &key)?;
-    assert_eq!(rt; said, Some(true));
+    let notice = Sent {
+        exchange: INFORMATIONAL,
+        number: 0,
+        first: NOTIFY,
+    };
+    let said = counted(alloc, &mut b, notice, &INVALID_SYNTAX, &key)?;
+    assert_eq!(rt; said, Some((None, true)));
     assert!(rt; b.table.after(0).is_none());
     Ok(())
 }
@@ -167,8 +139,8 @@ fn answered_out_of_the_grammar(rt: HostRuntime) -> Result<(), Fail> {
     let (mut b, key) = established(alloc)?;
     let _ = ask(alloc, &mut b, Demand::DeleteChild { child: 1 })?;
     assert!(rt; b.table.after(0).is_some());
-    let said = counted(alloc, &mut b, DELETE, &[0, 0, 0], &key)?;
-    assert_eq!(rt; said, Some(false));
+    let said = counted(alloc, &mut b, delete(0), &[0, 0, 0], &key)?;
+    assert_eq!(rt; said, Some((None, false)));
     assert!(rt; b.table.after(0).is_none());
     Ok(())
 }

@@ -34,6 +34,12 @@ pub enum Act {
         side: Side,
         entry: u32,
     },
+    /// `child END IKE ENTRY`: a further child of an IKE association, by an entry of the policy.
+    Child {
+        side: Side,
+        ike: u32,
+        entry: u32,
+    },
     /// `probe END IKE`: the peer of an IKE association is asked whether it is there.
     Probe {
         side: Side,
@@ -176,6 +182,12 @@ fn read_act(alloc: Global, name: &[u8], words: &mut Words) -> Result<Act, LineFa
             let side = read_side(words)?;
             let entry = words.number(u64::from(u32::MAX))? as u32;
             Ok(Act::Start { side, entry })
+        }
+        b"child" => {
+            let side = read_side(words)?;
+            let ike = words.number(u64::from(u32::MAX))? as u32;
+            let entry = words.number(u64::from(u32::MAX))? as u32;
+            Ok(Act::Child { side, ike, entry })
         }
         b"probe" => {
             let side = read_side(words)?;

@@ -34,7 +34,8 @@ impl Ends {
     /// Does what is asked, and answers what that prints.
     pub fn follow(&mut self, act: Act) -> Result<String, LineFault> {
         match act {
-            Act::Start { side, entry } => self.start(side, entry),
+            Act::Start { side, entry } => self.start(side, None, entry),
+            Act::Child { side, ike, entry } => self.start(side, Some(ike), entry),
             Act::Probe { side, ike } => self.probe(side, ike),
             Act::Delete { side, child } => self.delete(side, child),
             Act::Close { side, ike } => self.close(side, ike),
@@ -53,9 +54,9 @@ impl Ends {
         }
     }
 
-    fn start(&mut self, side: Side, entry: u32) -> Result<String, LineFault> {
+    /// Asks for a child with a new IKE association, or for a further one of the association with this serial.
+    fn start(&mut self, side: Side, ike: Option<u32>, entry: u32) -> Result<String, LineFault> {
         let fresh = fresh(self.alloc, self.input)?;
-        let ike = None;
         self.give(side, Input::Start { ike, entry, fresh })
     }
 

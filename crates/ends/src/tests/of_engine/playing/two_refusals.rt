@@ -31,6 +31,8 @@ const DIRECTIVES: &str =
     reflect 0|reflect 2|reflect|damage 1 148 01|damage 1 0|damage 1 0 1|damage 2 0 01|damage 1 18446744073709551616 01|cut 1|cut 1 149|\
     cut 0 0|cut 1 18446744073709551615|raw A|raw A ike|raw A ah 00|raw C ike 00|raw A esp 0|raw A ike 00 00|out A|out A 0g|out C 00|out 00|\
     in A|in A 0|in C 00|table|table C|table A B|same 1|same 1 2|same 0 1|same 1 1 1|start A\t0|START A 0|sa|seal 4 00|sender 1|print 1|\
+    child|child A|child A 1|child A -1 0|child A 1 -1|child C 1 0|child A 1 0 0|child A 4294967296 0|child A 1 4294967296|\
+    delete|delete A|delete A -1|delete C 1|delete A 1 1|close|close A|close A -1|close C 1|close A 1 1|\
     probe|probe A|probe A -1|probe C 1|probe A 1 1|probe A 4294967296|tick|tick A|tick A -1|tick C 1|tick A 1 1|tick A 18446744073709551616";
 
 #[test]

@@ -1,0 +1,216 @@
+//! Further children that no script asks for (RFC 7296, sections 1.3.1, 2.5, 2.21.3 and 3.10.1).
+use super::sealing::{CREATE_CHILD, INVALID_SYNTAX, NOTIFY, Sent, asked, counted};
+use super::{Side, established, sent};
+use crate::tests::gateways::sample::fresh;
+use base::Items;
+use ike::{IkeFault, IkeInput};
+use std::alloc::{AllocError, Global};
+use std::test::Fail;
+
+/// Types of payloads: what is offered, a key exchange, a nonce, what the initiator of the exchange protects.
+const SA: u8 = 33;
+
+const KE: u8 = 34;
+
+const NONCE: u8 = 40;
+
+const TS_I: u8 = 44;
+
+/// The protocols that a proposal may be of.
+const IKE: u8 = 1;
+
+const ESP: u8 = 3;
+
+/// A key exchange of the caller's group, before a nonce.
+const KEY_EXCHANGE: [u8; 9] = [NONCE, 0, 0, 9, 0xfd, 0xea, 0, 0, 1];
+
+/// Selectors of 10.0.0.0/24 at the initiator of the exchange, and of 10.1.0.0/24 at the other end.
+const SELECTORS: [u8; 48] = [
+    45, 0, 0, 24, 1, 0, 0, 0, 7, 0, 0, 16, 0, 0, 0xff, 0xff, 10, 0, 0, 0, 10, 0, 0, 255, //
+    0, 0, 0, 24, 1, 0, 0, 0, 7, 0, 0, 16, 0, 0, 0xff, 0xff, 10, 1, 0, 0, 10, 1, 0, 255,
+];
+
+/// Adds what offers ENCR_NULL and AUTH_HMAC_SHA2_256_128 with numbers of either size, before a payload of this type.
+fn push_offer(octets: &mut Vec<u8>, next: u8, protocol: u8) -> Result<(), AllocError> {
+    octets.extend_from_slice(&[next, 0, 0, 48, 0, 0, 0, 44, 1, protocol, 4, 4])?;
+    octets.extend_from_slice(&[0, 0, 0x10, 1])?;
+    octets.extend_from_slice(&[3, 0, 0, 8, 1, 0, 0, 11, 3, 0, 0, 8, 3, 0, 0, 12])?;
+    octets.extend_from_slice(&[3, 0, 0, 8, 5, 0, 0, 1, 0, 0, 0, 8, 5, 0, 0, 0])
+}
+
+/// Adds a nonce, before the selectors.
+fn push_nonce(octets: &mut Vec<u8>) -> Result<(), AllocError> {
+    octets.extend_from_slice(&[TS_I, 0, 0, 36])?;
+    octets.extend_from_slice(&[5; 32])
+}
+
+/// What a request for a further child has to say, with an offer of this protocol.
+fn request(alloc: Global, protocol: u8) -> Result<Vec<u8>, AllocError> {
+    let mut octets = Vec::new(alloc);
+    push_offer(&mut octets, NONCE, protocol)?;
+    push_nonce(&mut octets)?;
+    octets.extend_from_slice(&SELECTORS)?;
+    Ok(octets)
+}
+
+/// The same without its nonce.
+fn without_nonce(alloc: Global) -> Result<Vec<u8>, AllocError> {
+    let mut octets = Vec::new(alloc);
+    push_offer(&mut octets, TS_I, ESP)?;
+    octets.extend_from_slice(&SELECTORS)?;
+    Ok(octets)
+}
+
+/// The same with a key exchange.
+fn with_key_exchange(alloc: Global) -> Result<Vec<u8>, AllocError> {
+    let mut octets = Vec::new(alloc);
+    push_offer(&mut octets, KE, ESP)?;
+    octets.extend_from_slice(&KEY_EXCHANGE)?;
+    push_nonce(&mut octets)?;
+    octets.extend_from_slice(&SELECTORS)?;
+    Ok(octets)
+}
+
+/// A's message of CREATE_CHILD_SA of this number, whose first payload is an offer.
+fn offer(number: u32) -> Sent {
+    Sent {
+        exchange: CREATE_CHILD,
+        number,
+        first: SA,
+    }
+}
+
+/// A child is made; one that is asked for with a key exchange, or an association in its place, is declined; a request without its nonce
+/// closes.
+#[test]
+fn requests(rt: HostRuntime) -> Result<(), Fail> {
+    let alloc = rt.alloc();
+    let (mut b, key) = established(alloc)?;
+    let said = asked(alloc, &mut b, offer(2), &request(alloc, ESP)?, &key)?;
+    assert_eq!(rt; said, Some((173, false)));
+    let made = b.table.after(1).ok_or("no child")?;
+    assert_eq!(rt; made.outbound.spi(), 0x1001);
+    let said = asked(alloc, &mut b, offer(3), &with_key_exchange(alloc)?, &key)?;
+    assert_eq!(rt; said, Some((57, false)));
+    let said = asked(alloc, &mut b, offer(4), &request(alloc, IKE)?, &key)?;
+    assert_eq!(rt; said, Some((57, false)));
+    assert!(rt; b.table.after(2).is_none());
+    let said = asked(alloc, &mut b, offer(5), &without_nonce(alloc)?, &key)?;
+    assert_eq!(rt; said, Some((57, true)));
+    assert!(rt; b.table.after(0).is_none());
+    Ok(())
+}
+
+/// B asks for a further child under its first association, as its first request.
+fn ask(alloc: Global, b: &mut Side) -> Result<Items<u8>, Fail> {
+    let fresh = fresh(50);
+    let order = IkeInput::Start {
+        ike: Some(1),
+        entry: 0,
+        fresh: &fresh,
+    };
+    sent(b.step(alloc, &order)?)
+}
+
+/// Why B refuses to ask for a further child.
+fn refusal(alloc: Global, b: &mut Side) -> Option<IkeFault> {
+    let fresh = fresh(50);
+    let order = IkeInput::Start {
+        ike: Some(1),
+        entry: 0,
+        fresh: &fresh,
+    };
+    b.refusal(alloc, &order)
+}
+
+/// INVALID_SYNTAX in the answer closes.
+#[test]
+fn told_bad_syntax(rt: HostRuntime) -> Result<(), Fail> {
+    let alloc = rt.alloc();
+    let (mut b, key) = established(alloc)?;
+    assert_eq!(rt; ask(alloc, &mut b)?.len(), 181);
+    let notice = Sent {
+        exchange: CREATE_CHILD,
+        number: 0,
+        first: NOTIFY,
+    };
+    let said = counted(alloc, &mut b, notice, &INVALID_SYNTAX, &key)?;
+    assert_eq!(rt; said, Some((None, true)));
+    assert!(rt; b.table.after(0).is_none());
+    Ok(())
+}
+
+/// An answer that is not in the grammar makes no child, and so does one whose selectors are not those asked for.
+#[test]
+fn answers_that_make_none(rt: HostRuntime) -> Result<(), Fail> {
+    let alloc = rt.alloc();
+    let (mut b, key) = established(alloc)?;
+    let _ = ask(alloc, &mut b)?;
+    let said = counted(alloc, &mut b, offer(0), &[0, 0, 0], &key)?;
+    assert_eq!(rt; said, Some((None, false)));
+    let _ = ask(alloc, &mut b)?;
+    // B asked between 10.1.0.0/24 and 10.0.0.0/24.
+    let said = counted(alloc, &mut b, offer(1), &answer(alloc, &SELECTORS)?, &key)?;
+    assert_eq!(rt; said, Some((None, false)));
+    assert!(rt; b.table.after(1).is_none());
+    let _ = ask(alloc, &mut b)?;
+    let said = counted(alloc, &mut b, offer(2), &answer(alloc, &ANSWERED)?, &key)?;
+    assert_eq!(rt; said, Some((Some(2), false)));
+    Ok(())
+}
+
+/// The selectors that B asks for.
+const ANSWERED: [u8; 48] = [
+    45, 0, 0, 24, 1, 0, 0, 0, 7, 0, 0, 16, 0, 0, 0xff, 0xff, 10, 1, 0, 0, 10, 1, 0, 255, //
+    0, 0, 0, 24, 1, 0, 0, 0, 7, 0, 0, 16, 0, 0, 0xff, 0xff, 10, 0, 0, 0, 10, 0, 0, 255,
+];
+
+/// An answer that takes the offer with extended numbers, and has these selectors.
+fn answer(alloc: Global, selectors: &[u8]) -> Result<Vec<u8>, AllocError> {
+    let mut octets = Vec::new(alloc);
+    octets.extend_from_slice(&[NONCE, 0, 0, 40, 0, 0, 0, 36, 1, ESP, 4, 3])?;
+    octets.extend_from_slice(&[0, 0, 0x10, 1])?;
+    octets.extend_from_slice(&[3, 0, 0, 8, 1, 0, 0, 11, 3, 0, 0, 8, 3, 0, 0, 12])?;
+    octets.extend_from_slice(&[0, 0, 0, 8, 5, 0, 0, 1])?;
+    push_nonce(&mut octets)?;
+    octets.extend_from_slice(selectors)?;
+    Ok(octets)
+}
+
+/// The table takes 1024 children, of which the first came with the association. Then A's request is declined, and an order
+/// refused by E25.
+#[test]
+fn a_full_table(rt: HostRuntime) -> Result<(), Fail> {
+    let alloc = rt.alloc();
+    let (mut b, key) = established(alloc)?;
+    let request = request(alloc, ESP)?;
+    for number in 2..1025 {
+        let said = asked(alloc, &mut b, offer(number), &request, &key)?;
+        assert_eq!(rt; said, Some((173, false)));
+    }
+    let said = asked(alloc, &mut b, offer(1025), &request, &key)?;
+    assert_eq!(rt; said, Some((57, false)));
+    assert_eq!(rt; refusal(alloc, &mut b), Some(IkeFault::TableFull));
+    assert!(rt; b.table.after(1023).is_some());
+    assert!(rt; b.table.after(1024).is_none());
+    Ok(())
+}
+
+/// A table gives 65,536 SPIs, of which the first was that of the first child: those of children that were not made are given up. Then A's
+/// request is declined, and an order refused by E26.
+#[test]
+fn a_spent_table(rt: HostRuntime) -> Result<(), Fail> {
+    let alloc = rt.alloc();
+    let (mut b, key) = established(alloc)?;
+    for number in 0..65_535 {
+        let _ = ask(alloc, &mut b)?;
+        let said = counted(alloc, &mut b, offer(number), &[0, 0, 0], &key)?;
+        assert_eq!(rt; said, Some((None, false)));
+    }
+    let said = asked(alloc, &mut b, offer(2), &request(alloc, ESP)?, &key)?;
+    assert_eq!(rt; said, Some((57, false)));
+    assert_eq!(rt; refusal(alloc, &mut b), Some(IkeFault::SpisSpent));
+    assert!(rt; b.table.after(0).is_some());
+    assert!(rt; b.table.after(1).is_none());
+    Ok(())
+}
