@@ -39,11 +39,15 @@ impl Model for Side {
 
 impl Side {
     fn new(alloc: Global, end: End) -> Result<Side, Fail> {
+        Side::with(alloc, end, Table::new(alloc, 4096))
+    }
+
+    fn with(alloc: Global, end: End, table: Table) -> Result<Side, Fail> {
         let config = config(alloc, end, 4)?;
         let policy = policy(alloc, end)?;
         Ok(Side {
             ike: Ike::new(alloc, config),
-            table: Table::new(alloc, 4096),
+            table,
             policy,
         })
     }
@@ -125,8 +129,13 @@ fn request(alloc: Global, number: u32, key: &[u8; 32]) -> Result<Vec<u8>, AllocE
 
 /// B, established with a window of 4 and two requests in effect, and A's key.
 fn established(alloc: Global) -> Result<(Side, [u8; 32]), Fail> {
+    established_with(alloc, Table::new(alloc, 4096))
+}
+
+/// The same, where B begins with this table.
+fn established_with(alloc: Global, table: Table) -> Result<(Side, [u8; 32]), Fail> {
     let mut a = Side::new(alloc, End::A)?;
-    let mut b = Side::new(alloc, End::B)?;
+    let mut b = Side::with(alloc, End::B, table)?;
     agree(alloc, &mut a, &mut b, 1)?;
     let key = b.ike.keys_of(1).ok_or("no keys")?.sk_ai;
     Ok((b, key))

@@ -1,9 +1,10 @@
 //! Further children that no script asks for (RFC 7296, sections 1.3.1, 2.5, 2.21.3 and 3.10.1).
 use super::sealing::{CREATE_CHILD, INVALID_SYNTAX, NOTIFY, Sent, asked, counted};
-use super::{Side, established, sent};
+use super::{Side, established, established_with, sent};
 use crate::tests::gateways::sample::fresh;
 use base::Items;
 use ike::{IkeFault, IkeInput};
+use sadb::Table;
 use std::alloc::{AllocError, Global};
 use std::test::Fail;
 
@@ -196,17 +197,21 @@ fn a_full_table(rt: HostRuntime) -> Result<(), Fail> {
     Ok(())
 }
 
-/// A table gives 65,536 SPIs, of which the first was that of the first child: those of children that were not made are given up. Then A's
-/// request is declined, and an order refused by E26.
+/// A table that gave all SPIs but one, and has none reserved.
+fn nearly_spent(alloc: Global) -> Result<Table, Fail> {
+    let mut table = Table::new(alloc, 4096);
+    for _ in 0..65_535 {
+        let spi = table.reserve().map_err(|_| "no SPI")?;
+        table.release(spi);
+    }
+    Ok(table)
+}
+
+/// A table gives 65,536 SPIs, here the last one for the first child. Then A's request is declined, and an order refused by E26.
 #[test]
 fn a_spent_table(rt: HostRuntime) -> Result<(), Fail> {
     let alloc = rt.alloc();
-    let (mut b, key) = established(alloc)?;
-    for number in 0..65_535 {
-        let _ = ask(alloc, &mut b)?;
-        let said = counted(alloc, &mut b, offer(number), &[0, 0, 0], &key)?;
-        assert_eq!(rt; said, Some((None, false)));
-    }
+    let (mut b, key) = established_with(alloc, nearly_spent(alloc)?)?;
     let said = asked(alloc, &mut b, offer(2), &request(alloc, ESP)?, &key)?;
     assert_eq!(rt; said, Some((57, false)));
     assert_eq!(rt; refusal(alloc, &mut b), Some(IkeFault::SpisSpent));
