@@ -1,6 +1,6 @@
 //! The machine of one end by its own step: requests whose numbers and SPIs no script writes.
 mod deleting;
-mod further;
+mod further_children;
 mod sealing;
 
 use crate::tests::gateways::sample::{config, fresh, policy};

@@ -1,7 +1,7 @@
 //! Scripts played over readers and writers in memory.
 mod deleting;
 mod failures;
-mod further;
+mod further_children;
 mod probes;
 mod refusals;
 mod runs;
