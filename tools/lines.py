@@ -1,0 +1,34 @@
+#!/usr/bin/env python3
+"""Prints the table of docs/MEASURES.md: of each crate the lines of code, tests, definitions and proofs, and its must-fail edits."""
+import pathlib
+
+crates = pathlib.Path(__file__).resolve().parent.parent / "crates"
+
+
+def lines(paths):
+    return sum(len(path.read_text().splitlines()) for path in paths)
+
+
+def is_test(path, source):
+    return path.relative_to(source).parts[0] in ("tests", "tests.rt")
+
+
+print("| Crate | Code | Tests | Definitions | Proofs | Must-fail edits |")
+print("|---|---|---|---|---|---|")
+sums = [0] * 5
+for crate in sorted(crates.iterdir()):
+    source = crate / "src"
+    if not source.is_dir():
+        continue
+    code = list(source.rglob("*.rt"))
+    tests = [path for path in code if is_test(path, source)]
+    row = [
+        lines(path for path in code if path not in tests),
+        lines(tests),
+        lines((crate / "specs").rglob("*.antt")),
+        lines((crate / "proofs").rglob("*.antt")),
+        len(list((crate / "must-fail").glob("*.edit"))),
+    ]
+    sums = [total + one for total, one in zip(sums, row)]
+    print(f"| `{crate.name}` | " + " | ".join(f"{one:,}" for one in row) + " |")
+print("| all | " + " | ".join(f"{one:,}" for one in sums) + " |")
