@@ -25,3 +25,4 @@ mod MoveLemmas
 mod OpeningLemmas
 mod SendingLemmas
 mod WaitLemmas
+mod ReleasedLemmas

@@ -74,6 +74,7 @@ pub record CountedAuth (meaning : Meaning) (setup : Setup) (old : Association) (
 pub record CountedInformational (setup : Setup) (old : Association) (table : Database) (m : Message) (ended : Ended) (new : Association) (new_table : Database) : Type 0 where
   pub keys : KeyRecord
   pub was : old.phase ≡ phase.Established keys
+  pub other : asked_further old m.header.id ≡ false
   pub plain : Plain
   pub done : CountsInformational setup old table m.header.id plain ended new new_table
 
@@ -126,18 +127,19 @@ request_way meaning setup p exchange old table octets m plain (effect.Refused fa
 request_way meaning setup p exchange old table octets m plain e new new_table received is = absurd is
 
 answer_way : (meaning : Meaning) (setup : Setup) (further : Bool) (keys : KeyRecord) (old : Association) (table : Database) (octets : Octets) (m : Message) (plain : Plain) (e : Effect) (new : Association) (new_table : Database)
-    → old.phase ≡ phase.Established keys → IsReceived meaning.plain_of old octets m (Answers plain) → DoesAnswer further setup old table m.header.id plain e new new_table → Way meaning setup old table octets m e new new_table
-answer_way meaning setup true keys old table octets m plain (effect.Counted ended) new new_table was received is = inr (inr (record { plain = plain; received = received; done = is }))
-answer_way meaning setup true keys old table octets m plain e new new_table was received is = absurd is
-answer_way meaning setup false keys old table octets m plain (effect.Counted ended) new new_table was received is = inr (inl (record { keys = keys; was = was; plain = plain; done = is }))
-answer_way meaning setup false keys old table octets m plain e new new_table was received is = absurd is
+    → old.phase ≡ phase.Established keys → asked_further old m.header.id ≡ further → IsReceived meaning.plain_of old octets m (Answers plain) → DoesAnswer further setup old table m.header.id plain e new new_table
+    → Way meaning setup old table octets m e new new_table
+answer_way meaning setup true keys old table octets m plain (effect.Counted ended) new new_table was further received is = inr (inr (record { plain = plain; received = received; done = is }))
+answer_way meaning setup true keys old table octets m plain e new new_table was further received is = absurd is
+answer_way meaning setup false keys old table octets m plain (effect.Counted ended) new new_table was other received is = inr (inl (record { keys = keys; was = was; other = other; plain = plain; done = is }))
+answer_way meaning setup false keys old table octets m plain e new new_table was other received is = absurd is
 
 response_way : (meaning : Meaning) (setup : Setup) (p : Phase) (old : Association) (table : Database) (octets : Octets) (m : Message) (plain : Plain) (e : Effect) (new : Association) (new_table : Database)
     → old.phase ≡ p → IsReceived meaning.plain_of old octets m (Answers plain) → DoesResponse meaning setup p old table m.header.id plain e new new_table → Way meaning setup old table octets m e new new_table
 response_way meaning setup (phase.AuthSent sent) old table octets m plain (effect.Counted ended) new new_table was received is = inl (record { plain = plain; received = received; done = is })
 response_way meaning setup (phase.AuthSent sent) old table octets m plain e new new_table was received is = absurd is
 response_way meaning setup (phase.Established keys) old table octets m plain e new new_table was received is =
-    answer_way meaning setup (asked_further old m.header.id) keys old table octets m plain e new new_table was received is
+    answer_way meaning setup (asked_further old m.header.id) keys old table octets m plain e new new_table was refl received is
 response_way meaning setup p old table octets m plain (effect.Refused fault) new new_table was received is = is.1
 response_way meaning setup p old table octets m plain e new new_table was received is = absurd is
 

@@ -11,7 +11,7 @@ ghost use Rattle.suite.specs.declared.sealer.Cipher.{Cipher};
 ghost use Rattle.sa_init.specs.Cookies.{CookieSecrets};
 ghost use Rattle.sa_init.specs.Judging.{Accepted, IsJudgement, OfferView};
 ghost use Rattle.sa_init.specs.declared.judging.Sender.{Sender};
-ghost use Rattle.sadb.specs.Database.{pair_at, Database, IsReserved, IsSoundTable};
+ghost use Rattle.sadb.specs.Database.{pair_at, Database, IsAsBefore, IsReserved, IsSoundTable, Reserves};
 ghost use Rattle.sadb.specs.declared.pair.Pair.{Pair};
 ghost use Rattle.association.specs.Closing.{HoldsReserved, HoldsSpi};
 ghost use Rattle.association.specs.AskedChildren.{AskedChildView};
@@ -145,6 +145,22 @@ pub fn what_is_passed_over_changes_nothing()
         (m : Message) (reply : Octets) (new : Association) (new_table : Database)
         → TakesMessage meaning setup old table octets m (Repeated reply) new new_table
         → (new ≡ old) × (new_table ≡ table) }
+{}
+
+/// An SPI that an association gives up is reserved no more: what is reserved after a message was so before, and an association that held
+/// it holds it still. So it does as a request goes out; and what is reserved as one more SPI is given was so before, or is that one. An
+/// association that is half open or closed for so long that a moment takes it out holds none.
+pub fn what_is_given_up_is_released()
+    ensures message { (meaning : Meaning) (setup : Setup) (old : Association) (table : Database) (octets : Octets) (m : Message)
+        (effect : Effect) (new : Association) (new_table : Database) (spi : ℕ) → IsSoundlyHeld old
+        → TakesMessage meaning setup old table octets m effect new new_table → IsReserved new_table spi
+        → IsReserved table spi × (HoldsSpi old spi → HoldsSpi new spi) }
+    ensures request { (body_of : Keys → Octets → Octets → Octets → Octets) (setup : Setup) (old : Association) (octets : Octets)
+        (new : Association) (spi : ℕ) → IsSoundlyHeld old → SendsRequest body_of setup old octets new
+        → HoldsSpi old spi → HoldsSpi new spi }
+    ensures given { (table between new_table : Database) (next spi : ℕ) → IsAsBefore table between → Reserves between next new_table
+        → IsReserved new_table spi → IsReserved table spi ⊎ (spi ≡ next) }
+    ensures over { (now : ℕ) (a : Association) (spi : ℕ) → IsSoundlyHeld a → is_over now a.phase ≡ true → ¬ HoldsSpi a spi }
 {}
 
 /// An association comes to no SPI by a message: what it holds for a child it held before.

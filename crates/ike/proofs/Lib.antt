@@ -32,3 +32,4 @@ mod MoveLemmas
 mod WaitLemmas
 mod AgainLemmas
 mod ClearLemmas
+mod ReleasedLemmas

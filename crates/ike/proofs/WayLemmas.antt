@@ -134,62 +134,79 @@ pub data Way (meaning : Meaning) (setup : Setup) (octets : Octets) (old : Held) 
   started : StartsOne meaning setup old table stepped new new_table → Way meaning setup octets old table stepped new new_table
   probed : AsksOne meaning setup old table stepped new new_table → Way meaning setup octets old table stepped new new_table
 
-passed_way : (meaning : Meaning) (setup : Setup) (octets : Octets) (reason : IkeFault) (old : Held) (table : Database) (stepped : Stepped) (new : Held) (new_table : Database)
-    → PassesOver reason old stepped new → new_table ≡ table → Way meaning setup octets old table stepped new new_table
-passed_way meaning setup octets reason old table stepped new new_table is same =
-    rested (record { said = output.Dropped reason; is = is.said; goes = tt; same = is.unchanged; pairs = same })
+-- what a datagram does
+pub data Came (meaning : Meaning) (setup : Setup) (octets : Octets) (old : Held) (table : Database) (stepped : Stepped) (new : Held) (new_table : Database) : Type 0 where
+  stood : Rests old table stepped new new_table → Came meaning setup octets old table stepped new new_table
+  taken : Takes meaning setup octets old table stepped new new_table → Came meaning setup octets old table stepped new new_table
+  joined : AdmitsOne meaning setup octets old table stepped new new_table → Came meaning setup octets old table stepped new new_table
 
-judged_way : (meaning : Meaning) (setup : Setup) (octets : Octets) (m : Message) (j : JudgementView) (old : Held) (table : Database) (stepped : Stepped) (new : Held) (new_table : Database)
-    → IsInitialRequest octets → DoesJudgement meaning setup m.header.spi_i octets j old stepped new → new_table ≡ table → Way meaning setup octets old table stepped new new_table
-judged_way meaning setup octets m (Answered notice) old table stepped new new_table asked is same =
-    rested (record { said = output.Reply is.0.octets None; is = is.0.said; goes = is.0.spelled.limit; same = is.1; pairs = same })
-judged_way meaning setup octets m Incomplete old table stepped new new_table asked is same = passed_way meaning setup octets _ old table stepped new new_table is same
-judged_way meaning setup octets m Full old table stepped new new_table asked is same = passed_way meaning setup octets _ old table stepped new new_table is same
-judged_way meaning setup octets m (Accepted offer) old table stepped new new_table asked is same =
+passed_came : (meaning : Meaning) (setup : Setup) (octets : Octets) (reason : IkeFault) (old : Held) (table : Database) (stepped : Stepped) (new : Held) (new_table : Database)
+    → PassesOver reason old stepped new → new_table ≡ table → Came meaning setup octets old table stepped new new_table
+passed_came meaning setup octets reason old table stepped new new_table is same =
+    stood (record { said = output.Dropped reason; is = is.said; goes = tt; same = is.unchanged; pairs = same })
+
+judged_came : (meaning : Meaning) (setup : Setup) (octets : Octets) (m : Message) (j : JudgementView) (old : Held) (table : Database) (stepped : Stepped) (new : Held) (new_table : Database)
+    → IsInitialRequest octets → DoesJudgement meaning setup m.header.spi_i octets j old stepped new → new_table ≡ table → Came meaning setup octets old table stepped new new_table
+judged_came meaning setup octets m (Answered notice) old table stepped new new_table asked is same =
+    stood (record { said = output.Reply is.0.octets None; is = is.0.said; goes = is.0.spelled.limit; same = is.1; pairs = same })
+judged_came meaning setup octets m Incomplete old table stepped new new_table asked is same = passed_came meaning setup octets _ old table stepped new new_table is same
+judged_came meaning setup octets m Full old table stepped new new_table asked is same = passed_came meaning setup octets _ old table stepped new new_table is same
+judged_came meaning setup octets m (Accepted offer) old table stepped new new_table asked is same =
     elim is.done [
-      | inl refused ↦ passed_way meaning setup octets _ old table stepped new new_table refused.1 same
-      | inr made ↦ admitted (record { offer = offer; spi_i = m.header.spi_i; asked = asked; admits = made; pairs = same })
+      | inl refused ↦ passed_came meaning setup octets _ old table stepped new new_table refused.1 same
+      | inr made ↦ joined (record { offer = offer; spi_i = m.header.spi_i; asked = asked; admits = made; pairs = same })
     ]
 
-request_way : (o : Option ℕ) (meaning : Meaning) (setup : Setup) (cookies : CookieSecrets) (from octets : Octets) (m : Message) (old : Held) (table : Database) (stepped : Stepped) (new : Held) (new_table : Database)
-    → IsInitialRequest octets → TakesRequestAt o meaning setup cookies from octets m old stepped new → new_table ≡ table → Way meaning setup octets old table stepped new new_table
-request_way (Some place) meaning setup cookies from octets m old table stepped new new_table asked is same =
-    rested (record {
+request_came : (o : Option ℕ) (meaning : Meaning) (setup : Setup) (cookies : CookieSecrets) (from octets : Octets) (m : Message) (old : Held) (table : Database) (stepped : Stepped) (new : Held) (new_table : Database)
+    → IsInitialRequest octets → TakesRequestAt o meaning setup cookies from octets m old stepped new → new_table ≡ table → Came meaning setup octets old table stepped new new_table
+request_came (Some place) meaning setup cookies from octets m old table stepped new new_table asked is same =
+    stood (record {
       said = output.Repeat is.0.reply;
       is = is.0.said;
       goes = record { place = place; association = is.0.association; there = is.0.there; kept = is.0.kept };
       same = is.1;
       pairs = same;
     })
-request_way None meaning setup cookies from octets m old table stepped new new_table asked is same =
-    judged_way meaning setup octets m is.judgement old table stepped new new_table asked is.done same
+request_came None meaning setup cookies from octets m old table stepped new new_table asked is same =
+    judged_came meaning setup octets m is.judgement old table stepped new new_table asked is.done same
 
-initial_way : (b : Bool) (meaning : Meaning) (setup : Setup) (cookies : CookieSecrets) (from octets : Octets) (m : Message) (old : Held) (table : Database) (stepped : Stepped) (new : Held) (new_table : Database)
-    → (b ≡ true → IsInitialRequest octets) → TakesSound b meaning setup cookies from octets m old stepped new → new_table ≡ table → Way meaning setup octets old table stepped new new_table
-initial_way true meaning setup cookies from octets m old table stepped new new_table asked is same =
-    request_way (position (is_answered octets) old.associations) meaning setup cookies from octets m old table stepped new new_table (asked refl) is same
-initial_way false meaning setup cookies from octets m old table stepped new new_table asked is same = passed_way meaning setup octets _ old table stepped new new_table is same
+initial_came : (b : Bool) (meaning : Meaning) (setup : Setup) (cookies : CookieSecrets) (from octets : Octets) (m : Message) (old : Held) (table : Database) (stepped : Stepped) (new : Held) (new_table : Database)
+    → (b ≡ true → IsInitialRequest octets) → TakesSound b meaning setup cookies from octets m old stepped new → new_table ≡ table → Came meaning setup octets old table stepped new new_table
+initial_came true meaning setup cookies from octets m old table stepped new new_table asked is same =
+    request_came (position (is_answered octets) old.associations) meaning setup cookies from octets m old table stepped new new_table (asked refl) is same
+initial_came false meaning setup cookies from octets m old table stepped new new_table asked is same = passed_came meaning setup octets _ old table stepped new new_table is same
 
-found_way : (r : Result ℕ MessageFault) (meaning : Meaning) (setup : Setup) (octets : Octets) (m : Message) (old : Held) (table : Database) (stepped : Stepped) (new : Held) (new_table : Database)
-    → Spells m octets → found m.header old.associations ≡ r → TakesFound r meaning setup octets m old table stepped new new_table → Way meaning setup octets old table stepped new new_table
-found_way (Ok place) meaning setup octets m old table stepped new new_table spelled finds is = took (record { message = m; spelled = spelled; place = place; found_there = finds; takes = is })
-found_way (Err f) meaning setup octets m old table stepped new new_table spelled finds is = passed_way meaning setup octets _ old table stepped new new_table is.0 is.1
+found_came : (r : Result ℕ MessageFault) (meaning : Meaning) (setup : Setup) (octets : Octets) (m : Message) (old : Held) (table : Database) (stepped : Stepped) (new : Held) (new_table : Database)
+    → Spells m octets → found m.header old.associations ≡ r → TakesFound r meaning setup octets m old table stepped new new_table → Came meaning setup octets old table stepped new new_table
+found_came (Ok place) meaning setup octets m old table stepped new new_table spelled finds is = taken (record { message = m; spelled = spelled; place = place; found_there = finds; takes = is })
+found_came (Err f) meaning setup octets m old table stepped new new_table spelled finds is = passed_came meaning setup octets _ old table stepped new new_table is.0 is.1
 
-read_way : (b : Bool) (meaning : Meaning) (setup : Setup) (cookies : CookieSecrets) (from octets : Octets) (m : Message) (old : Held) (table : Database) (stepped : Stepped) (new : Held) (new_table : Database)
-    → Spells m octets → is_initial_request m.header ≡ b → TakesRead b meaning setup cookies from octets m old table stepped new new_table → Way meaning setup octets old table stepped new new_table
-read_way true meaning setup cookies from octets m old table stepped new new_table spelled initial is =
-    initial_way (is_sound_initial m.header) meaning setup cookies from octets m old table stepped new new_table
+read_came : (b : Bool) (meaning : Meaning) (setup : Setup) (cookies : CookieSecrets) (from octets : Octets) (m : Message) (old : Held) (table : Database) (stepped : Stepped) (new : Held) (new_table : Database)
+    → Spells m octets → is_initial_request m.header ≡ b → TakesRead b meaning setup cookies from octets m old table stepped new new_table → Came meaning setup octets old table stepped new new_table
+read_came true meaning setup cookies from octets m old table stepped new new_table spelled initial is =
+    initial_came (is_sound_initial m.header) meaning setup cookies from octets m old table stepped new new_table
     (λ sound. record { message = m; spelled = spelled; initial = initial; sound = sound }) is.0 is.1
-read_way false meaning setup cookies from octets m old table stepped new new_table spelled initial is =
-    found_way (found m.header old.associations) meaning setup octets m old table stepped new new_table spelled refl is
+read_came false meaning setup cookies from octets m old table stepped new new_table spelled initial is =
+    found_came (found m.header old.associations) meaning setup octets m old table stepped new new_table spelled refl is
+
+pub datagram_came : (meaning : Meaning) (setup : Setup) (cookies : CookieSecrets) (from octets : Octets) (old : Held) (table : Database) (stepped : Stepped) (new : Held) (new_table : Database)
+    → TakesDatagram meaning setup cookies from octets old table stepped new new_table → Came meaning setup octets old table stepped new new_table
+datagram_came meaning setup cookies from octets old table stepped new new_table is =
+    elim is [
+      | inl unread ↦ passed_came meaning setup octets _ old table stepped new new_table unread.passed unread.unchanged
+      | inr read ↦ read_came (is_initial_request read.message.header) meaning setup cookies from octets read.message old table stepped new new_table read.spelled refl read.done
+    ]
+
+way_by : (meaning : Meaning) (setup : Setup) (octets : Octets) (old : Held) (table : Database) (stepped : Stepped) (new : Held) (new_table : Database)
+    → Came meaning setup octets old table stepped new new_table → Way meaning setup octets old table stepped new new_table
+way_by meaning setup octets old table stepped new new_table (stood is) = rested is
+way_by meaning setup octets old table stepped new new_table (taken is) = took is
+way_by meaning setup octets old table stepped new new_table (joined is) = admitted is
 
 pub datagram_way : (meaning : Meaning) (setup : Setup) (cookies : CookieSecrets) (from octets : Octets) (old : Held) (table : Database) (stepped : Stepped) (new : Held) (new_table : Database)
     → TakesDatagram meaning setup cookies from octets old table stepped new new_table → Way meaning setup octets old table stepped new new_table
 datagram_way meaning setup cookies from octets old table stepped new new_table is =
-    elim is [
-      | inl unread ↦ passed_way meaning setup octets _ old table stepped new new_table unread.passed unread.unchanged
-      | inr read ↦ read_way (is_initial_request read.message.header) meaning setup cookies from octets read.message old table stepped new new_table read.spelled refl read.done
-    ]
+    way_by meaning setup octets old table stepped new new_table (datagram_came meaning setup cookies from octets old table stepped new new_table is)
 
 -- what is not asked for
 abbrev pub no_fresh : Fresh

@@ -1,7 +1,7 @@
 -- What holds of every machine and the table that goes with it.
-use Rattle.std.specs.Prelude.{◌≡◌, ◌≢◌, ◌⊎◌, ◌<◌, ◌≤◌, ℕ, Some, length, slice_get}
+use Rattle.std.specs.Prelude.{◌≡◌, ◌≢◌, ◌⊎◌, ◌<◌, ◌≤◌, ℕ, List, Some, length, slice_get}
 use Rattle.exchange.specs.declared.headers.Role.TheVariants.{Initiator, Responder}
-use Rattle.sadb.specs.Database.{Database}
+use Rattle.sadb.specs.Database.{Database, IsReserved}
 use Rattle.sa_init.specs.Judging.{ASSOCIATION_LIMIT, HALF_OPEN_LIMIT}
 use Rattle.association.specs.Closing.{HoldsReserved, HoldsSpi}
 use Rattle.association.specs.declared.phase.Association.{Association}
@@ -57,3 +57,14 @@ pub record AreSound (held : Held) (table : Database) : Type 0 where
 pub record IsSoundMachine (machine : Machine) (table : Database) : Type 0 where
   pub held : AreSound machine.held table
   pub config : IsConfig machine.config
+
+-- an association holds the SPI, for a child that it asked for
+pub record HoldsReservation (associations : List Association) (spi : ℕ) : Type 0 where
+  pub place : ℕ
+  pub association : Association
+  pub there : slice_get associations place ≡ Some association
+  pub holds : HoldsSpi association spi
+
+-- each SPI that is reserved in the table is held so
+abbrev pub AreReservationsHeld : Held → Database → Type 0
+AreReservationsHeld held table = (spi : ℕ) → IsReserved table spi → HoldsReservation held.associations spi

@@ -24,7 +24,7 @@ ghost use Rattle.initial.specs.Configs.{Setup};
 ghost use Rattle.effects.specs.Keeping.{IsShort};
 ghost use Rattle.effects.specs.Taking.{Meaning};
 ghost use Rattle.ike.specs.Children.{AsksFirstChild, MakesChildOf, AsksNow, WaitedBefore};
-ghost use Rattle.ike.specs.Machines.{half_open_count, keys_of_serial, setup_at, Machine, new_machine, association_of};
+ghost use Rattle.ike.specs.Machines.{half_open_count, keys_of_serial, setup_at, Held, Machine, new_machine, association_of};
 ghost use Rattle.ike.specs.Moments.{ComesTo, IsTimely, StaysAt};
 ghost use Rattle.ike.specs.Moves.{HasFresh, MovesAt, OpensFresh};
 ghost use Rattle.ike.specs.Outputs.{octets_in, IsQuiet};
@@ -39,7 +39,7 @@ ghost use Rattle.association.specs.declared.phase.HalfOpen.{HalfOpen};
 ghost use Rattle.effects.specs.Requests.{is_concluded, IsSoundlyHeld, KeepsWindow, StaysConcluded};
 ghost use Rattle.ike.specs.Requests.{ComesIntoEffect, HoldsInEffect, IsAdmitted, IsAnswered, IsFirstReplyKept, IsGivenUp, IsHeldThrough, IsInitialDatagram, IsNewRequest, IsOfOctets, IsReplyKept, OnlySays, OpensAsRequest, PutsOneIntoEffect, first_requests};
 ghost use Rattle.ike.specs.declared.fault.IkeFault.TheVariants as fault;
-ghost use Rattle.ike.specs.Soundness.{IsSoundMachine};
+ghost use Rattle.ike.specs.Soundness.{AreReservationsHeld, IsSoundMachine};
 ghost use Rattle.ike.specs.Steps.{is_tick, InputView, Message, Steps, Refuses, Tick};
 ghost use Rattle.ike.specs.Tracing.{HoldsKeys, IsInClear, IsTraced};
 ghost use Rattle.ike.specs.declared.output.IkeOutput.TheVariants as output;
@@ -99,6 +99,24 @@ pub fn soundness_stays()
     effects::laws::keys_stay_whole();
     effects::laws::requests_are_remembered();
     some_are_held_on();
+}
+
+/// No SPI is lost: each that is reserved in the table is held by an association for a child that it asked for. So it is of a machine that
+/// holds no association and a table in which none is reserved; so it stays with every step, so that what was reserved for a request that is
+/// answered, refused or given up is released; and with whatever else reserves none. That it is given to nobody again,
+/// [`sadb::laws::no_spi_is_given_twice`] says.
+pub fn no_spi_is_lost()
+    ensures begun { (config : Config) (table : Database) → ((spi : ℕ) → ¬ IsReserved table spi)
+        → AreReservationsHeld (new_machine config).held table }
+    ensures stepped { (meaning : Meaning) (entries : List Entry) (input : InputView) (old : Machine) (table : Database)
+        (stepped : Stepped) (new : Machine) (new_table : Database) → IsSoundMachine old table
+        → Steps meaning entries input old table stepped new new_table → AreReservationsHeld old.held table
+        → AreReservationsHeld new.held new_table }
+    ensures kept { (held : Held) (table new_table : Database) → ((spi : ℕ) → IsReserved new_table spi → IsReserved table spi)
+        → AreReservationsHeld held table → AreReservationsHeld held new_table }
+{
+    effects::laws::what_is_given_up_is_released();
+    a_further_spi_is_held();
 }
 
 /// What goes out of a step has at most 3000 octets, as a message may have: an answer, a request that goes out, or what goes out again,
