@@ -88,15 +88,21 @@ fn named_twice(rt: HostRuntime) -> Result<(), Fail> {
     Ok(())
 }
 
-/// Under one association the child of another is not deleted.
-#[test]
-fn of_another_association(rt: HostRuntime) -> Result<(), Fail> {
-    let alloc = rt.alloc();
+/// B, with two associations, and A's key of the first one.
+fn established_twice(alloc: Global) -> Result<(Side, [u8; 32]), Fail> {
     let mut a = Side::new(alloc, End::A)?;
     let mut b = Side::new(alloc, End::B)?;
     agree(alloc, &mut a, &mut b, 1)?;
     agree(alloc, &mut a, &mut b, 3)?;
     let key = b.ike.keys_of(1).ok_or("no keys")?.sk_ai;
+    Ok((b, key))
+}
+
+/// Under one association the child of another is not deleted.
+#[test]
+fn of_another_association(rt: HostRuntime) -> Result<(), Fail> {
+    let alloc = rt.alloc();
+    let (mut b, key) = established_twice(alloc)?;
     let other = deletion(alloc, FIRST + 1, 1)?;
     let said = asked(alloc, &mut b, delete(2), &other, &key)?;
     assert_eq!(rt; said, Some((49, false)));

@@ -81,24 +81,50 @@ fn offer(number: u32) -> Sent {
     }
 }
 
-/// A child is made; one that is asked for with a key exchange, or an association in its place, is declined; a request without its nonce
-/// closes.
-#[test]
-fn requests(rt: HostRuntime) -> Result<(), Fail> {
-    let alloc = rt.alloc();
+/// What becomes of a request of these payloads: how many octets answer and whether B closes, whether its first child stays, and under which
+/// SPI it sends by a further one.
+type Outcome = (Option<(usize, bool)>, bool, Option<u32>);
+
+fn outcome(alloc: Global, payloads: &[u8]) -> Result<Outcome, Fail> {
     let (mut b, key) = established(alloc)?;
-    let said = asked(alloc, &mut b, offer(2), &request(alloc, ESP)?, &key)?;
-    assert_eq!(rt; said, Some((173, false)));
-    let made = b.table.after(1).ok_or("no child")?;
-    assert_eq!(rt; made.outbound.spi(), 0x1001);
-    let said = asked(alloc, &mut b, offer(3), &with_key_exchange(alloc)?, &key)?;
-    assert_eq!(rt; said, Some((57, false)));
-    let said = asked(alloc, &mut b, offer(4), &request(alloc, IKE)?, &key)?;
-    assert_eq!(rt; said, Some((57, false)));
-    assert!(rt; b.table.after(2).is_none());
-    let said = asked(alloc, &mut b, offer(5), &without_nonce(alloc)?, &key)?;
-    assert_eq!(rt; said, Some((57, true)));
-    assert!(rt; b.table.after(0).is_none());
+    let said = asked(alloc, &mut b, offer(2), payloads, &key)?;
+    let stays = b.table.after(0).is_some();
+    let further = b.table.after(1).map(|pair| pair.outbound.spi());
+    Ok((said, stays, further))
+}
+
+#[test]
+fn a_request(rt: HostRuntime) -> Result<(), Fail> {
+    let payloads = request(rt.alloc(), ESP)?;
+    let outcome = outcome(rt.alloc(), &payloads)?;
+    assert_eq!(rt; outcome, (Some((173, false)), true, Some(0x1001)));
+    Ok(())
+}
+
+/// A key exchange is declined.
+#[test]
+fn a_request_with_a_key_exchange(rt: HostRuntime) -> Result<(), Fail> {
+    let payloads = with_key_exchange(rt.alloc())?;
+    let outcome = outcome(rt.alloc(), &payloads)?;
+    assert_eq!(rt; outcome, (Some((57, false)), true, None));
+    Ok(())
+}
+
+/// An IKE association in the place of this one is declined.
+#[test]
+fn a_request_for_an_association(rt: HostRuntime) -> Result<(), Fail> {
+    let payloads = request(rt.alloc(), IKE)?;
+    let outcome = outcome(rt.alloc(), &payloads)?;
+    assert_eq!(rt; outcome, (Some((57, false)), true, None));
+    Ok(())
+}
+
+/// A request without its nonce is none: INVALID_SYNTAX, which closes.
+#[test]
+fn a_request_without_its_nonce(rt: HostRuntime) -> Result<(), Fail> {
+    let payloads = without_nonce(rt.alloc())?;
+    let outcome = outcome(rt.alloc(), &payloads)?;
+    assert_eq!(rt; outcome, (Some((57, true)), false, None));
     Ok(())
 }
 
@@ -124,39 +150,48 @@ fn refusal(alloc: Global, b: &mut Side) -> Option<IkeFault> {
     b.refusal(alloc, &order)
 }
 
-/// INVALID_SYNTAX in the answer closes.
-#[test]
-fn told_bad_syntax(rt: HostRuntime) -> Result<(), Fail> {
-    let alloc = rt.alloc();
+/// What becomes of a response to it: the child that B makes of it and whether B closes, and whether its first child stays.
+type Conclusion = (Option<(Option<u32>, bool)>, bool);
+
+fn conclusion(alloc: Global, first: u8, payloads: &[u8]) -> Result<Conclusion, Fail> {
     let (mut b, key) = established(alloc)?;
-    assert_eq!(rt; ask(alloc, &mut b)?.len(), 181);
-    let notice = Sent {
-        exchange: CREATE_CHILD,
-        number: 0,
-        first: NOTIFY,
-    };
-    let said = counted(alloc, &mut b, notice, &INVALID_SYNTAX, &key)?;
-    assert_eq!(rt; said, Some((None, true)));
-    assert!(rt; b.table.after(0).is_none());
+    let _ = ask(alloc, &mut b)?;
+    let response = Sent { first, ..offer(0) };
+    let counted = counted(alloc, &mut b, response, payloads, &key)?;
+    let stays = b.table.after(0).is_some();
+    Ok((counted, stays))
+}
+
+#[test]
+fn an_answer(rt: HostRuntime) -> Result<(), Fail> {
+    let payloads = answer(rt.alloc(), &ANSWERED)?;
+    let conclusion = conclusion(rt.alloc(), SA, &payloads)?;
+    assert_eq!(rt; conclusion, (Some((Some(2), false)), true));
     Ok(())
 }
 
-/// An answer that is not in the grammar makes no child, and so does one whose selectors are not those asked for.
+/// Selectors that B did not ask for make no child.
 #[test]
-fn answers_that_make_none(rt: HostRuntime) -> Result<(), Fail> {
-    let alloc = rt.alloc();
-    let (mut b, key) = established(alloc)?;
-    let _ = ask(alloc, &mut b)?;
-    let said = counted(alloc, &mut b, offer(0), &[0, 0, 0], &key)?;
-    assert_eq!(rt; said, Some((None, false)));
-    let _ = ask(alloc, &mut b)?;
-    // B asked between 10.1.0.0/24 and 10.0.0.0/24.
-    let said = counted(alloc, &mut b, offer(1), &answer(alloc, &SELECTORS)?, &key)?;
-    assert_eq!(rt; said, Some((None, false)));
-    assert!(rt; b.table.after(1).is_none());
-    let _ = ask(alloc, &mut b)?;
-    let said = counted(alloc, &mut b, offer(2), &answer(alloc, &ANSWERED)?, &key)?;
-    assert_eq!(rt; said, Some((Some(2), false)));
+fn an_answer_with_other_selectors(rt: HostRuntime) -> Result<(), Fail> {
+    let payloads = answer(rt.alloc(), &SELECTORS)?;
+    let conclusion = conclusion(rt.alloc(), SA, &payloads)?;
+    assert_eq!(rt; conclusion, (Some((None, false)), true));
+    Ok(())
+}
+
+/// An answer that is not in the grammar makes no child.
+#[test]
+fn an_answer_out_of_the_grammar(rt: HostRuntime) -> Result<(), Fail> {
+    let conclusion = conclusion(rt.alloc(), SA, &[0, 0, 0])?;
+    assert_eq!(rt; conclusion, (Some((None, false)), true));
+    Ok(())
+}
+
+/// INVALID_SYNTAX in the answer closes.
+#[test]
+fn told_bad_syntax(rt: HostRuntime) -> Result<(), Fail> {
+    let conclusion = conclusion(rt.alloc(), NOTIFY, &INVALID_SYNTAX)?;
+    assert_eq!(rt; conclusion, (Some((None, true)), false));
     Ok(())
 }
 
