@@ -1,4 +1,4 @@
--- What a message does to the association that it is for (RFC 7296 sections 1.2, 1.4, 2.1 to 2.4).
+-- What a message does to the association that it is for (RFC 7296 sections 1.2, 1.3.1, 1.4, 2.1 to 2.4).
 use Rattle.std.specs.Prelude.{◌≡◌, ◌==◌, ◌⊎◌, ℕ, Bool, true, false, Option, Some, None}
 use Rattle.base.specs.Octets.{Octets}
 use Rattle.std.specs.FinMap as map

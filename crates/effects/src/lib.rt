@@ -1,4 +1,4 @@
-//! What a message does to the association that it is for (RFC 7296, sections 1.2, 1.4 and 2.1 to 2.4), whatever its exchange: to the
+//! What a message does to the association that it is for (RFC 7296, sections 1.2, 1.3.1, 1.4 and 2.1 to 2.4), whatever its exchange: to the
 //! association, to the table of associations for ESP, and what is sent back.
 //!
 //! [`take_message`] asks [`association::receive`] what the message is, by its number, its exchange, the phase and what it opens to;

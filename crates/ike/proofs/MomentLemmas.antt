@@ -37,7 +37,7 @@ use Rattle.ike.specs.Steps.{is_tick, InputView, KeepsRest, Steps}
 use Rattle.ike.specs.declared.output.IkeOutput.{IkeOutput}
 use Rattle.ike.specs.declared.output.IkeOutput.TheVariants as output
 use Rattle.ike.specs.declared.output.Stepped.{Stepped}
-use Rattle.ike.proofs.WaitLemmas.{step_times, WaitLaws}
+use Rattle.ike.proofs.WaitLemmas.{step_answered, step_times, WaitLaws}
 use Rattle.ike.proofs.WayLemmas.{admitted, asked_one, datagram_way, further_one, probed, rested, started, step_way, took, GoesOut, Way}
 
 pub record TimelyLaws : Type 0 where
@@ -208,6 +208,7 @@ step_stays laws meaning entries input old table stepped new new_table none sound
         | inl some ↦ way_tells meaning some.setup some.octets old.held table stepped new.held new_table some.way
         | inr ticked ↦ absurd (clash (is_tick input) ticked.ticks none)
       ];
+      answered = step_answered meaning entries input old table stepped new new_table is;
       waits = λ serial. (step_times laws meaning entries input old table stepped new new_table serial none sound is).waits;
       waited = λ serial. (step_times laws meaning entries input old table stepped new new_table serial none sound is).waited;
       closed = λ serial. (step_times laws meaning entries input old table stepped new new_table serial none sound is).closed;

@@ -64,9 +64,9 @@ pub record WaitLaws : Type 0 where
       → map.get old.outgoing.outstanding number ≡ Some request → map.get new.outgoing.outstanding number ≡ Some request
 
 -- what a step that is no moment leaves of what waits, and of phases that have a time
-pub record Times (moment : ℕ) (old : Held) (stepped : Stepped) (new : Held) (serial : ℕ) : Type 0 where
+pub record Times (answered moment : ℕ) (old : Held) (stepped : Stepped) (new : Held) (serial : ℕ) : Type 0 where
   pub waits : (number : ℕ) (request : Request) → WaitsAt new serial number request → WaitsAt old serial number request ⊎ StartsToWait moment old stepped new serial number request
-  pub waited : (number : ℕ) (request : Request) → WaitsAt old serial number request → WaitsAt new serial number request ⊎ StopsWaiting stepped.output serial number
+  pub waited : (number : ℕ) (request : Request) → WaitsAt old serial number request → WaitsAt new serial number request ⊎ StopsWaiting answered stepped.output serial number
   pub closed : (keys : Option KeyRecord) (at : ℕ) → StandsIn new serial (phase.Closed keys at) → StandsIn old serial (phase.Closed keys at) ⊎ ((at ≡ moment) × TellsClosed serial stepped.output)
   pub half_open : (opened : HalfOpen) → StandsIn new serial (phase.HalfOpen opened) → StandsIn old serial (phase.HalfOpen opened) ⊎ (opened.made ≡ moment)
 
@@ -77,8 +77,8 @@ none_some : (a : Association) → None ≡ Some a → ⊥
 none_some a is = cc
 
 -- the association is another one
-times_apart : (moment : ℕ) (old : Held) (stepped : Stepped) (new : Held) (serial : ℕ) → association_of serial new.associations ≡ association_of serial old.associations → Times moment old stepped new serial
-times_apart moment old stepped new serial same = record {
+times_apart : (answered moment : ℕ) (old : Held) (stepped : Stepped) (new : Held) (serial : ℕ) → association_of serial new.associations ≡ association_of serial old.associations → Times answered moment old stepped new serial
+times_apart answered moment old stepped new serial same = record {
   waits = λ number request waits. inl (record { association = waits.association; there = sym same ∙ waits.there; waits = waits.waits });
   waited = λ number request waits. inl (record { association = waits.association; there = same ∙ waits.there; waits = waits.waits });
   closed = λ keys at stands. inl (record { association = stands.association; there = sym same ∙ stands.there; is = stands.is });
@@ -121,13 +121,19 @@ said_by_effect serial number (effect.Identified next) octets is = ap (λ (o : Oc
 said_by_effect serial number (effect.Counted ended) octets is = cc
 
 -- what stops by an effect stops by what is said of it
-stops_said : (serial id number : ℕ) (e : Effect) → effects.WaitsNoMore id e number → StopsWaiting (stepped_of serial id e).output serial number
+stops_said : (serial id number : ℕ) (e : Effect) → effects.WaitsNoMore id e number → StopsWaiting id (stepped_of serial id e).output serial number
 stops_said serial id number (effect.Refused f) stops = absurd stops
 stops_said serial id number (effect.Repeated reply) stops = absurd stops
-stops_said serial id number (effect.Replied answered) stops = subst (λ (b : Bool). StopsWaiting (output.Reply answered.octets (closed_serial serial b)) serial number) (sym stops) refl
+stops_said serial id number (effect.Replied answered) stops = subst (λ (b : Bool). StopsWaiting id (output.Reply answered.octets (closed_serial serial b)) serial number) (sym stops) refl
 stops_said serial id number (effect.Again next) stops = (refl, stops)
 stops_said serial id number (effect.Identified next) stops = (refl, stops)
-stops_said serial id number (effect.Counted ended) stops = refl
+stops_said serial id number (effect.Counted ended) stops = (
+  refl,
+  elim stops [
+    | inl same ↦ inl same
+    | inr ends ↦ inr (ap (closed_serial serial) ends)
+  ],
+)
 
 ends_said : (serial id : ℕ) (e : Effect) → Ends e → TellsClosed serial (stepped_of serial id e).output
 ends_said serial id (effect.Refused f) ends = absurd ends
@@ -158,9 +164,9 @@ established_opens known opened is = cc
 none_first : (number : ℕ) (request : Request) → map.get {R = nat_cmp} (map.empty {X = Request}) number ≡ Some request → ⊥
 none_first number request is = let none : map.get {R = nat_cmp} (map.empty {X = Request}) number ≡ None = map.get-empty nat_cmp number in cc
 
-started_times : (laws : WaitLaws) (meaning : Meaning) (setup : Setup) (old : Held) (table : Database) (stepped : Stepped) (new : Held) (new_table : Database) (serial : ℕ)
-    → AreSound old table → StartsOne meaning setup old table stepped new new_table → Times setup.moment old stepped new serial
-started_times laws meaning setup old table stepped new new_table serial sound is =
+started_times : (answered : ℕ) (laws : WaitLaws) (meaning : Meaning) (setup : Setup) (old : Held) (table : Database) (stepped : Stepped) (new : Held) (new_table : Database) (serial : ℕ)
+    → AreSound old table → StartsOne meaning setup old table stepped new new_table → Times answered setup.moment old stepped new serial
+started_times answered laws meaning setup old table stepped new new_table serial sound is =
     let s = is.starts in
     elim (at_grown old table _ new serial sound refl s.done.content) [
       | inl (here, before, after) ↦ record {
@@ -176,12 +182,12 @@ started_times laws meaning setup old table stepped new new_table serial sound is
         closed = λ keys at stands. absurd (init_closed _ keys at (phase_of new serial (phase.Closed keys at) _ after stands));
         half_open = λ opened stands. absurd (init_opens _ opened (phase_of new serial (phase.HalfOpen opened) _ after stands));
       }
-      | inr (apart, same) ↦ times_apart setup.moment old stepped new serial same
+      | inr (apart, same) ↦ times_apart answered setup.moment old stepped new serial same
     ]
 
-probed_times : (laws : WaitLaws) (meaning : Meaning) (setup : Setup) (old : Held) (table : Database) (stepped : Stepped) (new : Held) (new_table : Database) (serial : ℕ)
-    → AreSound old table → AsksOne meaning setup old table stepped new new_table → Times setup.moment old stepped new serial
-probed_times laws meaning setup old table stepped new new_table serial sound is =
+probed_times : (answered : ℕ) (laws : WaitLaws) (meaning : Meaning) (setup : Setup) (old : Held) (table : Database) (stepped : Stepped) (new : Held) (new_table : Database) (serial : ℕ)
+    → AreSound old table → AsksOne meaning setup old table stepped new new_table → Times answered setup.moment old stepped new serial
+probed_times answered laws meaning setup old table stepped new new_table serial sound is =
     let p = is.probes in
     let stays = changed_itself meaning.body_of setup is.ike old stepped new p in
     let named : p.association.serial ≡ is.ike = probed_serial meaning.body_of setup is.ike old stepped new p in
@@ -200,11 +206,11 @@ probed_times laws meaning setup old table stepped new new_table serial sound is 
         closed = λ keys at stands. absurd (established_closed p.sends.keys keys at (sym known ∙ phase_of new serial (phase.Closed keys at) p.changed after stands));
         half_open = λ opened stands. absurd (established_opens p.sends.keys opened (sym known ∙ phase_of new serial (phase.HalfOpen opened) p.changed after stands));
       }
-      | inr (apart, same) ↦ times_apart setup.moment old stepped new serial same
+      | inr (apart, same) ↦ times_apart answered setup.moment old stepped new serial same
     ]
 
 took_times : (laws : WaitLaws) (meaning : Meaning) (setup : Setup) (octets : Octets) (old : Held) (table : Database) (stepped : Stepped) (new : Held) (new_table : Database) (serial : ℕ)
-    → AreSound old table → Takes meaning setup octets old table stepped new new_table → Times setup.moment old stepped new serial
+    → AreSound old table → (is : Takes meaning setup octets old table stepped new new_table) → Times is.message.header.id setup.moment old stepped new serial
 took_times laws meaning setup octets old table stepped new new_table serial sound is =
     let t = is.takes in
     let a = t.association in
@@ -219,7 +225,7 @@ took_times laws meaning setup octets old table stepped new new_table serial soun
             waited = λ number request waits.
                 elim (laws.until meaning setup a table octets is.message t.effect t.changed new_table held t.takes number request (waits_of old serial number request a before waits)) [
                   | inl on ↦ inl (record { association = t.changed; there = after; waits = on })
-                  | inr stops ↦ inr (subst (λ (o : IkeOutput). StopsWaiting o serial number) (sym says) (stops_said serial id number t.effect stops))
+                  | inr stops ↦ inr (subst (λ (o : IkeOutput). StopsWaiting id o serial number) (sym says) (stops_said serial id number t.effect stops))
                 ];
             closed = λ keys at stands.
                 elim (laws.closed meaning setup a table octets is.message t.effect t.changed new_table keys at t.takes (phase_of new serial (phase.Closed keys at) t.changed after stands)) [
@@ -232,12 +238,12 @@ took_times laws meaning setup octets old table stepped new new_table serial soun
               is = laws.opened meaning setup a table octets is.message t.effect t.changed new_table opened t.takes (phase_of new serial (phase.HalfOpen opened) t.changed after stands);
             });
           })
-      | inr (apart, same) ↦ times_apart setup.moment old stepped new serial same
+      | inr (apart, same) ↦ times_apart id setup.moment old stepped new serial same
     ]
 
-admitted_times : (meaning : Meaning) (setup : Setup) (octets : Octets) (old : Held) (table : Database) (stepped : Stepped) (new : Held) (new_table : Database) (serial : ℕ)
-    → AreSound old table → AdmitsOne meaning setup octets old table stepped new new_table → Times setup.moment old stepped new serial
-admitted_times meaning setup octets old table stepped new new_table serial sound is =
+admitted_times : (answered : ℕ) (meaning : Meaning) (setup : Setup) (octets : Octets) (old : Held) (table : Database) (stepped : Stepped) (new : Held) (new_table : Database) (serial : ℕ)
+    → AreSound old table → AdmitsOne meaning setup octets old table stepped new new_table → Times answered setup.moment old stepped new serial
+admitted_times answered meaning setup octets old table stepped new new_table serial sound is =
     let b = is.admits.admitted.association in
     let content = is.admits.admits.content in
     elim (at_grown old table b new serial sound (ap (λ (x : Association). x.serial) content) is.admits.content) [
@@ -248,28 +254,46 @@ admitted_times meaning setup octets old table stepped new new_table serial sound
         half_open = λ opened stands.
             inr (sym (ap (λ (o : HalfOpen). o.made) (same_opened _ opened (sym (ap (λ (x : Association). x.phase) content) ∙ phase_of new serial (phase.HalfOpen opened) b after stands))));
       }
-      | inr (apart, same) ↦ times_apart setup.moment old stepped new serial same
+      | inr (apart, same) ↦ times_apart answered setup.moment old stepped new serial same
     ]
 
+-- the number whose response came, if one did
+abbrev way_answered : (meaning : Meaning) (setup : Setup) (octets : Octets) (old : Held) (table : Database) (stepped : Stepped) (new : Held) (new_table : Database) → Way meaning setup octets old table stepped new new_table → ℕ
+way_answered meaning setup octets old table stepped new new_table (took is) = is.message.header.id
+way_answered meaning setup octets old table stepped new new_table (rested is) = 0
+way_answered meaning setup octets old table stepped new new_table (admitted is) = 0
+way_answered meaning setup octets old table stepped new new_table (started is) = 0
+way_answered meaning setup octets old table stepped new new_table (probed is) = 0
+
 way_times : (laws : WaitLaws) (meaning : Meaning) (setup : Setup) (octets : Octets) (old : Held) (table : Database) (stepped : Stepped) (new : Held) (new_table : Database) (serial : ℕ)
-    → AreSound old table → Way meaning setup octets old table stepped new new_table → Times setup.moment old stepped new serial
-way_times laws meaning setup octets old table stepped new new_table serial sound (rested is) = times_apart setup.moment old stepped new serial (ap (λ (h : Held). association_of serial h.associations) is.same)
+    → AreSound old table → (is : Way meaning setup octets old table stepped new new_table) → Times (way_answered meaning setup octets old table stepped new new_table is) setup.moment old stepped new serial
+way_times laws meaning setup octets old table stepped new new_table serial sound (rested is) = times_apart 0 setup.moment old stepped new serial (ap (λ (h : Held). association_of serial h.associations) is.same)
 way_times laws meaning setup octets old table stepped new new_table serial sound (took is) = took_times laws meaning setup octets old table stepped new new_table serial sound is
-way_times laws meaning setup octets old table stepped new new_table serial sound (admitted is) = admitted_times meaning setup octets old table stepped new new_table serial sound is
-way_times laws meaning setup octets old table stepped new new_table serial sound (started is) = started_times laws meaning setup old table stepped new new_table serial sound is
-way_times laws meaning setup octets old table stepped new new_table serial sound (probed is) = probed_times laws meaning setup old table stepped new new_table serial sound is
+way_times laws meaning setup octets old table stepped new new_table serial sound (admitted is) = admitted_times 0 meaning setup octets old table stepped new new_table serial sound is
+way_times laws meaning setup octets old table stepped new new_table serial sound (started is) = started_times 0 laws meaning setup old table stepped new new_table serial sound is
+way_times laws meaning setup octets old table stepped new new_table serial sound (probed is) = probed_times 0 laws meaning setup old table stepped new new_table serial sound is
+
+abbrev pub step_answered : (meaning : Meaning) (entries : List Entry) (input : InputView) (old : Machine) (table : Database) (stepped : Stepped) (new : Machine) (new_table : Database) → Steps meaning entries input old table stepped new new_table → ℕ
+step_answered meaning entries (steps.Message from octets fresh) old table stepped new new_table is =
+    way_answered meaning (setup_at old entries fresh) octets old.held table stepped new.held new_table
+    (datagram_way meaning (setup_at old entries fresh) old.cookies from octets old.held table stepped new.held new_table is.1)
+step_answered meaning entries (steps.Start ike place fresh) old table stepped new new_table is = 0
+step_answered meaning entries (steps.Order what fresh) old table stepped new new_table is = 0
+step_answered meaning entries (steps.Secret secret) old table stepped new new_table is = 0
+step_answered meaning entries (steps.Tick moment) old table stepped new new_table is = 0
 
 pub step_times : WaitLaws → (meaning : Meaning) (entries : List Entry) (input : InputView) (old : Machine) (table : Database) (stepped : Stepped) (new : Machine) (new_table : Database) (serial : ℕ)
-    → is_tick input ≡ false → IsSoundMachine old table → Steps meaning entries input old table stepped new new_table → Times old.moment old.held stepped new.held serial
+    → is_tick input ≡ false → IsSoundMachine old table → (is : Steps meaning entries input old table stepped new new_table)
+    → Times (step_answered meaning entries input old table stepped new new_table is) old.moment old.held stepped new.held serial
 step_times laws meaning entries (steps.Message from octets fresh) old table stepped new new_table serial none sound is =
     way_times laws meaning (setup_at old entries fresh) octets old.held table stepped new.held new_table serial sound.held
     (datagram_way meaning (setup_at old entries fresh) old.cookies from octets old.held table stepped new.held new_table is.1)
 step_times laws meaning entries (steps.Start None place fresh) old table stepped new new_table serial none sound is =
-    started_times laws meaning (setup_at old entries fresh) old.held table stepped new.held new_table serial sound.held (record { place = place; starts = is.1 })
+    started_times 0 laws meaning (setup_at old entries fresh) old.held table stepped new.held new_table serial sound.held (record { place = place; starts = is.1 })
 step_times laws meaning entries (steps.Start (Some asker) place fresh) old table stepped new new_table serial none sound is =
-    probed_times laws meaning (setup_at old entries fresh) old.held table stepped new.held new_table serial sound.held (further_one meaning (setup_at old entries fresh) asker place old.held table stepped new.held new_table is.1)
+    probed_times 0 laws meaning (setup_at old entries fresh) old.held table stepped new.held new_table serial sound.held (further_one meaning (setup_at old entries fresh) asker place old.held table stepped new.held new_table is.1)
 step_times laws meaning entries (steps.Order what fresh) old table stepped new new_table serial none sound is =
-    probed_times laws meaning (setup_at old entries fresh) old.held table stepped new.held new_table serial sound.held (asked_one meaning (setup_at old entries fresh) what old.held table stepped new.held new_table is.1)
+    probed_times 0 laws meaning (setup_at old entries fresh) old.held table stepped new.held new_table serial sound.held (asked_one meaning (setup_at old entries fresh) what old.held table stepped new.held new_table is.1)
 step_times laws meaning entries (steps.Secret secret) old table stepped new new_table serial none sound is =
-    times_apart old.moment old.held stepped new.held serial (ap (λ (m : Machine). association_of serial m.held.associations) is.content)
+    times_apart 0 old.moment old.held stepped new.held serial (ap (λ (m : Machine). association_of serial m.held.associations) is.content)
 step_times laws meaning entries (steps.Tick moment) old table stepped new new_table serial none sound is = absurd cc

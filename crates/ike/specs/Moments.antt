@@ -64,13 +64,14 @@ pub record StartsToWait (moment : ℕ) (old : Held) (stepped : Stepped) (new : H
   pub timer : request.timer ≡ record { sent = moment; repeats = 0 }
   pub fresh : ((before : Request) → WaitsAt old serial number before → ⊥) ⊎ TakesCookieAt old new serial
 
--- A request of this number waits no more, by what a step says: its association ends by a reply, an answer is counted there, or it is that of
--- IKE_SA_INIT, which goes out anew with a cookie, or whose answer brought the keys.
-abbrev pub StopsWaiting : IkeOutput → ℕ → ℕ → Type 0
-StopsWaiting (output.Reply octets (Some closed)) serial number = closed ≡ serial
-StopsWaiting (output.Counted ike child closed) serial number = ike ≡ serial
-StopsWaiting (output.Request ike octets) serial number = (ike ≡ serial) × (number ≡ 0)
-StopsWaiting o serial number = ⊥
+-- A request of this number waits no more, by what a step says as a response of the first number comes: its association ends by a reply; it is
+-- the one that is answered, or its association ends with that answer; or it is that of IKE_SA_INIT, which goes out anew with a cookie, or whose
+-- answer brought the keys.
+abbrev pub StopsWaiting : ℕ → IkeOutput → ℕ → ℕ → Type 0
+StopsWaiting answered (output.Reply octets (Some closed)) serial number = closed ≡ serial
+StopsWaiting answered (output.Counted ike child closed) serial number = (ike ≡ serial) × ((number ≡ answered) ⊎ (closed ≡ Some serial))
+StopsWaiting answered (output.Request ike octets) serial number = (ike ≡ serial) × (number ≡ 0)
+StopsWaiting answered o serial number = ⊥
 
 -- an association with this serial is held in this phase
 pub record StandsIn (held : Held) (serial : ℕ) (p : Phase) : Type 0 where
@@ -84,8 +85,10 @@ pub record StandsIn (held : Held) (serial : ℕ) (p : Phase) : Type 0 where
 pub record StaysAt (old : Machine) (stepped : Stepped) (new : Machine) : Type 0 where
   pub moment : new.moment ≡ old.moment
   pub said : tells_moment stepped.output ≡ false
+  -- the number of the request that is answered, if one is
+  pub answered : ℕ
   pub waits : (serial number : ℕ) (request : Request) → WaitsAt new.held serial number request → WaitsAt old.held serial number request ⊎ StartsToWait old.moment old.held stepped new.held serial number request
-  pub waited : (serial number : ℕ) (request : Request) → WaitsAt old.held serial number request → WaitsAt new.held serial number request ⊎ StopsWaiting stepped.output serial number
+  pub waited : (serial number : ℕ) (request : Request) → WaitsAt old.held serial number request → WaitsAt new.held serial number request ⊎ StopsWaiting answered stepped.output serial number
   pub closed : (serial : ℕ) (keys : Option KeyRecord) (at : ℕ) → StandsIn new.held serial (phase.Closed keys at)
       → StandsIn old.held serial (phase.Closed keys at) ⊎ ((at ≡ old.moment) × TellsClosed serial stepped.output)
   pub half_open : (serial : ℕ) (opened : HalfOpen) → StandsIn new.held serial (phase.HalfOpen opened) → StandsIn old.held serial (phase.HalfOpen opened) ⊎ (opened.made ≡ old.moment)

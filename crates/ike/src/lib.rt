@@ -2,8 +2,9 @@
 //! datagram that came or an order.
 //!
 //! A step asks, in this order: which association a message is for, what it is to that association ([`association`]), and what its
-//! payloads do ([`effects`], over [`initial`] and [`informational`]). An order begins an association, or asks the peer something under one
-//! that stands ([`Demand`]). All that can be refused is made before anything is changed. What a step says beside its output, a
+//! payloads do ([`effects`], over [`initial`], [`informational`] and [`create_child`]). An order begins an association, or asks the peer
+//! something under one that stands: for a further child ([`IkeInput::Start`]), or what [`Demand`] names. All that can be refused is made
+//! before anything is changed. What a step says beside its output, a
 //! [`Trace`], is which message was sent under which keys, and which keys and which child were made.
 //!
 //! ```text
