@@ -223,19 +223,34 @@ fn takes_all(alloc: Global, b: &mut Side, payloads: &[u8], key: &[u8; 32]) -> Re
     Ok(true)
 }
 
-/// The table takes 1024 children, of which the first came with the association. Then A's request is declined, and an order
-/// refused by E25.
-#[test]
-fn a_full_table(rt: HostRuntime) -> Result<(), Fail> {
-    let alloc = rt.alloc();
+/// B with 1024 children, as many as a table takes, of which the first came with the association; and A's key.
+fn filled(alloc: Global) -> Result<(Side, [u8; 32]), Fail> {
     let (mut b, key) = established(alloc)?;
-    let request = request(alloc, ESP)?;
-    assert!(rt; takes_all(alloc, &mut b, &request, &key)?);
-    let said = asked(alloc, &mut b, offer(1025), &request, &key)?;
-    assert_eq!(rt; said, Some((57, false)));
-    assert_eq!(rt; refusal(alloc, &mut b), Some(IkeFault::TableFull));
-    assert!(rt; b.table.after(1023).is_some());
-    assert!(rt; b.table.after(1024).is_none());
+    let payloads = request(alloc, ESP)?;
+    if !takes_all(alloc, &mut b, &payloads, &key)? {
+        return Err(Fail::new("not taken"));
+    }
+    Ok((b, key))
+}
+
+/// Whether B declines a request of this number for a further child.
+fn declines(alloc: Global, b: &mut Side, number: u32, key: &[u8; 32]) -> Result<bool, Fail> {
+    let payloads = request(alloc, ESP)?;
+    let said = asked(alloc, b, offer(number), &payloads, key)?;
+    Ok(said == Some((57, false)))
+}
+
+#[test]
+fn a_request_at_a_full_table(rt: HostRuntime) -> Result<(), Fail> {
+    let (mut b, key) = filled(rt.alloc())?;
+    assert!(rt; declines(rt.alloc(), &mut b, 1025, &key)?);
+    Ok(())
+}
+
+#[test]
+fn an_order_at_a_full_table(rt: HostRuntime) -> Result<(), Fail> {
+    let (mut b, _) = filled(rt.alloc())?;
+    assert_eq!(rt; refusal(rt.alloc(), &mut b), Some(IkeFault::TableFull));
     Ok(())
 }
 
@@ -250,15 +265,21 @@ fn nearly_spent(alloc: Global) -> Table {
     table
 }
 
-/// A table gives 65,536 SPIs, here the last one for the first child. Then A's request is declined, and an order refused by E26.
+/// B, whose table gave 65,536 SPIs, the last one to the first child; and A's key.
+fn spent(alloc: Global) -> Result<(Side, [u8; 32]), Fail> {
+    established_with(alloc, nearly_spent(alloc))
+}
+
 #[test]
-fn a_spent_table(rt: HostRuntime) -> Result<(), Fail> {
-    let alloc = rt.alloc();
-    let (mut b, key) = established_with(alloc, nearly_spent(alloc))?;
-    let said = asked(alloc, &mut b, offer(2), &request(alloc, ESP)?, &key)?;
-    assert_eq!(rt; said, Some((57, false)));
-    assert_eq!(rt; refusal(alloc, &mut b), Some(IkeFault::SpisSpent));
-    assert!(rt; b.table.after(0).is_some());
-    assert!(rt; b.table.after(1).is_none());
+fn a_request_at_a_spent_table(rt: HostRuntime) -> Result<(), Fail> {
+    let (mut b, key) = spent(rt.alloc())?;
+    assert!(rt; declines(rt.alloc(), &mut b, 2, &key)?);
+    Ok(())
+}
+
+#[test]
+fn an_order_at_a_spent_table(rt: HostRuntime) -> Result<(), Fail> {
+    let (mut b, _) = spent(rt.alloc())?;
+    assert_eq!(rt; refusal(rt.alloc(), &mut b), Some(IkeFault::SpisSpent));
     Ok(())
 }
