@@ -1,7 +1,8 @@
 //! The response to a request of this end for a further child.
-ghost use Rattle.std.specs.Prelude.{◌≡◌, IfOk, IfErr};
+ghost use Rattle.std.specs.Prelude.{◌≡◌, ◌≢◌, IfOk, IfErr};
 ghost use Rattle.sadb.specs.Database.{IsReserved};
 ghost use Rattle.association.specs.Closing.{HoldsReserved, HoldsSpi};
+ghost use Rattle.children.specs.declared.fault.ChildFault.TheVariants as child;
 ghost use Rattle.initial.specs.Configs.{setup_of, IsConfig};
 ghost use Rattle.informational.specs.Orders.{IsEstablished};
 ghost use Rattle.create_child.specs.Counting.{is_closing_conclusion, AsksAt, ConcludesAt, CountsFurther, EndsFurther, HasItsSpi};
@@ -21,7 +22,8 @@ use suite::KeyRecord;
 /// child is made and that SPI is given up.
 ///
 /// The caller asks only at an established association, where a request of this number that asked for a child is outstanding, and the SPIs
-/// that the association holds are reserved in the table. An error is for want of memory alone, and changes nothing.
+/// that the association holds are reserved in the table. An error is for want of memory alone, for the message or the pair: its place in the
+/// table stands since its SPI was reserved. It changes nothing.
 pub fn count<C>(
     alloc: Global,
     step: &Step<'_, C>,
@@ -37,6 +39,7 @@ pub fn count<C>(
     ensures counted { IfOk result (λ ended. CountsFurther (setup_of step.now)
         association.old table.old number plain.now ended association.new table.new) }
     ensures refused { IfErr result (λ _. (association.new ≡ association.old) × (table.new ≡ table.old)) }
+    ensures wanted { IfErr result (λ fault. fault ≢ child.Table) }
 {
     let Phase::Established(keys) = &association.phase else {
         unreachable!();
@@ -65,7 +68,8 @@ fn conclusion_at<C>(
 ) -> Result<Conclusion, ChildFault>
     requires config { IsConfig step.now.config.now }
     requires asked { AsksAt association.now.outgoing number }
-    ensures { IfOk result (ConcludesAt (setup_of step.now) association.now keys.now number plain.now) }
+    ensures concluded { IfOk result (ConcludesAt (setup_of step.now) association.now keys.now number plain.now) }
+    ensures wanted { IfErr result (λ fault. fault ≢ child.Table) }
 {
     let Some(request) = association.outgoing.get(number) else {
         unreachable!();

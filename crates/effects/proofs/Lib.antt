@@ -8,6 +8,7 @@ mod OtherLemmas
 mod ProvingLemmas
 mod WayLemmas
 mod KeepingLemmas
+mod ExchangeLemmas
 mod PayloadLemmas
 mod MadeLemmas
 mod OfferLemmas
@@ -20,6 +21,7 @@ mod WholeKeyLemmas
 mod ToldLemmas
 mod ProbeLemmas
 mod RequestLemmas
+mod WindowLemmas
 mod DueLemmas
 mod MoveLemmas
 mod OpeningLemmas

@@ -7,7 +7,7 @@ use Rattle.std.specs.Ordering.{nat_cmp}
 use Rattle.std.proofs.lemmas.Bool.{eq-eqb}
 use Rattle.base.specs.Octets.{Octets}
 use Rattle.base.specs.declared.selector.Selector.{Selector}
-use Rattle.wire.specs.Numbers.{IKE_AUTH, SELECTOR_LIMIT}
+use Rattle.wire.specs.Numbers.{CREATE_CHILD_SA, IKE_AUTH, SELECTOR_LIMIT}
 use Rattle.wire.specs.Payloads.{SpellsChain}
 use Rattle.wire.specs.Sizes.{FitsFields}
 use Rattle.wire.specs.declared.message.Message.{Message}
@@ -15,6 +15,7 @@ use Rattle.wire.specs.declared.payload.Payload.{Payload}
 use Rattle.wire.specs.declared.payload.Payload.TheVariants.{TsI, TsR}
 use Rattle.suite.specs.Keys.{child_keys, first_child_keys}
 use Rattle.suite.specs.declared.key_record.KeyRecord.{KeyRecord}
+use Rattle.suite.specs.declared.keys.Keys.{Keys}
 use Rattle.exchange.specs.Counting.{only_sa, only_ts_i, only_ts_r}
 use Rattle.exchange.specs.Headers.{keys_of, sent_header}
 use Rattle.exchange.specs.Sealed.{IsSealed}
@@ -28,7 +29,7 @@ use Rattle.requests.specs.Outgoing.{number_0_answered, OwnRequests}
 use Rattle.sadb.specs.Database.{pair_at, Database, Installs, IsReserved, IsSoundTable}
 use Rattle.sadb.specs.declared.pair.Pair.{Pair}
 use Rattle.association.specs.Closing.{HoldsReserved}
-use Rattle.association.specs.AskedChildren.{asked_of}
+use Rattle.association.specs.AskedChildren.{asked_of, AskedChildView}
 use Rattle.association.specs.Phases.{established_of, established_spi, keys_in, spi_in}
 use Rattle.association.specs.Purposes.{spi_asked}
 use Rattle.association.specs.Receiving.{Answers, IsAnswering, IsEffective, IsReceived, Opening, TakesEffect}
@@ -36,9 +37,10 @@ use Rattle.association.specs.declared.phase.Association.{Association}
 use Rattle.association.specs.declared.phase.AuthSent.{AuthSent}
 use Rattle.association.specs.declared.phase.HalfOpen.{HalfOpen}
 use Rattle.association.specs.declared.phase.InitSent.{InitSent}
+use Rattle.association.specs.declared.phase.Phase.{Phase}
 use Rattle.association.specs.declared.phase.Phase.TheVariants as phase
 use Rattle.association.specs.declared.phase.Request.{Request}
-use Rattle.association.specs.declared.purpose.Purpose.TheVariants.{Identify}
+use Rattle.association.specs.declared.purpose.Purpose.TheVariants.{CreateChild, Identify}
 use Rattle.auth.specs.Proofs.{proving_of, Accepts}
 use Rattle.auth.specs.Requests.{auth_request}
 use Rattle.children.specs.Accepting.{IsAcceptedChild, KeepsToRequest}
@@ -60,16 +62,19 @@ use Rattle.further.specs.declared.concluding.Conclusion.{Conclusion}
 use Rattle.further.specs.declared.concluding.Conclusion.TheVariants as conclusion
 use Rattle.further.specs.declared.deciding.Decision as further
 use Rattle.further.specs.declared.deciding.Decision.TheVariants as decided
+use Rattle.create_child.specs.Asking.{wanted, AsksForFurther}
 use Rattle.create_child.specs.Counting.{is_closing_conclusion}
-use Rattle.effects.specs.Children.{AsksForChild, BringsChild, First, Further, IsAnsweredChild, IsAskedChild, IsAsking, MakesChild}
+use Rattle.effects.specs.Children.{first_asked, AsksForChild, AsksForFurtherChild, BringsChild, First, Further, IsAnsweredChild, IsAskedChild, IsAsking, MakesChild}
 use Rattle.initial.specs.Concluding.{with_incoming, with_outgoing, AddsChild, ConcludesBy}
 use Rattle.initial.specs.Configs.{first_setting, Setup}
 use Rattle.initial.specs.Deciding.{own_proving, AcceptsAuth, IsDecision, IsRead}
 use Rattle.initial.specs.Ending.{IsVerdict}
 use Rattle.initial.specs.Issuing.{new_request, IssuesNext}
+use Rattle.informational.specs.Asking.{request_message}
 use Rattle.informational.specs.Orders.{ClosesIf}
 use Rattle.effects.specs.Keeping.{child_in}
 use Rattle.effects.specs.Pairs.{IsUnused, LeavesPairs}
+use Rattle.effects.specs.Requests.{is_concluded, IsSoundlyHeld}
 use Rattle.effects.specs.Taking.{Meaning, TakesMessage}
 use Rattle.initial.specs.declared.answering.Answered.{Answered}
 use Rattle.initial.specs.declared.concluding.Outcome.{Outcome}
@@ -79,6 +84,7 @@ use Rattle.initial.specs.declared.deciding.Decision.TheVariants as decision
 use Rattle.initial.specs.declared.ending.Ended.{Ended}
 use Rattle.effects.specs.declared.taking.Effect.{Effect}
 use Rattle.effects.specs.declared.taking.Effect.TheVariants as effect
+use Rattle.effects.proofs.ExchangeLemmas.{asked_exchange, auth_exchange, further_exchange, identity_exchange}
 use Rattle.effects.proofs.PairLemmas.{answer_unused, end_unused, further_unused, made_unused, UnusedBy, UnusedIn}
 use Rattle.effects.proofs.PayloadLemmas.{answer_has, request_has}
 use Rattle.effects.proofs.SpiLemmas.{pairs_left}
@@ -292,6 +298,7 @@ replied_makes facts meaning setup old table octets m answered serial new new_tab
       made = (
         First,
         record {
+          exchange = auth_exchange old.phase d.opened m.header.exchange d.was (facts.effective meaning.plain_of old octets m is.plain is.received).admitted;
           plain = is.plain;
           opened = (facts.effective meaning.plain_of old octets m is.plain is.received).opened;
           request = decides.request;
@@ -338,10 +345,10 @@ asked_child facts setup ike sent plain pair serial small is =
     }
 
 counted_makes : (facts : ChildFacts) (meaning : Meaning) (setup : Setup) (old : Association) (table : Database) (octets : Octets) (m : Message) (ended : Ended) (serial : ℕ) (new : Association) (new_table : Database)
-    → IsSoundTable table → HoldsReserved old table
+    → IsSoundTable table → IsSoundlyHeld old → HoldsReserved old table
     → ended.child ≡ Some serial → TakesMessage meaning setup old table octets m (effect.Counted ended) new new_table → CountedAuth meaning setup old table octets m ended new new_table
     → MakesChild meaning setup old table octets m (effect.Counted ended) serial new new_table
-counted_makes facts meaning setup old table octets m ended serial new new_table sound holds e takes is =
+counted_makes facts meaning setup old table octets m ended serial new new_table sound held holds e takes is =
     let d = is.done in
     let c : HasChild (record old { outgoing = d.outgoing }) table d.verdict serial new new_table =
     concluded_child setup (record old { outgoing = d.outgoing }) table d.verdict ended.child serial new new_table e d.concluded in
@@ -356,6 +363,7 @@ counted_makes facts meaning setup old table octets m ended serial new new_table 
       pair = with_serial serial c.pair;
       brings = child_brought meaning setup old table octets m (effect.Counted ended) serial d.sent.keys c.pair new new_table takes (c.phase_is ∙ ap established_of d.was) c.in_order unused c.there;
       made = inl (record {
+        exchange = identity_exchange old d.sent m d.was (facts.answering meaning.plain_of old octets m is.plain is.received).due held.waits;
         sent = d.sent;
         was = d.was;
         same_keys = refl;
@@ -462,6 +470,7 @@ further_replied_makes facts laws meaning setup old table octets m answered seria
       made = (
         Further,
         record {
+          exchange = further_exchange old.phase d.keys m.header.exchange d.established (facts.effective meaning.plain_of old octets m is.plain is.received).admitted is.other;
           plain = is.plain;
           opened = (facts.effective meaning.plain_of old octets m is.plain is.received).opened;
           request = asks.request;
@@ -485,10 +494,10 @@ accepts_further blocks ike keys asked own_nonce plain None pair read due = absur
 accepts_further blocks ike keys asked own_nonce plain (Some reply) pair read due = record { reply = reply; read = read }
 
 further_counted_makes : (facts : ChildFacts) (laws : FurtherFacts) (meaning : Meaning) (setup : Setup) (old : Association) (table : Database) (octets : Octets) (m : Message) (ended : Ended) (serial : ℕ) (new : Association) (new_table : Database)
-    → IsSoundTable table → HoldsReserved old table
+    → IsSoundTable table → IsSoundlyHeld old → HoldsReserved old table
     → ended.child ≡ Some serial → TakesMessage meaning setup old table octets m (effect.Counted ended) new new_table → CountedFurther meaning setup old table octets m ended new new_table
     → MakesChild meaning setup old table octets m (effect.Counted ended) serial new new_table
-further_counted_makes facts laws meaning setup old table octets m ended serial new new_table sound holds e takes is =
+further_counted_makes facts laws meaning setup old table octets m ended serial new new_table sound held holds e takes is =
     let d = is.done in
     let spi : ℕ = d.further.child.spi in
     let asked : Asked = asked_of d.further.child in
@@ -510,6 +519,7 @@ further_counted_makes facts laws meaning setup old table octets m ended serial n
       pair = with_serial serial c.one;
       brings = child_brought meaning setup old table octets m (effect.Counted ended) serial d.keys c.one new new_table takes (ap (λ (x : Association). x.phase) c.same ∙ d.established) c.in_order unused c.there;
       made = inr (record {
+        exchange = asked_exchange old d.request d.further m d.counted.there d.asked (facts.answering meaning.plain_of old octets m is.plain is.received).due;
         was = d.established;
         request = d.request;
         outstanding = d.counted.there;
@@ -529,24 +539,24 @@ further_counted_makes facts laws meaning setup old table octets m ended serial n
     }
 
 way_makes : (facts : ChildFacts) (laws : FurtherFacts) (meaning : Meaning) (setup : Setup) (old : Association) (table : Database) (octets : Octets) (m : Message) (e : Effect) (serial : ℕ) (new : Association) (new_table : Database)
-    → IsSoundTable table → HoldsReserved old table → child_in e ≡ Some serial → TakesMessage meaning setup old table octets m e new new_table
+    → IsSoundTable table → IsSoundlyHeld old → HoldsReserved old table → child_in e ≡ Some serial → TakesMessage meaning setup old table octets m e new new_table
     → Way meaning setup old table octets m e new new_table → MakesChild meaning setup old table octets m e serial new new_table
-way_makes facts laws meaning setup old table octets m (effect.Refused fault) serial new new_table sound holds named takes is = absurd (none_some serial named)
-way_makes facts laws meaning setup old table octets m (effect.Repeated reply) serial new new_table sound holds named takes is = absurd (none_some serial named)
-way_makes facts laws meaning setup old table octets m (effect.Replied answered) serial new new_table sound holds named takes (inl is) = replied_makes facts meaning setup old table octets m answered serial new new_table named takes is
-way_makes facts laws meaning setup old table octets m (effect.Replied answered) serial new new_table sound holds named takes (inr (inl is)) = absurd (none_some serial (sym is.done.child ∙ named))
-way_makes facts laws meaning setup old table octets m (effect.Again next) serial new new_table sound holds named takes is = absurd (none_some serial named)
-way_makes facts laws meaning setup old table octets m (effect.Identified next) serial new new_table sound holds named takes is = absurd (none_some serial named)
-way_makes facts laws meaning setup old table octets m (effect.Counted ended) serial new new_table sound holds named takes (inl is) = counted_makes facts meaning setup old table octets m ended serial new new_table sound holds named takes is
-way_makes facts laws meaning setup old table octets m (effect.Counted ended) serial new new_table sound holds named takes (inr (inl is)) = absurd (none_some serial (sym is.done.child ∙ named))
-way_makes facts laws meaning setup old table octets m (effect.Replied answered) serial new new_table sound holds named takes (inr (inr is)) = further_replied_makes facts laws meaning setup old table octets m answered serial new new_table named takes is
-way_makes facts laws meaning setup old table octets m (effect.Counted ended) serial new new_table sound holds named takes (inr (inr is)) = further_counted_makes facts laws meaning setup old table octets m ended serial new new_table sound holds named takes is
+way_makes facts laws meaning setup old table octets m (effect.Refused fault) serial new new_table sound held holds named takes is = absurd (none_some serial named)
+way_makes facts laws meaning setup old table octets m (effect.Repeated reply) serial new new_table sound held holds named takes is = absurd (none_some serial named)
+way_makes facts laws meaning setup old table octets m (effect.Replied answered) serial new new_table sound held holds named takes (inl is) = replied_makes facts meaning setup old table octets m answered serial new new_table named takes is
+way_makes facts laws meaning setup old table octets m (effect.Replied answered) serial new new_table sound held holds named takes (inr (inl is)) = absurd (none_some serial (sym is.done.child ∙ named))
+way_makes facts laws meaning setup old table octets m (effect.Again next) serial new new_table sound held holds named takes is = absurd (none_some serial named)
+way_makes facts laws meaning setup old table octets m (effect.Identified next) serial new new_table sound held holds named takes is = absurd (none_some serial named)
+way_makes facts laws meaning setup old table octets m (effect.Counted ended) serial new new_table sound held holds named takes (inl is) = counted_makes facts meaning setup old table octets m ended serial new new_table sound held holds named takes is
+way_makes facts laws meaning setup old table octets m (effect.Counted ended) serial new new_table sound held holds named takes (inr (inl is)) = absurd (none_some serial (sym is.done.child ∙ named))
+way_makes facts laws meaning setup old table octets m (effect.Replied answered) serial new new_table sound held holds named takes (inr (inr is)) = further_replied_makes facts laws meaning setup old table octets m answered serial new new_table named takes is
+way_makes facts laws meaning setup old table octets m (effect.Counted ended) serial new new_table sound held holds named takes (inr (inr is)) = further_counted_makes facts laws meaning setup old table octets m ended serial new new_table sound held holds named takes is
 
 pub makes_child : ChildFacts → FurtherFacts → (meaning : Meaning) (setup : Setup) (old : Association) (table : Database) (octets : Octets) (m : Message) (e : Effect) (serial : ℕ) (new : Association) (new_table : Database)
-    → IsSoundTable table → HoldsReserved old table → child_in e ≡ Some serial → TakesMessage meaning setup old table octets m e new new_table
+    → IsSoundTable table → IsSoundlyHeld old → HoldsReserved old table → child_in e ≡ Some serial → TakesMessage meaning setup old table octets m e new new_table
     → MakesChild meaning setup old table octets m e serial new new_table
-makes_child facts laws meaning setup old table octets m e serial new new_table sound holds named is =
-    way_makes facts laws meaning setup old table octets m e serial new new_table sound holds named is (way_of meaning setup old table octets m e new new_table is)
+makes_child facts laws meaning setup old table octets m e serial new new_table sound held holds named is =
+    way_makes facts laws meaning setup old table octets m e serial new new_table sound held holds named is (way_of meaning setup old table octets m e new new_table is)
 
 -- ---- what an initiator asks for
 
@@ -571,6 +581,20 @@ pub asks_for_child : (meaning : Meaning) (setup : Setup) (old : Association) (ta
     → TakesMessage meaning setup old table octets m (effect.Identified next) new new_table → AsksForChild meaning setup next new
 asks_for_child meaning setup old table octets m next new new_table is =
     identified_asks meaning setup old table octets m next new new_table (way_of meaning setup old table octets m (effect.Identified next) new new_table is)
+
+-- so does an end for a further one
+pub asks_further : (body_of : Keys → Octets → Octets → Octets → Octets) (setup : Setup) (local remote : Selector) (old : Association) (table : Database) (octets : Octets) (new : Association) (new_table : Database)
+    → AsksForFurther body_of setup local remote old table octets new new_table → AsksForFurtherChild body_of setup old.outgoing.next octets new
+asks_further body_of setup local remote old table octets new new_table is =
+    let further = wanted setup is.spi local remote in
+    record {
+      keys = is.keys;
+      established = ap (λ (x : Association). x.phase) is.content ∙ is.established;
+      further = further;
+      sealed = subst (λ (x : Association). IsSealed body_of (keys_of x.role is.keys) setup.fresh.seal (request_message x CREATE_CHILD_SA old.outgoing.next (further_payloads (child_request (asked_of further.child)) further.nonce)) octets) (sym is.content) is.sealed;
+      kept = ap (λ (x : Association). map.get x.outgoing.outstanding old.outgoing.next) is.content ∙ issued_kept old.outgoing (new_request octets (CreateChild further) setup.moment) is.outgoing is.issued;
+      extension = refl;
+    }
 
 -- ---- who waits for a child waited for it before, or asks for it now
 
@@ -624,3 +648,48 @@ pub waits_for_child : (meaning : Meaning) (setup : Setup) (old : Association) (t
     → new.phase ≡ phase.AuthSent sent → TakesMessage meaning setup old table octets m e new new_table → (old.phase ≡ phase.AuthSent sent) ⊎ IsAsking e
 waits_for_child meaning setup old table octets m e new new_table sent waits is =
     way_waits meaning setup old table octets m e new new_table sent waits (way_of meaning setup old table octets m e new new_table is)
+
+-- ---- and no message changes which child it asked for
+
+concluded_asks : (p : Phase) (child : AskedChildView) → is_concluded p ≡ true → first_asked p ≡ Some child → ⊥
+concluded_asks (phase.InitSent sent) child is asks = absurd cc
+concluded_asks (phase.AuthSent sent) child is asks = absurd cc
+concluded_asks (phase.HalfOpen opened) child is asks = absurd cc
+concluded_asks (phase.Established keys) child is asks = absurd cc
+concluded_asks (phase.Closed keys at) child is asks = absurd cc
+
+concluded_by : (setup : Setup) (a : Association) (table : Database) (o : Outcome) (child : Option ℕ) (new : Association) (new_table : Database) (keys : KeyRecord)
+    → established_of a.phase ≡ phase.Established keys → ConcludesBy setup a table o child new new_table → is_concluded new.phase ≡ true
+concluded_by setup a table outcome.Closes child new new_table keys was c = ap (λ (x : Association). is_concluded x.phase) c.over.content
+concluded_by setup a table (outcome.Establishes pair window) child new new_table keys was c = ap (λ (x : Association). is_concluded x.phase) c.content ∙ ap is_concluded was
+
+concluded_if : (ending : Bool) (serials : List ℕ) (a : Association) (table : Database) (moment : ℕ) (new : Association) (new_table : Database) (keys : KeyRecord)
+    → a.phase ≡ phase.Established keys → ClosesIf ending serials a table moment new new_table → is_concluded new.phase ≡ true
+concluded_if true serials a table moment new new_table keys was is = ap (λ (x : Association). is_concluded x.phase) is.content
+concluded_if false serials a table moment new new_table keys was is = ap (λ (x : Association). is_concluded x.phase) is.0 ∙ ap is_concluded was
+
+way_asked : (meaning : Meaning) (setup : Setup) (old : Association) (table : Database) (octets : Octets) (m : Message) (e : Effect) (new : Association) (new_table : Database) (child : AskedChildView)
+    → first_asked new.phase ≡ Some child → Way meaning setup old table octets m e new new_table → first_asked old.phase ≡ Some child
+way_asked meaning setup old table octets m (effect.Refused fault) new new_table child asks is = sym (ap (λ (x : Association). first_asked x.phase) is.association) ∙ asks
+way_asked meaning setup old table octets m (effect.Repeated reply) new new_table child asks is = sym (ap (λ (x : Association). first_asked x.phase) is.same.association) ∙ asks
+way_asked meaning setup old table octets m (effect.Replied answered) new new_table child asks (inl is) =
+    let d = is.done in
+    absurd (concluded_asks new.phase child (concluded_by setup (with_incoming old d.incoming) d.between (outcome_of d.decision) answered.child new new_table d.opened.keys (ap established_of d.was) d.concluded) asks)
+way_asked meaning setup old table octets m (effect.Replied answered) new new_table child asks (inr is) =
+    let d = answered_later meaning setup old table octets m answered new new_table is in
+    absurd (concluded_asks new.phase child (concluded_if answered.closed d.ends.serials (with_incoming old d.incoming) d.ends.before setup.moment new d.ends.after d.keys d.was d.ends.is) asks)
+way_asked meaning setup old table octets m (effect.Again next) new new_table child asks is =
+    ap first_asked is.was ∙ sym (ap (λ (x : Association). first_asked x.phase) is.done.content) ∙ asks
+way_asked meaning setup old table octets m (effect.Identified next) new new_table child asks is =
+    ap first_asked is.was ∙ sym (ap (λ (x : Association). first_asked x.phase) is.done.content) ∙ asks
+way_asked meaning setup old table octets m (effect.Counted ended) new new_table child asks (inl is) =
+    let d = is.done in
+    absurd (concluded_asks new.phase child (concluded_by setup (with_outgoing old d.outgoing) table d.verdict ended.child new new_table d.sent.keys (ap established_of d.was) d.concluded) asks)
+way_asked meaning setup old table octets m (effect.Counted ended) new new_table child asks (inr is) =
+    let d = counted_later meaning setup old table octets m ended new new_table is in
+    absurd (concluded_asks new.phase child (concluded_if ended.closed d.ends.serials (with_outgoing old d.outgoing) d.ends.before setup.moment new d.ends.after d.keys d.was d.ends.is) asks)
+
+pub asked_before : (meaning : Meaning) (setup : Setup) (old : Association) (table : Database) (octets : Octets) (m : Message) (e : Effect) (new : Association) (new_table : Database) (child : AskedChildView)
+    → first_asked new.phase ≡ Some child → TakesMessage meaning setup old table octets m e new new_table → first_asked old.phase ≡ Some child
+asked_before meaning setup old table octets m e new new_table child asks is =
+    way_asked meaning setup old table octets m e new new_table child asks (way_of meaning setup old table octets m e new new_table is)

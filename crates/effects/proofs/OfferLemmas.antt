@@ -1,7 +1,9 @@
 -- What an answer takes of an offer.
-use Rattle.std.proofs.Common.{◌≡◌, ◌∷◌, [], ℕ, zero, suc, Bool, true, false, List, Option, Some, None, All, Contains, slice_index_or, ap, refl, subst, sym, ◌∙◌, arith}
+use Rattle.std.proofs.Common.{◌≡◌, ◌≢◌, ◌⊎◌, inl, inr, ◌∷◌, [], ℕ, zero, suc, Bool, true, false, List, Option, Some, None, All, Contains, slice_index_or, ap, refl, subst, sym, ◌∙◌, arith}
+use Rattle.std.proofs.lemmas.Bool.{eqb-true}
 use Rattle.base.specs.Octets.{Octets}
-use Rattle.wire.specs.Numbers.{CREATE_CHILD_SA, IKE_AUTH}
+use Rattle.wire.specs.Numbers.{CREATE_CHILD_SA, IKE_AUTH, INFORMATIONAL}
+use Rattle.wire.specs.declared.message.Message.{Message}
 use Rattle.wire.specs.declared.payload.Payload.{Payload}
 use Rattle.wire.specs.declared.payload.Payload.TheVariants.{Sa}
 use Rattle.wire.specs.declared.proposal.Proposal.{Proposal}
@@ -22,6 +24,7 @@ use Rattle.sa_init.specs.Judging.{Accepted, IsJudgement, OfferView}
 use Rattle.sa_init.specs.Messages.{answer_message, ike_wanted}
 use Rattle.sa_init.specs.declared.judging.Sender.{Sender}
 use Rattle.association.specs.Phases.{keys_in}
+use Rattle.association.specs.Receiving.{IsEffective, IsReceived, Opening, TakesEffect}
 use Rattle.association.specs.declared.phase.Association.{Association}
 use Rattle.association.specs.declared.phase.HalfOpen.{HalfOpen}
 use Rattle.auth.specs.Proofs.{Accepts}
@@ -38,12 +41,16 @@ use Rattle.further.specs.Judging.{Admitted, FurtherJudgement, IsFurtherJudgement
 use Rattle.further.specs.declared.deciding.Decision as further
 use Rattle.further.specs.declared.deciding.Decision.TheVariants as decided
 use Rattle.create_child.specs.Answering.{AnswersFurther}
-use Rattle.effects.specs.Offers.{AnswersInitialSa, AnswersOneOf, AnswersPlain, AnswersSealedSa}
+use Rattle.effects.specs.Offers.{AnswersInitialSa, AnswersMessageSa, AnswersOneOf, AnswersPlain, AnswersSealedSa}
+use Rattle.effects.specs.Taking.{prover_of, Meaning, TakesMessage}
+use Rattle.effects.specs.declared.taking.Effect.TheVariants as effect
 use Rattle.initial.specs.declared.answering.Answered.{Answered}
 use Rattle.initial.specs.declared.beginning.Admitted as admitting
 use Rattle.initial.specs.declared.deciding.Decision.{Decision}
 use Rattle.initial.specs.declared.deciding.Decision.TheVariants as decision
+use Rattle.effects.proofs.ExchangeLemmas.{auth_exchange, further_exchange}
 use Rattle.effects.proofs.PayloadLemmas.{answer_sa, answer_without, further_sa, notice_without}
+use Rattle.effects.proofs.WayLemmas.{way_of, Way}
 
 -- what is known of an answer
 pub record OfferFacts : Type 0 where
@@ -183,3 +190,32 @@ further_answers facts body_of setup old table number plain answered new new_tabl
       sealed = is.sealed;
       answers = λ proposals sa. further_decides facts setup old.serial is.keys table is.deleting plain is.decided.payloads is.decision proposals is.decided.read is.decided.due sa;
     }
+
+-- ---- a message
+
+way_answers : (facts : OfferFacts) (effective : (plain_of : Opening) (a : Association) (octets : Octets) (m : Message) (plain : Plain) → IsReceived plain_of a octets m (TakesEffect plain) → IsEffective plain_of a octets m plain)
+    → (meaning : Meaning) (setup : Setup) (old : Association) (table : Database) (octets : Octets) (m : Message) (answered : Answered) (new : Association) (new_table : Database) → m.header.exchange ≢ INFORMATIONAL
+    → Way meaning setup old table octets m (effect.Replied answered) new new_table → AnswersMessageSa meaning setup old octets m answered.octets
+way_answers facts effective meaning setup old table octets m answered new new_table other (inl is) =
+    let taken = effective meaning.plain_of old octets m is.plain is.received in
+    record {
+      plain = is.plain;
+      opened = taken.opened;
+      answers = subst (λ (n : ℕ). AnswersSealedSa n meaning.body_of setup old m.header.id is.plain answered.octets) (sym (auth_exchange old.phase is.done.opened m.header.exchange is.done.was taken.admitted))
+          (auth_answers facts (prover_of meaning) setup old table m.header.id is.plain answered new new_table is.done);
+    }
+way_answers facts effective meaning setup old table octets m answered new new_table other (inr (inl is)) = absurd (other (eqb-true m.header.exchange INFORMATIONAL is.one))
+way_answers facts effective meaning setup old table octets m answered new new_table other (inr (inr is)) =
+    let taken = effective meaning.plain_of old octets m is.plain is.received in
+    record {
+      plain = is.plain;
+      opened = taken.opened;
+      answers = subst (λ (n : ℕ). AnswersSealedSa n meaning.body_of setup old m.header.id is.plain answered.octets) (sym (further_exchange old.phase is.done.keys m.header.exchange is.done.established taken.admitted is.other))
+          (further_answers facts meaning.body_of setup old table m.header.id is.plain answered new new_table is.done);
+    }
+
+pub message_answers : OfferFacts → ((plain_of : Opening) (a : Association) (octets : Octets) (m : Message) (plain : Plain) → IsReceived plain_of a octets m (TakesEffect plain) → IsEffective plain_of a octets m plain)
+    → (meaning : Meaning) (setup : Setup) (old : Association) (table : Database) (octets : Octets) (m : Message) (answered : Answered) (new : Association) (new_table : Database) → m.header.exchange ≢ INFORMATIONAL
+    → TakesMessage meaning setup old table octets m (effect.Replied answered) new new_table → AnswersMessageSa meaning setup old octets m answered.octets
+message_answers facts effective meaning setup old table octets m answered new new_table other is =
+    way_answers facts effective meaning setup old table octets m answered new new_table other (way_of meaning setup old table octets m (effect.Replied answered) new new_table is)

@@ -58,7 +58,7 @@ use Rattle.initial.specs.declared.deciding.Decision.{Decision}
 use Rattle.initial.specs.declared.deciding.Decision.TheVariants as decision
 use Rattle.informational.specs.Orders.{ClosesIf}
 use Rattle.effects.specs.Keeping.{HasKeys}
-use Rattle.effects.specs.Requests.{is_concluded, IsPassing, IsSoundlyHeld, KeepsPeersWindow, KeepsWindow, PutsIntoEffect, StaysConcluded}
+use Rattle.effects.specs.Requests.{is_concluded, IsPassing, IsSoundlyHeld, KeepsWindow, PutsIntoEffect, StaysConcluded}
 use Rattle.effects.specs.Sending.{SendsRequest}
 use Rattle.effects.specs.Taking.{asked_further, prover_of, Does, DoesAnswer, DoesFurther, DoesRequest, DoesResponse, Meaning, TakesMessage}
 use Rattle.effects.specs.Waiting.{AreIssued, MayBeOutstanding, SuitPhase}
@@ -144,12 +144,22 @@ well_taken old new number reply well is = record {
 
 -- ---- what a message leaves of an association
 
+-- the peer's window is widened to one of 16 at most
+record BoundsWider (old new : Association) : Type 0 where
+  before : is_concluded old.phase ≡ false
+  after : is_concluded new.phase ≡ true
+  told : ℕ
+  is_window : IsWindow told
+  window : new.outgoing.window ≡ max told old.outgoing.window
+
+abbrev BoundsPeersWindow : Association → Association → Type 0
+BoundsPeersWindow old new = (new.outgoing.window ≡ old.outgoing.window) ⊎ BoundsWider old new
+
 record Leaves (own : ℕ) (old new : Association) : Type 0 where
   window : KeepsWindow own old new
   follows : FollowsIncoming old.incoming new.incoming
   concluded : is_concluded old.phase ≡ true → StaysConcluded old new
   half_open : (opened : HalfOpen) → new.phase ≡ phase.HalfOpen opened → old.phase ≡ phase.HalfOpen opened
-  peers : IsSoundlyHeld old → KeepsPeersWindow old new
   sound : IsSoundlyHeld old → IsSoundlyHeld new
 
 same_leaves : (laws : FollowLaws) (own : ℕ) (old new : Association) → new ≡ old → Leaves own old new
@@ -158,7 +168,6 @@ same_leaves laws own old new same = record {
   follows = subst (λ (x : Association). FollowsIncoming old.incoming x.incoming) (sym same) (laws.reflexive old.incoming);
   concluded = λ is. record { concluded = subst (λ (x : Association). is_concluded x.phase ≡ true) (sym same) is; size = ap (λ (x : Association). x.incoming.size) same };
   half_open = λ opened is. sym (ap (λ (x : Association). x.phase) same) ∙ is;
-  peers = λ held. inl (ap (λ (x : Association). x.outgoing.window) same);
   sound = λ held. subst (λ (x : Association). IsSoundlyHeld x) (sym same) held;
 }
 
@@ -276,7 +285,7 @@ judged_window windows accepts setup ike sent (Some payloads) outcome.Closes is =
 judged_window windows accepts setup ike sent (Some payloads) (outcome.Establishes pair window) is = subst (λ n. IsWindow n) (sym is.told) (windows payloads)
 
 auth_peers : (setup : Setup) (a : Association) (table : Database) (o : Outcome) (child : Option ℕ) (new : Association) (new_table : Database) (keys : KeyRecord)
-    → is_concluded a.phase ≡ false → established_of a.phase ≡ phase.Established keys → TellsWindow o → ConcludesBy setup a table o child new new_table → KeepsPeersWindow a new
+    → is_concluded a.phase ≡ false → established_of a.phase ≡ phase.Established keys → TellsWindow o → ConcludesBy setup a table o child new new_table → BoundsPeersWindow a new
 auth_peers setup a table outcome.Closes child new new_table keys open_yet was tells is = inl (ap (λ (r : OwnRequests Request). r.window) is.over.requests.content)
 auth_peers setup a table (outcome.Establishes pair window) child new new_table keys open_yet was tells is = inr (record {
   before = open_yet;
@@ -287,12 +296,12 @@ auth_peers setup a table (outcome.Establishes pair window) child new new_table k
 })
 
 -- it is 16 at most from then on
-narrow : (old new : Association) → old.outgoing.window ≤ WIDEST_WINDOW → KeepsPeersWindow old new → new.outgoing.window ≤ WIDEST_WINDOW
+narrow : (old new : Association) → old.outgoing.window ≤ WIDEST_WINDOW → BoundsPeersWindow old new → new.outgoing.window ≤ WIDEST_WINDOW
 narrow old new before (inl same) = omega (arith, before, same)
 narrow old new before (inr widened) = omega (arith, before, widened.window, widened.is_window.widest)
 
 -- the window of one that has as wide a one
-peers_from : (old a new : Association) → a.phase ≡ old.phase → a.outgoing.window ≡ old.outgoing.window → KeepsPeersWindow a new → KeepsPeersWindow old new
+peers_from : (old a new : Association) → a.phase ≡ old.phase → a.outgoing.window ≡ old.outgoing.window → BoundsPeersWindow a new → BoundsPeersWindow old new
 peers_from old a new same_phase same (inl kept) = inl (kept ∙ same)
 peers_from old a new same_phase same (inr widened) = inr (record {
   before = ap is_concluded (sym same_phase) ∙ widened.before;
@@ -311,7 +320,7 @@ concluded_waits p concluded (inl is) = yes_no (is_concluded p) concluded (ap is_
 concluded_waits p concluded (inr is) = yes_no (is_concluded p) concluded (ap is_concluded is.is)
 
 sound_by : (old a new : Association) → a.phase ≡ old.phase → a.role ≡ old.role → a.spi_r ≡ old.spi_r → Concludes a new → KeptWell a.incoming
-    → SuitPhase (established_of a.phase) a.outgoing.outstanding → AreIssued a.outgoing → KeepsPeersWindow old new → IsSoundlyHeld old → IsSoundlyHeld new
+    → SuitPhase (established_of a.phase) a.outgoing.outstanding → AreIssued a.outgoing → BoundsPeersWindow old new → IsSoundlyHeld old → IsSoundlyHeld new
 sound_by old a new same_phase same_role same_spi done well waits issued peers held =
     let after = done.well well in
     record {
@@ -343,7 +352,7 @@ taken_size old ready number reply new prepared taken = taken.size ∙ ap (λ (r 
 -- a request took effect
 taken_leaves : (laws : FollowLaws) (own : ℕ) (old : Association) (ready incoming : PeerRequests) (number : ℕ) (reply : Octets) (new : Association)
     → HasSameRequests old.incoming ready → TakesRequest ready number reply incoming → Concludes (with_incoming old incoming) new
-    → (is_concluded old.phase ≡ true → new.incoming.size ≡ incoming.size) → KeepsWindow own (with_incoming old incoming) new → KeepsPeersWindow (with_incoming old incoming) new
+    → (is_concluded old.phase ≡ true → new.incoming.size ≡ incoming.size) → KeepsWindow own (with_incoming old incoming) new → BoundsPeersWindow (with_incoming old incoming) new
     → (SuitPhase old.phase old.outgoing.outstanding → SuitPhase (established_of old.phase) old.outgoing.outstanding) → Leaves own old new
 taken_leaves laws own old ready incoming number reply new prepared taken done size window peers waits = record {
   window = window_from own old (with_incoming old incoming) new refl (taken.size ∙ ap (λ (r : PeerRequests). r.size) prepared.content) window;
@@ -351,7 +360,6 @@ taken_leaves laws own old ready incoming number reply new prepared taken done si
       (laws.transitive old.incoming ready incoming (laws.preparing old.incoming ready prepared) (laws.taking ready incoming number reply taken)) done.follows;
   concluded = λ is. record { concluded = done.concluded; size = size is ∙ taken.size ∙ ap (λ (r : PeerRequests). r.size) prepared.content };
   half_open = λ opened opens. absurd (concluded_opens new.phase opened done.concluded opens);
-  peers = λ held. peers_from old (with_incoming old incoming) new refl refl peers;
   sound = λ held. sound_by old (with_incoming old incoming) new refl refl refl done
       (well_taken ready incoming number reply (well_ready old.incoming ready prepared (kept_well old held)) taken) (waits held.waits) held.issued
       (peers_from old (with_incoming old incoming) new refl refl peers) held;
@@ -359,14 +367,13 @@ taken_leaves laws own old ready incoming number reply new prepared taken done si
 
 -- a response was counted
 counted_leaves : (laws : FollowLaws) (own : ℕ) (old a new : Association) → a.incoming ≡ old.incoming → a.phase ≡ old.phase → a.role ≡ old.role → a.spi_r ≡ old.spi_r
-    → Concludes a new → (is_concluded old.phase ≡ true → new.incoming.size ≡ old.incoming.size) → KeepsWindow own a new → a.outgoing.window ≡ old.outgoing.window → KeepsPeersWindow a new
+    → Concludes a new → (is_concluded old.phase ≡ true → new.incoming.size ≡ old.incoming.size) → KeepsWindow own a new → a.outgoing.window ≡ old.outgoing.window → BoundsPeersWindow a new
     → (SuitPhase old.phase old.outgoing.outstanding → SuitPhase (established_of a.phase) a.outgoing.outstanding) → (AreIssued old.outgoing → AreIssued a.outgoing) → Leaves own old new
 counted_leaves laws own old a new same same_phase same_role same_spi done size window same_window peers waits issued = record {
   window = window_from own old a new same_phase (ap (λ (r : PeerRequests). r.size) same) window;
   follows = subst (λ (r : PeerRequests). FollowsIncoming r new.incoming) same done.follows;
   concluded = λ is. record { concluded = done.concluded; size = size is };
   half_open = λ opened opens. absurd (concluded_opens new.phase opened done.concluded opens);
-  peers = λ held. peers_from old a new same_phase same_window peers;
   sound = λ held. sound_by old a new same_phase same_role same_spi done (well_as old.incoming a.incoming same (kept_well old held)) (waits held.waits) (issued held.issued)
       (peers_from old a new same_phase same_window peers) held;
 }
@@ -377,12 +384,12 @@ size_if true serials a table moment new new_table is = ap (λ (x : Association).
 size_if false serials a table moment new new_table is = ap (λ (x : Association). x.incoming.size) is.0
 
 -- so does the peer's
-peers_if : (ending : Bool) (serials : List ℕ) (a : Association) (table : Database) (moment : ℕ) (new : Association) (new_table : Database) → ClosesIf ending serials a table moment new new_table → KeepsPeersWindow a new
+peers_if : (ending : Bool) (serials : List ℕ) (a : Association) (table : Database) (moment : ℕ) (new : Association) (new_table : Database) → ClosesIf ending serials a table moment new new_table → BoundsPeersWindow a new
 peers_if true serials a table moment new new_table is = inl (ap (λ (r : OwnRequests Request). r.window) is.requests.content)
 peers_if false serials a table moment new new_table is = inl (ap (λ (x : Association). x.outgoing.window) is.0)
 
 -- one request more, or an answer, leaves it
-issued_window : (old : OwnRequests Request) (request : Request) (new : OwnRequests Request) → IssuesNext old request new → new.window ≡ old.window
+pub issued_window : (old : OwnRequests Request) (request : Request) (new : OwnRequests Request) → IssuesNext old request new → new.window ≡ old.window
 issued_window old request new is = ap (λ (r : OwnRequests Request). r.window) is.issued.content ∙ ap (λ (r : OwnRequests Request). r.window) is.prepared.content
 
 pub counted_window : (old : OwnRequests Request) (number : ℕ) (request : Request) (new : OwnRequests Request) → CountsAnswer old number request new → new.window ≡ old.window
@@ -408,7 +415,6 @@ early_leaves laws own old new sent same was opens named waits window role issued
   follows = subst (λ (r : PeerRequests). FollowsIncoming old.incoming r) (sym same) (laws.reflexive old.incoming);
   concluded = λ is. absurd (yes_no (is_concluded old.phase) is (ap is_concluded was));
   half_open = opens;
-  peers = λ held. let none = held.took_none (inl (record { sent = sent; is = was })) in inl (window none.window ∙ sym none.window);
   sound = λ held.
       let well = well_as old.incoming new.incoming same (kept_well old held) in
       let none = held.took_none (inl (record { sent = sent; is = was })) in
@@ -587,10 +593,6 @@ stays_concluded laws windows meaning setup old table octets m e new new_table is
 pub keeps_window : FollowLaws → Windows → (meaning : Meaning) (setup : Setup) (old : Association) (table : Database) (octets : Octets) (m : Message) (e : Effect) (new : Association) (new_table : Database)
     → TakesMessage meaning setup old table octets m e new new_table → KeepsWindow setup.config.window old new
 keeps_window laws windows meaning setup old table octets m e new new_table is = (leaves laws windows meaning setup old table octets m e new new_table is).window
-
-pub keeps_peers : FollowLaws → Windows → (meaning : Meaning) (setup : Setup) (old : Association) (table : Database) (octets : Octets) (m : Message) (e : Effect) (new : Association) (new_table : Database)
-    → IsSoundlyHeld old → TakesMessage meaning setup old table octets m e new new_table → KeepsPeersWindow old new
-keeps_peers laws windows meaning setup old table octets m e new new_table held is = (leaves laws windows meaning setup old table octets m e new new_table is).peers held
 
 pub stays_half_open : FollowLaws → Windows → (meaning : Meaning) (setup : Setup) (old : Association) (table : Database) (octets : Octets) (m : Message) (e : Effect) (new : Association) (new_table : Database) (opened : HalfOpen)
     → TakesMessage meaning setup old table octets m e new new_table → new.phase ≡ phase.HalfOpen opened → old.phase ≡ phase.HalfOpen opened

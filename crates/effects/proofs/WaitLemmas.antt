@@ -30,7 +30,12 @@ use Rattle.initial.specs.Issuing.{new_request, IssuesNext}
 use Rattle.initial.specs.declared.beginning.Beginning.{Beginning}
 use Rattle.initial.specs.declared.concluding.Outcome.{Outcome}
 use Rattle.initial.specs.declared.concluding.Outcome.TheVariants as outcome
+use Rattle.association.specs.Purposes.{asks_for_child}
+use Rattle.informational.specs.Asking.{Asks}
+use Rattle.informational.specs.Ordering.{purpose_of}
 use Rattle.informational.specs.Orders.{ClosesIf}
+use Rattle.informational.specs.declared.ordering.Order.{Order}
+use Rattle.informational.specs.declared.ordering.Order.TheVariants as order
 use Rattle.effects.specs.Sending.{SendsRequest}
 use Rattle.effects.specs.Taking.{Meaning, TakesMessage}
 use Rattle.effects.specs.Requests.{IsSoundlyHeld}
@@ -38,7 +43,7 @@ use Rattle.effects.specs.Waiting.{asked_by, Ends, StartsWaiting, TakesCookie, Su
 use Rattle.effects.specs.declared.taking.Effect.{Effect}
 use Rattle.effects.specs.declared.taking.Effect.TheVariants as effect
 use Rattle.effects.proofs.MapLemmas.{some_none}
-use Rattle.effects.proofs.RequestLemmas.{put_at}
+use Rattle.effects.proofs.RequestLemmas.{put_at, stays_sound, yes_no, FollowLaws, Windows}
 use Rattle.effects.proofs.WayLemmas.{answered_later, counted_later, way_of, Way}
 
 -- all that waits waited before, and all that waited waits
@@ -152,6 +157,68 @@ pub message_waits : (meaning : Meaning) (setup : Setup) (old : Association) (tab
     → IsSoundlyHeld old → TakesMessage meaning setup old table octets m e new new_table → KeepTimers setup.moment (asked_by e) old new
 message_waits meaning setup old table octets m e new new_table held is = way_waits meaning setup old table octets m e new new_table held (way_of meaning setup old table octets m e new new_table is)
 
+-- ---- a request for a further child is made by an order alone
+
+none_said : (octets : Octets) → None ≡ Some octets → ⊥
+none_said octets is = cc
+
+-- an initiator that waits for a response of the initial exchanges asked for no further child
+early_asks : (new : Association) (sent : InitSent) (number : ℕ) (request : Request) → IsSoundlyHeld new → new.phase ≡ phase.InitSent sent → map.get new.outgoing.outstanding number ≡ Some request
+    → asks_for_child request.purpose ≡ true → ⊥
+early_asks new sent number request held is there asks =
+    let may = subst (λ (p : Phase). SuitPhase p new.outgoing.outstanding) is held.waits number request there in
+    yes_no true refl (sym asks ∙ ap asks_for_child may.1)
+
+auth_asks : (new : Association) (sent : AuthSent) (number : ℕ) (request : Request) → IsSoundlyHeld new → new.phase ≡ phase.AuthSent sent → map.get new.outgoing.outstanding number ≡ Some request
+    → asks_for_child request.purpose ≡ true → ⊥
+auth_asks new sent number request held is there asks =
+    let may = subst (λ (p : Phase). SuitPhase p new.outgoing.outstanding) is held.waits number request there in
+    yes_no true refl (sym asks ∙ ap asks_for_child may.1)
+
+way_further : (meaning : Meaning) (setup : Setup) (old : Association) (table : Database) (octets : Octets) (m : Message) (e : Effect) (new : Association) (new_table : Database) (number : ℕ) (request : Request)
+    → KeepTimers setup.moment (asked_by e) old new → IsSoundlyHeld new → Way meaning setup old table octets m e new new_table → map.get new.outgoing.outstanding number ≡ Some request
+    → asks_for_child request.purpose ≡ true → map.get old.outgoing.outstanding number ≡ Some request
+way_further meaning setup old table octets m (effect.Refused fault) new new_table number request timers held is there asks = elim (timers number request there) [
+  | inl before ↦ before
+  | inr starts ↦ absurd (none_said request.octets starts.said)
+]
+way_further meaning setup old table octets m (effect.Repeated reply) new new_table number request timers held is there asks = elim (timers number request there) [
+  | inl before ↦ before
+  | inr starts ↦ absurd (none_said request.octets starts.said)
+]
+way_further meaning setup old table octets m (effect.Replied answered) new new_table number request timers held is there asks = elim (timers number request there) [
+  | inl before ↦ before
+  | inr starts ↦ absurd (none_said request.octets starts.said)
+]
+way_further meaning setup old table octets m (effect.Counted ended) new new_table number request timers held is there asks = elim (timers number request there) [
+  | inl before ↦ before
+  | inr starts ↦ absurd (none_said request.octets starts.said)
+]
+way_further meaning setup old table octets m (effect.Again next) new new_table number request timers held is there asks =
+    absurd (early_asks new _ number request held (ap (λ (x : Association). x.phase) is.done.content) there asks)
+way_further meaning setup old table octets m (effect.Identified next) new new_table number request timers held is there asks =
+    absurd (auth_asks new _ number request held (ap (λ (x : Association). x.phase) is.done.content) there asks)
+
+pub waits_further : FollowLaws → Windows → (meaning : Meaning) (setup : Setup) (old : Association) (table : Database) (octets : Octets) (m : Message) (e : Effect) (new : Association) (new_table : Database) (number : ℕ) (request : Request)
+    → IsSoundlyHeld old → map.get new.outgoing.outstanding number ≡ Some request → asks_for_child request.purpose ≡ true → TakesMessage meaning setup old table octets m e new new_table
+    → map.get old.outgoing.outstanding number ≡ Some request
+waits_further laws windows meaning setup old table octets m e new new_table number request held there asks is =
+    way_further meaning setup old table octets m e new new_table number request (message_waits meaning setup old table octets m e new new_table held is)
+    (stays_sound laws windows meaning setup old table octets m e new new_table held is) (way_of meaning setup old table octets m e new new_table is) there asks
+
+order_asks : (order : Order) → asks_for_child (purpose_of order) ≡ false
+order_asks order.Probe = refl
+order_asks (order.DeleteChild child spi) = refl
+order_asks order.DeleteAssociation = refl
+
+pub ordered_further : (body_of : Keys → Octets → Octets → Octets → Octets) (setup : Setup) (order : Order) (old : Association) (octets : Octets) (new : Association) (number : ℕ) (request : Request)
+    → Asks body_of setup order old octets new → map.get new.outgoing.outstanding number ≡ Some request → asks_for_child request.purpose ≡ true → map.get old.outgoing.outstanding number ≡ Some request
+ordered_further body_of setup order old octets new number request is there asks =
+    elim (issued_put old.outgoing (new_request octets (purpose_of order) setup.moment) is.outgoing number request is.issued (sym (ap (λ (x : Association). map.get x.outgoing.outstanding number) is.content) ∙ there)) [
+      | inl before ↦ before
+      | inr (here, now) ↦ absurd (yes_no true refl (sym asks ∙ sym (ap (λ (r : Request). asks_for_child r.purpose) now) ∙ order_asks order))
+    ]
+
 -- ---- and what waited
 
 replied_until : (old new : OwnRequests Request) (closed ending : Bool) → closed ≡ ending → Keeps old new ⊎ (ending ≡ true) → (number : ℕ) (request : Request) → map.get old.outstanding number ≡ Some request
@@ -257,6 +324,14 @@ requested_waits body_of setup old octets new held is number found there =
       | inl before ↦ inl before
       | inr (here, now) ↦ inr (goes_out octets is.purpose setup.moment old new number found
           (inl (none_by (map.get old.outgoing.outstanding number) (λ request stood. let less = held.issued number request stood in omega (arith, here, less)))) now)
+    ]
+
+pub requested_next : (body_of : Keys → Octets → Octets → Octets → Octets) (setup : Setup) (old : Association) (octets : Octets) (new : Association) (number : ℕ) (request : Request) → SendsRequest body_of setup old octets new
+    → map.get new.outgoing.outstanding number ≡ Some request → (map.get old.outgoing.outstanding number ≡ Some request) ⊎ (number ≡ old.outgoing.next)
+requested_next body_of setup old octets new number request is there =
+    elim (issued_put old.outgoing (new_request octets is.purpose setup.moment) is.outgoing number request is.issued (sym (ap (λ (x : Association). map.get x.outgoing.outstanding number) is.content) ∙ there)) [
+      | inl before ↦ inl before
+      | inr (here, now) ↦ inr here
     ]
 
 pub requested_keeps : (body_of : Keys → Octets → Octets → Octets → Octets) (setup : Setup) (old : Association) (octets : Octets) (new : Association) (number : ℕ) (request : Request) → IsSoundlyHeld old → SendsRequest body_of setup old octets new

@@ -57,12 +57,14 @@ pub record AnsweredAuth (meaning : Meaning) (setup : Setup) (old : Association) 
   pub done : AnswersAuth (prover_of meaning) setup old table m.header.id plain answered new new_table
 
 pub record AnsweredInformational (meaning : Meaning) (setup : Setup) (old : Association) (table : Database) (m : Message) (answered : Answered) (new : Association) (new_table : Database) : Type 0 where
+  pub one : (m.header.exchange == INFORMATIONAL) ≡ true
   pub plain : Plain
   pub done : AnswersInformational meaning.body_of setup old table m.header.id plain answered new new_table
 
 pub record AnsweredFurther (meaning : Meaning) (setup : Setup) (old : Association) (table : Database) (octets : Octets) (m : Message) (answered : Answered) (new : Association) (new_table : Database) : Type 0 where
   pub plain : Plain
   pub received : IsReceived meaning.plain_of old octets m (TakesEffect plain)
+  pub other : (m.header.exchange == INFORMATIONAL) ≡ false
   pub done : AnswersFurther meaning.body_of setup old table m.header.id plain answered new new_table
 
 -- a response was counted: to IKE_AUTH, to INFORMATIONAL, or to CREATE_CHILD_SA
@@ -111,20 +113,21 @@ Way meaning setup old table octets m (effect.Counted ended) new new_table =
     ⊎ (CountedInformational setup old table m ended new new_table ⊎ CountedFurther meaning setup old table octets m ended new new_table)
 
 further_way : (meaning : Meaning) (setup : Setup) (informational : Bool) (old : Association) (table : Database) (octets : Octets) (m : Message) (plain : Plain) (e : Effect) (new : Association) (new_table : Database)
-    → IsReceived meaning.plain_of old octets m (TakesEffect plain) → DoesFurther informational meaning setup old table m.header.id plain e new new_table → Way meaning setup old table octets m e new new_table
-further_way meaning setup true old table octets m plain (effect.Replied answered) new new_table received is = inr (inl (record { plain = plain; done = is }))
-further_way meaning setup true old table octets m plain e new new_table received is = absurd is
-further_way meaning setup false old table octets m plain (effect.Replied answered) new new_table received is = inr (inr (record { plain = plain; received = received; done = is }))
-further_way meaning setup false old table octets m plain e new new_table received is = absurd is
+    → (m.header.exchange == INFORMATIONAL) ≡ informational → IsReceived meaning.plain_of old octets m (TakesEffect plain)
+    → DoesFurther informational meaning setup old table m.header.id plain e new new_table → Way meaning setup old table octets m e new new_table
+further_way meaning setup true old table octets m plain (effect.Replied answered) new new_table one received is = inr (inl (record { one = one; plain = plain; done = is }))
+further_way meaning setup true old table octets m plain e new new_table one received is = absurd is
+further_way meaning setup false old table octets m plain (effect.Replied answered) new new_table other received is = inr (inr (record { plain = plain; received = received; other = other; done = is }))
+further_way meaning setup false old table octets m plain e new new_table other received is = absurd is
 
-request_way : (meaning : Meaning) (setup : Setup) (p : Phase) (exchange : ℕ) (old : Association) (table : Database) (octets : Octets) (m : Message) (plain : Plain) (e : Effect) (new : Association) (new_table : Database)
-    → IsReceived meaning.plain_of old octets m (TakesEffect plain) → DoesRequest meaning setup p exchange old table m.header.id plain e new new_table → Way meaning setup old table octets m e new new_table
-request_way meaning setup (phase.HalfOpen opened) exchange old table octets m plain (effect.Replied answered) new new_table received is = inl (record { plain = plain; received = received; done = is })
-request_way meaning setup (phase.HalfOpen opened) exchange old table octets m plain e new new_table received is = absurd is
-request_way meaning setup (phase.Established keys) exchange old table octets m plain e new new_table received is =
-    further_way meaning setup (exchange == INFORMATIONAL) old table octets m plain e new new_table received is
-request_way meaning setup p exchange old table octets m plain (effect.Refused fault) new new_table received is = is.1
-request_way meaning setup p exchange old table octets m plain e new new_table received is = absurd is
+request_way : (meaning : Meaning) (setup : Setup) (p : Phase) (old : Association) (table : Database) (octets : Octets) (m : Message) (plain : Plain) (e : Effect) (new : Association) (new_table : Database)
+    → IsReceived meaning.plain_of old octets m (TakesEffect plain) → DoesRequest meaning setup p m.header.exchange old table m.header.id plain e new new_table → Way meaning setup old table octets m e new new_table
+request_way meaning setup (phase.HalfOpen opened) old table octets m plain (effect.Replied answered) new new_table received is = inl (record { plain = plain; received = received; done = is })
+request_way meaning setup (phase.HalfOpen opened) old table octets m plain e new new_table received is = absurd is
+request_way meaning setup (phase.Established keys) old table octets m plain e new new_table received is =
+    further_way meaning setup (m.header.exchange == INFORMATIONAL) old table octets m plain e new new_table refl received is
+request_way meaning setup p old table octets m plain (effect.Refused fault) new new_table received is = is.1
+request_way meaning setup p old table octets m plain e new new_table received is = absurd is
 
 answer_way : (meaning : Meaning) (setup : Setup) (further : Bool) (keys : KeyRecord) (old : Association) (table : Database) (octets : Octets) (m : Message) (plain : Plain) (e : Effect) (new : Association) (new_table : Database)
     → old.phase ≡ phase.Established keys → asked_further old m.header.id ≡ further → IsReceived meaning.plain_of old octets m (Answers plain) → DoesAnswer further setup old table m.header.id plain e new new_table
@@ -174,7 +177,7 @@ does_way : (meaning : Meaning) (setup : Setup) (old : Association) (table : Data
 does_way meaning setup old table octets m (Refused f) (effect.Refused fault) new new_table received is = is.1
 does_way meaning setup old table octets m (Repeat reply) (effect.Repeated said) new new_table received is =
     record { received = subst (λ (o : Octets). IsReceived meaning.plain_of old octets m (Repeat o)) (sym is.0) received; same = is.1 }
-does_way meaning setup old table octets m (TakesEffect plain) e new new_table received is = request_way meaning setup old.phase m.header.exchange old table octets m plain e new new_table received is
+does_way meaning setup old table octets m (TakesEffect plain) e new new_table received is = request_way meaning setup old.phase old table octets m plain e new new_table received is
 does_way meaning setup old table octets m (Answers plain) e new new_table received is = response_way meaning setup old.phase old table octets m plain e new new_table refl received is
 does_way meaning setup old table octets m AnswersInitial e new new_table received is =
     initial_way meaning setup old is.0.read.sent table octets m e is.0.continued is.0.read.response new new_table is.0.read.was is.0.read.means is.0.read.continues is.0.said is.1

@@ -1,6 +1,6 @@
 -- What a child is at each end, and of which messages: the first one of an association, and further ones (RFC 7296 sections 1.2, 1.3.1, 2.9
 -- and 2.17).
-use Rattle.std.specs.Prelude.{◌≡◌, ◌⊎◌, ℕ, true, false, Some, List}
+use Rattle.std.specs.Prelude.{◌≡◌, ◌⊎◌, ℕ, true, false, Option, Some, None, List}
 use Rattle.std.specs.FinMap as map
 use Rattle.base.specs.Octets.{Octets}
 use Rattle.wire.specs.Numbers.{CREATE_CHILD_SA, IKE_AUTH}
@@ -9,6 +9,7 @@ use Rattle.wire.specs.declared.message.Message.{Message}
 use Rattle.wire.specs.declared.payload.Payload.{Payload}
 use Rattle.suite.specs.Keys.{first_child_keys}
 use Rattle.suite.specs.declared.key_record.KeyRecord.{KeyRecord}
+use Rattle.suite.specs.declared.keys.Keys.{Keys}
 use Rattle.exchange.specs.Headers.{keys_of, sent_header}
 use Rattle.exchange.specs.Sealed.{IsSealed}
 use Rattle.exchange.specs.declared.child.ChildPayloads.{ChildPayloads}
@@ -22,6 +23,7 @@ use Rattle.association.specs.AskedChildren.{asked_of, AskedChildView}
 use Rattle.association.specs.Receiving.{opened_by}
 use Rattle.association.specs.declared.phase.Association.{Association}
 use Rattle.association.specs.declared.phase.AuthSent.{AuthSent}
+use Rattle.association.specs.declared.phase.Phase.{Phase}
 use Rattle.association.specs.declared.phase.Phase.TheVariants as phase
 use Rattle.association.specs.declared.phase.Request.{Request}
 use Rattle.association.specs.declared.purpose.FurtherChild.{FurtherChild}
@@ -32,6 +34,7 @@ use Rattle.children.specs.Pairs.{HasFewSelectors, IsChild}
 use Rattle.initial.specs.Answering.{reply_message}
 use Rattle.initial.specs.Configs.{Setup}
 use Rattle.initial.specs.Issuing.{new_request}
+use Rattle.informational.specs.Asking.{request_message}
 use Rattle.further.specs.Pairs.{IsFurtherChild}
 use Rattle.further.specs.Payloads.{further_payloads}
 use Rattle.effects.specs.Pairs.{IsUnused}
@@ -88,8 +91,9 @@ pub record IsAskedFurther (further : FurtherChild) (keys : KeyRecord) (reply : L
   pub keeps : KeepsToRequest (asked_of further.child) pair
   pub few : HasFewSelectors pair
 
--- A responder made it: of the payloads that the request opened to, and of those that were sealed in its answer.
+-- A responder made it, by a request of its exchange: of the payloads that the request opened to, and of those that were sealed in its answer.
 pub record AnswersForChild (kind : ChildKind) (meaning : Meaning) (setup : Setup) (old : Association) (octets : Octets) (m : Message) (answered : Answered) (keys : KeyRecord) (pair : Pair) : Type 0 where
+  pub exchange : m.header.exchange ≡ exchange_of_child kind
   pub plain : Plain
   pub opened : opened_by meaning.plain_of old octets m.payloads ≡ Some plain
   pub request : List Payload
@@ -100,6 +104,7 @@ pub record AnswersForChild (kind : ChildKind) (meaning : Meaning) (setup : Setup
 
 -- An initiator made its first child: the one that it waited for, of the payloads that the response opened to.
 pub record EndsWithChild (meaning : Meaning) (old : Association) (octets : Octets) (m : Message) (keys : KeyRecord) (pair : Pair) : Type 0 where
+  pub exchange : m.header.exchange ≡ exchange_of_child First
   pub sent : AuthSent
   pub was : old.phase ≡ phase.AuthSent sent
   pub same_keys : sent.keys ≡ keys
@@ -111,6 +116,7 @@ pub record EndsWithChild (meaning : Meaning) (old : Association) (octets : Octet
 
 -- An end made a further child that it asked for: by the request of the response's number, of the payloads that the response opened to.
 pub record EndsWithFurther (meaning : Meaning) (old : Association) (octets : Octets) (m : Message) (keys : KeyRecord) (pair : Pair) : Type 0 where
+  pub exchange : m.header.exchange ≡ exchange_of_child Further
   pub was : old.phase ≡ phase.Established keys
   pub request : Request
   pub outstanding : map.get old.outgoing.outstanding m.header.id ≡ Some request
@@ -138,6 +144,12 @@ pub record MakesChild (meaning : Meaning) (setup : Setup) (old : Association) (t
   pub brings : BringsChild old.serial serial table keys pair new new_table
   pub made : MadeBy meaning setup old octets m e keys pair
 
+-- the first child that an initiator waits for, from the request of IKE_SA_INIT on
+abbrev pub first_asked : Phase → Option AskedChildView
+first_asked (phase.InitSent sent) = Some sent.child
+first_asked (phase.AuthSent sent) = Some sent.child
+first_asked _ = None
+
 -- An initiator asked for its first child: the payloads of IKE_AUTH, sealed under its keys and kept as the request of number 1, ask for the
 -- child that it waits for from then on.
 pub record AsksForChild (meaning : Meaning) (setup : Setup) (octets : Octets) (new : Association) : Type 0 where
@@ -147,6 +159,17 @@ pub record AsksForChild (meaning : Meaning) (setup : Setup) (octets : Octets) (n
   pub asks : HasChildPayloads request (child_request (asked_of sent.child))
   pub sealed : IsSealed meaning.body_of (keys_of new.role sent.keys) setup.fresh.seal (record { header = sent_header new.spi_i new.spi_r IKE_AUTH new.role false 1; payloads = request }) octets
   pub kept : map.get new.outgoing.outstanding 1 ≡ Some (new_request octets Identify setup.moment)
+
+-- An end asked for a further child: the payloads of CREATE_CHILD_SA, sealed under the association's keys and kept as the request of this
+-- number, ask for the child with the nonce that it waits for from then on.
+pub record AsksForFurtherChild (body_of : Keys → Octets → Octets → Octets → Octets) (setup : Setup) (number : ℕ) (octets : Octets) (new : Association) : Type 0 where
+  pub keys : KeyRecord
+  pub established : new.phase ≡ phase.Established keys
+  pub further : FurtherChild
+  pub sealed : IsSealed body_of (keys_of new.role keys) setup.fresh.seal
+      (request_message new CREATE_CHILD_SA number (further_payloads (child_request (asked_of further.child)) further.nonce)) octets
+  pub kept : map.get new.outgoing.outstanding number ≡ Some (new_request octets (CreateChild further) setup.moment)
+  pub extension : further.child.extended ≡ setup.config.extended
 
 -- the effect by which an initiator asks
 pub record IsAsking (e : Effect) : Type 0 where

@@ -15,9 +15,11 @@ use Rattle.exchange.specs.Offers.{count_of_kind}
 use Rattle.exchange.specs.Sealed.{IsSealed}
 use Rattle.exchange.specs.declared.sealed.Plain.{Plain}
 use Rattle.association.specs.Phases.{keys_in}
+use Rattle.association.specs.Receiving.{opened_by}
 use Rattle.association.specs.declared.phase.Association.{Association}
 use Rattle.initial.specs.Answering.{reply_message}
 use Rattle.initial.specs.Configs.{Setup}
+use Rattle.effects.specs.Taking.{Meaning}
 
 -- One proposal answers: it has the number and the protocol of one that was offered, and of each type of transform that this one has a
 -- single one, taken from it.
@@ -59,3 +61,9 @@ pub record AnswersSealedSa (exchange : ℕ) (body_of : Keys → Octets → Octet
   pub reply : List Payload
   pub sealed : IsSealed body_of (keys_of old.role keys) setup.fresh.seal (reply_message old exchange number reply) octets
   pub answers : (answered : List Proposal) → Contains reply (Sa answered) → AnswersPlain plain answered
+
+-- each SA in the answer to a message under keys answers that of what the message opened to, which asks for a child
+pub record AnswersMessageSa (meaning : Meaning) (setup : Setup) (old : Association) (octets : Octets) (m : Message) (said : Octets) : Type 0 where
+  pub plain : Plain
+  pub opened : opened_by meaning.plain_of old octets m.payloads ≡ Some plain
+  pub answers : AnswersSealedSa m.header.exchange meaning.body_of setup old m.header.id plain said

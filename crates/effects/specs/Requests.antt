@@ -1,10 +1,12 @@
 -- The peer's requests of one association: which octets are one, which take effect, and what holds of the replies that are kept
 -- (RFC 7296 sections 2.1 to 2.3 and 3.1).
-use Rattle.std.specs.Prelude.{◌≡◌, ◌≢◌, ◌⊎◌, ◌≤◌, ℕ, Bool, true, false, Some, max}
+use Rattle.std.specs.Prelude.{◌≡◌, ◌≢◌, ◌⊎◌, ◌≤◌, ℕ, Bool, true, false, Some, List, max}
 use Rattle.std.specs.FinMap as map
 use Rattle.base.specs.Octets.{Octets}
 use Rattle.wire.specs.Messages.{Spells}
+use Rattle.wire.specs.Payloads.{SpellsChain}
 use Rattle.wire.specs.declared.message.Message.{Message}
+use Rattle.wire.specs.declared.payload.Payload.{Payload}
 use Rattle.exchange.specs.declared.headers.Role.TheVariants.{Initiator}
 use Rattle.exchange.specs.declared.sealed.Plain.{Plain}
 use Rattle.requests.specs.Incoming.{IsFreshRequest, IsLeftBehind}
@@ -14,7 +16,7 @@ use Rattle.association.specs.Receiving.{admits, opened_by, Opening}
 use Rattle.association.specs.declared.phase.Association.{Association}
 use Rattle.association.specs.declared.phase.Phase.{Phase}
 use Rattle.association.specs.declared.phase.Phase.TheVariants.{Established, Closed}
-use Rattle.auth.specs.Windows.{IsWindow, WIDEST_WINDOW}
+use Rattle.auth.specs.Windows.{peer_window, IsWindow, WIDEST_WINDOW}
 use Rattle.initial.specs.Answering.{IsHalfOpen}
 use Rattle.initial.specs.Ending.{IsAuthSent}
 use Rattle.initial.specs.Reading.{IsInitSent}
@@ -101,13 +103,20 @@ pub record WidensWindow (own : ℕ) (old new : Association) : Type 0 where
 abbrev pub KeepsWindow : ℕ → Association → Association → Type 0
 KeepsWindow own old new = (new.incoming.size ≡ old.incoming.size) ⊎ WidensWindow own old new
 
--- The peer's window is widened then too, to the one that it tells, which is 16 at most, and changes then alone.
-pub record WidensPeersWindow (old new : Association) : Type 0 where
+-- the message opens to these payloads under the association's keys
+pub record OpensToPayloads (plain_of : Opening) (a : Association) (octets : Octets) (m : Message) (payloads : List Payload) : Type 0 where
+  pub plain : Plain
+  pub opened : opened_by plain_of a octets m.payloads ≡ Some plain
+  pub read : SpellsChain plain.first payloads plain.octets
+
+-- The peer's window is widened then too, to the one that its message tells, which is 16 at most, and changes then alone.
+pub record WidensPeersWindow (plain_of : Opening) (octets : Octets) (m : Message) (old new : Association) : Type 0 where
   pub before : is_concluded old.phase ≡ false
   pub after : is_concluded new.phase ≡ true
-  pub told : ℕ
-  pub is_window : IsWindow told
-  pub window : new.outgoing.window ≡ max told old.outgoing.window
+  pub payloads : List Payload
+  pub told : OpensToPayloads plain_of old octets m payloads
+  pub is_window : IsWindow (peer_window payloads)
+  pub window : new.outgoing.window ≡ max (peer_window payloads) old.outgoing.window
 
-abbrev pub KeepsPeersWindow : Association → Association → Type 0
-KeepsPeersWindow old new = (new.outgoing.window ≡ old.outgoing.window) ⊎ WidensPeersWindow old new
+abbrev pub KeepsPeersWindow : Opening → Octets → Message → Association → Association → Type 0
+KeepsPeersWindow plain_of octets m old new = (new.outgoing.window ≡ old.outgoing.window) ⊎ WidensPeersWindow plain_of octets m old new

@@ -2,7 +2,7 @@
 use Rattle.std.specs.Prelude.{◌≡◌, ◌==◌, ◌⊎◌, ℕ, Bool, true, false, Option, Some, None}
 use Rattle.base.specs.Octets.{Octets}
 use Rattle.std.specs.FinMap as map
-use Rattle.wire.specs.Numbers.{CREATE_CHILD_SA, INFORMATIONAL}
+use Rattle.wire.specs.Numbers.{CREATE_CHILD_SA, IKE_AUTH, INFORMATIONAL}
 use Rattle.wire.specs.declared.message.Message.{Message}
 use Rattle.suite.specs.declared.keys.Keys.{Keys}
 use Rattle.suite.specs.declared.sealer.Cipher.{Cipher}
@@ -65,19 +65,35 @@ pub record IsPassedOver (old : Association) (table : Database) (new : Associatio
   pub association : new ≡ old
   pub pairs : new_table ≡ table
 
--- IKE_AUTH is waited for, or its response: by either a child is made
-abbrev pub AwaitsAuth : Phase → Type 0
-AwaitsAuth p = IsHalfOpen p ⊎ IsAuthSent p
+-- the request of IKE_AUTH is waited for, or the response to it
+abbrev pub AwaitsAuth : Bool → Phase → Type 0
+AwaitsAuth false p = IsHalfOpen p
+AwaitsAuth true p = IsAuthSent p
+
+-- IKE_AUTH where it is waited for: by it a first child is made
+pub record IsForFirst (p : Phase) (response : Bool) (exchange : ℕ) : Type 0 where
+  pub awaited : AwaitsAuth response p
+  pub exchange_is : exchange ≡ IKE_AUTH
 
 -- CREATE_CHILD_SA at an established association: by it a further child is made
 pub record IsForFurther (p : Phase) (exchange : ℕ) : Type 0 where
   pub established : IsEstablished p
   pub exchange_is : exchange ≡ CREATE_CHILD_SA
 
--- what memory can be wanted for, by the phase and the exchange: the message; where a child may be made, also its replay window, its
--- selectors and its place in the table
-abbrev pub CanWant : Phase → ℕ → ChildFault → Type 0
-CanWant p exchange f = (f ≡ child.Message) ⊎ (AwaitsAuth p ⊎ IsForFurther p exchange)
+abbrev pub IsForChild : Phase → Bool → ℕ → Type 0
+IsForChild p response exchange = IsForFirst p response exchange ⊎ IsForFurther p exchange
+
+-- A child takes a replay window and selectors, and at the end that answers a place in the table; the end that asked has one since it did.
+abbrev pub CanTakeOf : Bool → ChildFault → Type 0
+CanTakeOf response child.Message = Unit {0}
+CanTakeOf response child.Window = Unit {0}
+CanTakeOf response child.Narrowing = Unit {0}
+CanTakeOf response child.Table = response ≡ false
+
+-- what memory can be wanted for, by the phase, whether the message is a response, and its exchange: the message; where a child may be made,
+-- also what that takes
+abbrev pub CanWant : Phase → Bool → ℕ → ChildFault → Type 0
+CanWant p response exchange f = (f ≡ child.Message) ⊎ (IsForChild p response exchange × CanTakeOf response f)
 
 -- what a request of these payloads does at an established association: that of INFORMATIONAL, or else of CREATE_CHILD_SA, since no other
 -- belongs there

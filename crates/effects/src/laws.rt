@@ -3,7 +3,7 @@ ghost use Rattle.std.specs.Prelude.{◌≡◌, ◌≢◌, ◌==◌, ◌⊎◌, �
 ghost use Rattle.base.specs.Octets.{Octets, AreOctets};
 ghost use Rattle.base.specs.declared.selector.Selector.{Selector};
 ghost use Rattle.wire.specs.Messages.{Spells};
-ghost use Rattle.wire.specs.Numbers.{CREATE_CHILD_SA, IKE_AUTH, IKE_SA_INIT};
+ghost use Rattle.wire.specs.Numbers.{CREATE_CHILD_SA, IKE_AUTH, IKE_SA_INIT, INFORMATIONAL};
 ghost use Rattle.wire.specs.declared.message.Message.{Message};
 ghost use Rattle.wire.specs.declared.payload.Payload.{Payload};
 ghost use Rattle.suite.specs.declared.fresh.Fresh.{Fresh};
@@ -17,7 +17,7 @@ ghost use Rattle.association.specs.Closing.{HoldsReserved, HoldsSpi};
 ghost use Rattle.association.specs.AskedChildren.{AskedChildView};
 ghost use Rattle.association.specs.Phases.{keys_in};
 ghost use Rattle.association.specs.Finding.{is_meant};
-ghost use Rattle.association.specs.Purposes.{exchange_of};
+ghost use Rattle.association.specs.Purposes.{asks_for_child, exchange_of};
 ghost use Rattle.association.specs.Receiving.{admits, opened_by, IsRepeating, Opening};
 ghost use Rattle.association.specs.declared.fault.MessageFault.TheVariants as why;
 ghost use Rattle.association.specs.declared.phase.HalfOpen.{HalfOpen};
@@ -40,7 +40,7 @@ ghost use Rattle.association.specs.declared.phase.AuthSent.{AuthSent};
 ghost use Rattle.auth.specs.Proofs.{Accepts};
 ghost use Rattle.initial.specs.Answering.{AnswersAuth, Prover};
 ghost use Rattle.initial.specs.Beginning.{begun, half_open, Admits, Begins};
-ghost use Rattle.effects.specs.Children.{AsksForChild, IsAsking, MakesChild};
+ghost use Rattle.effects.specs.Children.{first_asked, AsksForChild, AsksForFurtherChild, IsAsking, MakesChild};
 ghost use Rattle.initial.specs.Configs.{Setup, IsConfig};
 ghost use Rattle.informational.specs.Asking.{Asks};
 ghost use Rattle.create_child.specs.Answering.{AnswersFurther};
@@ -53,7 +53,7 @@ ghost use Rattle.initial.specs.Ending.{EndsAuth};
 ghost use Rattle.effects.specs.Keeping.{child_in, octets_of_effect, IsShort, KeepsShort, KeyedBy};
 ghost use Rattle.effects.specs.Requests.{is_concluded, IsPassing, IsSoundlyHeld, KeepsPeersWindow, KeepsWindow, PutsIntoEffect, StaysConcluded};
 ghost use Rattle.effects.specs.Waiting.{asked_by, Ends, KeepTimers, WaitUntil};
-ghost use Rattle.effects.specs.Offers.{AnswersInitialSa, AnswersSealedSa};
+ghost use Rattle.effects.specs.Offers.{AnswersInitialSa, AnswersMessageSa, AnswersSealedSa};
 ghost use Rattle.effects.specs.Openings.{OpensAsMessage, OpensWhatItSeals};
 ghost use Rattle.effects.specs.Lengths.{HoldsWholeKeys, TellsLengths};
 ghost use Rattle.effects.specs.Sending.{SendsRequest};
@@ -260,10 +260,10 @@ pub fn keys_stay()
 /// (RFC 7296, sections 1.2, 1.3.1, 2.9 and 2.17): at the end that answers those that the request opened to and those that were sealed in the
 /// answer, at the end that asked those that the response opened to and those that asked for the child. Its association is established,
 /// and its pair, under the association's keys, is the only one that came. An initiator that waits for its first child waited for it before,
-/// or asks for it now.
+/// or asks for it now; so does an end that waits for a further one, and no message makes it ask.
 pub fn children_are_made_of_their_messages()
     ensures made { (meaning : Meaning) (setup : Setup) (old : Association) (table : Database) (octets : Octets) (m : Message)
-        (effect : Effect) (serial : ℕ) (new : Association) (new_table : Database) → IsSoundTable table
+        (effect : Effect) (serial : ℕ) (new : Association) (new_table : Database) → IsSoundTable table → IsSoundlyHeld old
         → HoldsReserved old table → child_in effect ≡ Some serial
         → TakesMessage meaning setup old table octets m effect new new_table
         → MakesChild meaning setup old table octets m effect serial new new_table }
@@ -275,6 +275,22 @@ pub fn children_are_made_of_their_messages()
         (effect : Effect) (new : Association) (new_table : Database) (sent : AuthSent) → new.phase ≡ phase.AuthSent sent
         → TakesMessage meaning setup old table octets m effect new new_table
         → (old.phase ≡ phase.AuthSent sent) ⊎ IsAsking effect }
+    ensures asked_first { (meaning : Meaning) (setup : Setup) (old : Association) (table : Database) (octets : Octets) (m : Message)
+        (effect : Effect) (new : Association) (new_table : Database) (child : AskedChildView) → first_asked new.phase ≡ Some child
+        → TakesMessage meaning setup old table octets m effect new new_table → first_asked old.phase ≡ Some child }
+    ensures asked_further { (body_of : Keys → Octets → Octets → Octets → Octets) (setup : Setup) (local remote : Selector)
+        (old : Association) (table : Database) (octets : Octets) (new : Association) (new_table : Database)
+        → AsksForFurther body_of setup local remote old table octets new new_table
+        → AsksForFurtherChild body_of setup old.outgoing.next octets new }
+    ensures waits_further { (meaning : Meaning) (setup : Setup) (old : Association) (table : Database) (octets : Octets) (m : Message)
+        (effect : Effect) (new : Association) (new_table : Database) (number : ℕ) (request : Request) → IsSoundlyHeld old
+        → map.get new.outgoing.outstanding number ≡ Some request → asks_for_child request.purpose ≡ true
+        → TakesMessage meaning setup old table octets m effect new new_table
+        → map.get old.outgoing.outstanding number ≡ Some request }
+    ensures ordered_further { (body_of : Keys → Octets → Octets → Octets → Octets) (setup : Setup) (order : Order) (old : Association)
+        (octets : Octets) (new : Association) (number : ℕ) (request : Request) → Asks body_of setup order old octets new
+        → map.get new.outgoing.outstanding number ≡ Some request → asks_for_child request.purpose ≡ true
+        → map.get old.outgoing.outstanding number ≡ Some request }
 {
     pairs_are_children();
     responses_keep_to_their_offers();
@@ -286,10 +302,13 @@ pub fn children_are_made_of_their_messages()
     further_pairs_are_children();
     further_children_keep_to_their_offers();
     further_pairs_have_few_selectors();
+    later_incoming_follow();
+    windows_are_read_again();
 }
 
 /// An SA in an answer has one proposal, with the number and the protocol of one that was offered and one of its transforms of each type
-/// (RFC 7296, section 3.3.1): in the answer to IKE_SA_INIT, and in each SA of that to IKE_AUTH or CREATE_CHILD_SA.
+/// (RFC 7296, section 3.3.1): in the answer to IKE_SA_INIT, and in each SA of that to IKE_AUTH or CREATE_CHILD_SA, which a message asks for
+/// that is no INFORMATIONAL.
 pub fn answers_keep_to_their_offers()
     ensures initial { (cipher : Cipher) (group : ℕ) (public_value : Octets → Octets)
         (shared_secret : Octets → Octets → Option Octets) (secrets : CookieSecrets) (sender : Sender) (half_open held : ℕ)
@@ -305,8 +324,13 @@ pub fn answers_keep_to_their_offers()
         (number : ℕ) (plain : Plain) (answered : Answered) (new : Association) (new_table : Database)
         → AnswersFurther body_of setup old table number plain answered new new_table
         → AnswersSealedSa CREATE_CHILD_SA body_of setup old number plain answered.octets }
+    ensures message { (meaning : Meaning) (setup : Setup) (old : Association) (table : Database) (octets : Octets) (m : Message)
+        (answered : Answered) (new : Association) (new_table : Database) → m.header.exchange ≢ INFORMATIONAL
+        → TakesMessage meaning setup old table octets m (Replied answered) new new_table
+        → AnswersMessageSa meaning setup old octets m answered.octets }
 {
     ends_agree();
+    receptions_say_why();
 }
 
 /// An association is established by IKE_AUTH only where the caller accepted, of the configured peer's identity, the method and the proof
@@ -462,7 +486,7 @@ pub fn requests_take_effect()
 }
 
 /// What took effect is remembered: the peer's requests after a message follow those before it, their window is widened once, when IKE_AUTH
-/// is done, to the one that this end tells, and so is the window for this end's, to one of 16 at most; and an
+/// is done, to the one that this end tells, and so is the window for this end's, to the one that the message tells, of 16 at most; and an
 /// association that is half open was so before, by the same request with the same reply. What is kept stays sound, from the beginning on
 /// (RFC 7296, sections 2.1 to 2.3).
 pub fn requests_are_remembered()
@@ -477,7 +501,8 @@ pub fn requests_are_remembered()
         → TakesMessage meaning setup old table octets m effect new new_table → KeepsWindow setup.config.window old new }
     ensures peers { (meaning : Meaning) (setup : Setup) (old : Association) (table : Database) (octets : Octets) (m : Message)
         (effect : Effect) (new : Association) (new_table : Database) → IsSoundlyHeld old
-        → TakesMessage meaning setup old table octets m effect new new_table → KeepsPeersWindow old new }
+        → TakesMessage meaning setup old table octets m effect new new_table
+        → KeepsPeersWindow meaning.plain_of octets m old new }
     ensures half_open { (meaning : Meaning) (setup : Setup) (old : Association) (table : Database) (octets : Octets) (m : Message)
         (effect : Effect) (new : Association) (new_table : Database) (opened : HalfOpen)
         → TakesMessage meaning setup old table octets m effect new new_table → new.phase ≡ phase.HalfOpen opened
@@ -497,6 +522,7 @@ pub fn requests_are_remembered()
         (new : Association) → IsSoundlyHeld old → SendsRequest body_of setup old octets new → IsSoundlyHeld new }
 {
     later_incoming_follow();
+    receptions_say_why();
     windows_are_read_again();
 }
 
@@ -637,6 +663,10 @@ pub fn requests_wait_on()
     ensures beside { (body_of : Keys → Octets → Octets → Octets → Octets) (setup : Setup) (old : Association) (octets : Octets)
         (new : Association) (number : ℕ) (request : Request) → IsSoundlyHeld old → SendsRequest body_of setup old octets new
         → map.get old.outgoing.outstanding number ≡ Some request → map.get new.outgoing.outstanding number ≡ Some request }
+    ensures next { (body_of : Keys → Octets → Octets → Octets → Octets) (setup : Setup) (old : Association) (octets : Octets)
+        (new : Association) (number : ℕ) (request : Request) → SendsRequest body_of setup old octets new
+        → map.get new.outgoing.outstanding number ≡ Some request
+        → (map.get old.outgoing.outstanding number ≡ Some request) ⊎ (number ≡ old.outgoing.next) }
 {}
 
 /// A request that took effect before is answered by the reply that is kept of it, if it opens; where none is kept any more it is refused as

@@ -1,5 +1,5 @@
 //! What a message does to the association that it is for.
-ghost use Rattle.std.specs.Prelude.{◌≡◌, ◌==◌, true, IfOk, IfErr};
+ghost use Rattle.std.specs.Prelude.{◌≡◌, ◌==◌, true, false, IfOk, IfErr};
 ghost use Rattle.wire.specs.Messages.{Spells};
 ghost use Rattle.wire.specs.Numbers.{INFORMATIONAL};
 ghost use Rattle.requests.specs.Incoming.{IsFreshRequest};
@@ -9,6 +9,7 @@ ghost use Rattle.association.specs.Receiving.{admits, IsAnsweringInitial, IsDue,
 ghost use Rattle.initial.specs.Configs.{setup_of, IsConfig};
 ghost use Rattle.initial.specs.Reading.{IsInitSent};
 ghost use Rattle.informational.specs.Orders.{IsEstablished};
+ghost use Rattle.effects.specs.Waiting.{SuitPhase};
 ghost use Rattle.effects.specs.Taking.{asked_further, reception_of, CanWant, DoesAnswer, DoesFurther, DoesInitial, DoesRequest, DoesResponse, TakesMessage};
 
 use association::laws::receptions_say_why;
@@ -45,9 +46,10 @@ pub enum Effect {
 /// established association INFORMATIONAL is taken by [`informational::answer`], and its response by [`informational::count`], and
 /// CREATE_CHILD_SA by [`create_child::answer`], and its response by [`create_child::count`].
 ///
-/// The octets are those that the message was decoded from, and the SPIs that the association holds for children are reserved in the
-/// table. An error is for want of memory alone, and changes nothing but the table's room: [`ChildFault::Message`], or where
-/// IKE_AUTH or CREATE_CHILD_SA makes a child also one of the other three.
+/// The octets are those that the message was decoded from, the SPIs that the association holds for children are reserved in the table, and
+/// what waits for an answer belongs to its phase. An error is for want of memory alone, and changes nothing but the table's room:
+/// [`ChildFault::Message`], or where IKE_AUTH or CREATE_CHILD_SA makes a child also one of the other three, at the end that asked for it
+/// not [`ChildFault::Table`].
 pub fn take_message<C: Sealer + Agreement + Proof>(
     alloc: Global,
     step: &Step<'_, C>,
@@ -59,6 +61,7 @@ pub fn take_message<C: Sealer + Agreement + Proof>(
     requires config { IsConfig step.now.config.now }
     requires spelled { Spells message.now octets.now }
     requires reserved { HoldsReserved association.old table.old }
+    requires waits { SuitPhase association.old.phase association.old.outgoing.outstanding }
     ensures taken { IfOk result (λ effect. TakesMessage
         (record {
           cipher = C.cipher;
@@ -73,7 +76,7 @@ pub fn take_message<C: Sealer + Agreement + Proof>(
         })
         (setup_of step.now) association.old table.old octets.now message.now effect association.new table.new) }
     ensures refused { IfErr result (λ _. (association.new ≡ association.old) × IsAsBefore table.old table.new) }
-    ensures wanted { IfErr result (CanWant association.old.phase message.now.header.exchange) }
+    ensures wanted { IfErr result (CanWant association.old.phase message.now.header.flags.response message.now.header.exchange) }
 {
     receptions_say_why();
     match received(alloc, step.caller, association, octets, message)? {
@@ -181,7 +184,7 @@ fn take_request<C: Sealer + Agreement + Proof>(
         })
         (setup_of step.now) association.old.phase exchange association.old table.old number plain.now effect association.new table.new) }
     ensures refused { IfErr result (λ _. (association.new ≡ association.old) × IsAsBefore table.old table.new) }
-    ensures wanted { IfErr result (CanWant association.old.phase exchange) }
+    ensures wanted { IfErr result (CanWant association.old.phase false exchange) }
 {
     match &association.phase {
         Phase::HalfOpen(_) => {
@@ -230,7 +233,7 @@ fn take_further<C: Sealer + Agreement + Proof>(
         })
         (setup_of step.now) association.old table.old number plain.now effect association.new table.new) }
     ensures refused { IfErr result (λ _. (association.new ≡ association.old) × IsAsBefore table.old table.new) }
-    ensures wanted { IfErr result (CanWant association.old.phase exchange) }
+    ensures wanted { IfErr result (CanWant association.old.phase false exchange) }
 {
     let answered = if exchange == INFORMATIONAL {
         informational::answer(alloc, step, association, table, number, plain)?
@@ -250,6 +253,7 @@ fn take_response<C: Sealer + Agreement + Proof>(
 ) -> Result<Effect, ChildFault>
     requires config { IsConfig step.now.config.now }
     requires due { IsDue association.old message.now }
+    requires waits { SuitPhase association.old.phase association.old.outgoing.outstanding }
     requires reserved { HoldsReserved association.old table.old }
     ensures taken { IfOk result (λ effect. DoesResponse
         (record {
@@ -265,7 +269,7 @@ fn take_response<C: Sealer + Agreement + Proof>(
         })
         (setup_of step.now) association.old.phase association.old table.old message.now.header.id plain.now effect association.new table.new) }
     ensures refused { IfErr result (λ _. (association.new ≡ association.old) × (table.new ≡ table.old)) }
-    ensures wanted { IfErr result (CanWant association.old.phase message.now.header.exchange) }
+    ensures wanted { IfErr result (CanWant association.old.phase true message.now.header.exchange) }
 {
     match &association.phase {
         Phase::AuthSent(_) => {
@@ -293,7 +297,7 @@ fn take_answer<C>(
     ensures taken { IfOk result (λ effect. DoesAnswer (asked_further association.old message.now.header.id)
         (setup_of step.now) association.old table.old message.now.header.id plain.now effect association.new table.new) }
     ensures refused { IfErr result (λ _. (association.new ≡ association.old) × (table.new ≡ table.old)) }
-    ensures wanted { IfErr result (CanWant association.old.phase message.now.header.exchange) }
+    ensures wanted { IfErr result (CanWant association.old.phase true message.now.header.exchange) }
 {
     let number = message.header.id;
     let ended = if asked_further(association, number) {

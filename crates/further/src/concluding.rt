@@ -1,6 +1,7 @@
 //! What an initiator makes of the answer to its request for a further child.
-ghost use Rattle.std.specs.Prelude.{◌≡◌, Some, IfOk};
+ghost use Rattle.std.specs.Prelude.{◌≡◌, ◌≢◌, Some, IfErr, IfOk};
 ghost use Rattle.replay.specs.Window.{IsBlockCount};
+ghost use Rattle.children.specs.declared.fault.ChildFault.TheVariants.{Table};
 ghost use Rattle.further.specs.Concluding.{Concludes, IsConclusion, KeepsTo};
 
 use crate::deciding::further_setting;
@@ -36,7 +37,7 @@ pub enum Conclusion {
 ///    many blocks, a count that [`replay::is_block_count`] allows. The pair receives under the SPI that was asked with.
 ///
 /// By rules of this implementation any other notice is passed over, and so is a critical payload that is not known, against section 2.5. An
-/// error is for want of memory alone.
+/// error is for want of memory alone, for the message or the pair and not for its place in the table.
 pub fn conclude_response(
     alloc: Global,
     plain: &Plain,
@@ -49,6 +50,7 @@ pub fn conclude_response(
     requires { IsBlockCount blocks }
     ensures concluded { IfOk result (Concludes blocks ike keys.now asked.now own_nonce.now plain.now) }
     ensures keeps { IfOk result (KeepsTo asked.now) }
+    ensures wanted { IfErr result (λ fault. fault ≢ Table) }
 {
     match read_chain(alloc, plain)? {
         None => Ok(Conclusion::NoChild),
@@ -79,6 +81,7 @@ fn conclude_on(
     requires { IsBlockCount blocks }
     ensures concluded { IfOk result (IsConclusion blocks ike keys.now asked.now own_nonce.now (Some answer.now)) }
     ensures keeps { IfOk result (KeepsTo asked.now) }
+    ensures wanted { IfErr result (λ fault. fault ≢ Table) }
 {
     what_is_accepted_was_asked();
     if has_invalid_syntax(answer) {

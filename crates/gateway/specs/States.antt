@@ -7,7 +7,7 @@ use Rattle.association.specs.declared.phase.Association.{Association}
 use Rattle.initial.specs.declared.config.Config.{Config}
 use Rattle.ike.specs.Machines.{association_of, new_machine, Machine}
 use Rattle.ike.specs.Moments.{IsTimely}
-use Rattle.ike.specs.Soundness.{IsSoundMachine}
+use Rattle.ike.specs.Soundness.{AreReservationsHeld, IsSoundMachine}
 
 pub record State (C : Type 0) : Type 0 where
   -- the machine of IKE
@@ -25,11 +25,13 @@ state_code {C} machine table entries caller =
     (λ c. record { machine = c.0; table = c.1.0; entries = c.1.1.0; caller = c.1.1.1 })
     (λ _. refl)
 
--- What holds of every gateway: its machine is sound with its table, and so is the table; and all that its moment has reached was done.
+-- What holds of every gateway: its machine is sound with its table, and so is the table; all that its moment has reached was done; and each
+-- SPI that is reserved is held by an association, so none is lost.
 pub record IsSoundState {C : Type 0} (s : State C) : Type 0 where
   pub machine : IsSoundMachine s.machine s.table
   pub table : IsSoundTable s.table
   pub timely : IsTimely s.machine
+  pub reservations : AreReservationsHeld s.machine.held s.table
 
 -- the IKE association with this serial, if it is held
 abbrev pub association_in : {C : Type 0} → State C → ℕ → Option Association

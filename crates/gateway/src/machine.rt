@@ -5,7 +5,7 @@ ghost use Rattle.sadb.specs.Database.{IsSoundTable, IsStart};
 ghost use Rattle.initial.specs.Configs.{IsConfig};
 ghost use Rattle.ike.specs.Machines.{keys_of_serial};
 ghost use Rattle.ike.specs.Moments.{IsTimely};
-ghost use Rattle.ike.specs.Soundness.{IsSoundMachine};
+ghost use Rattle.ike.specs.Soundness.{AreReservationsHeld, IsSoundMachine};
 ghost use Rattle.gateway.specs.Outputs.{said};
 ghost use Rattle.gateway.specs.States.{new_gateway};
 ghost use Rattle.gateway.specs.Steps.{Steps, Traces};
@@ -14,7 +14,7 @@ use crate::stepping::take;
 use crate::{Input, Output, Traced};
 use association::Association;
 use ike::Ike;
-use ike::laws::what_is_due_comes_in_time;
+use ike::laws::{no_spi_is_lost, what_is_due_comes_in_time};
 use initial::Config;
 use policy::Policy;
 use sadb::Table;
@@ -35,7 +35,7 @@ impl<C> Model for Gateway<C> {
     ghost use Rattle.std.specs.Coded.{codes};
     ghost use Rattle.association.specs.contracts.phase.Association as association;
     ghost use Rattle.ike.specs.Moments.{IsTimely};
-    ghost use Rattle.ike.specs.Soundness.{IsSoundMachine};
+    ghost use Rattle.ike.specs.Soundness.{AreReservationsHeld, IsSoundMachine};
     ghost use Rattle.sadb.specs.Database.{database_code};
     ghost use Rattle.gateway.specs.States.{State, state_code};
 
@@ -45,7 +45,7 @@ impl<C> Model for Gateway<C> {
 
     ghost view = { λ g. record { machine = g.ike; table = g.table; entries = g.policy; caller = g.caller } };
 
-    ghost invariant = { λ g. IsSoundMachine g.ike g.table × IsTimely g.ike };
+    ghost invariant = { λ g. IsSoundMachine g.ike g.table × IsTimely g.ike × AreReservationsHeld g.ike.held g.table };
 }
 
 impl<C> Gateway<C> {
@@ -58,6 +58,7 @@ impl<C> Gateway<C> {
         ensures { result ≡ new_gateway config policy start caller }
     {
         what_is_due_comes_in_time();
+        no_spi_is_lost();
         Gateway {
             ike: Ike::new(alloc, config),
             table: Table::new(alloc, start),
@@ -87,12 +88,13 @@ impl<C> Gateway<C> {
         self.ike.keys_of(serial)
     }
 
-    /// What holds of every gateway: its machine is sound with its table, and so is the table; and nothing is due that the greatest moment
-    /// so far has reached. Does nothing.
+    /// What holds of every gateway: its machine is sound with its table, and so is the table; nothing is due that the greatest moment so far
+    /// has reached; and each SPI that is reserved in the table is held by an association for a child that it asked for. Does nothing.
     pub fn invariants_hold(&self)
         ensures machine { IsSoundMachine self.now.machine self.now.table }
         ensures table { IsSoundTable self.now.table }
         ensures timely { IsTimely self.now.machine }
+        ensures reservations { AreReservationsHeld self.now.machine.held self.now.table }
     {
         self.table.invariants_hold();
     }

@@ -1,13 +1,13 @@
 //! One input of each kind.
 ghost use Rattle.std.specs.Prelude.{◌≡◌};
 ghost use Rattle.ike.specs.Moments.{IsTimely};
-ghost use Rattle.ike.specs.Soundness.{IsSoundMachine};
+ghost use Rattle.ike.specs.Soundness.{AreReservationsHeld, IsSoundMachine};
 ghost use Rattle.ike.specs.Steps.{input_view};
 ghost use Rattle.gateway.specs.Outputs.{said};
 ghost use Rattle.gateway.specs.Steps.{AdmitsPacket, DoesInput, ReceivesPacket, SendsPacket, StepsIke};
 
 use crate::{Input, Output, Reason, Traced};
-use ike::laws::{soundness_asks_for_reservations, what_is_due_comes_in_time};
+use ike::laws::{no_spi_is_lost, soundness_asks_for_reservations, what_is_due_comes_in_time};
 use ike::{Demand, Ike, IkeInput};
 use policy::Policy;
 use sadb::Table;
@@ -26,6 +26,7 @@ pub(crate) fn take<'a, C: Sealer + Agreement + Proof>(
 ) -> Traced<'a>
     requires sound { IsSoundMachine ike.old table.old }
     requires timely { IsTimely ike.old }
+    requires reservations { AreReservationsHeld ike.old.held table.old }
     ensures done { DoesInput
         (record {
           cipher = C.cipher;
@@ -41,8 +42,10 @@ pub(crate) fn take<'a, C: Sealer + Agreement + Proof>(
         policy.now input.now ike.old table.old (said result.output) result.trace ike.new table.new }
     ensures sound { IsSoundMachine ike.new table.new }
     ensures timely { IsTimely ike.new }
+    ensures reservations { AreReservationsHeld ike.new.held table.new }
 {
     soundness_asks_for_reservations();
+    no_spi_is_lost();
     match input {
         Input::Ike {
             from,
@@ -107,6 +110,7 @@ fn step_ike<'a, C: Sealer + Agreement + Proof>(
 ) -> Traced<'a>
     requires sound { IsSoundMachine ike.old table.old }
     requires timely { IsTimely ike.old }
+    requires reservations { AreReservationsHeld ike.old.held table.old }
     ensures stepped { StepsIke
         (record {
           cipher = C.cipher;
@@ -122,8 +126,10 @@ fn step_ike<'a, C: Sealer + Agreement + Proof>(
         policy.now (input_view input.now) ike.old table.old (said result.output) result.trace ike.new table.new }
     ensures sound { IsSoundMachine ike.new table.new }
     ensures timely { IsTimely ike.new }
+    ensures reservations { AreReservationsHeld ike.new.held table.new }
 {
     what_is_due_comes_in_time();
+    no_spi_is_lost();
     match ike.step(alloc, input, table, policy, caller) {
         Ok(stepped) => Traced::by_ike(stepped),
         Err(fault) => Traced::plain(Output::Refused {

@@ -33,3 +33,6 @@ mod WaitLemmas
 mod AgainLemmas
 mod ClearLemmas
 mod ReleasedLemmas
+mod FurtherLemmas
+mod AllowedLemmas
+mod OfferLemmas

@@ -527,7 +527,7 @@ passed_sound laws now old table new new_table stepped sound is =
 
 -- ---- a step
 
-step_held : (laws : Laws) (orders : OrderLaws) (meaning : Meaning) (entries : List Entry) (input : InputView) (old : Machine) (table : Database) (stepped : Stepped) (new : Machine) (new_table : Database)
+pub step_held : (laws : Laws) (orders : OrderLaws) (meaning : Meaning) (entries : List Entry) (input : InputView) (old : Machine) (table : Database) (stepped : Stepped) (new : Machine) (new_table : Database)
     → IsSoundTable table → AreSound old.held table → Steps meaning entries input old table stepped new new_table → AreSound new.held new_table
 step_held laws orders meaning entries (steps.Message from octets fresh) old table stepped new new_table sound_table sound is =
     datagram_sound laws meaning (setup_at old entries fresh) old.cookies from octets old.held table stepped new.held new_table sound_table sound is.1
@@ -542,7 +542,7 @@ step_held laws orders meaning entries (steps.Tick moment) old table stepped new 
 step_held laws orders meaning entries (steps.Secret secret) old table stepped new new_table sound_table sound is =
     same_sound old.held new.held table new_table sound (ap (λ (m : Machine). m.held) is.content) is.unchanged
 
-step_config : (meaning : Meaning) (entries : List Entry) (input : InputView) (old : Machine) (table : Database) (stepped : Stepped) (new : Machine) (new_table : Database)
+pub step_config : (meaning : Meaning) (entries : List Entry) (input : InputView) (old : Machine) (table : Database) (stepped : Stepped) (new : Machine) (new_table : Database)
     → Steps meaning entries input old table stepped new new_table → new.config ≡ old.config
 step_config meaning entries (steps.Message from octets fresh) old table stepped new new_table is = ap (λ (m : Machine). m.config) is.0
 step_config meaning entries (steps.Start ike place fresh) old table stepped new new_table is = ap (λ (m : Machine). m.config) is.0
@@ -550,19 +550,11 @@ step_config meaning entries (steps.Order what fresh) old table stepped new new_t
 step_config meaning entries (steps.Tick moment) old table stepped new new_table is = ap (λ (m : Machine). m.config) is.content
 step_config meaning entries (steps.Secret secret) old table stepped new new_table is = ap (λ (m : Machine). m.config) is.content
 
-pub step_sound : (laws : Laws) (orders : OrderLaws) (meaning : Meaning) (entries : List Entry) (input : InputView) (old : Machine) (table : Database) (stepped : Stepped) (new : Machine) (new_table : Database)
-    → IsSoundTable table → IsSoundMachine old table → Steps meaning entries input old table stepped new new_table → IsSoundMachine new new_table
-step_sound laws orders meaning entries input old table stepped new new_table sound_table sound is =
-    record {
-      held = step_held laws orders meaning entries input old table stepped new new_table sound_table sound.held is;
-      config = subst IsConfig (sym (step_config meaning entries input old table stepped new new_table is)) sound.config;
-    }
-
 -- what is refused changes the table's room alone
 refused_sound : (old new : Machine) (table new_table : Database) → IsSoundMachine old table → new ≡ old → IsAsBefore table new_table → IsSoundMachine new new_table
 refused_sound old new table new_table sound same room =
     subst (λ (m : Machine). IsSoundMachine m new_table) (sym same)
-    (record { held = sound_with old.held table new_table (λ spi there. subst (λ (d : Database). IsReserved d spi) (sym room.content) there) sound.held; config = sound.config })
+    (record { held = sound_with old.held table new_table (λ spi there. subst (λ (d : Database). IsReserved d spi) (sym room.content) there) sound.held; config = sound.config; asks = sound.asks })
 
 pub result_sound : (entries : List Entry) (meaning : Meaning) (input : InputView) (old : Machine) (table : Database) (r : Result Stepped IkeFault) (new : Machine) (new_table : Database)
     → ((stepped : Stepped) → Steps meaning entries input old table stepped new new_table → IsSoundMachine new new_table) → IsSoundMachine old table

@@ -28,6 +28,7 @@ use Rattle.effects.specs.Children.{AsksForChild, IsAsking, MakesChild}
 use Rattle.initial.specs.Configs.{Setup}
 use Rattle.effects.specs.Keeping.{child_in, octets_of_effect, HasKeys, IsShort, KeepsShort, KeyedBy}
 use Rattle.effects.specs.Pairs.{IsUnused}
+use Rattle.effects.specs.Requests.{IsSoundlyHeld}
 use Rattle.effects.specs.Taking.{Meaning, KeepsIdentity, TakesMessage}
 use Rattle.effects.specs.Sending.{SendsRequest}
 use Rattle.moments.specs.Due.{outstanding_count}
@@ -222,7 +223,7 @@ pub record TraceFacts : Type 0 where
   pub stay : (meaning : Meaning) (setup : Setup) (old : Association) (table : Database) (octets : Octets) (m : Message) (effect : Effect) (new : Association) (new_table : Database) (keys : KeyRecord)
       → keys_in old.phase ≡ Some keys → TakesMessage meaning setup old table octets m effect new new_table → keys_in new.phase ≡ Some keys
   pub made : (meaning : Meaning) (setup : Setup) (old : Association) (table : Database) (octets : Octets) (m : Message) (effect : Effect) (serial : ℕ) (new : Association) (new_table : Database)
-      → IsSoundTable table → HoldsReserved old table → child_in effect ≡ Some serial → TakesMessage meaning setup old table octets m effect new new_table
+      → IsSoundTable table → IsSoundlyHeld old → HoldsReserved old table → child_in effect ≡ Some serial → TakesMessage meaning setup old table octets m effect new new_table
       → MakesChild meaning setup old table octets m effect serial new new_table
   pub asks : (meaning : Meaning) (setup : Setup) (old : Association) (table : Database) (octets : Octets) (m : Message) (next : Octets) (new : Association) (new_table : Database)
       → TakesMessage meaning setup old table octets m (effect.Identified next) new new_table → AsksForChild meaning setup next new
@@ -405,7 +406,7 @@ took_traced facts meaning setup octets old table stepped new new_table sound_tab
           let named = by.child made e in
           made_held meaning setup t.association table octets is.message t.effect made t.changed new new_table sound_table (sym named.0)
           (subst (λ n. association_of n new.associations ≡ Some t.changed) (sym named.0) found)
-          (facts.trace.made meaning setup t.association table octets is.message t.effect made.serial t.changed new_table sound_table (sound.each is.place t.association t.there).reserved named.2 t.takes);
+          (facts.trace.made meaning setup t.association table octets is.message t.effect made.serial t.changed new_table sound_table (sound.each is.place t.association t.there).soundly (sound.each is.place t.association t.there).reserved named.2 t.takes);
       keys = λ serial keys are. took_come facts meaning setup octets old table stepped new new_table serial keys sound now is are;
       pairs = λ serial pair there. took_pairs facts meaning setup octets old table stepped new new_table serial pair is there;
     } in
@@ -638,7 +639,7 @@ took_makes facts meaning setup octets old table stepped made new new_table sound
       stands = subst (λ n. association_of n new.associations ≡ Some t.changed) (sym by.0) (took_found facts meaning setup octets old table stepped new new_table now is);
       effect = t.effect;
       said = t.said ∙ ap (λ n. stepped_of n is.message.header.id t.effect) (sym by.0);
-      makes = facts.made meaning setup t.association table octets is.message t.effect made.serial t.changed new_table sound_table (sound.each is.place t.association t.there).reserved by.2 t.takes;
+      makes = facts.made meaning setup t.association table octets is.message t.effect made.serial t.changed new_table sound_table (sound.each is.place t.association t.there).soundly (sound.each is.place t.association t.there).reserved by.2 t.takes;
     }
 
 -- nothing was made

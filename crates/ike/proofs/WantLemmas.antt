@@ -1,5 +1,5 @@
 -- An item of the machine's list, and for what a message for it can want memory.
-use Rattle.std.proofs.Common.{◌≡◌, inl, inr, ◌<◌, ℕ, List, length, Some, refl, subst, sym, Ok}
+use Rattle.std.proofs.Common.{◌≡◌, inl, inr, ◌<◌, ℕ, Bool, List, length, Some, refl, subst, sym, Ok}
 use Rattle.std.specs.List.{slice_get}
 use Rattle.std.specs.Prelude.{slice_index_or}
 use Rattle.std.proofs.lemmas.Option.{slice_get_read}
@@ -21,9 +21,10 @@ read_there next items old place a same within value =
     subst (λ (h : Held). slice_get h.associations place ≡ Some a) same
     (slice_get_read items (length items) place a refl (subst (λ (h : Held). place < length h.associations) (sym same) within) value)
 
-pub wants_there : (old : Held) (place exchange : ℕ) (a : Association) (f : ChildFault) → slice_get old.associations place ≡ Some a → CanWant a.phase exchange f → WantsFound (Ok place) exchange old f
-wants_there old place exchange a f there (inl is) = inl is
-wants_there old place exchange a f there (inr makes) = inr (record { association = a; there = there; makes = makes })
+pub wants_there : (old : Held) (place : ℕ) (response : Bool) (exchange : ℕ) (a : Association) (f : ChildFault) → slice_get old.associations place ≡ Some a → CanWant a.phase response exchange f
+    → WantsFound (Ok place) response exchange old f
+wants_there old place response exchange a f there (inl is) = inl is
+wants_there old place response exchange a f there (inr (makes, takes)) = inr (record { association = a; there = there; makes = makes; takes = takes })
 
 pub withheld : (d : Database) (f : TableFault) → IsTableRefusal d f → GivesNoSpi d (fault_of_table f)
 withheld d table.Full is = is

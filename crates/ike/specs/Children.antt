@@ -3,17 +3,22 @@ use Rattle.std.specs.Prelude.{◌≡◌, ℕ, Some}
 use Rattle.base.specs.Octets.{Octets}
 use Rattle.wire.specs.Messages.{Spells}
 use Rattle.wire.specs.declared.message.Message.{Message}
+use Rattle.suite.specs.declared.fresh.Fresh.{Fresh}
+use Rattle.suite.specs.declared.keys.Keys.{Keys}
 use Rattle.sadb.specs.Database.{Database}
 use Rattle.association.specs.declared.phase.Association.{Association}
 use Rattle.association.specs.declared.phase.AuthSent.{AuthSent}
 use Rattle.association.specs.declared.phase.Phase.TheVariants as phase
-use Rattle.effects.specs.Children.{AsksForChild, MakesChild}
+use Rattle.association.specs.declared.phase.Request.{Request}
+use Rattle.moments.specs.Holding.{WasOutstanding}
+use Rattle.effects.specs.Children.{AsksForChild, AsksForFurtherChild, MakesChild}
 use Rattle.initial.specs.Configs.{Setup}
 use Rattle.effects.specs.Taking.{Meaning}
 use Rattle.effects.specs.declared.taking.Effect.{Effect}
 use Rattle.ike.specs.Machines.{association_of, Held}
-use Rattle.ike.specs.Outputs.{stepped_of}
-use Rattle.ike.specs.declared.output.IkeOutput.TheVariants.{Request}
+use Rattle.ike.specs.Outputs.{asking_step, stepped_of}
+use Rattle.ike.specs.Steps.{InputView, Start}
+use Rattle.ike.specs.declared.output.IkeOutput.TheVariants as output
 use Rattle.ike.specs.declared.output.MadeChild.{MadeChild}
 use Rattle.ike.specs.declared.output.Stepped.{Stepped}
 
@@ -46,5 +51,27 @@ pub record WaitedBefore (ike : ℕ) (sent : AuthSent) (old : Held) : Type 0 wher
 -- or its keys are made, and its request goes out, now
 pub record AsksNow (ike : ℕ) (stepped : Stepped) : Type 0 where
   pub next : Octets
-  pub said : stepped.output ≡ Request ike next
+  pub said : stepped.output ≡ output.Request ike next
   pub keyed : stepped.trace.keyed ≡ Some ike
+
+-- the association with this serial asks for a further child: its request goes out, and waits for its answer
+pub record AsksForFurtherNow (body_of : Keys → Octets → Octets → Octets → Octets) (setup : Setup) (ike : ℕ) (stepped : Stepped) (new : Held) : Type 0 where
+  pub number : ℕ
+  pub octets : Octets
+  pub said : stepped ≡ asking_step ike number octets
+  pub is : Association
+  pub stands : association_of ike new.associations ≡ Some is
+  pub asks : AsksForFurtherChild body_of setup number octets is
+
+-- a request of these octets, for the same child, waited for its answer before
+pub record FurtherWaited (ike number : ℕ) (request : Request) (old : Held) : Type 0 where
+  pub was : Association
+  pub stood : association_of ike old.associations ≡ Some was
+  pub waited : WasOutstanding was number request
+
+-- or it is ordered, and goes out, now
+pub record FurtherOrdered (input : InputView) (ike number : ℕ) (request : Request) (stepped : Stepped) : Type 0 where
+  pub place : ℕ
+  pub fresh : Fresh
+  pub is : input ≡ Start (Some ike) place fresh
+  pub said : stepped ≡ asking_step ike number request.octets

@@ -11,6 +11,7 @@ pub mod Pairs
 pub mod Reaching
 pub mod Tracing
 pub mod Children
+pub mod Offers
 pub mod Contents
 pub mod Lengths
 pub mod Proving

@@ -27,7 +27,7 @@ use Rattle.association.specs.declared.phase.Phase.TheVariants.{HalfOpen}
 use Rattle.initial.specs.Beginning.{Admits}
 use Rattle.initial.specs.Configs.{Setup}
 use Rattle.effects.specs.Keeping.{kept_reply}
-use Rattle.effects.specs.Taking.{AwaitsAuth, IsForFurther, Meaning, TakesMessage}
+use Rattle.effects.specs.Taking.{CanTakeOf, IsForChild, Meaning, TakesMessage}
 use Rattle.initial.specs.declared.beginning.Admitted.{Admitted}
 use Rattle.effects.specs.declared.taking.Effect.{Effect}
 use Rattle.ike.specs.Machines.{half_open_count, is_bad_spi, Held, SERIAL_END}
@@ -204,27 +204,28 @@ pub record RefusesInitial (meaning : Meaning) (setup : Setup) (cookies : CookieS
 abbrev pub CanWantMemory : Octets → Type 0
 CanWantMemory octets = (f : WireFault) → IsFaultOf octets f → fault_offset f ≢ None
 
--- the association at this place makes a child by this exchange: IKE_AUTH, or CREATE_CHILD_SA
-pub record MakesChildAt (place exchange : ℕ) (old : Held) : Type 0 where
+-- the association at this place may make a child by a message, and that takes this
+pub record MakesChildAt (place : ℕ) (response : Bool) (exchange : ℕ) (f : ChildFault) (old : Held) : Type 0 where
   pub association : Association
   pub there : slice_get old.associations place ≡ Some association
-  pub makes : AwaitsAuth association.phase ⊎ IsForFurther association.phase exchange
+  pub makes : IsForChild association.phase response exchange
+  pub takes : CanTakeOf response f
 
--- for what a message of this exchange can want memory, by what is found for it
-abbrev pub WantsFound : Result ℕ MessageFault → ℕ → Held → ChildFault → Type 0
-WantsFound (Ok place) exchange old f = (f ≡ child.Message) ⊎ MakesChildAt place exchange old
-WantsFound (Err fault) exchange old f = ⊥
+-- for what a message can want memory, by what is found for it
+abbrev pub WantsFound : Result ℕ MessageFault → Bool → ℕ → Held → ChildFault → Type 0
+WantsFound (Ok place) response exchange old f = (f ≡ child.Message) ⊎ MakesChildAt place response exchange f old
+WantsFound (Err fault) response exchange old f = ⊥
 
--- the octets are a message for an association that makes a child by it
-pub record IsForChild (octets : Octets) (old : Held) : Type 0 where
+-- the octets are a message for an association that may make a child by it, and that takes this
+pub record WantsForChild (octets : Octets) (f : ChildFault) (old : Held) : Type 0 where
   pub message : Message
   pub spelled : Spells message octets
-  pub further : is_initial_request message.header ≡ false
+  pub not_initial : is_initial_request message.header ≡ false
   pub place : ℕ
   pub finds : found message.header old.associations ≡ Ok place
-  pub makes : MakesChildAt place message.header.exchange old
+  pub makes : MakesChildAt place message.header.flags.response message.header.exchange f old
 
 -- why a datagram is refused: for want of memory, for a message or for what a child takes; or as an offer
 abbrev pub RefusesDatagram : Meaning → Setup → CookieSecrets → Octets → Octets → Held → IkeFault → Type 0
-RefusesDatagram meaning setup cookies from octets old (fault.Memory f) = CanWantMemory octets × ((f ≡ child.Message) ⊎ IsForChild octets old)
+RefusesDatagram meaning setup cookies from octets old (fault.Memory f) = CanWantMemory octets × ((f ≡ child.Message) ⊎ WantsForChild octets f old)
 RefusesDatagram meaning setup cookies from octets old reason = RefusesInitial meaning setup cookies from octets old reason

@@ -1,20 +1,26 @@
 -- What holds of every machine and the table that goes with it.
-use Rattle.std.specs.Prelude.{◌≡◌, ◌≢◌, ◌⊎◌, ◌<◌, ◌≤◌, ℕ, List, Some, length, slice_get}
+use Rattle.std.specs.Prelude.{◌≡◌, ◌≢◌, ◌⊎◌, ◌<◌, ◌≤◌, ℕ, Bool, true, List, Some, length, slice_get}
+use Rattle.std.specs.FinMap as map
 use Rattle.exchange.specs.declared.headers.Role.TheVariants.{Initiator, Responder}
 use Rattle.sadb.specs.Database.{Database, IsReserved}
 use Rattle.sa_init.specs.Judging.{ASSOCIATION_LIMIT, HALF_OPEN_LIMIT}
+use Rattle.association.specs.AskedChildren.{AskedChildView}
 use Rattle.association.specs.Closing.{HoldsReserved, HoldsSpi}
 use Rattle.association.specs.declared.phase.Association.{Association}
 use Rattle.association.specs.declared.phase.HalfOpen.{HalfOpen}
 use Rattle.association.specs.declared.phase.Phase.TheVariants as phase
+use Rattle.association.specs.declared.phase.Request.{Request}
+use Rattle.association.specs.declared.purpose.FurtherChild.{FurtherChild}
+use Rattle.association.specs.declared.purpose.Purpose.TheVariants.{CreateChild}
 use Rattle.initial.specs.Answering.{IsHalfOpen}
 use Rattle.initial.specs.Configs.{IsConfig}
 use Rattle.initial.specs.Ending.{IsAuthSent}
+use Rattle.effects.specs.Children.{first_asked}
 use Rattle.effects.specs.Keeping.{KeepsShort}
 use Rattle.effects.specs.Lengths.{HoldsWholeKeys}
 use Rattle.effects.specs.Requests.{IsSoundlyHeld}
 use Rattle.initial.specs.Reading.{IsInitSent}
-use Rattle.ike.specs.Machines.{half_open_count, own_spi, Held, Machine, SERIAL_END}
+use Rattle.ike.specs.Machines.{association_of, half_open_count, own_spi, Held, Machine, SERIAL_END}
 use Rattle.ike.specs.Receiving.{IsInitialRequest}
 
 -- an association stands at a place of the list
@@ -53,10 +59,20 @@ pub record AreSound (held : Held) (table : Database) : Type 0 where
   pub each : (place : ℕ) (a : Association) → At held place a → IsSound a held.next table
   pub apart : (place later : ℕ) (a other : Association) → place < later → At held place a → At held later other → AreApart a other
 
--- and the configuration is one that a machine is made with
+-- an association asked for its children, the first one and further ones, with extended sequence numbers only where that is configured
+pub record AsksAsAllowed (extended : Bool) (a : Association) : Type 0 where
+  pub first : (child : AskedChildView) → first_asked a.phase ≡ Some child → child.extended ≡ true → extended ≡ true
+  pub further : (number : ℕ) (request : Request) (further : FurtherChild) → map.get a.outgoing.outstanding number ≡ Some request → request.purpose ≡ CreateChild further
+      → further.child.extended ≡ true → extended ≡ true
+
+abbrev pub AskAsAllowed : Bool → Held → Type 0
+AskAsAllowed extended held = (serial : ℕ) (a : Association) → association_of serial held.associations ≡ Some a → AsksAsAllowed extended a
+
+-- and the configuration is one that a machine is made with, by which all ask
 pub record IsSoundMachine (machine : Machine) (table : Database) : Type 0 where
   pub held : AreSound machine.held table
   pub config : IsConfig machine.config
+  pub asks : AskAsAllowed machine.config.extended machine.held
 
 -- an association holds the SPI, for a child that it asked for
 pub record HoldsReservation (associations : List Association) (spi : ℕ) : Type 0 where

@@ -13,7 +13,9 @@ ghost use Rattle.sadb.specs.declared.pair.Pair.{Pair};
 ghost use Rattle.association.specs.AskedChildren.{asked_of, AskedChildView};
 ghost use Rattle.association.specs.Phases.{keys_in};
 ghost use Rattle.association.specs.declared.phase.Association.{Association};
+ghost use Rattle.association.specs.Purposes.{asks_for_child};
 ghost use Rattle.association.specs.declared.phase.AuthSent.{AuthSent};
+ghost use Rattle.association.specs.declared.phase.Request.{Request};
 ghost use Rattle.association.specs.declared.phase.Phase.TheVariants as phase;
 ghost use Rattle.children.specs.Asking.{child_request, HasChildPayloads};
 ghost use Rattle.children.specs.Pairs.{HasFewSelectors};
@@ -23,7 +25,8 @@ ghost use Rattle.effects.specs.Children.{First, Further, IsAnsweredChild, IsAske
 ghost use Rattle.initial.specs.Configs.{Setup};
 ghost use Rattle.effects.specs.Keeping.{IsShort};
 ghost use Rattle.effects.specs.Taking.{Meaning};
-ghost use Rattle.ike.specs.Children.{AsksFirstChild, MakesChildOf, AsksNow, WaitedBefore};
+ghost use Rattle.ike.specs.Children.{AsksFirstChild, AsksForFurtherNow, AsksNow, FurtherOrdered, FurtherWaited, MakesChildOf, WaitedBefore};
+ghost use Rattle.ike.specs.Offers.{AnswersFirstOffer, AnswersSealedOffer};
 ghost use Rattle.ike.specs.Machines.{half_open_count, keys_of_serial, setup_at, Held, Machine, new_machine, association_of};
 ghost use Rattle.ike.specs.Moments.{ComesTo, IsTimely, StaysAt};
 ghost use Rattle.ike.specs.Moves.{HasFresh, MovesAt, OpensFresh};
@@ -40,14 +43,14 @@ ghost use Rattle.effects.specs.Requests.{is_concluded, IsSoundlyHeld, KeepsWindo
 ghost use Rattle.ike.specs.Requests.{ComesIntoEffect, HoldsInEffect, IsAdmitted, IsAnswered, IsFirstReplyKept, IsGivenUp, IsHeldThrough, IsInitialDatagram, IsNewRequest, IsOfOctets, IsReplyKept, OnlySays, OpensAsRequest, PutsOneIntoEffect, first_requests};
 ghost use Rattle.ike.specs.declared.fault.IkeFault.TheVariants as fault;
 ghost use Rattle.ike.specs.Soundness.{AreReservationsHeld, IsSoundMachine};
-ghost use Rattle.ike.specs.Steps.{is_tick, InputView, Message, Steps, Refuses, Tick};
+ghost use Rattle.ike.specs.Steps.{is_tick, InputView, Message, Start, Steps, Refuses, Tick};
 ghost use Rattle.ike.specs.Tracing.{HoldsKeys, IsInClear, IsTraced};
 ghost use Rattle.ike.specs.declared.output.IkeOutput.TheVariants as output;
-ghost use Rattle.ike.specs.declared.output.IkeOutput.TheVariants.{Request};
 ghost use Rattle.moments.specs.Due.{outstanding_count};
 ghost use Rattle.moments.specs.declared.resent.Resent.{Resent};
 ghost use Rattle.moments.specs.declared.ticking.Ticked.{Ticked};
 ghost use Rattle.ike.specs.declared.output.MadeChild.{MadeChild};
+ghost use Rattle.ike.specs.declared.output.Mark.{Mark};
 ghost use Rattle.initial.specs.declared.config.Config.{Config};
 ghost use Rattle.ike.specs.Contents.{machine_content};
 ghost use Rattle.ike.specs.Faults.{is_want_of_memory};
@@ -81,7 +84,8 @@ use wire::laws::{
 /// Whatever a step does, the machine is sound with its table from then on: at most 128 associations, 32 of them half open, by rising
 /// serial, each under an SPI of its own that is not zero; of one that waits for a response this end is the initiator, and of one that is
 /// half open the responder; the SPIs that they hold for children are reserved in the table, each for one child alone; their keys
-/// have 32 octets each; and the configuration is one that a machine is made with.
+/// have 32 octets each; and the configuration is one that a machine is made with, which alone allows that children are asked for with
+/// extended sequence numbers.
 pub fn soundness_stays()
     ensures { (meaning : Meaning) (entries : List Entry) (input : InputView) (old : Machine) (table : Database)
         (stepped : Stepped) (new : Machine) (new_table : Database) → IsSoundTable table → IsSoundMachine old table
@@ -96,6 +100,8 @@ pub fn soundness_stays()
     acceptance_is_limited();
     a_further_spi_is_held();
     orders_are_short_and_determined();
+    effects::laws::children_are_made_of_their_messages();
+    requests_wait_on();
     effects::laws::keys_stay_whole();
     effects::laws::requests_are_remembered();
     some_are_held_on();
@@ -192,8 +198,10 @@ pub fn one_association_is_changed()
 
 /// A child that a step made is what the payloads of its exchange say, of IKE_AUTH the first one and of CREATE_CHILD_SA a further one
 /// (RFC 7296, sections 1.2, 1.3.1, 2.9 and 2.17): those of the datagram, and at the end that answers those that its answer seals, at the end
-/// that asked those of the request that asked for the child. And an initiator whose keys a step made asks for its first child by the
-/// request that goes out: who waits for the response waited before, or asks now.
+/// that asked those of the request that asked for the child. An initiator whose keys a step made asks for its first child by the request
+/// that goes out (`asked`): who waits for the response waited before, or asks now (`waits`). An end that is ordered to ask for a further
+/// child asks for it by the request that goes out, and waits for its answer with what it asked (`asked_further`): who waits for such an
+/// answer waited before, with the same octets and for the same child, or asks now (`waits_further`).
 pub fn children_are_made_of_their_messages()
     ensures made { (meaning : Meaning) (entries : List Entry) (from octets : Octets) (fresh : Fresh) (old : Machine)
         (table : Database) (stepped : Stepped) (made : MadeChild) (new : Machine) (new_table : Database)
@@ -205,7 +213,7 @@ pub fn children_are_made_of_their_messages()
         (table : Database) (stepped : Stepped) (ike : ℕ) (next : Octets) (new : Machine) (new_table : Database)
         → IsSoundTable table → IsSoundMachine old table
         → Steps meaning entries (Message from octets fresh) old table stepped new new_table
-        → stepped.output ≡ Request ike next → stepped.trace.keyed ≡ Some ike
+        → stepped.output ≡ output.Request ike next → stepped.trace.keyed ≡ Some ike
         → AsksFirstChild meaning (setup_at old entries fresh) ike next new.held }
     ensures waits { (meaning : Meaning) (entries : List Entry) (input : InputView) (old : Machine) (table : Database)
         (stepped : Stepped) (new : Machine) (new_table : Database) (ike : ℕ) (a : Association) (sent : AuthSent)
@@ -213,12 +221,41 @@ pub fn children_are_made_of_their_messages()
         → Steps meaning entries input old table stepped new new_table
         → association_of ike new.held.associations ≡ Some a → a.phase ≡ phase.AuthSent sent
         → WaitedBefore ike sent old.held ⊎ AsksNow ike stepped }
+    ensures asked_further { (meaning : Meaning) (entries : List Entry) (ike place : ℕ) (fresh : Fresh) (old : Machine)
+        (table : Database) (stepped : Stepped) (new : Machine) (new_table : Database) → IsSoundMachine old table
+        → Steps meaning entries (Start (Some ike) place fresh) old table stepped new new_table
+        → AsksForFurtherNow meaning.body_of (setup_at old entries fresh) ike stepped new.held }
+    ensures waits_further { (meaning : Meaning) (entries : List Entry) (input : InputView) (old : Machine) (table : Database)
+        (stepped : Stepped) (new : Machine) (new_table : Database) (ike number : ℕ) (a : Association)
+        (request : Request) → IsSoundMachine old table → Steps meaning entries input old table stepped new new_table
+        → association_of ike new.held.associations ≡ Some a → map.get a.outgoing.outstanding number ≡ Some request
+        → asks_for_child request.purpose ≡ true
+        → FurtherWaited ike number request old.held ⊎ FurtherOrdered input ike number request stepped }
 {
     soundness_stays();
     associations_stay_themselves();
     keys_stay();
     effects::laws::children_are_made_of_their_messages();
+    effects::laws::requests_are_remembered();
+    requests_wait_on();
     some_are_held_on();
+}
+
+/// An SA in an answer has one proposal, with the number and the protocol of one that was offered and one of its transforms of each type
+/// (RFC 7296, section 3.3.1): in the answer by which an association comes to be half open, and in each answer that is sealed, but for
+/// INFORMATIONAL, which offers none.
+pub fn answers_keep_to_their_offers()
+    ensures initial { (meaning : Meaning) (entries : List Entry) (from octets : Octets) (fresh : Fresh) (old : Machine)
+        (table : Database) (stepped : Stepped) (new : Machine) (new_table : Database) (reply : Octets) (closed : Option ℕ)
+        (ike : ℕ) → Steps meaning entries (Message from octets fresh) old table stepped new new_table
+        → stepped.output ≡ output.Reply reply closed → stepped.trace.keyed ≡ Some ike → AnswersFirstOffer octets reply }
+    ensures sealed { (meaning : Meaning) (entries : List Entry) (from octets : Octets) (fresh : Fresh) (old : Machine)
+        (table : Database) (stepped : Stepped) (new : Machine) (new_table : Database) (reply : Octets) (closed : Option ℕ)
+        (mark : Mark) → IsSoundMachine old table → Steps meaning entries (Message from octets fresh) old table stepped new new_table
+        → stepped.output ≡ output.Reply reply closed → stepped.trace.sent ≡ Some mark
+        → AnswersSealedOffer meaning (setup_at old entries fresh) mark.ike octets reply old.held }
+{
+    effects::laws::answers_keep_to_their_offers();
 }
 
 /// A child that a step makes has at most 16 selectors on either side (RFC 7296, section 3.13; a limit of this implementation).
@@ -227,6 +264,17 @@ pub fn children_have_few_selectors()
         (stepped : Stepped) (new : Machine) (new_table : Database) (made : MadeChild) (pair : Pair) → IsSoundTable table
         → IsSoundMachine old table → Steps meaning entries input old table stepped new new_table
         → stepped.trace.child ≡ Some made → pair_at new_table.pairs made.serial ≡ Some pair → HasFewSelectors pair }
+{
+    children_are_made_of_their_messages();
+}
+
+/// A child that a step makes has extended sequence numbers only where this end's configuration allows them (RFC 4303, section 2.2.1).
+pub fn children_are_extended_where_allowed()
+    ensures { (meaning : Meaning) (entries : List Entry) (from octets : Octets) (fresh : Fresh) (old : Machine) (table : Database)
+        (stepped : Stepped) (new : Machine) (new_table : Database) (made : MadeChild) (pair : Pair) → IsSoundTable table
+        → IsSoundMachine old table → Steps meaning entries (Message from octets fresh) old table stepped new new_table
+        → stepped.trace.child ≡ Some made → pair_at new_table.pairs made.serial ≡ Some pair
+        → pair.inbound.association.extended ≡ true → old.config.extended ≡ true }
 {
     children_are_made_of_their_messages();
 }

@@ -165,7 +165,8 @@ fn take_found<C: Sealer + Agreement + Proof>(
         })
         (setup_of step.now) octets.now message.now held.old table.old stepped held.new table.new) }
     ensures refused { IfErr result (λ _. (held.new ≡ held.old) × IsAsBefore table.old table.new) }
-    ensures wanted { IfErr result (WantsFound (found message.now.header held.old.associations) message.now.header.exchange held.old) }
+    ensures wanted { IfErr result (WantsFound (found message.now.header held.old.associations) message.now.header.flags.response
+        message.now.header.exchange held.old) }
 {
     match find(held.associations(), &message.header) {
         Ok(place) => take_at(alloc, step, held, place, table, octets, message),
@@ -200,7 +201,7 @@ fn take_at<C: Sealer + Agreement + Proof>(
         })
         (setup_of step.now) octets.now message.now held.old table.old stepped held.new table.new) }
     ensures refused { IfErr result (λ _. (held.new ≡ held.old) × IsAsBefore table.old table.new) }
-    ensures wanted { IfErr result (WantsFound (Ok place) message.now.header.exchange held.old) }
+    ensures wanted { IfErr result (WantsFound (Ok place) message.now.header.flags.response message.now.header.exchange held.old) }
 {
     let association = &mut held.associations[place];
     let ike = association.serial;

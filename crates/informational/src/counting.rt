@@ -5,6 +5,7 @@ ghost use Rattle.association.specs.Closing.{HoldsReserved};
 ghost use Rattle.informational.specs.Counting.{gone_with, CountsInformational, IsRejectedBy};
 ghost use Rattle.informational.specs.Orders.{ClosesIf, IsEstablished, RemovesOwn};
 ghost use Rattle.initial.specs.Configs.{setup_of};
+ghost use Rattle.initial.specs.Ending.{AsksForNoChild};
 
 use association::laws::spis_stay_held;
 use association::{Association, Purpose};
@@ -18,8 +19,8 @@ use std::alloc::{AllocError, Global};
 /// is closed where it has a notice INVALID_SYNTAX (section 2.21.3), or answers a request to delete it; the pair of a child goes whose
 /// deletion it answers. What else it says is nothing to that.
 ///
-/// The caller asks only at an established association, where a request of this number is outstanding and the SPIs that the association
-/// holds are reserved in the table. An error is for want of memory alone, and changes nothing.
+/// The caller asks only at an established association, where a request of this number is outstanding, which asks for no child, and the SPIs
+/// that the association holds are reserved in the table. An error is for want of memory alone, and changes nothing.
 pub fn count<C>(
     alloc: Global,
     step: &Step<'_, C>,
@@ -30,6 +31,7 @@ pub fn count<C>(
 ) -> Result<Ended, AllocError>
     requires established { IsEstablished association.old.phase }
     requires outstanding { IsOutstanding association.old.outgoing number }
+    requires no_child { AsksForNoChild association.old.outgoing number }
     requires reserved { HoldsReserved association.old table.old }
     ensures counted { IfOk result (λ ended. CountsInformational (setup_of step.now)
         association.old table.old number plain.now ended association.new table.new) }

@@ -1,5 +1,6 @@
 -- What an initiator makes of the response to IKE_AUTH (RFC 7296 sections 1.2, 2.15 and 2.21.2).
 use Rattle.std.specs.Prelude.{◌≡◌, ℕ, true, false, Option, Some, None, List}
+use Rattle.std.specs.FinMap as map
 use Rattle.wire.specs.declared.payload.Payload.{Payload}
 use Rattle.exchange.specs.declared.headers.Role.TheVariants.{Responder}
 use Rattle.exchange.specs.declared.sealed.Plain.{Plain}
@@ -7,6 +8,7 @@ use Rattle.requests.specs.Outgoing.{CountsAnswer, OwnRequests}
 use Rattle.sadb.specs.Database.{Database}
 use Rattle.sadb.specs.declared.pair.Pair.{Pair}
 use Rattle.association.specs.AskedChildren.{asked_of}
+use Rattle.association.specs.Purposes.{asks_for_child}
 use Rattle.association.specs.declared.phase.Association.{Association}
 use Rattle.association.specs.declared.phase.AuthSent.{AuthSent}
 use Rattle.association.specs.declared.phase.Phase.{Phase}
@@ -66,6 +68,10 @@ pub record EndsAuth (accepts : Accepts) (setup : Setup) (old : Association) (tab
 pub record IsAuthSent (p : Phase) : Type 0 where
   pub sent : AuthSent
   pub is : p ≡ phase.AuthSent sent
+
+-- the request of this number asks for no further child, whose SPI would have to be given up with it
+abbrev pub AsksForNoChild : OwnRequests Request → ℕ → Type 0
+AsksForNoChild requests number = (request : Request) → map.get requests.outstanding number ≡ Some request → asks_for_child request.purpose ≡ false
 
 -- the child that is made has the SPI that was reserved for it
 abbrev pub HasItsSpi : ℕ → Option Pair → Type 0

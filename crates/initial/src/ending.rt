@@ -1,10 +1,11 @@
 //! The response to IKE_AUTH.
-ghost use Rattle.std.specs.Prelude.{◌≡◌, Some, IfOk, IfErr};
+ghost use Rattle.std.specs.Prelude.{◌≡◌, ◌≢◌, Some, IfOk, IfErr};
 ghost use Rattle.requests.specs.Outgoing.{IsOutstanding};
 ghost use Rattle.association.specs.Closing.{HoldsReserved};
+ghost use Rattle.children.specs.declared.fault.ChildFault.TheVariants as child;
 ghost use Rattle.initial.specs.Configs.{setup_of, IsConfig};
 ghost use Rattle.initial.specs.Concluding.{is_closing, CanConclude};
-ghost use Rattle.initial.specs.Ending.{EndsAuth, FitsVerdict, IsAuthSent, IsVerdict, Judges};
+ghost use Rattle.initial.specs.Ending.{AsksForNoChild, EndsAuth, FitsVerdict, IsAuthSent, IsVerdict, Judges};
 
 use crate::Step;
 use crate::concluding::{Outcome, conclude};
@@ -35,9 +36,9 @@ pub struct Ended {
 /// established, with the child that [`children::accept`] makes of the answer, or without one: then its SPI is given up. From then
 /// on both windows count (section 2.3): this end's as configured, the peer's as it told, 1 where it told none.
 ///
-/// The caller asks only where the response to IKE_AUTH is waited for, of this number, and the SPIs that the association holds are
-/// reserved in the table.
-/// An error is for want of memory alone, and changes nothing.
+/// The caller asks only where the response to IKE_AUTH is waited for, of this number, whose request asks for no child but the first, and the
+/// SPIs that the association holds are reserved in the table. An error is for want of memory alone, for the message or the pair: its place in
+/// the table stands since its SPI was reserved. It changes nothing.
 pub fn end_auth<C: Proof>(
     alloc: Global,
     step: &Step<'_, C>,
@@ -49,10 +50,12 @@ pub fn end_auth<C: Proof>(
     requires config { IsConfig step.now.config.now }
     requires waiting { IsAuthSent association.old.phase }
     requires outstanding { IsOutstanding association.old.outgoing number }
+    requires no_child { AsksForNoChild association.old.outgoing number }
     requires reserved { HoldsReserved association.old table.old }
     ensures ended { IfOk result (λ ended. EndsAuth (C.accepts step.now.caller.now) (setup_of step.now)
         association.old table.old number plain.now ended association.new table.new) }
     ensures refused { IfErr result (λ _. (association.new ≡ association.old) × (table.new ≡ table.old)) }
+    ensures wanted { IfErr result (λ fault. fault ≢ child.Table) }
 {
     let Phase::AuthSent(sent) = &association.phase else {
         unreachable!();
@@ -76,6 +79,7 @@ fn judge_response<C: Proof>(
     requires { IsConfig step.now.config.now }
     ensures judged { IfOk result (Judges (C.accepts step.now.caller.now) (setup_of step.now) ike sent.now plain.now) }
     ensures fits { IfOk result (FitsVerdict sent.now) }
+    ensures wanted { IfErr result (λ fault. fault ≢ child.Table) }
 {
     match read_chain(alloc, plain)? {
         None => Ok(Outcome::Closes),
@@ -94,6 +98,7 @@ fn judge_payloads<C: Proof>(
     ensures judged { IfOk result (IsVerdict (C.accepts step.now.caller.now) (setup_of step.now) ike sent.now
         (Some payloads.now)) }
     ensures fits { IfOk result (FitsVerdict sent.now) }
+    ensures wanted { IfErr result (λ fault. fault ≢ child.Table) }
 {
     windows_are_read_again();
     let proving = Proving::of(Role::Responder, &sent.keys, sent.first.as_slice());

@@ -20,7 +20,7 @@ conclude-child-requires-clause-apart g c =
 pub returns-clause-counted : goal.returns-clause-counted
 returns-clause-counted g c =
     let a : Association = c.args.association.now in
-    let at = c.in_ok-conclusion.ensures.at in
+    let at = c.in_ok-conclusion.ensures.concluded.at in
     let request : Request = c.count-request.result in
     let asked : request.purpose ≡ CreateChild at.further = ap (λ (r : Request). r.purpose) (same_request request at.request (sym c.count-request.ensures.there ∙ at.outstanding)) ∙ at.asked in
     let spi : c.in-Some.spi ≡ at.further.child.spi = same_spi c.in-Some.spi at.further.child.spi (sym c.in-Some.is ∙ c.into_spi.ensures ∙ ap spi_asked asked) in
@@ -33,7 +33,7 @@ returns-clause-counted g c =
       outgoing = c.count-request.new.self;
       counted = c.count-request.ensures;
       conclusion = c.in_ok-conclusion.conclusion;
-      concluded = c.in_ok-conclusion.ensures.due;
+      concluded = c.in_ok-conclusion.ensures.concluded.due;
       closed = c.is_closing-closed.ensures;
       ends = subst (λ (s : ℕ). EndsFurther c.in_ok-conclusion.conclusion s (with_outgoing a c.count-request.new.self) c.args.table.now c.args.step.now.moment c.conclude-child.result c.conclude-child.new.association c.conclude-child.new.table)
           spi c.conclude-child.ensures;

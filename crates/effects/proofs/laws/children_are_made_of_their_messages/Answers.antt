@@ -1,4 +1,5 @@
-use Rattle.effects.proofs.MadeLemmas.{asks_for_child, makes_child, waits_for_child}
+use Rattle.effects.proofs.MadeLemmas.{asked_before, asks_for_child, asks_further, makes_child, waits_for_child}
+use Rattle.effects.proofs.WaitLemmas.{ordered_further, waits_further}
 use Rattle.effects.proofs.laws.children_are_made_of_their_messages.Goals as goal
 
 pub returns-clause-made : goal.returns-clause-made
@@ -35,3 +36,21 @@ returns-clause-asked c = asks_for_child
 
 pub returns-clause-waits : goal.returns-clause-waits
 returns-clause-waits c = waits_for_child
+
+pub returns-clause-asked_further : goal.returns-clause-asked_further
+returns-clause-asked_further c = asks_further
+
+pub returns-clause-waits_further : goal.returns-clause-waits_further
+returns-clause-waits_further c = waits_further (record {
+  reflexive = c.later_incoming_follow.ensures.reflexive;
+  transitive = c.later_incoming_follow.ensures.transitive;
+  preparing = c.later_incoming_follow.ensures.preparing;
+  taking = c.later_incoming_follow.ensures.taking;
+  sizing = c.later_incoming_follow.ensures.sizing;
+}) c.windows_are_read_again.ensures.bounds
+
+pub returns-clause-ordered_further : goal.returns-clause-ordered_further
+returns-clause-ordered_further c = ordered_further
+
+pub returns-clause-asked_first : goal.returns-clause-asked_first
+returns-clause-asked_first c = asked_before

@@ -1,4 +1,4 @@
-use Rattle.effects.proofs.WaitLemmas.{begun_waits, message_closes, message_until, message_waits, requested_keeps, requested_waits}
+use Rattle.effects.proofs.WaitLemmas.{begun_waits, message_closes, message_until, message_waits, requested_keeps, requested_next, requested_waits}
 use Rattle.effects.proofs.laws.requests_wait_on.Goals as goal
 
 pub returns-clause-taken : goal.returns-clause-taken
@@ -18,3 +18,6 @@ returns-clause-requested c = requested_waits
 
 pub returns-clause-beside : goal.returns-clause-beside
 returns-clause-beside c = requested_keeps
+
+pub returns-clause-next : goal.returns-clause-next
+returns-clause-next c = requested_next

@@ -14,3 +14,15 @@ returns-in-Outward-clause-sound g c =
     c.soundness_asks_for_reservations.ensures c.args.ike.now c.args.table.now c.send_packet.new.table
     (λ spi h. subst (λ (r : set.FinSet nat_cmp). set.contains r spi ≡ true) (sym c.send_packet.ensures.reserved) h)
     c.requires.sound
+
+pub returns-in-Esp-clause-reservations : goal.returns-in-Esp-clause-reservations
+returns-in-Esp-clause-reservations g c =
+    c.no_spi_is_lost.ensures.kept c.args.ike.now.held c.args.table.now c.receive_packet.new.table
+    (λ spi h. subst (λ (r : set.FinSet nat_cmp). set.contains r spi ≡ true) c.receive_packet.ensures.reserved h)
+    c.requires.reservations
+
+pub returns-in-Outward-clause-reservations : goal.returns-in-Outward-clause-reservations
+returns-in-Outward-clause-reservations g c =
+    c.no_spi_is_lost.ensures.kept c.args.ike.now.held c.args.table.now c.send_packet.new.table
+    (λ spi h. subst (λ (r : set.FinSet nat_cmp). set.contains r spi ≡ true) c.send_packet.ensures.reserved h)
+    c.requires.reservations

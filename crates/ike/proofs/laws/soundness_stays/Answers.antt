@@ -1,4 +1,4 @@
-use Rattle.ike.proofs.StepLemmas.{step_sound}
+use Rattle.ike.proofs.AllowedLemmas.{step_sound}
 use Rattle.ike.proofs.laws.soundness_stays.Goals as goal
 
 pub returns : goal.returns
@@ -31,4 +31,15 @@ returns c =
       further_others = c.a_further_spi_is_held.ensures.others;
       held = c.some_are_held_on.ensures.held;
       reserved = c.some_are_held_on.ensures.reserved;
+    }) (record {
+      further = record {
+        itself = c.associations_stay_themselves.ensures;
+        waits = c.children_are_made_of_their_messages.ensures.waits_further;
+        ordered = c.children_are_made_of_their_messages.ensures.ordered_further;
+        asked = c.children_are_made_of_their_messages.ensures.asked_further;
+        next = c.requests_wait_on.ensures.next;
+        begun_soundly = c.requests_are_remembered.ensures.begun;
+      };
+      hold = c.some_are_held_on.ensures.held;
+      before = c.children_are_made_of_their_messages.ensures.asked_first;
     })

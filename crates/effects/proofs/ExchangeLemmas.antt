@@ -1,0 +1,66 @@
+-- Which exchange a message has, by what it does.
+use Rattle.std.proofs.Common.{◌≡◌, ◌≢◌, ◌==◌, ◌||◌, inl, inr, ℕ, Bool, true, false, Some, Result, Ok, Err, IfErr, ap, refl, subst, sym, ◌∙◌}
+use Rattle.std.specs.Result.{IsErrAnd}
+use Rattle.std.specs.FinMap as map
+use Rattle.std.proofs.lemmas.Bool.{eqb-true}
+use Rattle.wire.specs.Numbers.{CREATE_CHILD_SA, IKE_AUTH, INFORMATIONAL}
+use Rattle.wire.specs.declared.message.Message.{Message}
+use Rattle.suite.specs.declared.key_record.KeyRecord.{KeyRecord}
+use Rattle.children.specs.declared.fault.ChildFault.{ChildFault}
+use Rattle.children.specs.declared.fault.ChildFault.TheVariants as child
+use Rattle.association.specs.Purposes.{asks_for_child, exchange_of}
+use Rattle.association.specs.Receiving.{admits, IsDue}
+use Rattle.association.specs.declared.phase.Association.{Association}
+use Rattle.association.specs.declared.phase.AuthSent.{AuthSent}
+use Rattle.association.specs.declared.phase.HalfOpen.{HalfOpen}
+use Rattle.association.specs.declared.phase.Phase.{Phase}
+use Rattle.association.specs.declared.phase.Phase.TheVariants as phase
+use Rattle.association.specs.declared.phase.Request.{Request}
+use Rattle.association.specs.declared.purpose.FurtherChild.{FurtherChild}
+use Rattle.association.specs.declared.purpose.Purpose.TheVariants.{CreateChild}
+use Rattle.effects.specs.Taking.{CanWant}
+use Rattle.effects.specs.Waiting.{SuitPhase}
+use Rattle.effects.proofs.RequestLemmas.{yes_no}
+
+pub auth_exchange : (p : Phase) (opened : HalfOpen) (exchange : ℕ) → p ≡ phase.HalfOpen opened → admits p exchange ≡ true → exchange ≡ IKE_AUTH
+auth_exchange p opened exchange was is = eqb-true exchange IKE_AUTH (sym (ap (λ (q : Phase). admits q exchange) was) ∙ is)
+
+but_other : (a b : Bool) → (a || b) ≡ true → b ≡ false → a ≡ true
+but_other true b is other = refl
+but_other false b is other = absurd (yes_no b is other)
+
+pub further_exchange : (p : Phase) (keys : KeyRecord) (exchange : ℕ) → p ≡ phase.Established keys → admits p exchange ≡ true → (exchange == INFORMATIONAL) ≡ false → exchange ≡ CREATE_CHILD_SA
+further_exchange p keys exchange was is other =
+    eqb-true exchange CREATE_CHILD_SA (but_other (exchange == CREATE_CHILD_SA) (exchange == INFORMATIONAL) (sym (ap (λ (q : Phase). admits q exchange) was) ∙ is) other)
+
+same_request : (one other : Request) → Some one ≡ Some other → one ≡ other
+same_request one other is = cc
+
+pub asked_exchange : (old : Association) (request : Request) (further : FurtherChild) (m : Message) → map.get old.outgoing.outstanding m.header.id ≡ Some request → request.purpose ≡ CreateChild further → IsDue old m
+    → m.header.exchange ≡ CREATE_CHILD_SA
+asked_exchange old request further m there asked due =
+    sym (eqb-true (exchange_of due.request.purpose) m.header.exchange due.exchange_is)
+    ∙ ap (λ (r : Request). exchange_of r.purpose) (same_request due.request request (sym due.outstanding ∙ there)) ∙ ap exchange_of asked
+
+pub identity_exchange : (old : Association) (sent : AuthSent) (m : Message) → old.phase ≡ phase.AuthSent sent → IsDue old m → SuitPhase old.phase old.outgoing.outstanding → m.header.exchange ≡ IKE_AUTH
+identity_exchange old sent m was due waits =
+    sym (eqb-true (exchange_of due.request.purpose) m.header.exchange due.exchange_is)
+    ∙ ap exchange_of (subst (λ (p : Phase). SuitPhase p old.outgoing.outstanding) was waits m.header.id due.request due.outstanding).1
+
+-- who waits for the response to IKE_AUTH asked for nothing else
+pub asked_identity : (old : Association) (sent : AuthSent) (number : ℕ) (request : Request) → old.phase ≡ phase.AuthSent sent → SuitPhase old.phase old.outgoing.outstanding
+    → map.get old.outgoing.outstanding number ≡ Some request → asks_for_child request.purpose ≡ false
+asked_identity old sent number request was waits there = ap asks_for_child (subst (λ (p : Phase). SuitPhase p old.outgoing.outstanding) was waits number request there).1
+
+-- and its first child takes no place in the table any more
+pub wants_first : (old : Association) (sent : AuthSent) (m : Message) (f : ChildFault) → old.phase ≡ phase.AuthSent sent → IsDue old m → SuitPhase old.phase old.outgoing.outstanding → f ≢ child.Table
+    → CanWant old.phase true m.header.exchange f
+wants_first old sent m child.Message was due waits other = inl refl
+wants_first old sent m child.Window was due waits other = inr (inl (record { awaited = record { sent = sent; is = was }; exchange_is = identity_exchange old sent m was due waits }), tt)
+wants_first old sent m child.Narrowing was due waits other = inr (inl (record { awaited = record { sent = sent; is = was }; exchange_is = identity_exchange old sent m was due waits }), tt)
+wants_first old sent m child.Table was due waits other = absurd (other refl)
+
+-- what an error is, and what follows of it
+pub err_and : {T E : Type 0} (r : Result T E) (P Q : E → Type 0) → IsErrAnd r P → ((e : E) → P e → Q e) → IfErr r Q
+err_and {T} {E} (Ok x) P Q is more = tt
+err_and {T} {E} (Err e) P Q is more = more e is
