@@ -46,7 +46,7 @@ sound_machine config table is = record {
   asks = λ serial a there. none_found serial a there;
 }
 
-none_reserved : (spi : ℕ) → set.contains {R = nat_cmp} set.empty spi ≡ true → ⊥
+pub none_reserved : (spi : ℕ) → set.contains {R = nat_cmp} set.empty spi ≡ true → ⊥
 none_reserved spi is = let none : set.contains {R = nat_cmp} set.empty spi ≡ false = set.contains-empty nat_cmp spi in cc
 
 no_ipv4 : ¬ IsIpv4Packet []

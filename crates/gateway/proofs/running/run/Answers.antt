@@ -38,7 +38,7 @@ loop-done-preserved g c =
       answers = i.answers ++ o ∷ [];
       appended = pushed_after c.args.outputs.now.items i.answers c.reserve.new.self.items c.push_reserved.new.self.items o c.push_reserved.ensures.items (c.reserve.ensures.items ∙ i.appended);
       runs = subst (λ (is : List Input). Runs (StepsAs meaning_of) is (i.answers ++ o ∷ []) c.args.gateway.now c.step-output.new.self) (sym more)
-          (run_more (StepsAs meaning_of) c.args.gateway.now _ i.answers c.loop-done.gateway input o c.step-output.new.self i.runs (record { sound = record { machine = c.invariants_hold.ensures.machine; table = c.invariants_hold.ensures.table; timely = c.invariants_hold.ensures.timely }; steps = c.step-output.ensures }));
+          (run_more (StepsAs meaning_of) c.args.gateway.now _ i.answers c.loop-done.gateway input o c.step-output.new.self i.runs (record { sound = record { machine = c.invariants_hold.ensures.machine; table = c.invariants_hold.ensures.table; timely = c.invariants_hold.ensures.timely; reservations = c.invariants_hold.ensures.reservations }; steps = c.step-output.ensures }));
       length_now = omega (arith, c.push_reserved.ensures.len, c.reserve.ensures.len, i.length_now);
       capacity = omega (arith, i.capacity, c.reserve.ensures.capacity, c.push_reserved.ensures.capacity);
     }

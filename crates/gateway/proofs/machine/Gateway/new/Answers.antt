@@ -1,0 +1,18 @@
+use Rattle.std.proofs.Common.{◌≡◌, true, ℕ, subst, sym}
+use Rattle.std.specs.FinSet as set
+use Rattle.std.specs.Ordering.{nat_cmp}
+use Rattle.sadb.specs.Database.{Database, IsReserved}
+use Rattle.ike.specs.Machines.{Machine}
+use Rattle.ike.specs.Moments.{IsTimely}
+use Rattle.ike.specs.Soundness.{AreReservationsHeld}
+use Rattle.gateway.proofs.WorkedLemmas.{none_reserved}
+use Rattle.gateway.proofs.machine.Gateway.new.Goals as goal
+
+pub invariant_of-result : goal.invariant_of-result
+invariant_of-result g c =
+    let none : (spi : ℕ) → IsReserved c.new-2.result spi → set.contains {R = nat_cmp} set.empty spi ≡ true = λ spi there. subst (λ (d : Database). IsReserved d spi) c.new-2.ensures there in (
+      c.new.ensures.sound c.new-2.result,
+      subst (λ (m : Machine). IsTimely m) (sym c.new.ensures.content) (c.what_is_due_comes_in_time.ensures.first c.args.config),
+      subst (λ (m : Machine). AreReservationsHeld m.held c.new-2.result) (sym c.new.ensures.content)
+          (c.no_spi_is_lost.ensures.begun c.args.config c.new-2.result (λ spi there. none_reserved spi (none spi there))),
+    )
