@@ -1,9 +1,9 @@
 //! What an initiator accepts of the answer to what it asked.
-ghost use Rattle.std.specs.Prelude.{◌≡◌, ◌≢◌, None, Ok, IfErr, IfOk, MatchOption};
+ghost use Rattle.std.specs.Prelude.{◌≡◌, None, Ok, IfErr, IfOk, MatchOption};
 ghost use Rattle.replay.specs.Window.{IsBlockCount};
 ghost use Rattle.children.specs.Accepting.{AreAcceptedTerms, IsAcceptedChild, IsUnacceptable};
 ghost use Rattle.children.specs.Making.{terms_of};
-ghost use Rattle.children.specs.declared.fault.ChildFault.TheVariants.{Table};
+ghost use Rattle.children.specs.Faults.{IsWantOfPair};
 
 use crate::making::{Agreed, make_pair, spi_of};
 use crate::{Asked, ChildFault, Setting};
@@ -19,7 +19,7 @@ use wire::Payload;
 /// payload of selectors for each side, which are not empty and lie inside those offered. The pair receives under its own SPI
 /// with the responder's key, and sends under the answer's with the initiator's.
 ///
-/// An error is for want of memory alone, for the pair and not for its place in the table, and none comes for an answer that is not acceptable.
+/// An error is for want of memory alone, for what the pair holds, and none comes for an answer that is not acceptable.
 pub fn accept(
     alloc: Global,
     answer: &[Payload],
@@ -30,7 +30,7 @@ pub fn accept(
     ensures accepted { IfOk result (λ pair. MatchOption pair
         (IsUnacceptable asked.now answer.now)
         (IsAcceptedChild setting.now asked.now answer.now)) }
-    ensures wanted { IfErr result (λ fault. fault ≢ Table) }
+    ensures wanted { IfErr result IsWantOfPair }
     ensures early { IsUnacceptable asked.now answer.now → result ≡ Ok None }
 {
     let Some(agreed) = accepted_terms(answer, asked) else {

@@ -1,10 +1,10 @@
 //! The pair of associations, made of what the two ends agree on.
-ghost use Rattle.std.specs.Prelude.{◌≡◌, ◌≢◌, ◌≤◌, IfErr, IfOk, length};
+ghost use Rattle.std.specs.Prelude.{◌≡◌, ◌≤◌, IfErr, IfOk, length};
 ghost use Rattle.byteorder.specs.Endian.{big_number};
 ghost use Rattle.replay.specs.Window.{IsBlockCount};
 ghost use Rattle.children.specs.Making.{terms_of};
 ghost use Rattle.children.specs.Pairs.{new_pair};
-ghost use Rattle.children.specs.declared.fault.ChildFault.TheVariants.{Table};
+ghost use Rattle.children.specs.Faults.{IsWantOfPair};
 
 use crate::{ChildFault, Setting};
 use base::{Items, Selector};
@@ -35,7 +35,7 @@ pub fn make_pair(
 ) -> Result<Pair, ChildFault>
     requires { IsBlockCount setting.now.blocks }
     ensures made { IfOk result (λ pair. pair ≡ new_pair role setting.now (terms_of agreed.now)) }
-    ensures wanted { IfErr result (λ fault. fault ≢ Table) }
+    ensures wanted { IfErr result IsWantOfPair }
 {
     let Ok(window) = BlockWindow::new(alloc, setting.blocks) else {
         return Err(ChildFault::Window);

@@ -1,8 +1,10 @@
 //! What a responder answers, and the pair that it has of the child.
-ghost use Rattle.std.specs.Prelude.{◌≡◌, IfOk, IsOk};
+ghost use Rattle.std.specs.Prelude.{◌≡◌, ◌≢◌, IfErr, IfOk, IsOk};
 ghost use Rattle.replay.specs.Window.{IsBlockCount};
 ghost use Rattle.sadb.specs.Database.{IsAsBefore, IsReady};
 ghost use Rattle.exchange.specs.Children.{offered};
+ghost use Rattle.children.specs.Faults.{CanBeWanted};
+ghost use Rattle.children.specs.declared.fault.ChildFault.TheVariants as child;
 ghost use Rattle.children.specs.Responding.{answered_proposals, made_of, next_spi, AddsNext, IsChildResponse, IsRefusedAtOnce, LeavesRoom};
 
 use crate::asking::lone;
@@ -42,7 +44,8 @@ pub struct Made {
 /// proposal's with its own.
 ///
 /// Of the table its room alone changes, also after an error; where a pair is made, it can take it, as [`install`] wants it. An
-/// error is for want of memory alone, and none comes for an offer that is refused for its proposals or its selectors.
+/// error is for want of memory alone, for a place in the table only where that takes more pairs and has no room, and none comes for an
+/// offer that is refused for its proposals or its selectors.
 pub fn respond(
     alloc: Global,
     offer: &ChildOffer<'_>,
@@ -56,6 +59,7 @@ pub fn respond(
         (IsChildResponse setting.now extended policy.now table.old (offered offer.now)) }
     ensures table { IsAsBefore table.old table.new }
     ensures ready { IfOk result (λ response. LeavesRoom response table.new) }
+    ensures wanted { IfErr result (CanBeWanted table.old) }
     ensures early { IsRefusedAtOnce extended policy.now (offered offer.now) → IsOk result }
 {
     let wanted = Wanted::Esp { extended };
@@ -89,7 +93,8 @@ fn make(
     narrowed: Narrowed,
 ) -> Result<Made, ChildFault>
     requires { IsBlockCount setting.now.blocks }
-    ensures { IfOk result (λ made. made ≡ made_of setting.now wanted.now chosen.now (record {
+    ensures wanted { IfErr result (λ fault. fault ≢ child.Table) }
+    ensures made { IfOk result (λ made. made ≡ made_of setting.now wanted.now chosen.now (record {
       spi_i = peer;
       spi_r = own;
       extended = chosen.now.extended;

@@ -7,6 +7,7 @@ ghost use Rattle.requests.specs.Incoming.{IsFreshRequest};
 ghost use Rattle.sadb.specs.Database.{IsAsBefore};
 ghost use Rattle.association.specs.Closing.{HoldsReserved};
 ghost use Rattle.initial.specs.Answering.{reply_message};
+ghost use Rattle.children.specs.Faults.{CanBeWanted};
 ghost use Rattle.initial.specs.Configs.{setup_of, IsConfig};
 ghost use Rattle.informational.specs.Orders.{IsEstablished};
 ghost use Rattle.further.specs.Answering.{further_answer, FitsAnswer};
@@ -51,6 +52,7 @@ pub fn answer<C: Sealer>(
     ensures answered { IfOk result (λ answered. AnswersFurther C.body_of (setup_of step.now)
         association.old table.old number plain.now answered association.new table.new) }
     ensures refused { IfErr result (λ _. (association.new ≡ association.old) × IsAsBefore table.old table.new) }
+    ensures wanted { IfErr result (CanBeWanted table.old) }
 {
     let Phase::Established(keys) = &association.phase else {
         unreachable!();

@@ -17,8 +17,10 @@ use Rattle.association.specs.declared.phase.Phase.{Phase}
 use Rattle.association.specs.declared.phase.Phase.TheVariants as phase
 use Rattle.association.specs.declared.phase.Request.{Request}
 use Rattle.association.specs.declared.purpose.FurtherChild.{FurtherChild}
-use Rattle.association.specs.declared.purpose.Purpose.TheVariants.{CreateChild}
-use Rattle.effects.specs.Taking.{CanWant}
+use Rattle.association.specs.declared.purpose.Purpose.TheVariants.{CreateChild, Identify}
+use Rattle.sadb.specs.Database.{Database}
+use Rattle.children.specs.Faults.{CanBeWanted}
+use Rattle.effects.specs.Taking.{CanWantIn, IsForChild}
 use Rattle.effects.specs.Waiting.{SuitPhase}
 use Rattle.effects.proofs.RequestLemmas.{yes_no}
 
@@ -42,23 +44,38 @@ asked_exchange old request further m there asked due =
     sym (eqb-true (exchange_of due.request.purpose) m.header.exchange due.exchange_is)
     ∙ ap (λ (r : Request). exchange_of r.purpose) (same_request due.request request (sym due.outstanding ∙ there)) ∙ ap exchange_of asked
 
+-- who waits for the response to IKE_AUTH asked for nothing else
+pub identity_asked : (old : Association) (sent : AuthSent) (number : ℕ) (request : Request) → old.phase ≡ phase.AuthSent sent → SuitPhase old.phase old.outgoing.outstanding
+    → map.get old.outgoing.outstanding number ≡ Some request → request.purpose ≡ Identify
+identity_asked old sent number request was waits there = (subst (λ (p : Phase). SuitPhase p old.outgoing.outstanding) was waits number request there).1
+
 pub identity_exchange : (old : Association) (sent : AuthSent) (m : Message) → old.phase ≡ phase.AuthSent sent → IsDue old m → SuitPhase old.phase old.outgoing.outstanding → m.header.exchange ≡ IKE_AUTH
 identity_exchange old sent m was due waits =
     sym (eqb-true (exchange_of due.request.purpose) m.header.exchange due.exchange_is)
-    ∙ ap exchange_of (subst (λ (p : Phase). SuitPhase p old.outgoing.outstanding) was waits m.header.id due.request due.outstanding).1
+    ∙ ap exchange_of (identity_asked old sent m.header.id due.request was waits due.outstanding)
 
--- who waits for the response to IKE_AUTH asked for nothing else
+-- by what a child takes at the end that asked for it, and at the one that answers
+pub wants_asked : (p : Phase) (exchange : ℕ) (d : Database) (f : ChildFault) → IsForChild p true exchange → f ≢ child.Table → CanWantIn p true exchange d f
+wants_asked p exchange d child.Message kind other = inl refl
+wants_asked p exchange d child.Window kind other = inr (kind, tt)
+wants_asked p exchange d child.Narrowing kind other = inr (kind, tt)
+wants_asked p exchange d child.Table kind other = absurd (other refl)
+
+pub wants_answered : (p : Phase) (exchange : ℕ) (d : Database) (f : ChildFault) → IsForChild p false exchange → CanBeWanted d f → CanWantIn p false exchange d f
+wants_answered p exchange d child.Message kind can = inl refl
+wants_answered p exchange d child.Window kind can = inr (kind, tt)
+wants_answered p exchange d child.Narrowing kind can = inr (kind, tt)
+wants_answered p exchange d child.Table kind can = inr (kind, (refl, can))
+
 pub asked_identity : (old : Association) (sent : AuthSent) (number : ℕ) (request : Request) → old.phase ≡ phase.AuthSent sent → SuitPhase old.phase old.outgoing.outstanding
     → map.get old.outgoing.outstanding number ≡ Some request → asks_for_child request.purpose ≡ false
-asked_identity old sent number request was waits there = ap asks_for_child (subst (λ (p : Phase). SuitPhase p old.outgoing.outstanding) was waits number request there).1
+asked_identity old sent number request was waits there = ap asks_for_child (identity_asked old sent number request was waits there)
 
 -- and its first child takes no place in the table any more
-pub wants_first : (old : Association) (sent : AuthSent) (m : Message) (f : ChildFault) → old.phase ≡ phase.AuthSent sent → IsDue old m → SuitPhase old.phase old.outgoing.outstanding → f ≢ child.Table
-    → CanWant old.phase true m.header.exchange f
-wants_first old sent m child.Message was due waits other = inl refl
-wants_first old sent m child.Window was due waits other = inr (inl (record { awaited = record { sent = sent; is = was }; exchange_is = identity_exchange old sent m was due waits }), tt)
-wants_first old sent m child.Narrowing was due waits other = inr (inl (record { awaited = record { sent = sent; is = was }; exchange_is = identity_exchange old sent m was due waits }), tt)
-wants_first old sent m child.Table was due waits other = absurd (other refl)
+pub wants_first : (old : Association) (sent : AuthSent) (m : Message) (d : Database) (f : ChildFault) → old.phase ≡ phase.AuthSent sent → IsDue old m → SuitPhase old.phase old.outgoing.outstanding → f ≢ child.Table
+    → CanWantIn old.phase true m.header.exchange d f
+wants_first old sent m d f was due waits other =
+    wants_asked old.phase m.header.exchange d f (inl (record { awaited = record { sent = sent; is = was }; exchange_is = identity_exchange old sent m was due waits })) other
 
 -- what an error is, and what follows of it
 pub err_and : {T E : Type 0} (r : Result T E) (P Q : E → Type 0) → IsErrAnd r P → ((e : E) → P e → Q e) → IfErr r Q

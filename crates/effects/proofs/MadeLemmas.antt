@@ -64,7 +64,7 @@ use Rattle.further.specs.declared.deciding.Decision as further
 use Rattle.further.specs.declared.deciding.Decision.TheVariants as decided
 use Rattle.create_child.specs.Asking.{wanted, AsksForFurther}
 use Rattle.create_child.specs.Counting.{is_closing_conclusion}
-use Rattle.effects.specs.Children.{first_asked, AsksForChild, AsksForFurtherChild, BringsChild, First, Further, IsAnsweredChild, IsAskedChild, IsAsking, MakesChild}
+use Rattle.effects.specs.Children.{first_asked, AsksForChild, AsksForFurtherChild, BringsChild, First, Further, IsAnsweredChild, IsAskedChild, IsAsking, MakesChild, MayAnswer}
 use Rattle.initial.specs.Concluding.{with_incoming, with_outgoing, AddsChild, ConcludesBy}
 use Rattle.initial.specs.Configs.{first_setting, Setup}
 use Rattle.initial.specs.Deciding.{own_proving, AcceptsAuth, IsDecision, IsRead}
@@ -84,7 +84,7 @@ use Rattle.initial.specs.declared.deciding.Decision.TheVariants as decision
 use Rattle.initial.specs.declared.ending.Ended.{Ended}
 use Rattle.effects.specs.declared.taking.Effect.{Effect}
 use Rattle.effects.specs.declared.taking.Effect.TheVariants as effect
-use Rattle.effects.proofs.ExchangeLemmas.{asked_exchange, auth_exchange, further_exchange, identity_exchange}
+use Rattle.effects.proofs.ExchangeLemmas.{asked_exchange, auth_exchange, further_exchange, identity_asked, identity_exchange}
 use Rattle.effects.proofs.PairLemmas.{answer_unused, end_unused, further_unused, made_unused, UnusedBy, UnusedIn}
 use Rattle.effects.proofs.PayloadLemmas.{answer_has, request_has}
 use Rattle.effects.proofs.SpiLemmas.{pairs_left}
@@ -299,6 +299,8 @@ replied_makes facts meaning setup old table octets m answered serial new new_tab
         First,
         record {
           exchange = auth_exchange old.phase d.opened m.header.exchange d.was (facts.effective meaning.plain_of old octets m is.plain is.received).admitted;
+          asked = (facts.effective meaning.plain_of old octets m is.plain is.received).request;
+          was = subst (λ (p : Phase). MayAnswer First p d.opened.keys) (sym d.was) refl;
           plain = is.plain;
           opened = (facts.effective meaning.plain_of old octets m is.plain is.received).opened;
           request = decides.request;
@@ -364,6 +366,10 @@ counted_makes facts meaning setup old table octets m ended serial new new_table 
       brings = child_brought meaning setup old table octets m (effect.Counted ended) serial d.sent.keys c.pair new new_table takes (c.phase_is ∙ ap established_of d.was) c.in_order unused c.there;
       made = inl (record {
         exchange = identity_exchange old d.sent m d.was (facts.answering meaning.plain_of old octets m is.plain is.received).due held.waits;
+        response = (facts.answering meaning.plain_of old octets m is.plain is.received).due.response;
+        request = d.request;
+        outstanding = d.counted.there;
+        asked = identity_asked old d.sent m.header.id d.request d.was held.waits d.counted.there;
         sent = d.sent;
         was = d.was;
         same_keys = refl;
@@ -471,6 +477,8 @@ further_replied_makes facts laws meaning setup old table octets m answered seria
         Further,
         record {
           exchange = further_exchange old.phase d.keys m.header.exchange d.established (facts.effective meaning.plain_of old octets m is.plain is.received).admitted is.other;
+          asked = (facts.effective meaning.plain_of old octets m is.plain is.received).request;
+          was = subst (λ (p : Phase). MayAnswer Further p d.keys) (sym d.established) refl;
           plain = is.plain;
           opened = (facts.effective meaning.plain_of old octets m is.plain is.received).opened;
           request = asks.request;
@@ -520,6 +528,7 @@ further_counted_makes facts laws meaning setup old table octets m ended serial n
       brings = child_brought meaning setup old table octets m (effect.Counted ended) serial d.keys c.one new new_table takes (ap (λ (x : Association). x.phase) c.same ∙ d.established) c.in_order unused c.there;
       made = inr (record {
         exchange = asked_exchange old d.request d.further m d.counted.there d.asked (facts.answering meaning.plain_of old octets m is.plain is.received).due;
+        response = (facts.answering meaning.plain_of old octets m is.plain is.received).due.response;
         was = d.established;
         request = d.request;
         outstanding = d.counted.there;
@@ -593,7 +602,10 @@ asks_further body_of setup local remote old table octets new new_table is =
       further = further;
       sealed = subst (λ (x : Association). IsSealed body_of (keys_of x.role is.keys) setup.fresh.seal (request_message x CREATE_CHILD_SA old.outgoing.next (further_payloads (child_request (asked_of further.child)) further.nonce)) octets) (sym is.content) is.sealed;
       kept = ap (λ (x : Association). map.get x.outgoing.outstanding old.outgoing.next) is.content ∙ issued_kept old.outgoing (new_request octets (CreateChild further) setup.moment) is.outgoing is.issued;
-      extension = refl;
+      spi = is.spi;
+      local = local;
+      remote = remote;
+      is = refl;
     }
 
 -- ---- who waits for a child waited for it before, or asks for it now

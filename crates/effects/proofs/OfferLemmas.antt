@@ -40,6 +40,11 @@ use Rattle.further.specs.Deciding.{DecidesFurtherBy, IsFurtherDecision}
 use Rattle.further.specs.Judging.{Admitted, FurtherJudgement, IsFurtherJudgement, Refused}
 use Rattle.further.specs.declared.deciding.Decision as further
 use Rattle.further.specs.declared.deciding.Decision.TheVariants as decided
+use Rattle.exchange.specs.declared.notices.Notice.TheVariants.{InvalidSyntax, UnsupportedCriticalPayload}
+use Rattle.deletions.specs.Answering.{deletion_if_any, payloads_of_verdict}
+use Rattle.deletions.specs.Deciding.{verdict_on}
+use Rattle.deletions.specs.declared.deciding.Verdict.{Verdict}
+use Rattle.deletions.specs.declared.deciding.Verdict.TheVariants as verdict
 use Rattle.create_child.specs.Answering.{AnswersFurther}
 use Rattle.effects.specs.Offers.{AnswersInitialSa, AnswersMessageSa, AnswersOneOf, AnswersPlain, AnswersSealedSa}
 use Rattle.effects.specs.Taking.{prover_of, Meaning, TakesMessage}
@@ -193,10 +198,22 @@ further_answers facts body_of setup old table number plain answered new new_tabl
 
 -- ---- a message
 
+-- an answer to INFORMATIONAL is a notice, deletions, or nothing
+deletions_without : (spis : List ℕ) (proposals : List Proposal) → Contains (deletion_if_any spis) (Sa proposals) → ⊥
+deletions_without [] proposals (k, below, at) = absurd (omega (arith, below))
+deletions_without (spi ∷ others) proposals (zero, below, at) = absurd cc
+deletions_without (spi ∷ others) proposals (suc k, below, at) = absurd (omega (arith, below))
+
+verdict_without : (v : Verdict) (proposals : List Proposal) → Contains (payloads_of_verdict v) (Sa proposals) → ⊥
+verdict_without verdict.BadSyntax proposals has = notice_without InvalidSyntax proposals has
+verdict_without (verdict.Unsupported kind) proposals has = notice_without (UnsupportedCriticalPayload kind) proposals has
+verdict_without verdict.Closes proposals (k, below, at) = absurd (omega (arith, below))
+verdict_without (verdict.Deletes deleted) proposals has = deletions_without deleted.inbound_spis proposals has
+
 way_answers : (facts : OfferFacts) (effective : (plain_of : Opening) (a : Association) (octets : Octets) (m : Message) (plain : Plain) → IsReceived plain_of a octets m (TakesEffect plain) → IsEffective plain_of a octets m plain)
-    → (meaning : Meaning) (setup : Setup) (old : Association) (table : Database) (octets : Octets) (m : Message) (answered : Answered) (new : Association) (new_table : Database) → m.header.exchange ≢ INFORMATIONAL
+    → (meaning : Meaning) (setup : Setup) (old : Association) (table : Database) (octets : Octets) (m : Message) (answered : Answered) (new : Association) (new_table : Database)
     → Way meaning setup old table octets m (effect.Replied answered) new new_table → AnswersMessageSa meaning setup old octets m answered.octets
-way_answers facts effective meaning setup old table octets m answered new new_table other (inl is) =
+way_answers facts effective meaning setup old table octets m answered new new_table (inl is) =
     let taken = effective meaning.plain_of old octets m is.plain is.received in
     record {
       plain = is.plain;
@@ -204,8 +221,19 @@ way_answers facts effective meaning setup old table octets m answered new new_ta
       answers = subst (λ (n : ℕ). AnswersSealedSa n meaning.body_of setup old m.header.id is.plain answered.octets) (sym (auth_exchange old.phase is.done.opened m.header.exchange is.done.was taken.admitted))
           (auth_answers facts (prover_of meaning) setup old table m.header.id is.plain answered new new_table is.done);
     }
-way_answers facts effective meaning setup old table octets m answered new new_table other (inr (inl is)) = absurd (other (eqb-true m.header.exchange INFORMATIONAL is.one))
-way_answers facts effective meaning setup old table octets m answered new new_table other (inr (inr is)) =
+way_answers facts effective meaning setup old table octets m answered new new_table (inr (inl is)) =
+    record {
+      plain = is.plain;
+      opened = (effective meaning.plain_of old octets m is.plain is.received).opened;
+      answers = subst (λ (n : ℕ). AnswersSealedSa n meaning.body_of setup old m.header.id is.plain answered.octets) (sym (eqb-true m.header.exchange INFORMATIONAL is.one)) (record {
+        keys = is.done.keys;
+        are = ap keys_in is.done.established;
+        reply = payloads_of_verdict (verdict_on table.pairs old.serial is.done.payloads);
+        sealed = is.done.sealed;
+        answers = λ proposals has. absurd (verdict_without (verdict_on table.pairs old.serial is.done.payloads) proposals has);
+      });
+    }
+way_answers facts effective meaning setup old table octets m answered new new_table (inr (inr is)) =
     let taken = effective meaning.plain_of old octets m is.plain is.received in
     record {
       plain = is.plain;
@@ -215,7 +243,7 @@ way_answers facts effective meaning setup old table octets m answered new new_ta
     }
 
 pub message_answers : OfferFacts → ((plain_of : Opening) (a : Association) (octets : Octets) (m : Message) (plain : Plain) → IsReceived plain_of a octets m (TakesEffect plain) → IsEffective plain_of a octets m plain)
-    → (meaning : Meaning) (setup : Setup) (old : Association) (table : Database) (octets : Octets) (m : Message) (answered : Answered) (new : Association) (new_table : Database) → m.header.exchange ≢ INFORMATIONAL
+    → (meaning : Meaning) (setup : Setup) (old : Association) (table : Database) (octets : Octets) (m : Message) (answered : Answered) (new : Association) (new_table : Database)
     → TakesMessage meaning setup old table octets m (effect.Replied answered) new new_table → AnswersMessageSa meaning setup old octets m answered.octets
-message_answers facts effective meaning setup old table octets m answered new new_table other is =
-    way_answers facts effective meaning setup old table octets m answered new new_table other (way_of meaning setup old table octets m (effect.Replied answered) new new_table is)
+message_answers facts effective meaning setup old table octets m answered new new_table is =
+    way_answers facts effective meaning setup old table octets m answered new new_table (way_of meaning setup old table octets m (effect.Replied answered) new new_table is)

@@ -255,7 +255,7 @@ module _ (meaning : Meaning) (setup : Setup) (old : Association) (table : Databa
       let done = conclusion_keeps setup taken d.between (outcome_of d.decision) a.child new new_table q (λ its. absurd (none-some q (sym (ap spi_in d.was) ∙ its))) d.concluded there in
       record { before = room_was table d.between q d.room done.before; still = done.still }
 
-  informed_keeps : (a : Answered) → AnsweredInformational meaning setup old table m a new new_table → Keeps old table new new_table q
+  informed_keeps : (a : Answered) → AnsweredInformational meaning setup old table octets m a new new_table → Keeps old table new new_table q
   informed_keeps a is =
       let d = is.done in
       let done = closed_if_keeps (is_closing_verdict (verdict_on table.pairs old.serial d.payloads)) (gone_by (verdict_on table.pairs old.serial d.payloads)) (record old { incoming = d.incoming })

@@ -260,7 +260,7 @@ auth_window : (setup : Setup) (a : Association) (table : Database) (o : Outcome)
 auth_window setup a table outcome.Closes child new new_table keys open_yet was is = inl (ap (λ (x : Association). x.incoming.size) is.over.content)
 auth_window setup a table (outcome.Establishes pair window) child new new_table keys open_yet was is = inr (record {
   before = open_yet;
-  after = ap (λ (x : Association). is_concluded x.phase) is.content ∙ ap is_concluded was;
+  after = record { keys = keys; is = ap (λ (x : Association). x.phase) is.content ∙ was };
   size = ap (λ (x : Association). x.incoming.size) is.content;
 })
 

@@ -56,9 +56,10 @@ pub record AnsweredAuth (meaning : Meaning) (setup : Setup) (old : Association) 
   pub received : IsReceived meaning.plain_of old octets m (TakesEffect plain)
   pub done : AnswersAuth (prover_of meaning) setup old table m.header.id plain answered new new_table
 
-pub record AnsweredInformational (meaning : Meaning) (setup : Setup) (old : Association) (table : Database) (m : Message) (answered : Answered) (new : Association) (new_table : Database) : Type 0 where
+pub record AnsweredInformational (meaning : Meaning) (setup : Setup) (old : Association) (table : Database) (octets : Octets) (m : Message) (answered : Answered) (new : Association) (new_table : Database) : Type 0 where
   pub one : (m.header.exchange == INFORMATIONAL) ≡ true
   pub plain : Plain
+  pub received : IsReceived meaning.plain_of old octets m (TakesEffect plain)
   pub done : AnswersInformational meaning.body_of setup old table m.header.id plain answered new new_table
 
 pub record AnsweredFurther (meaning : Meaning) (setup : Setup) (old : Association) (table : Database) (octets : Octets) (m : Message) (answered : Answered) (new : Association) (new_table : Database) : Type 0 where
@@ -105,7 +106,7 @@ Way meaning setup old table octets m (effect.Refused fault) new new_table = IsPa
 Way meaning setup old table octets m (effect.Repeated reply) new new_table = WasRepeated meaning old table octets m reply new new_table
 Way meaning setup old table octets m (effect.Replied answered) new new_table =
     AnsweredAuth meaning setup old table octets m answered new new_table
-    ⊎ (AnsweredInformational meaning setup old table m answered new new_table ⊎ AnsweredFurther meaning setup old table octets m answered new new_table)
+    ⊎ (AnsweredInformational meaning setup old table octets m answered new new_table ⊎ AnsweredFurther meaning setup old table octets m answered new new_table)
 Way meaning setup old table octets m (effect.Again next) new new_table = WasAsked meaning setup old table m next new new_table
 Way meaning setup old table octets m (effect.Identified next) new new_table = WasIdentified meaning setup old table octets m next new new_table
 Way meaning setup old table octets m (effect.Counted ended) new new_table =
@@ -115,7 +116,7 @@ Way meaning setup old table octets m (effect.Counted ended) new new_table =
 further_way : (meaning : Meaning) (setup : Setup) (informational : Bool) (old : Association) (table : Database) (octets : Octets) (m : Message) (plain : Plain) (e : Effect) (new : Association) (new_table : Database)
     → (m.header.exchange == INFORMATIONAL) ≡ informational → IsReceived meaning.plain_of old octets m (TakesEffect plain)
     → DoesFurther informational meaning setup old table m.header.id plain e new new_table → Way meaning setup old table octets m e new new_table
-further_way meaning setup true old table octets m plain (effect.Replied answered) new new_table one received is = inr (inl (record { one = one; plain = plain; done = is }))
+further_way meaning setup true old table octets m plain (effect.Replied answered) new new_table one received is = inr (inl (record { one = one; plain = plain; received = received; done = is }))
 further_way meaning setup true old table octets m plain e new new_table one received is = absurd is
 further_way meaning setup false old table octets m plain (effect.Replied answered) new new_table other received is = inr (inr (record { plain = plain; received = received; other = other; done = is }))
 further_way meaning setup false old table octets m plain e new new_table other received is = absurd is
@@ -298,7 +299,7 @@ further_later meaning setup old table m plain answered new new_table d =
     }
 
 pub answered_later : (meaning : Meaning) (setup : Setup) (old : Association) (table : Database) (octets : Octets) (m : Message) (answered : Answered) (new : Association) (new_table : Database)
-    → AnsweredInformational meaning setup old table m answered new new_table ⊎ AnsweredFurther meaning setup old table octets m answered new new_table → AnsweredLater meaning setup old m answered new
+    → AnsweredInformational meaning setup old table octets m answered new new_table ⊎ AnsweredFurther meaning setup old table octets m answered new new_table → AnsweredLater meaning setup old m answered new
 answered_later meaning setup old table octets m answered new new_table (inl is) = informed_later meaning setup old table m is.plain answered new new_table is.done
 answered_later meaning setup old table octets m answered new new_table (inr is) = further_later meaning setup old table m is.plain answered new new_table is.done
 

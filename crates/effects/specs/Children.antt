@@ -3,6 +3,7 @@
 use Rattle.std.specs.Prelude.{◌≡◌, ◌⊎◌, ℕ, true, false, Option, Some, None, List}
 use Rattle.std.specs.FinMap as map
 use Rattle.base.specs.Octets.{Octets}
+use Rattle.base.specs.declared.selector.Selector.{Selector}
 use Rattle.wire.specs.Numbers.{CREATE_CHILD_SA, IKE_AUTH}
 use Rattle.wire.specs.Payloads.{SpellsChain}
 use Rattle.wire.specs.declared.message.Message.{Message}
@@ -35,6 +36,7 @@ use Rattle.initial.specs.Answering.{reply_message}
 use Rattle.initial.specs.Configs.{Setup}
 use Rattle.initial.specs.Issuing.{new_request}
 use Rattle.informational.specs.Asking.{request_message}
+use Rattle.create_child.specs.Asking.{wanted}
 use Rattle.further.specs.Pairs.{IsFurtherChild}
 use Rattle.further.specs.Payloads.{further_payloads}
 use Rattle.effects.specs.Pairs.{IsUnused}
@@ -91,9 +93,18 @@ pub record IsAskedFurther (further : FurtherChild) (keys : KeyRecord) (reply : L
   pub keeps : KeepsToRequest (asked_of further.child) pair
   pub few : HasFewSelectors pair
 
+-- the association of which this end may answer for a child, with its keys
+abbrev pub MayAnswer : ChildKind → Phase → KeyRecord → Type 0
+MayAnswer First (phase.HalfOpen opened) keys = opened.keys ≡ keys
+MayAnswer First _ keys = ⊥
+MayAnswer Further (phase.Established known) keys = known ≡ keys
+MayAnswer Further _ keys = ⊥
+
 -- A responder made it, by a request of its exchange: of the payloads that the request opened to, and of those that were sealed in its answer.
 pub record AnswersForChild (kind : ChildKind) (meaning : Meaning) (setup : Setup) (old : Association) (octets : Octets) (m : Message) (answered : Answered) (keys : KeyRecord) (pair : Pair) : Type 0 where
   pub exchange : m.header.exchange ≡ exchange_of_child kind
+  pub asked : m.header.flags.response ≡ false
+  pub was : MayAnswer kind old.phase keys
   pub plain : Plain
   pub opened : opened_by meaning.plain_of old octets m.payloads ≡ Some plain
   pub request : List Payload
@@ -102,9 +113,14 @@ pub record AnswersForChild (kind : ChildKind) (meaning : Meaning) (setup : Setup
   pub sealed : IsSealed meaning.body_of (keys_of old.role keys) setup.fresh.seal (reply_message old (exchange_of_child kind) m.header.id reply) answered.octets
   pub is : IsAnsweredChild kind setup keys request reply pair
 
--- An initiator made its first child: the one that it waited for, of the payloads that the response opened to.
+-- An initiator made its first child: the one that it waited for, by the request of the response's number, of the payloads that the response
+-- opened to.
 pub record EndsWithChild (meaning : Meaning) (old : Association) (octets : Octets) (m : Message) (keys : KeyRecord) (pair : Pair) : Type 0 where
   pub exchange : m.header.exchange ≡ exchange_of_child First
+  pub response : m.header.flags.response ≡ true
+  pub request : Request
+  pub outstanding : map.get old.outgoing.outstanding m.header.id ≡ Some request
+  pub asked : request.purpose ≡ Identify
   pub sent : AuthSent
   pub was : old.phase ≡ phase.AuthSent sent
   pub same_keys : sent.keys ≡ keys
@@ -117,6 +133,7 @@ pub record EndsWithChild (meaning : Meaning) (old : Association) (octets : Octet
 -- An end made a further child that it asked for: by the request of the response's number, of the payloads that the response opened to.
 pub record EndsWithFurther (meaning : Meaning) (old : Association) (octets : Octets) (m : Message) (keys : KeyRecord) (pair : Pair) : Type 0 where
   pub exchange : m.header.exchange ≡ exchange_of_child Further
+  pub response : m.header.flags.response ≡ true
   pub was : old.phase ≡ phase.Established keys
   pub request : Request
   pub outstanding : map.get old.outgoing.outstanding m.header.id ≡ Some request
@@ -161,7 +178,8 @@ pub record AsksForChild (meaning : Meaning) (setup : Setup) (octets : Octets) (n
   pub kept : map.get new.outgoing.outstanding 1 ≡ Some (new_request octets Identify setup.moment)
 
 -- An end asked for a further child: the payloads of CREATE_CHILD_SA, sealed under the association's keys and kept as the request of this
--- number, ask for the child with the nonce that it waits for from then on.
+-- number, ask for the child with the nonce that it waits for from then on, by what the order fixes: an SPI, selectors of both sides, the
+-- configuration, and this step's nonce.
 pub record AsksForFurtherChild (body_of : Keys → Octets → Octets → Octets → Octets) (setup : Setup) (number : ℕ) (octets : Octets) (new : Association) : Type 0 where
   pub keys : KeyRecord
   pub established : new.phase ≡ phase.Established keys
@@ -169,7 +187,10 @@ pub record AsksForFurtherChild (body_of : Keys → Octets → Octets → Octets 
   pub sealed : IsSealed body_of (keys_of new.role keys) setup.fresh.seal
       (request_message new CREATE_CHILD_SA number (further_payloads (child_request (asked_of further.child)) further.nonce)) octets
   pub kept : map.get new.outgoing.outstanding number ≡ Some (new_request octets (CreateChild further) setup.moment)
-  pub extension : further.child.extended ≡ setup.config.extended
+  pub spi : ℕ
+  pub local : Selector
+  pub remote : Selector
+  pub is : further ≡ wanted setup spi local remote
 
 -- the effect by which an initiator asks
 pub record IsAsking (e : Effect) : Type 0 where

@@ -62,7 +62,7 @@ pub record AnswersSealedSa (exchange : ℕ) (body_of : Keys → Octets → Octet
   pub sealed : IsSealed body_of (keys_of old.role keys) setup.fresh.seal (reply_message old exchange number reply) octets
   pub answers : (answered : List Proposal) → Contains reply (Sa answered) → AnswersPlain plain answered
 
--- each SA in the answer to a message under keys answers that of what the message opened to, which asks for a child
+-- each SA in the answer to a message under keys answers that of what the message opened to
 pub record AnswersMessageSa (meaning : Meaning) (setup : Setup) (old : Association) (octets : Octets) (m : Message) (said : Octets) : Type 0 where
   pub plain : Plain
   pub opened : opened_by meaning.plain_of old octets m.payloads ≡ Some plain

@@ -16,7 +16,8 @@ use Rattle.association.specs.Receiving.{admits, opened_by, Opening}
 use Rattle.association.specs.declared.phase.Association.{Association}
 use Rattle.association.specs.declared.phase.Phase.{Phase}
 use Rattle.association.specs.declared.phase.Phase.TheVariants.{Established, Closed}
-use Rattle.auth.specs.Windows.{peer_window, IsWindow, WIDEST_WINDOW}
+use Rattle.auth.specs.Windows.{peer_window, WIDEST_WINDOW}
+use Rattle.informational.specs.Orders.{IsEstablished}
 use Rattle.initial.specs.Answering.{IsHalfOpen}
 use Rattle.initial.specs.Ending.{IsAuthSent}
 use Rattle.initial.specs.Reading.{IsInitSent}
@@ -93,10 +94,10 @@ pub record StaysConcluded (old new : Association) : Type 0 where
   pub concluded : is_concluded new.phase ≡ true
   pub size : new.incoming.size ≡ old.incoming.size
 
--- when IKE_AUTH is done, their window is widened to the one that this end tells (section 2.3)
+-- when IKE_AUTH establishes the association, their window is widened to the one that this end tells (section 2.3)
 pub record WidensWindow (own : ℕ) (old new : Association) : Type 0 where
   pub before : is_concluded old.phase ≡ false
-  pub after : is_concluded new.phase ≡ true
+  pub after : IsEstablished new.phase
   pub size : new.incoming.size ≡ max own old.incoming.size
 
 -- the window changes then alone
@@ -109,13 +110,12 @@ pub record OpensToPayloads (plain_of : Opening) (a : Association) (octets : Octe
   pub opened : opened_by plain_of a octets m.payloads ≡ Some plain
   pub read : SpellsChain plain.first payloads plain.octets
 
--- The peer's window is widened then too, to the one that its message tells, which is 16 at most, and changes then alone.
+-- The window for this end's requests is widened then too, to the one that the peer's message tells, and changes then alone.
 pub record WidensPeersWindow (plain_of : Opening) (octets : Octets) (m : Message) (old new : Association) : Type 0 where
   pub before : is_concluded old.phase ≡ false
-  pub after : is_concluded new.phase ≡ true
+  pub after : IsEstablished new.phase
   pub payloads : List Payload
   pub told : OpensToPayloads plain_of old octets m payloads
-  pub is_window : IsWindow (peer_window payloads)
   pub window : new.outgoing.window ≡ max (peer_window payloads) old.outgoing.window
 
 abbrev pub KeepsPeersWindow : Opening → Octets → Message → Association → Association → Type 0

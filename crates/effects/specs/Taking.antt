@@ -7,11 +7,12 @@ use Rattle.wire.specs.declared.message.Message.{Message}
 use Rattle.suite.specs.declared.keys.Keys.{Keys}
 use Rattle.suite.specs.declared.sealer.Cipher.{Cipher}
 use Rattle.exchange.specs.declared.sealed.Plain.{Plain}
-use Rattle.sadb.specs.Database.{Database}
+use Rattle.sadb.specs.Database.{Database, IsTableRefusal}
+use Rattle.sadb.specs.declared.fault.TableFault.TheVariants as table
 use Rattle.children.specs.declared.fault.ChildFault.{ChildFault}
 use Rattle.children.specs.declared.fault.ChildFault.TheVariants as child
 use Rattle.association.specs.Purposes.{asks_for_child}
-use Rattle.association.specs.Receiving.{Answers, AnswersInitial, IsReceived, Opening, Reception, Refused, Repeat, TakesEffect}
+use Rattle.association.specs.Receiving.{Answers, AnswersInitial, IsAnswering, IsEffective, IsReceived, Opening, Reception, Refused, Repeat, TakesEffect}
 use Rattle.association.specs.declared.fault.MessageFault.TheVariants.{WrongPhase}
 use Rattle.association.specs.declared.phase.Association.{Association}
 use Rattle.association.specs.declared.phase.Phase.{Phase}
@@ -83,17 +84,32 @@ pub record IsForFurther (p : Phase) (exchange : ℕ) : Type 0 where
 abbrev pub IsForChild : Phase → Bool → ℕ → Type 0
 IsForChild p response exchange = IsForFirst p response exchange ⊎ IsForFurther p exchange
 
--- A child takes a replay window and selectors, and at the end that answers a place in the table; the end that asked has one since it did.
-abbrev pub CanTakeOf : Bool → ChildFault → Type 0
-CanTakeOf response child.Message = Unit {0}
-CanTakeOf response child.Window = Unit {0}
-CanTakeOf response child.Narrowing = Unit {0}
-CanTakeOf response child.Table = response ≡ false
+-- What a child takes: a replay window and selectors, and at the end that answers a place in the table, where that takes more pairs and has no
+-- room; the end that asked has its place since it did.
+abbrev pub CanTakeOf : Bool → Database → ChildFault → Type 0
+CanTakeOf response d child.Message = ⊥
+CanTakeOf response d child.Window = Unit {0}
+CanTakeOf response d child.Narrowing = Unit {0}
+CanTakeOf response d child.Table = (response ≡ false) × IsTableRefusal d table.Memory
 
--- what memory can be wanted for, by the phase, whether the message is a response, and its exchange: the message; where a child may be made,
--- also what that takes
-abbrev pub CanWant : Phase → Bool → ℕ → ChildFault → Type 0
-CanWant p response exchange f = (f ≡ child.Message) ⊎ (IsForChild p response exchange × CanTakeOf response f)
+-- a request that takes effect, or a response that is counted
+abbrev pub Counts : Bool → Opening → Association → Octets → Message → Plain → Type 0
+Counts false plain_of a octets m plain = IsEffective plain_of a octets m plain
+Counts true plain_of a octets m plain = IsAnswering plain_of a octets m plain
+
+-- a child may be made of the message: it counts, and its exchange is one by which a child is made
+pub record CanMakeChild (plain_of : Opening) (a : Association) (octets : Octets) (m : Message) : Type 0 where
+  pub plain : Plain
+  pub counts : Counts m.header.flags.response plain_of a octets m plain
+  pub kind : IsForChild a.phase m.header.flags.response m.header.exchange
+
+-- what memory can be wanted for: the message; where a child may be made of it, also what that takes
+abbrev pub CanWant : Opening → Association → Database → Octets → Message → ChildFault → Type 0
+CanWant plain_of a d octets m f = (f ≡ child.Message) ⊎ (CanMakeChild plain_of a octets m × CanTakeOf m.header.flags.response d f)
+
+-- so by the phase and the exchange alone; only private contracts cite this
+abbrev pub CanWantIn : Phase → Bool → ℕ → Database → ChildFault → Type 0
+CanWantIn p response exchange d f = (f ≡ child.Message) ⊎ (IsForChild p response exchange × CanTakeOf response d f)
 
 -- what a request of these payloads does at an established association: that of INFORMATIONAL, or else of CREATE_CHILD_SA, since no other
 -- belongs there

@@ -3,7 +3,7 @@ ghost use Rattle.std.specs.Prelude.{◌≡◌, ◌≢◌, ◌==◌, ◌⊎◌, �
 ghost use Rattle.base.specs.Octets.{Octets, AreOctets};
 ghost use Rattle.base.specs.declared.selector.Selector.{Selector};
 ghost use Rattle.wire.specs.Messages.{Spells};
-ghost use Rattle.wire.specs.Numbers.{CREATE_CHILD_SA, IKE_AUTH, IKE_SA_INIT, INFORMATIONAL};
+ghost use Rattle.wire.specs.Numbers.{CREATE_CHILD_SA, IKE_AUTH, IKE_SA_INIT};
 ghost use Rattle.wire.specs.declared.message.Message.{Message};
 ghost use Rattle.wire.specs.declared.payload.Payload.{Payload};
 ghost use Rattle.suite.specs.declared.fresh.Fresh.{Fresh};
@@ -43,6 +43,7 @@ ghost use Rattle.initial.specs.Beginning.{begun, half_open, Admits, Begins};
 ghost use Rattle.effects.specs.Children.{first_asked, AsksForChild, AsksForFurtherChild, IsAsking, MakesChild};
 ghost use Rattle.initial.specs.Configs.{Setup, IsConfig};
 ghost use Rattle.informational.specs.Asking.{Asks};
+ghost use Rattle.informational.specs.Orders.{IsEstablished};
 ghost use Rattle.create_child.specs.Answering.{AnswersFurther};
 ghost use Rattle.create_child.specs.Asking.{AsksForFurther};
 ghost use Rattle.informational.specs.declared.ordering.Order.{Order};
@@ -51,7 +52,7 @@ ghost use Rattle.moments.specs.Held.{IsClosedAt, IsInTime};
 ghost use Rattle.effects.specs.Moves.{ledger, moves_of, Close, Issue, KeepsReply, Lead, Make, Remove, WaitsWith};
 ghost use Rattle.initial.specs.Ending.{EndsAuth};
 ghost use Rattle.effects.specs.Keeping.{child_in, octets_of_effect, IsShort, KeepsShort, KeyedBy};
-ghost use Rattle.effects.specs.Requests.{is_concluded, IsPassing, IsSoundlyHeld, KeepsPeersWindow, KeepsWindow, PutsIntoEffect, StaysConcluded};
+ghost use Rattle.effects.specs.Requests.{is_concluded, IsPassing, IsSoundlyHeld, KeepsPeersWindow, KeepsWindow, PutsIntoEffect, StaysConcluded, WidensPeersWindow, WidensWindow};
 ghost use Rattle.effects.specs.Waiting.{asked_by, Ends, KeepTimers, WaitUntil};
 ghost use Rattle.effects.specs.Offers.{AnswersInitialSa, AnswersMessageSa, AnswersSealedSa};
 ghost use Rattle.effects.specs.Openings.{OpensAsMessage, OpensWhatItSeals};
@@ -260,7 +261,8 @@ pub fn keys_stay()
 /// (RFC 7296, sections 1.2, 1.3.1, 2.9 and 2.17): at the end that answers those that the request opened to and those that were sealed in the
 /// answer, at the end that asked those that the response opened to and those that asked for the child. Its association is established,
 /// and its pair, under the association's keys, is the only one that came. An initiator that waits for its first child waited for it before,
-/// or asks for it now; so does an end that waits for a further one, and no message makes it ask.
+/// or asks for it now, and it is the child that it asked for as it began. An end that waits for a further one waited for it before, or is
+/// ordered to ask now: no message makes it ask, and no other order.
 pub fn children_are_made_of_their_messages()
     ensures made { (meaning : Meaning) (setup : Setup) (old : Association) (table : Database) (octets : Octets) (m : Message)
         (effect : Effect) (serial : ℕ) (new : Association) (new_table : Database) → IsSoundTable table → IsSoundlyHeld old
@@ -307,8 +309,7 @@ pub fn children_are_made_of_their_messages()
 }
 
 /// An SA in an answer has one proposal, with the number and the protocol of one that was offered and one of its transforms of each type
-/// (RFC 7296, section 3.3.1): in the answer to IKE_SA_INIT, and in each SA of that to IKE_AUTH or CREATE_CHILD_SA, which a message asks for
-/// that is no INFORMATIONAL.
+/// (RFC 7296, section 3.3.1): in the answer to IKE_SA_INIT, and in each SA of that to a request under keys.
 pub fn answers_keep_to_their_offers()
     ensures initial { (cipher : Cipher) (group : ℕ) (public_value : Octets → Octets)
         (shared_secret : Octets → Octets → Option Octets) (secrets : CookieSecrets) (sender : Sender) (half_open held : ℕ)
@@ -325,7 +326,7 @@ pub fn answers_keep_to_their_offers()
         → AnswersFurther body_of setup old table number plain answered new new_table
         → AnswersSealedSa CREATE_CHILD_SA body_of setup old number plain answered.octets }
     ensures message { (meaning : Meaning) (setup : Setup) (old : Association) (table : Database) (octets : Octets) (m : Message)
-        (answered : Answered) (new : Association) (new_table : Database) → m.header.exchange ≢ INFORMATIONAL
+        (answered : Answered) (new : Association) (new_table : Database)
         → TakesMessage meaning setup old table octets m (Replied answered) new new_table
         → AnswersMessageSa meaning setup old octets m answered.octets }
 {
@@ -486,7 +487,7 @@ pub fn requests_take_effect()
 }
 
 /// What took effect is remembered: the peer's requests after a message follow those before it, their window is widened once, when IKE_AUTH
-/// is done, to the one that this end tells, and so is the window for this end's, to the one that the message tells, of 16 at most; and an
+/// establishes the association, to the one that this end tells, and so is the window for this end's, to the one that the message tells; and an
 /// association that is half open was so before, by the same request with the same reply. What is kept stays sound, from the beginning on
 /// (RFC 7296, sections 2.1 to 2.3).
 pub fn requests_are_remembered()
@@ -503,6 +504,10 @@ pub fn requests_are_remembered()
         (effect : Effect) (new : Association) (new_table : Database) → IsSoundlyHeld old
         → TakesMessage meaning setup old table octets m effect new new_table
         → KeepsPeersWindow meaning.plain_of octets m old new }
+    ensures widens { (meaning : Meaning) (setup : Setup) (old : Association) (table : Database) (octets : Octets) (m : Message)
+        (effect : Effect) (new : Association) (new_table : Database) → is_concluded old.phase ≡ false → IsEstablished new.phase
+        → TakesMessage meaning setup old table octets m effect new new_table
+        → WidensWindow setup.config.window old new × WidensPeersWindow meaning.plain_of octets m old new }
     ensures half_open { (meaning : Meaning) (setup : Setup) (old : Association) (table : Database) (octets : Octets) (m : Message)
         (effect : Effect) (new : Association) (new_table : Database) (opened : HalfOpen)
         → TakesMessage meaning setup old table octets m effect new new_table → new.phase ≡ phase.HalfOpen opened
@@ -637,8 +642,8 @@ pub fn nothing_comes_due()
 
 /// Whatever comes, and whatever is asked, a request that waits for its answer afterwards waited before, since the same moment and as often
 /// sent; or it goes out now, and waits from now on: for the first time, or anew with a cookie. And what waited waits on, unless it is
-/// answered, goes out anew, or the association ends (RFC 7296, sections 2.1 and 2.6). An association that is closed afterwards was closed
-/// before, since the same moment, or ends now.
+/// answered, goes out anew, or the association ends (RFC 7296, sections 2.1 and 2.6). What is ordered goes out under the next number. An
+/// association that is closed afterwards was closed before, since the same moment, or ends now.
 pub fn requests_wait_on()
     ensures taken { (meaning : Meaning) (setup : Setup) (old : Association) (table : Database) (octets : Octets) (m : Message)
         (effect : Effect) (new : Association) (new_table : Database) → IsSoundlyHeld old

@@ -10,7 +10,7 @@ ghost use Rattle.initial.specs.Configs.{setup_of, IsConfig};
 ghost use Rattle.initial.specs.Reading.{IsInitSent};
 ghost use Rattle.informational.specs.Orders.{IsEstablished};
 ghost use Rattle.effects.specs.Waiting.{SuitPhase};
-ghost use Rattle.effects.specs.Taking.{asked_further, reception_of, CanWant, DoesAnswer, DoesFurther, DoesInitial, DoesRequest, DoesResponse, TakesMessage};
+ghost use Rattle.effects.specs.Taking.{asked_further, reception_of, CanWant, CanWantIn, DoesAnswer, DoesFurther, DoesInitial, DoesRequest, DoesResponse, TakesMessage};
 
 use association::laws::receptions_say_why;
 use association::{Association, MessageFault, Phase, Received, receive};
@@ -48,8 +48,8 @@ pub enum Effect {
 ///
 /// The octets are those that the message was decoded from, the SPIs that the association holds for children are reserved in the table, and
 /// what waits for an answer belongs to its phase. An error is for want of memory alone, and changes nothing but the table's room:
-/// [`ChildFault::Message`], or where IKE_AUTH or CREATE_CHILD_SA makes a child also one of the other three, at the end that asked for it
-/// not [`ChildFault::Table`].
+/// [`ChildFault::Message`], or where the message counts and IKE_AUTH or CREATE_CHILD_SA makes a child also one of the other three,
+/// [`ChildFault::Table`] only at the end that answers, of a table that takes more pairs and has no room.
 pub fn take_message<C: Sealer + Agreement + Proof>(
     alloc: Global,
     step: &Step<'_, C>,
@@ -76,7 +76,7 @@ pub fn take_message<C: Sealer + Agreement + Proof>(
         })
         (setup_of step.now) association.old table.old octets.now message.now effect association.new table.new) }
     ensures refused { IfErr result (λ _. (association.new ≡ association.old) × IsAsBefore table.old table.new) }
-    ensures wanted { IfErr result (CanWant association.old.phase message.now.header.flags.response message.now.header.exchange) }
+    ensures wanted { IfErr result (CanWant C.plain_of association.old table.old octets.now message.now) }
 {
     receptions_say_why();
     match received(alloc, step.caller, association, octets, message)? {
@@ -184,7 +184,7 @@ fn take_request<C: Sealer + Agreement + Proof>(
         })
         (setup_of step.now) association.old.phase exchange association.old table.old number plain.now effect association.new table.new) }
     ensures refused { IfErr result (λ _. (association.new ≡ association.old) × IsAsBefore table.old table.new) }
-    ensures wanted { IfErr result (CanWant association.old.phase false exchange) }
+    ensures wanted { IfErr result (CanWantIn association.old.phase false exchange table.old) }
 {
     match &association.phase {
         Phase::HalfOpen(_) => {
@@ -233,7 +233,7 @@ fn take_further<C: Sealer + Agreement + Proof>(
         })
         (setup_of step.now) association.old table.old number plain.now effect association.new table.new) }
     ensures refused { IfErr result (λ _. (association.new ≡ association.old) × IsAsBefore table.old table.new) }
-    ensures wanted { IfErr result (CanWant association.old.phase false exchange) }
+    ensures wanted { IfErr result (CanWantIn association.old.phase false exchange table.old) }
 {
     let answered = if exchange == INFORMATIONAL {
         informational::answer(alloc, step, association, table, number, plain)?
@@ -269,7 +269,7 @@ fn take_response<C: Sealer + Agreement + Proof>(
         })
         (setup_of step.now) association.old.phase association.old table.old message.now.header.id plain.now effect association.new table.new) }
     ensures refused { IfErr result (λ _. (association.new ≡ association.old) × (table.new ≡ table.old)) }
-    ensures wanted { IfErr result (CanWant association.old.phase true message.now.header.exchange) }
+    ensures wanted { IfErr result (CanWantIn association.old.phase true message.now.header.exchange table.old) }
 {
     match &association.phase {
         Phase::AuthSent(_) => {
@@ -297,7 +297,7 @@ fn take_answer<C>(
     ensures taken { IfOk result (λ effect. DoesAnswer (asked_further association.old message.now.header.id)
         (setup_of step.now) association.old table.old message.now.header.id plain.now effect association.new table.new) }
     ensures refused { IfErr result (λ _. (association.new ≡ association.old) × (table.new ≡ table.old)) }
-    ensures wanted { IfErr result (CanWant association.old.phase true message.now.header.exchange) }
+    ensures wanted { IfErr result (CanWantIn association.old.phase true message.now.header.exchange table.old) }
 {
     let number = message.header.id;
     let ended = if asked_further(association, number) {

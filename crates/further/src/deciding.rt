@@ -1,9 +1,10 @@
 //! What a responder decides about a request for a further child.
-ghost use Rattle.std.specs.Prelude.{◌≡◌, IfOk, Some};
+ghost use Rattle.std.specs.Prelude.{◌≡◌, IfErr, IfOk, Some};
 ghost use Rattle.std.specs.List.{AllByRecursion};
 ghost use Rattle.wire.specs.Sizes.{FitsFields};
 ghost use Rattle.exchange.specs.Children.{offered};
 ghost use Rattle.sadb.specs.Database.{IsAsBefore};
+ghost use Rattle.children.specs.Faults.{CanBeWanted};
 ghost use Rattle.initial.specs.Configs.{setup_of, IsConfig};
 ghost use Rattle.initial.specs.Deciding.{CanBeAnswered};
 ghost use Rattle.further.specs.Answering.{answer_to_further, further_pair, FitsAnswer};
@@ -84,6 +85,7 @@ pub fn decide<C>(
     requires { IsConfig step.now.config.now }
     ensures decided { IfOk result (DecidesFurther (setup_of step.now) ike keys.now table.old deleting plain.now) }
     ensures table { IsAsBefore table.old table.new }
+    ensures wanted { IfErr result (CanBeWanted table.old) }
     ensures early { IsFurtherRefusedAtOnce deleting plain.now → table.new ≡ table.old }
     ensures room { IfOk result (λ decision. LeavesRoomForFurther decision table.new) }
     ensures fits { IfOk result FitsFurtherDecision }
@@ -110,6 +112,7 @@ fn decide_on<C>(
     requires fits { AllByRecursion FitsFields payloads.now }
     ensures decided { IfOk result (DecidesFurtherOn (setup_of step.now) ike keys.now table.old deleting payloads.now) }
     ensures table { IsAsBefore table.old table.new }
+    ensures wanted { IfErr result (CanBeWanted table.old) }
     ensures early { IsRefusedFurther deleting (Some payloads.now) → table.new ≡ table.old }
     ensures room { IfOk result (λ decision. LeavesRoomForFurther decision table.new) }
     ensures fits { IfOk result FitsFurtherDecision }
@@ -137,6 +140,7 @@ fn respond_to<C>(
     requires fits { CanBeAnswered (offered request.now.offer) }
     ensures decided { IfOk result (DecidesFurtherBy (setup_of step.now) ike keys.now table.old (Admitted (further_request_view request.now))) }
     ensures table { IsAsBefore table.old table.new }
+    ensures wanted { IfErr result (CanBeWanted table.old) }
     ensures room { IfOk result (λ decision. LeavesRoomForFurther decision table.new) }
     ensures fits { IfOk result FitsFurtherDecision }
 {

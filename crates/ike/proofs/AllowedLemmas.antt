@@ -3,7 +3,6 @@ use Rattle.std.proofs.Common.{◌≡◌, ◌⊎◌, inl, inr, ℕ, Bool, true, L
 use Rattle.std.specs.FinMap as map
 use Rattle.base.specs.Octets.{Octets}
 use Rattle.policy.specs.declared.entry.Entry.{Entry}
-use Rattle.suite.specs.declared.fresh.Fresh.{Fresh}
 use Rattle.suite.specs.declared.key_record.KeyRecord.{KeyRecord}
 use Rattle.wire.specs.declared.message.Message.{Message}
 use Rattle.sadb.specs.Database.{pair_at, Database, IsSoundTable}
@@ -24,8 +23,7 @@ use Rattle.effects.specs.Children.{first_asked, MadeBy}
 use Rattle.effects.specs.Taking.{Meaning, TakesMessage}
 use Rattle.effects.specs.declared.taking.Effect.{Effect}
 use Rattle.effects.specs.declared.taking.Effect.TheVariants as effect
-use Rattle.ike.specs.Asking.{AsksAt}
-use Rattle.ike.specs.Children.{AsksForFurtherNow, FurtherOrdered, MakesChildOf}
+use Rattle.ike.specs.Children.{AsksForFurtherNow, MakesChildOf}
 use Rattle.ike.specs.Machines.{association_of, setup_at, Held, Machine}
 use Rattle.ike.specs.Outputs.{asking_step, request_mark}
 use Rattle.ike.specs.Soundness.{AreSound, AsksAsAllowed, AskAsAllowed, IsSoundMachine}
@@ -155,7 +153,7 @@ now_allows setup meaning ike number request further stepped new a now said stand
     let kept : map.get a.outgoing.outstanding number ≡ Some (new_request now.octets (CreateChild now.asks.further) setup.moment) =
     ap (λ (x : Association). map.get x.outgoing.outstanding number) (same_one a now.is (sym stands ∙ now.stands)) ∙ subst (λ (n : ℕ). map.get now.is.outgoing.outstanding n ≡ Some (new_request now.octets (CreateChild now.asks.further) setup.moment)) here now.asks.kept in
     let its : now.asks.further ≡ further = same_further now.asks.further further (sym (ap (λ (r : Request). r.purpose) (same_request request (new_request now.octets (CreateChild now.asks.further) setup.moment) (sym there ∙ kept))) ∙ purpose) in
-    sym now.asks.extension ∙ ap (λ (f : FurtherChild). f.child.extended) its ∙ is_extended
+    sym (ap (λ (f : FurtherChild). f.child.extended) now.asks.is) ∙ ap (λ (f : FurtherChild). f.child.extended) its ∙ is_extended
 
 step_later : (laws : AskLaws) (meaning : Meaning) (entries : List Entry) (input : InputView) (old : Machine) (table : Database) (stepped : Stepped) (new : Machine) (new_table : Database) (serial : ℕ) (a : Association)
     (number : ℕ) (request : Request) (further : FurtherChild) → IsSoundMachine old table → Steps meaning entries input old table stepped new new_table → association_of serial new.held.associations ≡ Some a

@@ -67,27 +67,27 @@ one_hindrance old spi one two (inr is) (inl also) = absurd (omega (arith, is.1, 
 one_hindrance old spi one two (inr is) (inr also) = is.0 ∙ sym also.0
 
 -- for want of memory, or as an offer
-pub refused_is : (meaning : Meaning) (setup : Setup) (cookies : CookieSecrets) (from octets : Octets) (old : Held) (reason : IkeFault) → RefusesDatagram meaning setup cookies from octets old reason
+pub refused_is : (meaning : Meaning) (setup : Setup) (cookies : CookieSecrets) (from octets : Octets) (old : Held) (table : Database) (reason : IkeFault) → RefusesDatagram meaning setup cookies from octets old table reason
     → (is_want_of_memory reason ≡ true) ⊎ RefusesInitial meaning setup cookies from octets old reason
-refused_is meaning setup cookies from octets old (fault.Unread f) is = inr is
-refused_is meaning setup cookies from octets old (fault.Message f) is = inr is
-refused_is meaning setup cookies from octets old fault.Unprotected is = inr is
-refused_is meaning setup cookies from octets old fault.Crowded is = inr is
-refused_is meaning setup cookies from octets old fault.TableFull is = inr is
-refused_is meaning setup cookies from octets old fault.SpisSpent is = inr is
-refused_is meaning setup cookies from octets old fault.HalfOpenFull is = inr is
-refused_is meaning setup cookies from octets old fault.Busy is = inr is
-refused_is meaning setup cookies from octets old fault.NumbersSpent is = inr is
-refused_is meaning setup cookies from octets old fault.BadFresh is = inr is
-refused_is meaning setup cookies from octets old (fault.Memory f) is = inl refl
+refused_is meaning setup cookies from octets old table (fault.Unread f) is = inr is
+refused_is meaning setup cookies from octets old table (fault.Message f) is = inr is
+refused_is meaning setup cookies from octets old table fault.Unprotected is = inr is
+refused_is meaning setup cookies from octets old table fault.Crowded is = inr is
+refused_is meaning setup cookies from octets old table fault.TableFull is = inr is
+refused_is meaning setup cookies from octets old table fault.SpisSpent is = inr is
+refused_is meaning setup cookies from octets old table fault.HalfOpenFull is = inr is
+refused_is meaning setup cookies from octets old table fault.Busy is = inr is
+refused_is meaning setup cookies from octets old table fault.NumbersSpent is = inr is
+refused_is meaning setup cookies from octets old table fault.BadFresh is = inr is
+refused_is meaning setup cookies from octets old table (fault.Memory f) is = inl refl
 
 clash : (b : Bool) → b ≡ true → b ≡ false → ⊥
 clash true one other = cc
 clash false one other = cc
 
-initial_refused : (meaning : Meaning) (setup : Setup) (cookies : CookieSecrets) (from octets : Octets) (old : Held) (reason : IkeFault) → is_want_of_memory reason ≡ false → RefusesDatagram meaning setup cookies from octets old reason
+initial_refused : (meaning : Meaning) (setup : Setup) (cookies : CookieSecrets) (from octets : Octets) (old : Held) (table : Database) (reason : IkeFault) → is_want_of_memory reason ≡ false → RefusesDatagram meaning setup cookies from octets old table reason
     → RefusesInitial meaning setup cookies from octets old reason
-initial_refused meaning setup cookies from octets old reason other is = elim (refused_is meaning setup cookies from octets old reason is) [
+initial_refused meaning setup cookies from octets old table reason other is = elim (refused_is meaning setup cookies from octets old table reason is) [
   | inl memory ↦ absurd (clash (is_want_of_memory reason) memory other)
   | inr initial ↦ initial
 ]
@@ -143,17 +143,18 @@ module _ (laws : Laws) (meaning : Meaning) (setup : Setup) (cookies : CookieSecr
         read_or_refused table refuses.message (is_initial_request refuses.message.header) refuses.initial stepped new new_table reason done refuses.sound refuses.first refuses.refused.offer refuses.refused.judged refuses.refused.why
   ]
 
-  datagram_or_refused : (table : Database) (stepped : Stepped) (new : Held) (new_table : Database) (reason : IkeFault) → TakesDatagram meaning setup cookies from octets old table stepped new new_table
-      → RefusesDatagram meaning setup cookies from octets other reason → is_want_of_memory reason ≡ true
-  datagram_or_refused table stepped new new_table reason takes refuses = elim (refused_is meaning setup cookies from octets other reason refuses) [
+  datagram_or_refused : (table another : Database) (stepped : Stepped) (new : Held) (new_table : Database) (reason : IkeFault) → TakesDatagram meaning setup cookies from octets old table stepped new new_table
+      → RefusesDatagram meaning setup cookies from octets other another reason → is_want_of_memory reason ≡ true
+  datagram_or_refused table another stepped new new_table reason takes refuses = elim (refused_is meaning setup cookies from octets other another reason refuses) [
     | inl memory ↦ memory
     | inr initial ↦ initial_or_taken table stepped new new_table reason takes initial
   ]
 
-  one_datagram_refusal : (one two : IkeFault) → is_want_of_memory one ≡ false → is_want_of_memory two ≡ false → RefusesDatagram meaning setup cookies from octets old one → RefusesDatagram meaning setup cookies from octets other two → one ≡ two
-  one_datagram_refusal one two not_one not_two is also =
-      let first = initial_refused meaning setup cookies from octets old one not_one is in
-      let second = initial_refused meaning setup cookies from octets other two not_two also in
+  one_datagram_refusal : (table another : Database) (one two : IkeFault) → is_want_of_memory one ≡ false → is_want_of_memory two ≡ false
+      → RefusesDatagram meaning setup cookies from octets old table one → RefusesDatagram meaning setup cookies from octets other another two → one ≡ two
+  one_datagram_refusal table another one two not_one not_two is also =
+      let first = initial_refused meaning setup cookies from octets old table one not_one is in
+      let second = initial_refused meaning setup cookies from octets other another two not_two also in
       one_hindrance old setup.fresh.spi one two (hinders old setup.fresh.spi one not_one first.refused.why) (hinders old setup.fresh.spi two not_two (cannot_here setup.fresh.spi two second.refused.why))
 
 -- ---- orders
@@ -292,11 +293,11 @@ pub step_or_refused : Laws → (meaning : Meaning) (entries : List Entry) (given
     → machine_content old ≡ machine_content other → table_content table ≡ table_content another
     → Steps meaning entries given old table stepped new new_table → Refuses meaning entries given other another reason → is_want_of_memory reason ≡ true
 step_or_refused laws meaning entries (steps.Message from octets fresh) old other new table another new_table stepped reason same alike is also =
-    let by_setup : RefusesDatagram meaning (setup_at old entries fresh) other.cookies from octets other.held reason =
-    subst (λ (s : Setup). RefusesDatagram meaning s other.cookies from octets other.held reason) (same_setup old other entries fresh same) also in
-    let refuses : RefusesDatagram meaning (setup_at old entries fresh) old.cookies from octets other.held reason =
-    subst (λ (c : CookieSecrets). RefusesDatagram meaning (setup_at old entries fresh) c from octets other.held reason) (sym (ap (λ (m : Machine). m.cookies) same)) by_setup in
-    datagram_or_refused laws meaning (setup_at old entries fresh) old.cookies from octets old.held other.held (ap (λ (m : Machine). m.held) same) table stepped new.held new_table reason is.1 refuses
+    let by_setup : RefusesDatagram meaning (setup_at old entries fresh) other.cookies from octets other.held another reason =
+    subst (λ (s : Setup). RefusesDatagram meaning s other.cookies from octets other.held another reason) (same_setup old other entries fresh same) also in
+    let refuses : RefusesDatagram meaning (setup_at old entries fresh) old.cookies from octets other.held another reason =
+    subst (λ (c : CookieSecrets). RefusesDatagram meaning (setup_at old entries fresh) c from octets other.held another reason) (sym (ap (λ (m : Machine). m.cookies) same)) by_setup in
+    datagram_or_refused laws meaning (setup_at old entries fresh) old.cookies from octets old.held other.held (ap (λ (m : Machine). m.held) same) table another stepped new.held new_table reason is.1 refuses
 step_or_refused laws meaning entries (Start ike place fresh) old other new table another new_table stepped reason same alike is also =
     start_or_refused laws meaning (setup_at old entries fresh) ike place old.held other.held table another stepped new.held new_table reason (ap (λ (m : Machine). m.held) same) alike is.1 also
 step_or_refused laws meaning entries (steps.Order what fresh) old other new table another new_table stepped reason same alike is also =
@@ -308,11 +309,11 @@ pub one_refusal : Laws → (meaning : Meaning) (entries : List Entry) (given : I
     → machine_content old ≡ machine_content other → table_content table ≡ table_content another → is_want_of_memory one ≡ false → is_want_of_memory two ≡ false
     → Refuses meaning entries given old table one → Refuses meaning entries given other another two → one ≡ two
 one_refusal laws meaning entries (steps.Message from octets fresh) old other table another one two same alike not_one not_two is also =
-    let by_setup : RefusesDatagram meaning (setup_at old entries fresh) other.cookies from octets other.held two =
-    subst (λ (s : Setup). RefusesDatagram meaning s other.cookies from octets other.held two) (same_setup old other entries fresh same) also in
-    let refuses : RefusesDatagram meaning (setup_at old entries fresh) old.cookies from octets other.held two =
-    subst (λ (c : CookieSecrets). RefusesDatagram meaning (setup_at old entries fresh) c from octets other.held two) (sym (ap (λ (m : Machine). m.cookies) same)) by_setup in
-    one_datagram_refusal laws meaning (setup_at old entries fresh) old.cookies from octets old.held other.held (ap (λ (m : Machine). m.held) same) one two not_one not_two is refuses
+    let by_setup : RefusesDatagram meaning (setup_at old entries fresh) other.cookies from octets other.held another two =
+    subst (λ (s : Setup). RefusesDatagram meaning s other.cookies from octets other.held another two) (same_setup old other entries fresh same) also in
+    let refuses : RefusesDatagram meaning (setup_at old entries fresh) old.cookies from octets other.held another two =
+    subst (λ (c : CookieSecrets). RefusesDatagram meaning (setup_at old entries fresh) c from octets other.held another two) (sym (ap (λ (m : Machine). m.cookies) same)) by_setup in
+    one_datagram_refusal laws meaning (setup_at old entries fresh) old.cookies from octets old.held other.held (ap (λ (m : Machine). m.held) same) table another one two not_one not_two is refuses
 one_refusal laws meaning entries (Start ike place fresh) old other table another one two same alike not_one not_two is also =
     one_start_refusal entries fresh ike place old.held other.held table another one two (ap (λ (m : Machine). m.held) same) alike not_one not_two is also
 one_refusal laws meaning entries (steps.Order what fresh) old other table another one two same alike not_one not_two is also =

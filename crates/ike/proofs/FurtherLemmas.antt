@@ -1,5 +1,5 @@
 -- Who waits for the answer to a request for a further child waited before, or is ordered to ask now.
-use Rattle.std.proofs.Common.{◌≡◌, ◌⊎◌, inl, inr, ℕ, Bool, true, false, List, Option, Some, None, max, ap, refl, subst, sym, ◌∙◌}
+use Rattle.std.proofs.Common.{◌≡◌, ◌⊎◌, inl, inr, ℕ, Bool, true, false, List, Some, None, arith, max, ap, refl, subst, sym, ◌∙◌}
 use Rattle.std.specs.FinMap as map
 use Rattle.std.specs.Ordering.{nat_cmp}
 use Rattle.base.specs.Octets.{Octets}
@@ -14,9 +14,6 @@ use Rattle.policy.specs.Decisions.{local_side, remote_side}
 use Rattle.association.specs.AskedChildren.{AskedChildView}
 use Rattle.association.specs.Purposes.{asks_for_child}
 use Rattle.association.specs.declared.phase.Association.{Association}
-use Rattle.association.specs.declared.phase.InitSent.{InitSent}
-use Rattle.association.specs.declared.phase.Phase.{Phase}
-use Rattle.association.specs.declared.phase.Phase.TheVariants as phase
 use Rattle.association.specs.declared.phase.Request.{Request}
 use Rattle.association.specs.declared.purpose.Purpose.TheVariants.{CreateChild}
 use Rattle.initial.specs.Beginning.{begun, Begins}
@@ -31,11 +28,11 @@ use Rattle.effects.specs.Children.{AsksForFurtherChild}
 use Rattle.effects.specs.Requests.{IsSoundlyHeld}
 use Rattle.effects.specs.Sending.{SendsRequest}
 use Rattle.effects.specs.Taking.{Meaning, KeepsIdentity, TakesMessage}
-use Rattle.effects.specs.Waiting.{SuitPhase}
 use Rattle.effects.specs.declared.taking.Effect.{Effect}
-use Rattle.ike.specs.Asking.{AsksFor, AsksFurther, AsksThat}
+use Rattle.ike.specs.Asking.{AsksFor, AsksThat}
 use Rattle.ike.specs.Children.{AsksForFurtherNow, FurtherOrdered, FurtherWaited}
 use Rattle.ike.specs.Machines.{association_of, setup_at, Held, Machine}
+use Rattle.ike.specs.Moments.{WaitsAt}
 use Rattle.ike.specs.Outputs.{asking_step}
 use Rattle.ike.specs.Soundness.{AreSound, IsSoundMachine}
 use Rattle.ike.specs.Starting.{child_by, FurthersBy}
@@ -175,7 +172,7 @@ ordered_further laws meaning setup (demand.DeleteIke asker) old table stepped ne
 -- the association that is ordered to ask waits for what it asks now, too
 now_further : (laws : FurtherLaws) (meaning : Meaning) (setup : Setup) (asker place : ℕ) (old : Held) (table : Database) (stepped : Stepped) (new : Held) (new_table : Database) (ike number : ℕ) (a : Association) (request : Request)
     → AreSound old table → FurthersBy meaning setup asker place old table stepped new new_table → association_of ike new.associations ≡ Some a → map.get a.outgoing.outstanding number ≡ Some request
-    → FurtherWaited ike number request old ⊎ ((ike ≡ asker) × (stepped ≡ asking_step ike number request.octets))
+    → FurtherWaited ike number request old ⊎ ((ike ≡ asker) × (stepped ≡ asking_step ike number request.octets) × ((before : Request) → WaitsAt old ike number before → ⊥))
 now_further laws meaning setup asker place old table stepped new new_table ike number a request sound is stands there =
     let p = is.asks.asks in
     let stays = changed_itself meaning.body_of setup asker old stepped new p in
@@ -193,6 +190,10 @@ now_further laws meaning setup asker place old table stepped new new_table ike n
                   here ∙ named,
                   p.said ∙ ap (λ (n : ℕ). asking_step n p.association.outgoing.next p.octets) (sym (here ∙ named)) ∙ ap (λ (n : ℕ). asking_step ike n p.octets) (sym now)
                       ∙ ap (λ (r : Request). asking_step ike number r.octets) its,
+                  λ earlier waited_there.
+                      let less = (sound.each p.place p.association p.there).soundly.issued number earlier
+                      (request_of old ike number earlier waited_there.association p.association waited_there.there waited_there.waits before) in
+                      omega (arith, less, now),
                 )
           ]
       | inr (apart, same) ↦ inl (waited old ike number request a (sym same ∙ stands) there)
@@ -210,7 +211,7 @@ came_further laws meaning setup octets old table stepped new new_table ike numbe
 
 pub step_further : FurtherLaws → TicksHold → (meaning : Meaning) (entries : List Entry) (input : InputView) (old : Machine) (table : Database) (stepped : Stepped) (new : Machine) (new_table : Database) (ike number : ℕ) (a : Association) (request : Request)
     → IsSoundMachine old table → Steps meaning entries input old table stepped new new_table → association_of ike new.held.associations ≡ Some a → map.get a.outgoing.outstanding number ≡ Some request
-    → asks_for_child request.purpose ≡ true → FurtherWaited ike number request old.held ⊎ FurtherOrdered input ike number request stepped
+    → asks_for_child request.purpose ≡ true → FurtherWaited ike number request old.held ⊎ FurtherOrdered input old.held ike number request stepped
 step_further laws hold meaning entries (steps.Message from octets fresh) old table stepped new new_table ike number a request sound is stands there asks =
     inl (came_further laws meaning (setup_at old entries fresh) octets old.held table stepped new.held new_table ike number a request sound.held
     (datagram_came meaning (setup_at old entries fresh) old.cookies from octets old.held table stepped new.held new_table is.1) stands there asks)
@@ -219,7 +220,7 @@ step_further laws hold meaning entries (steps.Start None place fresh) old table 
 step_further laws hold meaning entries (steps.Start (Some asker) place fresh) old table stepped new new_table ike number a request sound is stands there asks =
     elim (now_further laws meaning (setup_at old entries fresh) asker place old.held table stepped new.held new_table ike number a request sound.held is.1 stands there) [
       | inl was ↦ inl was
-      | inr (same, said) ↦ inr (record { place = place; fresh = fresh; is = ap (λ n. steps.Start (Some n) place fresh) (sym same); said = said })
+      | inr (same, said, none) ↦ inr (record { place = place; fresh = fresh; is = ap (λ n. steps.Start (Some n) place fresh) (sym same); said = said; none_waited = none })
     ]
 step_further laws hold meaning entries (steps.Order what fresh) old table stepped new new_table ike number a request sound is stands there asks =
     inl (ordered_further laws meaning (setup_at old entries fresh) what old.held table stepped new.held new_table ike number a request sound.held is.1 stands there asks)

@@ -191,7 +191,7 @@ pub opens_unrefused : Laws → (meaning : Meaning) (entries : List Entry) (input
 opens_unrefused laws meaning entries (steps.Message from octets fresh) machine table reason serial a number sound stands opens is =
     let o = opens.1 in
     let f = finds_of machine.held table serial a meaning.plain_of octets opens.0 number sound.held stands o in
-    elim (refused_is meaning (setup_at machine entries fresh) machine.cookies from octets machine.held reason is) [
+    elim (refused_is meaning (setup_at machine entries fresh) machine.cookies from octets machine.held table reason is) [
       | inl memory ↦ memory
       | inr refused ↦
           let one : refused.message ≡ o.message = laws.message refused.message o.message octets refused.spelled o.spelled in
@@ -206,7 +206,7 @@ pub first_unrefused : (meaning : Meaning) (entries : List Entry) (input : InputV
     → association_of serial machine.held.associations ≡ Some a → a.phase ≡ phase.HalfOpen opened → IsOfOctets input opened.request → Refuses meaning entries input machine table reason → is_want_of_memory reason ≡ true
 first_unrefused meaning entries (steps.Message from octets fresh) machine table reason serial a opened stands half same is =
     let f = found_at machine.held.associations serial a stands in
-    elim (refused_is meaning (setup_at machine entries fresh) machine.cookies from octets machine.held reason is) [
+    elim (refused_is meaning (setup_at machine entries fresh) machine.cookies from octets machine.held table reason is) [
       | inl memory ↦ memory
       | inr refused ↦
           absurd (yes_no (is_answered octets a)

@@ -1,15 +1,17 @@
 -- What the answer to a datagram takes of the offer in it.
-use Rattle.std.proofs.Common.{◌≡◌, ◌≢◌, ◌==◌, ◌⊎◌, inl, inr, ℕ, Bool, true, false, List, Option, Some, None, Result, Ok, Err, ap, refl, subst, sym, ◌∙◌}
+use Rattle.std.proofs.Common.{◌≡◌, inl, inr, ℕ, zero, suc, arith, Bool, true, false, List, Option, Some, None, Contains, Result, Ok, Err, ap, refl, subst, sym, ◌∙◌}
 use Rattle.std.specs.List.{position}
-use Rattle.std.proofs.lemmas.Bool.Decides.{eqb_tells}
 use Rattle.base.specs.Octets.{Octets}
 use Rattle.policy.specs.declared.entry.Entry.{Entry}
 use Rattle.suite.specs.declared.fresh.Fresh.{Fresh}
 use Rattle.suite.specs.declared.sealer.Cipher.{Cipher}
-use Rattle.wire.specs.Messages.{Spells}
-use Rattle.wire.specs.Numbers.{INFORMATIONAL}
+use Rattle.wire.specs.Messages.{Spells, SpellsPlainly}
 use Rattle.wire.specs.declared.message.Message.{Message}
 use Rattle.wire.specs.declared.payload.Payload.{Payload}
+use Rattle.wire.specs.declared.payload.Payload.TheVariants.{Sa}
+use Rattle.wire.specs.declared.proposal.Proposal.{Proposal}
+use Rattle.exchange.specs.declared.notices.Notice.{Notice}
+use Rattle.sa_init.specs.Messages.{notice_message}
 use Rattle.sadb.specs.Database.{Database}
 use Rattle.sa_init.specs.Cookies.{CookieSecrets}
 use Rattle.sa_init.specs.Judging.{Accepted, Answered, Full, Incomplete, IsJudgement, JudgementView, OfferView}
@@ -26,9 +28,9 @@ use Rattle.effects.specs.Taking.{Meaning, TakesMessage}
 use Rattle.effects.specs.declared.taking.Effect.{Effect}
 use Rattle.effects.specs.declared.taking.Effect.TheVariants as effect
 use Rattle.ike.specs.Machines.{association_of, setup_at, Held, Machine}
-use Rattle.ike.specs.Offers.{AnswersFirstOffer, AnswersSealedOffer}
-use Rattle.ike.specs.Outputs.{half_open_step, passed_over, plain_step, stepped_of}
-use Rattle.ike.specs.Receiving.{is_answered, is_initial_request, is_sound_initial, DoesJudgement, IsJudged, PassesOver, TakesDatagram, TakesFound, TakesRead, TakesRequestAt, TakesSound}
+use Rattle.ike.specs.Offers.{AnswersFirstOffer, AnswersNoOffer, AnswersSealedOffer}
+use Rattle.ike.specs.Outputs.{closed_serial, plain_step, stepped_of}
+use Rattle.ike.specs.Receiving.{is_answered, is_initial_request, is_sound_initial, DoesJudgement, IsJudged, PassesOver, TakesFound, TakesRead, TakesRequestAt, TakesSound}
 use Rattle.ike.specs.Soundness.{AreSound, IsSoundMachine}
 use Rattle.ike.specs.Steps as steps
 use Rattle.ike.specs.Steps.{Steps}
@@ -37,6 +39,7 @@ use Rattle.ike.specs.declared.output.IkeOutput.{IkeOutput}
 use Rattle.ike.specs.declared.output.IkeOutput.TheVariants as output
 use Rattle.ike.specs.declared.output.Mark.{Mark}
 use Rattle.ike.specs.declared.output.Stepped.{Stepped}
+use Rattle.ike.proofs.RequestLemmas.{found_first}
 use Rattle.ike.proofs.SerialLemmas.{sound_found}
 use Rattle.ike.proofs.WayLemmas.{datagram_came, joined, stood, taken, Came}
 
@@ -47,7 +50,7 @@ pub record AnswerLaws : Type 0 where
       → IsJudgement cipher group secrets sender half_open held payloads (Accepted offer) → Admits cipher group public_value shared_secret fresh moment serial offer spi_i request admitted
       → AnswersInitialSa payloads admitted.octets
   pub message : (meaning : Meaning) (setup : Setup) (old : Association) (table : Database) (octets : Octets) (m : Message) (answered : answering.Answered) (new : Association) (new_table : Database)
-      → m.header.exchange ≢ INFORMATIONAL → TakesMessage meaning setup old table octets m (effect.Replied answered) new new_table → AnswersMessageSa meaning setup old octets m answered.octets
+      → TakesMessage meaning setup old table octets m (effect.Replied answered) new new_table → AnswersMessageSa meaning setup old octets m answered.octets
 
 -- ---- IKE_SA_INIT
 
@@ -173,12 +176,10 @@ came_offers laws meaning setup octets old table stepped new new_table reply clos
       spelled = is.spelled;
       was = t.association;
       stood = subst (λ n. association_of n old.associations ≡ Some t.association) (sym by.its) (sound_found old table is.place t.association sound t.there);
-      answers = elim (eqb_tells is.message.header.exchange INFORMATIONAL) [
-        | inl (one, same) ↦ inl same
-        | inr (none, apart) ↦ inr (subst (λ (o : Octets). AnswersMessageSa meaning setup t.association octets is.message o) by.octets
-            (laws.message meaning setup t.association table octets is.message by.answered t.changed new_table apart
-            (subst (λ (e : Effect). TakesMessage meaning setup t.association table octets is.message e t.changed new_table) by.is t.takes)))
-      ];
+      meant = (found_first is.message.header old.associations is.place t.association is.found_there t.there).passes;
+      answers = subst (λ (o : Octets). AnswersMessageSa meaning setup t.association octets is.message o) by.octets
+          (laws.message meaning setup t.association table octets is.message by.answered t.changed new_table
+          (subst (λ (e : Effect). TakesMessage meaning setup t.association table octets is.message e t.changed new_table) by.is t.takes));
     }
 
 pub step_sealed_offer : AnswerLaws → (meaning : Meaning) (entries : List Entry) (from octets : Octets) (fresh : Fresh) (old : Machine) (table : Database) (stepped : Stepped) (new : Machine) (new_table : Database)
@@ -187,3 +188,83 @@ pub step_sealed_offer : AnswerLaws → (meaning : Meaning) (entries : List Entry
 step_sealed_offer laws meaning entries from octets fresh old table stepped new new_table reply closed mark sound is said sent =
     came_offers laws meaning (setup_at old entries fresh) octets old.held table stepped new.held new_table reply closed mark sound.held
     (datagram_came meaning (setup_at old entries fresh) old.cookies from octets old.held table stepped new.held new_table is.1) said sent
+
+-- ---- what answers in clear and makes nothing
+
+notice_without : (spi_i : ℕ) (notice : Notice) (proposals : List Proposal) → Contains (notice_message spi_i notice).payloads (Sa proposals) → ⊥
+notice_without spi_i notice proposals (zero, below, at) = absurd cc
+notice_without spi_i notice proposals (suc k, below, at) = absurd (omega (arith, below))
+
+-- the step answers in clear, and no association comes by it
+record AnswersOnly (stepped : Stepped) (reply : Octets) : Type 0 where
+  closed : Option ℕ
+  said : stepped.output ≡ output.Reply reply closed
+  sent : stepped.trace.sent ≡ None
+  keyed : stepped.trace.keyed ≡ None
+
+some_none : {T : Type 0} (x : T) → Some x ≡ None → ⊥
+some_none x e = cc
+
+judged_notice : (meaning : Meaning) (setup : Setup) (spi_i : ℕ) (octets : Octets) (j : JudgementView) (old : Held) (stepped : Stepped) (new : Held) (reply : Octets)
+    → DoesJudgement meaning setup spi_i octets j old stepped new → AnswersOnly stepped reply → AnswersNoOffer reply
+judged_notice meaning setup spi_i octets (Answered notice) old stepped new reply is now =
+    let same : is.0.octets ≡ reply = same_reply is.0.octets reply None now.closed (sym (ap (λ (s : Stepped). s.output) is.0.said) ∙ now.said) in
+    record {
+      message = notice_message spi_i notice;
+      spelled = subst (λ (o : Octets). SpellsPlainly (notice_message spi_i notice) o) same is.0.spelled;
+      none = notice_without spi_i notice;
+    }
+judged_notice meaning setup spi_i octets Incomplete old stepped new reply is now = absurd (dropped_reply _ reply now.closed (sym (ap (λ (s : Stepped). s.output) is.said) ∙ now.said))
+judged_notice meaning setup spi_i octets Full old stepped new reply is now = absurd (dropped_reply _ reply now.closed (sym (ap (λ (s : Stepped). s.output) is.said) ∙ now.said))
+judged_notice meaning setup spi_i octets (Accepted offer) old stepped new reply is now = elim is.done [
+  | inl refused ↦ absurd (dropped_reply _ reply now.closed (sym (ap (λ (s : Stepped). s.output) refused.1.said) ∙ now.said))
+  | inr made ↦ absurd (some_none old.next (sym (ap (λ (s : Stepped). s.trace.keyed) made.said) ∙ now.keyed))
+]
+
+counted_reply : (ike : ℕ) (child over : Option ℕ) (reply : Octets) (closed : Option ℕ) → output.Counted ike child over ≡ output.Reply reply closed → ⊥
+counted_reply ike child over reply closed e = cc
+
+repeat_reply : (octets reply : Octets) (closed : Option ℕ) → output.Repeat octets ≡ output.Reply reply closed → ⊥
+repeat_reply octets reply closed e = cc
+
+request_notice : (o : Option ℕ) (meaning : Meaning) (setup : Setup) (cookies : CookieSecrets) (from octets : Octets) (m : Message) (old : Held) (stepped : Stepped) (new : Held) (reply : Octets)
+    → TakesRequestAt o meaning setup cookies from octets m old stepped new → AnswersOnly stepped reply → AnswersNoOffer reply
+request_notice (Some place) meaning setup cookies from octets m old stepped new reply is now = absurd (repeat_reply _ reply now.closed (sym (ap (λ (s : Stepped). s.output) is.0.said) ∙ now.said))
+request_notice None meaning setup cookies from octets m old stepped new reply is now = judged_notice meaning setup m.header.spi_i octets is.judgement old stepped new reply is.done now
+
+sound_notice : (b : Bool) (meaning : Meaning) (setup : Setup) (cookies : CookieSecrets) (from octets : Octets) (m : Message) (old : Held) (stepped : Stepped) (new : Held) (reply : Octets)
+    → TakesSound b meaning setup cookies from octets m old stepped new → AnswersOnly stepped reply → AnswersNoOffer reply
+sound_notice true meaning setup cookies from octets m old stepped new reply is now =
+    request_notice (position (is_answered octets) old.associations) meaning setup cookies from octets m old stepped new reply is now
+sound_notice false meaning setup cookies from octets m old stepped new reply is now = absurd (dropped_reply _ reply now.closed (sym (ap (λ (s : Stepped). s.output) is.said) ∙ now.said))
+
+-- under keys what answers is marked
+effect_notice : (ike number : ℕ) (e : Effect) (reply : Octets) → AnswersOnly (stepped_of ike number e) reply → ⊥
+effect_notice ike number (effect.Refused f) reply now = dropped_reply _ reply now.closed now.said
+effect_notice ike number (effect.Repeated octets) reply now = repeat_reply octets reply now.closed now.said
+effect_notice ike number (effect.Replied answered) reply now = some_none _ now.sent
+effect_notice ike number (effect.Again octets) reply now = let said : output.Request ike octets ≡ output.Reply reply now.closed = now.said in cc
+effect_notice ike number (effect.Identified octets) reply now = let said : output.Request ike octets ≡ output.Reply reply now.closed = now.said in cc
+effect_notice ike number (effect.Counted ended) reply now = counted_reply ike ended.child (closed_serial ike ended.closed) reply now.closed now.said
+
+found_notice : (r : Result ℕ MessageFault) (meaning : Meaning) (setup : Setup) (octets : Octets) (m : Message) (old : Held) (table : Database) (stepped : Stepped) (new : Held) (new_table : Database) (reply : Octets)
+    → TakesFound r meaning setup octets m old table stepped new new_table → AnswersOnly stepped reply → ⊥
+found_notice (Ok place) meaning setup octets m old table stepped new new_table reply is now =
+    effect_notice is.association.serial m.header.id is.effect reply (subst (λ (s : Stepped). AnswersOnly s reply) is.said now)
+found_notice (Err f) meaning setup octets m old table stepped new new_table reply is now = dropped_reply _ reply now.closed (sym (ap (λ (s : Stepped). s.output) is.0.said) ∙ now.said)
+
+read_notice : (b : Bool) (meaning : Meaning) (setup : Setup) (cookies : CookieSecrets) (from octets : Octets) (m : Message) (old : Held) (table : Database) (stepped : Stepped) (new : Held) (new_table : Database) (reply : Octets)
+    → TakesRead b meaning setup cookies from octets m old table stepped new new_table → AnswersOnly stepped reply → AnswersNoOffer reply
+read_notice true meaning setup cookies from octets m old table stepped new new_table reply is now = sound_notice (is_sound_initial m.header) meaning setup cookies from octets m old stepped new reply is.0 now
+read_notice false meaning setup cookies from octets m old table stepped new new_table reply is now =
+    absurd (found_notice (found m.header old.associations) meaning setup octets m old table stepped new new_table reply is now)
+
+pub step_no_offer : (meaning : Meaning) (entries : List Entry) (from octets : Octets) (fresh : Fresh) (old : Machine) (table : Database) (stepped : Stepped) (new : Machine) (new_table : Database)
+    (reply : Octets) (closed : Option ℕ) → Steps meaning entries (steps.Message from octets fresh) old table stepped new new_table
+    → stepped.output ≡ output.Reply reply closed → stepped.trace.sent ≡ None → stepped.trace.keyed ≡ None → AnswersNoOffer reply
+step_no_offer meaning entries from octets fresh old table stepped new new_table reply closed is said sent keyed =
+    let now : AnswersOnly stepped reply = record { closed = closed; said = said; sent = sent; keyed = keyed } in
+    elim is.1 [
+      | inl unread ↦ absurd (dropped_reply _ reply now.closed (sym (ap (λ (s : Stepped). s.output) unread.passed.said) ∙ now.said))
+      | inr read ↦ read_notice (is_initial_request read.message.header) meaning (setup_at old entries fresh) old.cookies from octets read.message old.held table stepped new.held new_table reply read.done now
+    ]

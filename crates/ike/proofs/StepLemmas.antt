@@ -30,7 +30,7 @@ use Rattle.association.specs.declared.phase.HalfOpen.{HalfOpen}
 use Rattle.association.specs.declared.phase.InitSent.{InitSent}
 use Rattle.association.specs.declared.phase.Phase.TheVariants as phase
 use Rattle.exchange.specs.declared.headers.Role.TheVariants.{Initiator, Responder}
-use Rattle.initial.specs.Configs.{IsConfig, Setup}
+use Rattle.initial.specs.Configs.{Setup}
 use Rattle.initial.specs.Answering.{IsHalfOpen}
 use Rattle.initial.specs.Ending.{IsAuthSent}
 use Rattle.initial.specs.Reading.{IsInitSent}

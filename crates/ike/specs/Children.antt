@@ -16,6 +16,7 @@ use Rattle.initial.specs.Configs.{Setup}
 use Rattle.effects.specs.Taking.{Meaning}
 use Rattle.effects.specs.declared.taking.Effect.{Effect}
 use Rattle.ike.specs.Machines.{association_of, Held}
+use Rattle.ike.specs.Moments.{WaitsAt}
 use Rattle.ike.specs.Outputs.{asking_step, stepped_of}
 use Rattle.ike.specs.Steps.{InputView, Start}
 use Rattle.ike.specs.declared.output.IkeOutput.TheVariants as output
@@ -63,15 +64,16 @@ pub record AsksForFurtherNow (body_of : Keys → Octets → Octets → Octets �
   pub stands : association_of ike new.associations ≡ Some is
   pub asks : AsksForFurtherChild body_of setup number octets is
 
--- a request of these octets, for the same child, waited for its answer before
+-- a request of these octets and of this purpose waited for its answer before
 pub record FurtherWaited (ike number : ℕ) (request : Request) (old : Held) : Type 0 where
   pub was : Association
   pub stood : association_of ike old.associations ≡ Some was
   pub waited : WasOutstanding was number request
 
--- or it is ordered, and goes out, now
-pub record FurtherOrdered (input : InputView) (ike number : ℕ) (request : Request) (stepped : Stepped) : Type 0 where
+-- or it is ordered, and goes out under a number at which none waited, now
+pub record FurtherOrdered (input : InputView) (old : Held) (ike number : ℕ) (request : Request) (stepped : Stepped) : Type 0 where
   pub place : ℕ
   pub fresh : Fresh
   pub is : input ≡ Start (Some ike) place fresh
   pub said : stepped ≡ asking_step ike number request.octets
+  pub none_waited : (before : Request) → ¬ WaitsAt old ike number before

@@ -19,6 +19,7 @@ use Rattle.sa_init.specs.declared.judging.Sender.{Sender}
 use Rattle.children.specs.declared.fault.ChildFault.{ChildFault}
 use Rattle.children.specs.declared.fault.ChildFault.TheVariants as child
 use Rattle.association.specs.Finding.{found}
+use Rattle.association.specs.Receiving.{Opening}
 use Rattle.association.specs.declared.fault.MessageFault.{MessageFault}
 use Rattle.association.specs.declared.fault.MessageFault.TheVariants.{WrongPhase}
 use Rattle.association.specs.declared.phase.Association.{Association}
@@ -27,7 +28,7 @@ use Rattle.association.specs.declared.phase.Phase.TheVariants.{HalfOpen}
 use Rattle.initial.specs.Beginning.{Admits}
 use Rattle.initial.specs.Configs.{Setup}
 use Rattle.effects.specs.Keeping.{kept_reply}
-use Rattle.effects.specs.Taking.{CanTakeOf, IsForChild, Meaning, TakesMessage}
+use Rattle.effects.specs.Taking.{CanMakeChild, CanTakeOf, Meaning, TakesMessage}
 use Rattle.initial.specs.declared.beginning.Admitted.{Admitted}
 use Rattle.effects.specs.declared.taking.Effect.{Effect}
 use Rattle.ike.specs.Machines.{half_open_count, is_bad_spi, Held, SERIAL_END}
@@ -204,28 +205,28 @@ pub record RefusesInitial (meaning : Meaning) (setup : Setup) (cookies : CookieS
 abbrev pub CanWantMemory : Octets → Type 0
 CanWantMemory octets = (f : WireFault) → IsFaultOf octets f → fault_offset f ≢ None
 
--- the association at this place may make a child by a message, and that takes this
-pub record MakesChildAt (place : ℕ) (response : Bool) (exchange : ℕ) (f : ChildFault) (old : Held) : Type 0 where
+-- a child may be made of the message at the association at this place, and that takes this
+pub record MakesChildAt (plain_of : Opening) (place : ℕ) (octets : Octets) (m : Message) (old : Held) (table : Database) (f : ChildFault) : Type 0 where
   pub association : Association
   pub there : slice_get old.associations place ≡ Some association
-  pub makes : IsForChild association.phase response exchange
-  pub takes : CanTakeOf response f
+  pub makes : CanMakeChild plain_of association octets m
+  pub takes : CanTakeOf m.header.flags.response table f
 
 -- for what a message can want memory, by what is found for it
-abbrev pub WantsFound : Result ℕ MessageFault → Bool → ℕ → Held → ChildFault → Type 0
-WantsFound (Ok place) response exchange old f = (f ≡ child.Message) ⊎ MakesChildAt place response exchange f old
-WantsFound (Err fault) response exchange old f = ⊥
+abbrev pub WantsFound : Opening → Result ℕ MessageFault → Octets → Message → Held → Database → ChildFault → Type 0
+WantsFound plain_of (Ok place) octets m old table f = (f ≡ child.Message) ⊎ MakesChildAt plain_of place octets m old table f
+WantsFound plain_of (Err fault) octets m old table f = ⊥
 
--- the octets are a message for an association that may make a child by it, and that takes this
-pub record WantsForChild (octets : Octets) (f : ChildFault) (old : Held) : Type 0 where
+-- the octets are a message of which an association may make a child, and that takes this
+pub record WantsForChild (plain_of : Opening) (octets : Octets) (old : Held) (table : Database) (f : ChildFault) : Type 0 where
   pub message : Message
   pub spelled : Spells message octets
   pub not_initial : is_initial_request message.header ≡ false
   pub place : ℕ
   pub finds : found message.header old.associations ≡ Ok place
-  pub makes : MakesChildAt place message.header.flags.response message.header.exchange f old
+  pub makes : MakesChildAt plain_of place octets message old table f
 
 -- why a datagram is refused: for want of memory, for a message or for what a child takes; or as an offer
-abbrev pub RefusesDatagram : Meaning → Setup → CookieSecrets → Octets → Octets → Held → IkeFault → Type 0
-RefusesDatagram meaning setup cookies from octets old (fault.Memory f) = CanWantMemory octets × ((f ≡ child.Message) ⊎ WantsForChild octets f old)
-RefusesDatagram meaning setup cookies from octets old reason = RefusesInitial meaning setup cookies from octets old reason
+abbrev pub RefusesDatagram : Meaning → Setup → CookieSecrets → Octets → Octets → Held → Database → IkeFault → Type 0
+RefusesDatagram meaning setup cookies from octets old table (fault.Memory f) = CanWantMemory octets × ((f ≡ child.Message) ⊎ WantsForChild meaning.plain_of octets old table f)
+RefusesDatagram meaning setup cookies from octets old table reason = RefusesInitial meaning setup cookies from octets old reason

@@ -59,7 +59,8 @@ pub record AreSound (held : Held) (table : Database) : Type 0 where
   pub each : (place : ℕ) (a : Association) → At held place a → IsSound a held.next table
   pub apart : (place later : ℕ) (a other : Association) → place < later → At held place a → At held later other → AreApart a other
 
--- an association asked for its children, the first one and further ones, with extended sequence numbers only where that is configured
+-- an association asked for the children that it waits for, the first one and further ones, with extended sequence numbers only where that is
+-- configured
 pub record AsksAsAllowed (extended : Bool) (a : Association) : Type 0 where
   pub first : (child : AskedChildView) → first_asked a.phase ≡ Some child → child.extended ≡ true → extended ≡ true
   pub further : (number : ℕ) (request : Request) (further : FurtherChild) → map.get a.outgoing.outstanding number ≡ Some request → request.purpose ≡ CreateChild further

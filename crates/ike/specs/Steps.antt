@@ -68,7 +68,7 @@ Steps meaning entries (Tick moment) old table stepped new new_table = TakesMomen
 
 abbrev pub Refuses : Meaning → List Entry → InputView → Machine → Database → IkeFault → Type 0
 Refuses meaning entries (Message from octets fresh) old table reason =
-    RefusesDatagram meaning (setup_at old entries fresh) old.cookies from octets old.held reason
+    RefusesDatagram meaning (setup_at old entries fresh) old.cookies from octets old.held table reason
 Refuses meaning entries (Start ike place fresh) old table reason = RefusesStart entries fresh ike place old.held table reason
 Refuses meaning entries (Order what fresh) old table reason = RefusesAsking what old.held table reason
 Refuses meaning entries (Secret secret) old table reason = RefusesSecret old reason

@@ -26,7 +26,7 @@ ghost use Rattle.initial.specs.Configs.{Setup};
 ghost use Rattle.effects.specs.Keeping.{IsShort};
 ghost use Rattle.effects.specs.Taking.{Meaning};
 ghost use Rattle.ike.specs.Children.{AsksFirstChild, AsksForFurtherNow, AsksNow, FurtherOrdered, FurtherWaited, MakesChildOf, WaitedBefore};
-ghost use Rattle.ike.specs.Offers.{AnswersFirstOffer, AnswersSealedOffer};
+ghost use Rattle.ike.specs.Offers.{AnswersFirstOffer, AnswersNoOffer, AnswersSealedOffer};
 ghost use Rattle.ike.specs.Machines.{half_open_count, keys_of_serial, setup_at, Held, Machine, new_machine, association_of};
 ghost use Rattle.ike.specs.Moments.{ComesTo, IsTimely, StaysAt};
 ghost use Rattle.ike.specs.Moves.{HasFresh, MovesAt, OpensFresh};
@@ -230,7 +230,7 @@ pub fn children_are_made_of_their_messages()
         (request : Request) → IsSoundMachine old table → Steps meaning entries input old table stepped new new_table
         → association_of ike new.held.associations ≡ Some a → map.get a.outgoing.outstanding number ≡ Some request
         → asks_for_child request.purpose ≡ true
-        → FurtherWaited ike number request old.held ⊎ FurtherOrdered input ike number request stepped }
+        → FurtherWaited ike number request old.held ⊎ FurtherOrdered input old.held ike number request stepped }
 {
     soundness_stays();
     associations_stay_themselves();
@@ -242,8 +242,8 @@ pub fn children_are_made_of_their_messages()
 }
 
 /// An SA in an answer has one proposal, with the number and the protocol of one that was offered and one of its transforms of each type
-/// (RFC 7296, section 3.3.1): in the answer by which an association comes to be half open, and in each answer that is sealed, but for
-/// INFORMATIONAL, which offers none.
+/// (RFC 7296, section 3.3.1): in the answer by which an association comes to be half open, and in each answer that is sealed, as it goes
+/// out for the first time. Any other answer has no SA.
 pub fn answers_keep_to_their_offers()
     ensures initial { (meaning : Meaning) (entries : List Entry) (from octets : Octets) (fresh : Fresh) (old : Machine)
         (table : Database) (stepped : Stepped) (new : Machine) (new_table : Database) (reply : Octets) (closed : Option ℕ)
@@ -254,6 +254,11 @@ pub fn answers_keep_to_their_offers()
         (mark : Mark) → IsSoundMachine old table → Steps meaning entries (Message from octets fresh) old table stepped new new_table
         → stepped.output ≡ output.Reply reply closed → stepped.trace.sent ≡ Some mark
         → AnswersSealedOffer meaning (setup_at old entries fresh) mark.ike octets reply old.held }
+    ensures other { (meaning : Meaning) (entries : List Entry) (from octets : Octets) (fresh : Fresh) (old : Machine)
+        (table : Database) (stepped : Stepped) (new : Machine) (new_table : Database) (reply : Octets) (closed : Option ℕ)
+        → Steps meaning entries (Message from octets fresh) old table stepped new new_table
+        → stepped.output ≡ output.Reply reply closed → stepped.trace.sent ≡ None → stepped.trace.keyed ≡ None
+        → AnswersNoOffer reply }
 {
     effects::laws::answers_keep_to_their_offers();
 }
@@ -268,7 +273,8 @@ pub fn children_have_few_selectors()
     children_are_made_of_their_messages();
 }
 
-/// A child that a step makes has extended sequence numbers only where this end's configuration allows them (RFC 4303, section 2.2.1).
+/// A child that a step makes receives by extended sequence numbers only where this end's configuration allows them (RFC 4303, section
+/// 2.2.1).
 pub fn children_are_extended_where_allowed()
     ensures { (meaning : Meaning) (entries : List Entry) (from octets : Octets) (fresh : Fresh) (old : Machine) (table : Database)
         (stepped : Stepped) (new : Machine) (new_table : Database) (made : MadeChild) (pair : Pair) → IsSoundTable table

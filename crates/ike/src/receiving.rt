@@ -2,7 +2,7 @@
 ghost use Rattle.std.specs.Prelude.{◌≡◌, ◌<◌, true, Some, Ok, IfOk, IfErr, length};
 ghost use Rattle.std.specs.List.{position};
 ghost use Rattle.wire.specs.Messages.{Spells};
-ghost use Rattle.sadb.specs.Database.{IsAsBefore};
+ghost use Rattle.sadb.specs.Database.{Database, IsAsBefore};
 ghost use Rattle.sa_init.specs.Fitting.{FitsOffer};
 ghost use Rattle.sa_init.specs.Judging.{judgement_view, offer_view, IsJudgement};
 ghost use Rattle.association.specs.Finding.{found};
@@ -66,7 +66,7 @@ pub(crate) fn take_datagram<C: Sealer + Agreement + Proof>(
           proof_of = C.proof_of step.now.caller.now;
           accepts = C.accepts step.now.caller.now;
         })
-        (setup_of step.now) cookies.now from.now octets.now held.old reason
+        (setup_of step.now) cookies.now from.now octets.now held.old table.old reason
         × (held.new ≡ held.old) × IsAsBefore table.old table.new) }
 {
     what_is_spelled_has_no_fault();
@@ -117,7 +117,7 @@ fn take_read<C: Sealer + Agreement + Proof>(
           proof_of = C.proof_of step.now.caller.now;
           accepts = C.accepts step.now.caller.now;
         })
-        (setup_of step.now) cookies.now from.now octets.now held.old reason
+        (setup_of step.now) cookies.now from.now octets.now held.old table.old reason
         × (held.new ≡ held.old) × IsAsBefore table.old table.new) }
 {
     if is_initial_request(&message.header) {
@@ -165,8 +165,7 @@ fn take_found<C: Sealer + Agreement + Proof>(
         })
         (setup_of step.now) octets.now message.now held.old table.old stepped held.new table.new) }
     ensures refused { IfErr result (λ _. (held.new ≡ held.old) × IsAsBefore table.old table.new) }
-    ensures wanted { IfErr result (WantsFound (found message.now.header held.old.associations) message.now.header.flags.response
-        message.now.header.exchange held.old) }
+    ensures wanted { IfErr result (WantsFound C.plain_of (found message.now.header held.old.associations) octets.now message.now held.old table.old) }
 {
     match find(held.associations(), &message.header) {
         Ok(place) => take_at(alloc, step, held, place, table, octets, message),
@@ -201,7 +200,7 @@ fn take_at<C: Sealer + Agreement + Proof>(
         })
         (setup_of step.now) octets.now message.now held.old table.old stepped held.new table.new) }
     ensures refused { IfErr result (λ _. (held.new ≡ held.old) × IsAsBefore table.old table.new) }
-    ensures wanted { IfErr result (WantsFound (Ok place) message.now.header.flags.response message.now.header.exchange held.old) }
+    ensures wanted { IfErr result (WantsFound C.plain_of (Ok place) octets.now message.now held.old table.old) }
 {
     let association = &mut held.associations[place];
     let ike = association.serial;
@@ -235,7 +234,7 @@ fn take_initial<C: Sealer + Agreement + Proof>(
           accepts = C.accepts step.now.caller.now;
         })
         (setup_of step.now) cookies.now from.now octets.now message.now held.old stepped held.new) }
-    ensures refused { IfErr result (λ reason. RefusesDatagram
+    ensures refused { IfErr result (λ reason. ((table : Database) → RefusesDatagram
         (record {
           cipher = C.cipher;
           body_of = C.body_of;
@@ -247,7 +246,7 @@ fn take_initial<C: Sealer + Agreement + Proof>(
           proof_of = C.proof_of step.now.caller.now;
           accepts = C.accepts step.now.caller.now;
         })
-        (setup_of step.now) cookies.now from.now octets.now held.old reason × (held.new ≡ held.old)) }
+        (setup_of step.now) cookies.now from.now octets.now held.old table reason) × (held.new ≡ held.old)) }
 {
     if !is_sound_initial(&message.header) {
         return Ok(Stepped::dropped(IkeFault::Message(MessageFault::WrongPhase)));

@@ -5,7 +5,7 @@ ghost use Rattle.association.specs.Closing.{HoldsReserved};
 ghost use Rattle.informational.specs.Counting.{gone_with, CountsInformational, IsRejectedBy};
 ghost use Rattle.informational.specs.Orders.{ClosesIf, IsEstablished, RemovesOwn};
 ghost use Rattle.initial.specs.Configs.{setup_of};
-ghost use Rattle.initial.specs.Ending.{AsksForNoChild};
+ghost use Rattle.initial.specs.Ending.{AsksForNoFurtherChild};
 
 use association::laws::spis_stay_held;
 use association::{Association, Purpose};
@@ -31,7 +31,7 @@ pub fn count<C>(
 ) -> Result<Ended, AllocError>
     requires established { IsEstablished association.old.phase }
     requires outstanding { IsOutstanding association.old.outgoing number }
-    requires no_child { AsksForNoChild association.old.outgoing number }
+    requires no_child { AsksForNoFurtherChild association.old.outgoing number }
     requires reserved { HoldsReserved association.old table.old }
     ensures counted { IfOk result (λ ended. CountsInformational (setup_of step.now)
         association.old table.old number plain.now ended association.new table.new) }

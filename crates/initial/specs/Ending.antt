@@ -70,8 +70,8 @@ pub record IsAuthSent (p : Phase) : Type 0 where
   pub is : p ≡ phase.AuthSent sent
 
 -- the request of this number asks for no further child, whose SPI would have to be given up with it
-abbrev pub AsksForNoChild : OwnRequests Request → ℕ → Type 0
-AsksForNoChild requests number = (request : Request) → map.get requests.outstanding number ≡ Some request → asks_for_child request.purpose ≡ false
+abbrev pub AsksForNoFurtherChild : OwnRequests Request → ℕ → Type 0
+AsksForNoFurtherChild requests number = (request : Request) → map.get requests.outstanding number ≡ Some request → asks_for_child request.purpose ≡ false
 
 -- the child that is made has the SPI that was reserved for it
 abbrev pub HasItsSpi : ℕ → Option Pair → Type 0

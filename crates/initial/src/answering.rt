@@ -9,6 +9,7 @@ ghost use Rattle.auth.specs.Fitting.{FitWithin};
 ghost use Rattle.auth.specs.Answers.{answering_payloads, auth_answer};
 ghost use Rattle.initial.specs.Answering.{child_answer, outcome_of, pair_of, reply_message, reply_payloads, AnswersAuth, IsHalfOpen};
 ghost use Rattle.initial.specs.Concluding.{is_closing};
+ghost use Rattle.children.specs.Faults.{CanBeWanted};
 ghost use Rattle.initial.specs.Configs.{setup_of, IsConfig};
 ghost use Rattle.initial.specs.Deciding.{own_proving, FitsDecision, FitsResponse};
 ghost use Rattle.wire.specs.Numbers.{IKE_AUTH};
@@ -49,8 +50,9 @@ pub struct Answered {
 /// [`children::respond`] answers for the child, and the window of this end where it is above 1. From then on both windows count
 /// (section 2.3): this end's as configured, the peer's as it told, 1 where it told none.
 ///
-/// The caller asks only at a half-open association, where the request is fresh and the SPIs that it holds are reserved in the table. An error is for want of memory alone: association
-/// and table are as they were then, but for the table's room.
+/// The caller asks only at a half-open association, where the request is fresh and the SPIs that it holds are reserved in the table. An
+/// error is for want of memory alone, for a place in the table as [`children::respond`] says: association and table are as they were then,
+/// but for the table's room.
 pub fn answer_auth<C: Sealer + Proof>(
     alloc: Global,
     step: &Step<'_, C>,
@@ -73,6 +75,7 @@ pub fn answer_auth<C: Sealer + Proof>(
         (setup_of step.now) association.old table.old number plain.now
         answered association.new table.new) }
     ensures refused { IfErr result (λ _. (association.new ≡ association.old) × IsAsBefore table.old table.new) }
+    ensures wanted { IfErr result (CanBeWanted table.old) }
 {
     let Phase::HalfOpen(half_open) = &association.phase else {
         unreachable!();

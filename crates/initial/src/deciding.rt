@@ -1,9 +1,10 @@
 //! What a responder decides about IKE_AUTH.
-ghost use Rattle.std.specs.Prelude.{◌≡◌, Some, IfOk};
+ghost use Rattle.std.specs.Prelude.{◌≡◌, Some, IfErr, IfOk};
 ghost use Rattle.std.specs.List.{AllByRecursion};
 ghost use Rattle.wire.specs.Sizes.{FitsFields};
 ghost use Rattle.exchange.specs.Children.{offered};
 ghost use Rattle.sadb.specs.Database.{IsAsBefore};
+ghost use Rattle.children.specs.Faults.{CanBeWanted};
 ghost use Rattle.initial.specs.Configs.{setup_of, IsConfig};
 ghost use Rattle.initial.specs.Deciding.{AcceptsAuth, CanBeAnswered, Decides, FitsDecision, FitsResponse, IsDecision, IsRead, LeavesRoomFor};
 ghost use Rattle.children.specs.Responding.{IsChildResponse, LeavesRoom};
@@ -51,6 +52,7 @@ pub fn decide<C: Proof>(
     ensures decided { IfOk result (Decides (C.accepts step.now.caller.now) (setup_of step.now)
         ike half_open.now table.old plain.now) }
     ensures table { IsAsBefore table.old table.new }
+    ensures wanted { IfErr result (CanBeWanted table.old) }
     ensures room { IfOk result (λ decision. LeavesRoomFor decision table.new) }
     ensures fits { IfOk result FitsDecision }
 {
@@ -86,6 +88,7 @@ fn decide_on<C: Proof>(
     ensures decided { IfOk result (IsDecision (C.accepts step.now.caller.now) (setup_of step.now)
         ike half_open.now table.old (Some payloads.now)) }
     ensures table { IsAsBefore table.old table.new }
+    ensures wanted { IfErr result (CanBeWanted table.old) }
     ensures room { IfOk result (λ decision. LeavesRoomFor decision table.new) }
     ensures fits { IfOk result FitsDecision }
 {
@@ -128,6 +131,7 @@ fn respond_to<C>(
     ensures response { IfOk result (IsChildResponse (first_setting step.now.config.now ike keys.now)
         step.now.config.now.extended step.now.policy.now table.old (offered offer.now)) }
     ensures table { IsAsBefore table.old table.new }
+    ensures wanted { IfErr result (CanBeWanted table.old) }
     ensures room { IfOk result (λ response. LeavesRoom response table.new) }
     ensures fits { IfOk result FitsResponse }
 {

@@ -5,7 +5,7 @@ ghost use Rattle.association.specs.Closing.{HoldsReserved};
 ghost use Rattle.children.specs.declared.fault.ChildFault.TheVariants as child;
 ghost use Rattle.initial.specs.Configs.{setup_of, IsConfig};
 ghost use Rattle.initial.specs.Concluding.{is_closing, CanConclude};
-ghost use Rattle.initial.specs.Ending.{AsksForNoChild, EndsAuth, FitsVerdict, IsAuthSent, IsVerdict, Judges};
+ghost use Rattle.initial.specs.Ending.{AsksForNoFurtherChild, EndsAuth, FitsVerdict, IsAuthSent, IsVerdict, Judges};
 
 use crate::Step;
 use crate::concluding::{Outcome, conclude};
@@ -50,7 +50,7 @@ pub fn end_auth<C: Proof>(
     requires config { IsConfig step.now.config.now }
     requires waiting { IsAuthSent association.old.phase }
     requires outstanding { IsOutstanding association.old.outgoing number }
-    requires no_child { AsksForNoChild association.old.outgoing number }
+    requires no_child { AsksForNoFurtherChild association.old.outgoing number }
     requires reserved { HoldsReserved association.old table.old }
     ensures ended { IfOk result (λ ended. EndsAuth (C.accepts step.now.caller.now) (setup_of step.now)
         association.old table.old number plain.now ended association.new table.new) }

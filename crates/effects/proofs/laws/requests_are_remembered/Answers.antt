@@ -1,5 +1,5 @@
 use Rattle.effects.proofs.RequestLemmas.{admitted_sound, begun_sound, keeps_window, requested_sound, requests_follow, stays_concluded, stays_half_open, stays_sound, FollowLaws}
-use Rattle.effects.proofs.WindowLemmas.{keeps_peers}
+use Rattle.effects.proofs.WindowLemmas.{keeps_peers, widens}
 use Rattle.effects.proofs.laws.requests_are_remembered.Goals as goal
 
 pub returns : goal.returns
@@ -20,7 +20,11 @@ returns c =
       admitted = admitted_sound;
       requested = requested_sound;
       window = keeps_window incoming c.windows_are_read_again.ensures.bounds;
-      peers = keeps_peers c.windows_are_read_again.ensures.bounds (record {
+      peers = keeps_peers (record {
+        effective = c.receptions_say_why.ensures.effective;
+        answering = c.receptions_say_why.ensures.answering;
+      });
+      widens = widens (record {
         effective = c.receptions_say_why.ensures.effective;
         answering = c.receptions_say_why.ensures.answering;
       });

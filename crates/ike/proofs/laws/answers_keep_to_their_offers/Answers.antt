@@ -1,4 +1,4 @@
-use Rattle.ike.proofs.OfferLemmas.{step_first_offer, step_sealed_offer, AnswerLaws}
+use Rattle.ike.proofs.OfferLemmas.{step_first_offer, step_no_offer, step_sealed_offer, AnswerLaws}
 use Rattle.ike.proofs.laws.answers_keep_to_their_offers.Goals as goal
 
 pub returns : goal.returns
@@ -7,4 +7,4 @@ returns c =
       initial = c.answers_keep_to_their_offers.ensures.initial;
       message = c.answers_keep_to_their_offers.ensures.message;
     } in
-    record { initial = step_first_offer laws; sealed = step_sealed_offer laws }
+    record { initial = step_first_offer laws; sealed = step_sealed_offer laws; other = step_no_offer }
