@@ -11,4 +11,5 @@ mod RequestLemmas
 mod MomentLemmas
 mod DeliveryLemmas
 mod WorkedLemmas
+mod WorkedRequestLemmas
 mod PromiseLemmas

@@ -14,3 +14,4 @@ pub mod Moments
 pub mod Packets
 pub mod Promises
 pub mod Worked
+pub mod WorkedRequests

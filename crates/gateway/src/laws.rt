@@ -30,6 +30,7 @@ ghost use Rattle.gateway.specs.Storing.{again_by};
 ghost use Rattle.gateway.specs.Steps.{GoesSealed, Steps, Traces};
 ghost use Rattle.gateway.specs.WorldRuns.{inputs_at, outputs_at, HappensAs, IsLater};
 ghost use Rattle.gateway.specs.Worked.{IsWorkedRun};
+ghost use Rattle.gateway.specs.WorkedRequests.{IsWorkedRequest};
 ghost use Rattle.gateway.specs.Worlds.{child_by, gateway_at, ike_mark, keyed_by, mark_again, IsMarked, WorldState};
 ghost use Rattle.gateway.specs.declared.output.Output.{Output};
 ghost use Rattle.gateway.specs.declared.world.stored.End.{End};
@@ -217,6 +218,14 @@ pub fn the_premises_of_packets_are_met<C>()
     numbers_are_determined();
     premises_are_met();
 }
+
+/// The premises on requests and on repeats are met by two steps of a gateway in a row: octets open as a new request of an association that
+/// is held, which takes effect and is answered, and come again while the reply is kept. So it is whatever the configuration, the caller's
+/// value, where the octets come from and what is fresh; the caller's cipher hides nothing, and all laws of its traits hold.
+pub fn the_premises_of_requests_are_met<C>()
+    ensures { (config : Config) (caller : C) (from : Octets) (fresh : Fresh) → IsConfig config
+        → IsWorkedRequest config caller from fresh }
+{}
 
 /// What is stored of a world is never forgotten: it is stored from then on, before what comes later.
 pub fn what_is_stored_stays<C>()
