@@ -2,4 +2,4 @@ mod NumberLemmas
 mod ReductionLemmas
 pub mod OctetLemmas
 pub mod PowerLemmas
-mod ElementLemmas
+pub mod ElementLemmas

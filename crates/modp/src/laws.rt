@@ -1,5 +1,5 @@
 //! What follows from the definitions alone. No function here does anything.
-ghost use Rattle.std.specs.Prelude.{◌≡◌, ◌<◌, ◌^◌, ℕ, List, Some, length, true};
+ghost use Rattle.std.specs.Prelude.{◌≡◌, ◌≤◌, ◌<◌, ◌+◌, ◌^◌, ◌↔◌, ℕ, List, Some, length, false, true};
 ghost use Rattle.modp.specs.Group.{element_of, is_trivial, power, prime};
 ghost use Rattle.modp.specs.Laws.{AreOctets};
 ghost use Rattle.modp.specs.Number.{number_octets, octets_number};
@@ -26,4 +26,9 @@ pub fn octets_tell_numbers()
 /// value that is (RFC 6989, section 2.1).
 pub fn powers_of_trivial_are_trivial()
     ensures { (n exponent : ℕ) → is_trivial n ≡ true → is_trivial (power n exponent) ≡ true }
+{}
+
+/// The elements that are not refused are those from 2 to the prime less 2 (RFC 6989, section 2.1).
+pub fn others_are_from_2_to_the_prime_less_2()
+    ensures { (n : ℕ) → n < prime → (is_trivial n ≡ false) ↔ ((2 ≤ n) × (n + 2 ≤ prime)) }
 {}

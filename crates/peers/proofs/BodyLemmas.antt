@@ -110,27 +110,29 @@ not_opened : (keys : Keys) (head body : List ℕ) → is_intact keys head body �
 unfolding opened_body
 not_opened keys head body is = if_false (is_intact keys head body) (unpadded (decrypted_part keys body)) None is
 
-pub opens_not : (keys : Keys) (head body old : List ℕ) → is_intact keys head body ≡ false → Opens (opened_body keys head body) false old old
-opens_not keys head body old is = subst (λ (o : Option (List ℕ)). Opens o false old old) (sym (not_opened keys head body is)) (refl, refl)
+pub opens_not : (keys : Keys) (head body old after : List ℕ) → is_intact keys head body ≡ false → after ≡ old → Opens (opened_body keys head body) false old after
+opens_not keys head body old after is same =
+    subst (λ (o : Option (List ℕ)). Opens o false old after) (sym (not_opened keys head body is)) (refl, same)
 
-pub opens_plain : (keys : Keys) (head body old items part after : List ℕ) (start plain : ℕ) → is_intact keys head body ≡ true → start ≡ length old →
-    items ≡ old ++ decrypted_part keys body → part ≡ take (length items - start) (drop start items) → Some (take plain part) ≡ unpadded part →
-    after ≡ take (start + plain) items → Opens (opened_body keys head body) true old after
-opens_plain keys head body old items part after start plain is at items_is is_part is_plain is_after =
+opens_to : (keys : Keys) (head body plain : List ℕ) → is_intact keys head body ≡ true → Some plain ≡ unpadded (decrypted_part keys body) →
+    opened_body keys head body ≡ Some plain
+opens_to keys head body plain is found = opened_when keys head body is ∙ sym found
+
+-- no body that opens is one that doesn't
+pub opens_after_all : {X : Type 0} (keys : Keys) (head body plain : List ℕ) → is_intact keys head body ≡ true →
+    Some plain ≡ unpadded (decrypted_part keys body) → opened_body keys head body ≡ None → X
+opens_after_all keys head body plain is found none = let both : Some plain ≡ None = sym (opens_to keys head body plain is found) ∙ none in absurd cc
+
+pub opens_plain : (keys : Keys) (head body old items after : List ℕ) (start plain : ℕ) → is_intact keys head body ≡ true →
+    Some (take plain (decrypted_part keys body)) ≡ unpadded (decrypted_part keys body) → start ≡ length old →
+    items ≡ old ++ decrypted_part keys body → after ≡ take (start + plain) items → Opens (opened_body keys head body) true old after
+opens_plain keys head body old items after start plain is found at items_is is_after =
     let text = decrypted_part keys body in
-    let part_of : part ≡ text = is_part ∙ from_place old text items start items_is at in
-    let opened : Some (take plain text) ≡ opened_body keys head body =
-    (λ i. Some (take plain (sym part_of i))) ∙ is_plain ∙ ap unpadded part_of ∙ sym (opened_when keys head body is) in
     let made : after ≡ old ++ take plain text =
     is_after ∙ (λ i. take (at i + plain) (items_is i)) ∙ take-append-add old text plain in
-    subst (λ (o : Option (List ℕ)). Opens o true old after) opened (refl, made)
+    subst (λ (o : Option (List ℕ)). Opens o true old after) (sym (opens_to keys head body (take plain text) is found)) (refl, made)
 
-pub opens_nothing : (keys : Keys) (head body old items part after : List ℕ) (start : ℕ) → is_intact keys head body ≡ true → start ≡ length old →
-    items ≡ old ++ decrypted_part keys body → part ≡ take (length items - start) (drop start items) → None ≡ unpadded part →
-    after ≡ take start items → Opens (opened_body keys head body) false old after
-opens_nothing keys head body old items part after start is at items_is is_part is_none is_after =
-    let text = decrypted_part keys body in
-    let part_of : part ≡ text = is_part ∙ from_place old text items start items_is at in
-    let opened : None ≡ opened_body keys head body = is_none ∙ ap unpadded part_of ∙ sym (opened_when keys head body is) in
-    let made : after ≡ old = is_after ∙ (λ i. take (at i) (items_is i)) ∙ take_at old text (length old) refl in
-    subst (λ (o : Option (List ℕ)). Opens o false old after) opened (refl, made)
+pub opens_nothing : (keys : Keys) (head body old after : List ℕ) → is_intact keys head body ≡ true → None ≡ unpadded (decrypted_part keys body) → after ≡ old →
+    Opens (opened_body keys head body) false old after
+opens_nothing keys head body old after is found same =
+    subst (λ (o : Option (List ℕ)). Opens o false old after) (found ∙ sym (opened_when keys head body is)) (refl, same)

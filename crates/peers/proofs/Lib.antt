@@ -1,6 +1,9 @@
 mod ChainingLemmas
 mod ChainedLemmas
+mod LastLemmas
 mod BodyLemmas
 mod PeerLemmas
 mod OpenedLemmas
 mod ProvedLemmas
+mod AgreedLemmas
+mod SealedLemmas

@@ -6,7 +6,6 @@ use Rattle.std.proofs.lemmas.List.{length-append, length-take-le, length-drop, a
 use Rattle.base.specs.Octets.{AreOctets}
 use Rattle.mac.specs.Hmac.{icv_sha256}
 use Rattle.aes.specs.Laws.{IsKey, IsBlock}
-use Rattle.aes.proofs.InverseLemmas.{are_octets}
 use Rattle.suite.specs.declared.keys.Keys.{Keys}
 use Rattle.suite.specs.Sealing.{AreKeys}
 use Rattle.peers.specs.Chaining.{AreChained, cbc_encrypted, cbc_decrypted}
@@ -69,7 +68,6 @@ padded_by plain text octets filled is =
       is = sym (take-append-drop (length text - 1) text)
           ∙ (λ i. front_is i ++ last i)
           ∙ ap (λ (n : ℕ). plain ++ padding ++ n ∷ []) (sym padding_long);
-      told = subst (λ (n : ℕ). n < 256) (sym padding_long) (are_octets text octets (length text - 1));
       octets = octets;
       filled = filled;
     }
@@ -84,7 +82,7 @@ unfolding is_intact
 intact_value keys head body is =
     same_text _ _ (sym (and_parts (nat_le 48 (length body) && nat_eq (length body % 16) 0) (pointwise nat_eq (drop (length body - 16) body) (check_value keys head (take (length body - 16) body))) is).1)
 
-value_of : (keys : Keys) (head vector blocks : List ℕ) → check_value keys head (vector ++ blocks) ≡ icv_sha256 keys.integrity (head ++ vector ++ blocks)
+pub value_of : (keys : Keys) (head vector blocks : List ℕ) → check_value keys head (vector ++ blocks) ≡ icv_sha256 keys.integrity (head ++ vector ++ blocks)
 unfolding check_value
 value_of keys head vector blocks = ap (icv_sha256 keys.integrity) (sym (append_assoc head vector blocks))
 

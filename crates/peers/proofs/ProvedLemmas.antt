@@ -1,11 +1,11 @@
 -- A proof is accepted exactly if it is the first such peer's.
-use Rattle.std.proofs.Common.{◌≡◌, ◌≢◌, ◌↔◌, ℕ, Bool, true, false, ◌&&◌, if◌then◌else◌, nat_eq, List, [], ◌∷◌, ◌++◌, codes, refl, sym, ap, ◌∙◌, inl, inr}
+use Rattle.std.proofs.Common.{◌≡◌, ◌≢◌, ◌≤◌, ◌↔◌, ℕ, Bool, true, false, ◌&&◌, if◌then◌else◌, nat_eq, nat_le, List, [], ◌∷◌, ◌++◌, length, codes, refl, sym, ap, ◌∙◌, inl, inr}
 use Rattle.std.specs.List.{AllByRecursion}
 use Rattle.std.specs.Cmp.Lexicographic.{pointwise, same_text}
-use Rattle.std.proofs.lemmas.Bool.{and_parts, cases_Bool, eq-eqb, eqb-true}
+use Rattle.std.proofs.lemmas.Bool.{and_parts, cases_Bool, eq-eqb, eqb-true, le-leb, leb-true}
 use Rattle.mac.specs.Hmac.{hmac_sha256}
 use Rattle.peers.specs.declared.shared_key.Peer.{Peer}
-use Rattle.peers.specs.SharedKeys.{IsFirst, IsProved, is_accepted, proof_under, proved_by, shared_key_method}
+use Rattle.peers.specs.SharedKeys.{IsFirst, IsProved, is_accepted, proof_under, proved_by, proves_under, shared_key_method}
 use Rattle.peers.specs.BodyLaws.{pointwise_itself}
 
 impossible : {X : Type 0} → (false ≡ true) → X
@@ -31,9 +31,22 @@ under : (secret octets : List ℕ) → proof_under secret octets ≡ hmac_sha256
 unfolding proof_under
 under secret octets = refl
 
+under_parts : (secret octets given : List ℕ) → proves_under secret octets given ≡ true → (1 ≤ length secret) × (given ≡ proof_under secret octets)
+unfolding proves_under
+under_parts secret octets given is =
+    let parts = and_parts (nat_le 1 (length secret)) (pointwise nat_eq given (proof_under secret octets)) is in
+    (leb-true 1 (length secret) parts.0, same_text given (proof_under secret octets) (sym parts.1))
+
+under_made : (secret octets given : List ℕ) → 1 ≤ length secret → given ≡ proof_under secret octets → proves_under secret octets given ≡ true
+unfolding proves_under
+under_made secret octets given some is =
+    two (nat_le 1 (length secret)) (pointwise nat_eq given (proof_under secret octets)) (le-leb 1 (length secret) some)
+    (same_itself given (proof_under secret octets) is)
+
 record Proves (peers : List Peer) (kind : ℕ) (id octets given : List ℕ) : Type 0 where
   pub peer : Peer
   pub known : IsFirst peers kind id peer
+  pub some : 1 ≤ length peer.secret
   pub is : given ≡ proof_under peer.secret octets
 
 further : (first : Peer) (peers : List Peer) (kind : ℕ) (id octets given : List ℕ) → (nat_eq first.kind kind && pointwise nat_eq first.id id) ≡ false →
@@ -48,13 +61,15 @@ further first peers kind id octets given other is = record {
     id_is = is.known.id_is;
     others = (λ kind_is id_is. not_both _ (two (nat_eq first.kind kind) (pointwise nat_eq first.id id) (eq-eqb first.kind kind kind_is) (same_itself first.id id id_is)) other, is.known.others);
   };
+  some = is.some;
   is = is.is;
 }
 
 found_here : (first : Peer) (peers : List Peer) (kind : ℕ) (id octets given : List ℕ) → (nat_eq first.kind kind && pointwise nat_eq first.id id) ≡ true →
-    pointwise nat_eq given (proof_under first.secret octets) ≡ true → Proves (first ∷ peers) kind id octets given
+    proves_under first.secret octets given ≡ true → Proves (first ∷ peers) kind id octets given
 found_here first peers kind id octets given named right =
     let parts = and_parts (nat_eq first.kind kind) (pointwise nat_eq first.id id) named in
+    let under_own = under_parts first.secret octets given right in
     record {
       peer = first;
       known = record {
@@ -65,14 +80,15 @@ found_here first peers kind id octets given named right =
         id_is = same_text first.id id (sym parts.1);
         others = tt;
       };
-      is = same_text given (proof_under first.secret octets) (sym right);
+      some = under_own.0;
+      is = under_own.1;
     }
 
 proves : (peers : List Peer) (kind : ℕ) (id octets given : List ℕ) → proved_by peers kind id octets given ≡ true → Proves peers kind id octets given
 proves [] kind id octets given is = impossible is
 proves (first ∷ peers) kind id octets given is =
     let named = nat_eq first.kind kind && pointwise nat_eq first.id id in
-    let right = pointwise nat_eq given (proof_under first.secret octets) in
+    let right = proves_under first.secret octets given in
     let others = proved_by peers kind id octets given in
     elim (cases_Bool named) [
       | inl here ↦ found_here first peers kind id octets given here (sym (picked named right others here) ∙ is)
@@ -82,7 +98,7 @@ proves (first ∷ peers) kind id octets given is =
 -- whom none before it has the identity of
 reaches : (before behind : List Peer) (peer : Peer) (kind : ℕ) (id octets given : List ℕ) → peer.kind ≡ kind → peer.id ≡ id →
     AllByRecursion (λ other. other.kind ≡ kind → other.id ≢ id) before →
-    proved_by (before ++ peer ∷ behind) kind id octets given ≡ pointwise nat_eq given (proof_under peer.secret octets)
+    proved_by (before ++ peer ∷ behind) kind id octets given ≡ proves_under peer.secret octets given
 reaches [] behind peer kind id octets given kind_is id_is others =
     picked _ _ _ (two (nat_eq peer.kind kind) (pointwise nat_eq peer.id id) (eq-eqb peer.kind kind kind_is) (same_itself peer.id id id_is))
 reaches (first ∷ before) behind peer kind id octets given kind_is id_is others =
@@ -101,10 +117,10 @@ accepted_exactly peers kind id method octets given = (
   λ is.
       let parts = and_parts (nat_eq method shared_key_method) (proved_by peers kind id octets given) is in
       let told = proves peers kind id octets given parts.1 in
-      record { by_shared_key = eqb-true method shared_key_method parts.0; peer = told.peer; known = told.known; is = told.is ∙ under told.peer.secret octets },
+      record { by_shared_key = eqb-true method shared_key_method parts.0; peer = told.peer; known = told.known; some = told.some; is = told.is ∙ under told.peer.secret octets },
   λ is.
       two (nat_eq method shared_key_method) (proved_by peers kind id octets given) (eq-eqb method shared_key_method is.by_shared_key)
       (ap (λ (ps : List Peer). proved_by ps kind id octets given) is.known.there
       ∙ reaches is.known.before is.known.behind is.peer kind id octets given is.known.kind_is is.known.id_is is.known.others
-      ∙ same_itself given (proof_under is.peer.secret octets) (is.is ∙ sym (under is.peer.secret octets))),
+      ∙ under_made is.peer.secret octets given is.some (is.is ∙ sym (under is.peer.secret octets))),
 )

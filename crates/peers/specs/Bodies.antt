@@ -15,9 +15,12 @@ aes_cbc = record { id = 12; key_length = Some 256 }
 abbrev pub pad_length : ℕ → ℕ
 pad_length plain = 15 - plain % 16
 
+abbrev pub zeros : ℕ → List ℕ
+zeros count = replicate count 0
+
 -- padding and pad length, behind a plain text of so many octets
 unfoldable pub padding : ℕ → List ℕ
-padding plain = replicate (pad_length plain) 0 ++ pad_length plain ∷ []
+padding plain = zeros (pad_length plain) ++ pad_length plain ∷ []
 
 -- how many blocks a plain text fills
 abbrev pub blocks_of : ℕ → ℕ

@@ -1,5 +1,5 @@
 -- The laws of a sealer, at AES-256 in CBC mode with HMAC-SHA-256-128.
-use Rattle.std.proofs.Common.{◌≡◌, ℕ, zero, suc, ◌+◌, ◌-◌, ◌*◌, ◌/◌, ◌%◌, ◌<◌, ◌≤◌, Bool, true, ◌&&◌, if◌then◌else◌, nat_eq, nat_le, nat_lt, Option, Some, None, List, [], ◌∷◌, ◌++◌, length, map, get_or, take, drop, replicate, bit_xor, refl, sym, ap, ◌∙◌, arith, length-append}
+use Rattle.std.proofs.Common.{◌≡◌, ℕ, zero, suc, ◌+◌, ◌-◌, ◌*◌, ◌/◌, ◌%◌, ◌<◌, ◌≤◌, Bool, true, ◌&&◌, if◌then◌else◌, nat_eq, nat_le, nat_lt, Option, Some, None, List, [], ◌∷◌, ◌++◌, length, map, get_or, take, drop, bit_xor, refl, sym, ap, ◌∙◌, arith, length-append}
 use Rattle.std.specs.List.{range_with_len}
 use Rattle.std.specs.Int.Bits.{xor_assoc, xor_self, xor_zero_r, xor_lt}
 use Rattle.std.specs.Cmp.Lexicographic.{pointwise}
@@ -14,7 +14,7 @@ use Rattle.aes.proofs.InverseLemmas.{are_octets, decrypted-encrypted, encrypted_
 use Rattle.suite.specs.declared.keys.Keys.{Keys}
 use Rattle.suite.specs.Sealing.{AreSealable}
 use Rattle.peers.specs.Chaining.{both, cbc_encrypted, cbc_decrypted}
-use Rattle.peers.specs.Bodies.{pad_length, padding, blocks_of, body_size, encrypted_part, check_value, sealed_body, unpadded, is_intact, decrypted_part, opened_body}
+use Rattle.peers.specs.Bodies.{pad_length, padding, zeros, blocks_of, body_size, encrypted_part, check_value, sealed_body, unpadded, is_intact, decrypted_part, opened_body}
 
 -- ---- octets
 pub append_octets : (xs ys : List ℕ) → AreOctets xs → AreOctets ys → AreOctets (xs ++ ys)
@@ -35,9 +35,12 @@ map_octets : (f : ℕ → ℕ) → ((k : ℕ) → f k < 256) → (xs : List ℕ)
 map_octets f fits [] = tt
 map_octets f fits (x ∷ xs) = (fits x, map_octets f fits xs)
 
-replicate_octets : (n : ℕ) → AreOctets (replicate n 0)
-replicate_octets zero = tt
-replicate_octets (suc n) = (omega arith, replicate_octets n)
+zeros_octets : (n : ℕ) → AreOctets (zeros n)
+zeros_octets zero = tt
+zeros_octets (suc n) = (omega arith, zeros_octets n)
+
+length-zeros : (n : ℕ) → length (zeros n) ≡ n
+length-zeros n = length-replicate {A = ℕ} n _
 
 -- ---- blocks
 pub both_block : (a b : List ℕ) → AreOctets a → AreOctets b → IsBlock (both a b)
@@ -120,11 +123,11 @@ module _ (key : List ℕ) (is_key : IsKey key) where
 pub length-padding : (plain : ℕ) → length (padding plain) ≡ pad_length plain + 1
 unfolding padding
 length-padding plain =
-    length-append (replicate (pad_length plain) 0) (pad_length plain ∷ []) ∙ ap (λ (n : ℕ). n + 1) (length-replicate {A = ℕ} (pad_length plain) 0)
+    length-append (zeros (pad_length plain)) (pad_length plain ∷ []) ∙ ap (λ (n : ℕ). n + 1) (length-zeros (pad_length plain))
 
 padding_octets : (plain : ℕ) → AreOctets (padding plain)
 unfolding padding
-padding_octets plain = append_octets (replicate (pad_length plain) 0) (pad_length plain ∷ []) (replicate_octets (pad_length plain)) (omega arith, tt)
+padding_octets plain = append_octets (zeros (pad_length plain)) (pad_length plain ∷ []) (zeros_octets (pad_length plain)) (omega arith, tt)
 
 pub padded_long : (plain : List ℕ) → length (plain ++ padding (length plain)) ≡ 16 * blocks_of (length plain)
 padded_long plain =
@@ -133,31 +136,31 @@ padded_long plain =
 chosen : (t : Bool) (xs ys : List ℕ) → t ≡ true → xs ≡ ys → (if t then Some xs else None) ≡ Some ys
 chosen t xs ys is same = rw is (ap (λ (zs : List ℕ). Some zs) same)
 
-unpadded_plain : (plain text : List ℕ) (pad : ℕ) → text ≡ plain ++ (replicate pad 0 ++ pad ∷ []) → unpadded text ≡ Some plain
+unpadded_plain : (plain text : List ℕ) (pad : ℕ) → text ≡ plain ++ (zeros pad ++ pad ∷ []) → unpadded text ≡ Some plain
 unfolding unpadded
 unpadded_plain plain text pad is =
-    let split : text ≡ (plain ++ replicate pad 0) ++ pad ∷ [] = is ∙ sym (append_assoc plain (replicate pad 0) (pad ∷ [])) in
-    let front : length (plain ++ replicate pad 0) ≡ length plain + pad =
-    length-append plain (replicate pad 0) ∙ ap (λ (n : ℕ). length plain + n) (length-replicate {A = ℕ} pad 0) in
+    let split : text ≡ (plain ++ zeros pad) ++ pad ∷ [] = is ∙ sym (append_assoc plain (zeros pad) (pad ∷ [])) in
+    let front : length (plain ++ zeros pad) ≡ length plain + pad =
+    length-append plain (zeros pad) ∙ ap (λ (n : ℕ). length plain + n) (length-zeros pad) in
     let long : length text ≡ length plain + pad + 1 =
-    ap length split ∙ length-append (plain ++ replicate pad 0) (pad ∷ []) ∙ ap (λ (n : ℕ). n + 1) front in
-    let place : length (plain ++ replicate pad 0) ≡ length text - 1 = omega arith in
+    ap length split ∙ length-append (plain ++ zeros pad) (pad ∷ []) ∙ ap (λ (n : ℕ). n + 1) front in
+    let place : length (plain ++ zeros pad) ≡ length text - 1 = omega arith in
     let last : get_or text (length text - 1) 0 ≡ pad =
-    ap (λ (xs : List ℕ). get_or xs (length text - 1) 0) split ∙ get_or_at (plain ++ replicate pad 0) pad [] 0 (length text - 1) place in
+    ap (λ (xs : List ℕ). get_or xs (length text - 1) 0) split ∙ get_or_at (plain ++ zeros pad) pad [] 0 (length text - 1) place in
     let enough : nat_lt (get_or text (length text - 1) 0) (length text) ≡ true = lt-ltb (get_or text (length text - 1) 0) (length text) (omega arith) in
     let count : length text - 1 - get_or text (length text - 1) 0 ≡ length plain = omega arith in
     chosen (nat_lt (get_or text (length text - 1) 0) (length text)) _ plain enough
-    ((λ i. take (count i) (is i)) ∙ take_at plain (replicate pad 0 ++ pad ∷ []) (length plain) refl)
+    ((λ i. take (count i) (is i)) ∙ take_at plain (zeros pad ++ pad ∷ []) (length plain) refl)
 
 unpadded_again : (plain : List ℕ) → unpadded (plain ++ padding (length plain)) ≡ Some plain
 unfolding padding
 unpadded_again plain = unpadded_plain plain (plain ++ padding (length plain)) (pad_length (length plain)) refl
 
 -- ---- bodies
-key_of : (keys : Keys) (head plain fresh : List ℕ) → AreSealable keys head plain fresh → IsKey keys.encryption
+pub key_of : (keys : Keys) (head plain fresh : List ℕ) → AreSealable keys head plain fresh → IsKey keys.encryption
 key_of keys head plain fresh is = record { whole = is.keyed.encryption_long; octets = is.keyed.encryption_octets }
 
-vector_of : (keys : Keys) (head plain fresh : List ℕ) → AreSealable keys head plain fresh → IsBlock fresh
+pub vector_of : (keys : Keys) (head plain fresh : List ℕ) → AreSealable keys head plain fresh → IsBlock fresh
 vector_of keys head plain fresh is = record { whole = is.fresh_long; octets = is.fresh_octets }
 
 pub length-check_value : (keys : Keys) (head sealed : List ℕ) → length (check_value keys head sealed) ≡ 16
@@ -167,7 +170,7 @@ length-check_value keys head sealed = length-icv_sha256 keys.integrity (head ++ 
 abbrev encrypted_blocks : Keys → List ℕ → List ℕ → List ℕ
 encrypted_blocks keys plain fresh = cbc_encrypted keys.encryption fresh (blocks_of (length plain)) (plain ++ padding (length plain))
 
-padded_octets : (plain : List ℕ) → AreOctets plain → AreOctets (plain ++ padding (length plain))
+pub padded_octets : (plain : List ℕ) → AreOctets plain → AreOctets (plain ++ padding (length plain))
 padded_octets plain octets = append_octets plain (padding (length plain)) octets (padding_octets (length plain))
 
 blocks_long : (keys : Keys) (head plain fresh : List ℕ) → AreSealable keys head plain fresh → length (encrypted_blocks keys plain fresh) ≡ 16 * blocks_of (length plain)

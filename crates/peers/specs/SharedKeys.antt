@@ -1,5 +1,5 @@
 -- Proofs of identity under shared keys (RFC 7296, sections 2.15 and 3.8).
-use Rattle.std.specs.Prelude.{◌≡◌, ◌≢◌, ℕ, Bool, false, ◌&&◌, nat_eq, List, [], ◌∷◌, ◌++◌, codes, if◌then◌else◌}
+use Rattle.std.specs.Prelude.{◌≡◌, ◌≢◌, ◌≤◌, ℕ, Bool, false, ◌&&◌, nat_eq, nat_le, List, [], ◌∷◌, ◌++◌, length, codes, if◌then◌else◌}
 use Rattle.std.specs.List.{AllByRecursion}
 use Rattle.std.specs.Cmp.Lexicographic.{pointwise}
 use Rattle.mac.specs.Hmac.{hmac_sha256}
@@ -13,11 +13,15 @@ shared_key_method = 2
 unfoldable pub proof_under : List ℕ → List ℕ → List ℕ
 proof_under secret octets = hmac_sha256 (hmac_sha256 secret (codes "Key Pad for IKEv2")) octets
 
+-- under a secret of one octet or more: by an empty one anybody could
+unfoldable pub proves_under : List ℕ → List ℕ → List ℕ → Bool
+proves_under secret octets given = nat_le 1 (length secret) && pointwise nat_eq given (proof_under secret octets)
+
 -- the first of the peers that has this identity proves under its own secret
 abbrev pub proved_by : List Peer → ℕ → List ℕ → List ℕ → List ℕ → Bool
 proved_by [] kind id octets given = false
 proved_by (peer ∷ peers) kind id octets given =
-    if nat_eq peer.kind kind && pointwise nat_eq peer.id id then pointwise nat_eq given (proof_under peer.secret octets)
+    if nat_eq peer.kind kind && pointwise nat_eq peer.id id then proves_under peer.secret octets given
     else proved_by peers kind id octets given
 
 -- and by no other method
@@ -33,9 +37,10 @@ pub record IsFirst (peers : List Peer) (kind : ℕ) (id : List ℕ) (peer : Peer
   pub id_is : peer.id ≡ id
   pub others : AllByRecursion (λ other. other.kind ≡ kind → other.id ≢ id) before
 
--- what is given is what section 2.15 has such a peer give, by its own secret
+-- what is given is what section 2.15 has such a peer give, by its own secret, which is not empty
 pub record IsProved (peers : List Peer) (kind : ℕ) (id : List ℕ) (method : ℕ) (octets given : List ℕ) : Type 0 where
   pub by_shared_key : method ≡ 2
   pub peer : Peer
   pub known : IsFirst peers kind id peer
+  pub some : 1 ≤ length peer.secret
   pub is : given ≡ hmac_sha256 (hmac_sha256 peer.secret (codes "Key Pad for IKEv2")) octets

@@ -1,4 +1,6 @@
 //! The key agreement in the 2048-bit MODP group (RFC 7296, sections 2.14 and 3.4).
+ghost use Rattle.std.specs.Prelude.{◌≡◌, None, Ok, IfOk};
+ghost use Rattle.peers.specs.Groups.{shared_of};
 ghost use Rattle.peers.specs.OtherLaws.{public_fits, symmetric};
 
 use crate::PeerCaller;
@@ -30,13 +32,16 @@ impl Agreement for PeerCaller {
         Items::from_slice(alloc, &Element::generator().power(secret).to_octets())
     }
 
-    #[tactic(auto, unfolding(crate::specs::Groups::shared_of, crate::specs::Groups::shared_by))]
+    #[tactic(auto, unfolding(crate::specs::Groups::shared_of, crate::specs::Groups::shared_by, crate::specs::Groups::secret_of))]
     fn shared(
         &self,
         alloc: Global,
         secret: &[u8; 32],
         other: &[u8],
-    ) -> Result<Option<Items<u8>>, AllocError> {
+    ) -> Result<Option<Items<u8>>, AllocError>
+        ensures answered { IfOk result (λ shared. shared ≡ shared_of secret.now other.now) }
+        ensures refused { shared_of secret.now other.now ≡ None → result ≡ Ok None }
+    {
         let Some(other) = Element::from_octets(other) else {
             return Ok(None);
         };

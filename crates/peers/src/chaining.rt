@@ -47,7 +47,7 @@ pub(crate) fn block_of(octets: &[u8]) -> Block
 }
 
 /// The exclusive or of two blocks.
-fn both(one: &Block, other: &Block) -> Block
+pub(crate) fn both(one: &Block, other: &Block) -> Block
     ensures { result ≡ both one.now other.now }
 {
     let mut sum = [0; BLOCK];

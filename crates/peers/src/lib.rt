@@ -5,15 +5,16 @@
 //! [`Proof`](suite::Proof)) with all their laws. It has the secret of its own end and the identities of its peers, each with its
 //! secret, and draws no random octets: the vector of a body and the secret of an agreement come from whoever calls.
 //!
-//! That a body opens exactly if it is made as section 3.14 says, and that a proof is accepted exactly if it is what the first peer with
-//! that identity gives, are laws: [`laws`].
+//! That a body opens exactly if it is made as section 3.14 says, that what is sealed is the one such body with the least padding, that a secret
+//! is shared exactly if it is the power of the public value by the own secret, and that a proof is accepted exactly if it is what the first peer
+//! with that identity gives, are laws: [`laws`].
 //!
 //! Nothing here hides how long a call takes: tables are read by secret octets, powers branch on secret bits, and a check value
 //! or a proof is compared up to its first wrong octet.
 //!
 //! ```text
-//! let peer = Peer { kind: 2, id: Items::from_slice(alloc, b"gw.example")?, secret: Items::from_slice(alloc, b"theirs")? };
-//! let caller = PeerCaller { own: Items::from_slice(alloc, b"ours")?, peers };
+//! let peer = Peer { kind: 2, id: Items::from_slice(alloc, b"gw.example")?, secret: Items::from_slice(alloc, b"our secret")? };
+//! let caller = PeerCaller { own: Items::from_slice(alloc, b"our secret")?, peers };
 //! let public = caller.public(alloc, &secret)?;                  // 256 octets, for a KE payload
 //! caller.seal(&keys, head, plain, &fresh, &mut body)?;          // vector, encrypted payloads, check value
 //! ```

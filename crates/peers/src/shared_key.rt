@@ -1,7 +1,7 @@
 //! The proofs of identity under shared keys (RFC 7296, sections 2.15 and 3.8).
 ghost use Rattle.std.specs.Prelude.{◌≡◌, Ok};
 ghost use Rattle.peers.specs.OtherLaws.{proof_fits};
-ghost use Rattle.peers.specs.SharedKeys.{proof_under, proved_by};
+ghost use Rattle.peers.specs.SharedKeys.{proof_under, proved_by, proves_under};
 
 use base::Items;
 use mac::hmac;
@@ -19,7 +19,7 @@ pub struct Peer {
     pub kind: u8,
     /// The identity's data.
     pub id: Items<u8>,
-    /// The secret under which it proves its identity.
+    /// The secret under which it proves its identity. An empty one proves nothing, since anybody could prove by it.
     pub secret: Items<u8>,
 }
 
@@ -75,13 +75,21 @@ fn proof_under(secret: &[u8], octets: &[u8]) -> [u8; 32]
     hmac(&hmac(secret, &[b"Key Pad for IKEv2"]), &[octets])
 }
 
+/// Whether octets were proved under a secret that is not empty.
+#[tactic(auto, unfolding(crate::specs::SharedKeys::proves_under))]
+fn is_proved_under(secret: &[u8], octets: &[u8], proof: &[u8]) -> bool
+    ensures { result ≡ proves_under secret.now octets.now proof.now }
+{
+    !secret.is_empty() && proof == proof_under(secret, octets).as_slice()
+}
+
 /// Whether the first peer with an identity has proved octets under its own secret.
 fn is_proved(peers: &[Peer], kind: u8, id: &[u8], octets: &[u8], proof: &[u8]) -> bool
     ensures { result ≡ proved_by peers.now kind id.now octets.now proof.now }
 {
     for peer in peers {
         if peer.kind == kind && peer.id.as_slice() == id {
-            return proof == proof_under(peer.secret.as_slice(), octets).as_slice();
+            return is_proved_under(peer.secret.as_slice(), octets, proof);
         }
     }
     false

@@ -345,6 +345,25 @@ fn proofs(rt: HostRuntime) -> Result<(), Fail> {
     Ok(())
 }
 
+/// By the empty secret, which anybody has.
+const NOBODYS_PROOF: [u8; 32] =
+    *b"\x1b\x12\x85\x81\xa7\x78\xfa\xf9\xf2\x55\xa1\x6e\xec\xbb\xbd\x64\xfd\x75\x00\xd5\xb1\xba\xa9\x8d\x73\x38\x69\x6c\xf1\xda\x9c\x1a";
+
+#[test]
+fn no_proof_by_an_empty_secret(rt: HostRuntime) -> Result<(), Fail> {
+    let alloc = rt.alloc();
+    let mut caller = caller(alloc)?;
+    let peer = Peer {
+        kind: 2,
+        id: Items::from_slice(alloc, b"north")?,
+        secret: Items::new(alloc),
+    };
+    holds(&rt, caller.peers.push(peer).is_ok());
+    let accepted = caller.check(alloc, 2, b"north", 2, &OCTETS, &NOBODYS_PROOF)?;
+    holds(&rt, !accepted);
+    Ok(())
+}
+
 fn not_accepted(
     rt: &impl Abort,
     alloc: Global,

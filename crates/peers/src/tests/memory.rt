@@ -1,6 +1,8 @@
 //! Runs that pass whether an allocation fails or not: what was refused for want of memory left `out` as it was, and goes well at the next
 //! try. Each is to be run with every allocation failing in turn.
-use super::{FIRST, HEAD, KEYS, OCTETS, THEIR_PROOF, VECTOR, body_of_21, caller, holds};
+use super::{
+    FIRST, HEAD, KEYS, OCTETS, THEIR_PROOF, VECTOR, body_of_21, caller, holds, padding_too_long,
+};
 use std::alloc::{AllocError, Global};
 use std::process::Abort;
 use suite::{Agreement, Proof, Sealer};
@@ -24,7 +26,7 @@ fn appended_or_not<T>(
     holds(rt, rest == if answer.is_ok() { appended } else { &[] });
 }
 
-// The first growth is for the vector, the plain text, the padding, the check value, or for none.
+// There is room for nothing of the body, for a part of it, or for all of it.
 #[test]
 fn sealing_without_memory(rt: HostRuntime) {
     let Ok(caller) = caller(rt.alloc()) else {
@@ -62,6 +64,8 @@ fn opening_without_memory(rt: HostRuntime) {
     // What doesn't open takes no memory.
     let refused = caller.open(&KEYS, b"another head", body_of_21(), &mut out);
     holds(&rt, refused == Ok(false));
+    let refused = caller.open(&KEYS, &HEAD, padding_too_long(), &mut out);
+    holds(&rt, refused == Ok(false));
 }
 
 #[test]
@@ -73,6 +77,9 @@ fn answering_without_memory(rt: HostRuntime) {
     if public.is_err() {
         holds(&rt, caller.public(rt.alloc(), &FIRST).is_ok());
     }
+    // To refuse a public value takes no memory.
+    let refused = caller.shared(rt.alloc(), &FIRST, &[0; 256]);
+    holds(&rt, matches!(refused, Ok(None)));
     let shared = caller.shared(rt.alloc(), &FIRST, &[2; 256]);
     if shared.is_err() {
         let again = caller.shared(rt.alloc(), &FIRST, &[2; 256]);
