@@ -1,0 +1,49 @@
+//! Check values of many messages side by side: HMAC-SHA-256-128 (RFC 4868), as crate `mac` has it, in eight lanes.
+//!
+//! SHA-256 takes the blocks of one message in turn, and so leaves most of a processor idle. Here eight messages go through it
+//! at once, one in each lane of a vector. Each has its key, and may have any length: a lane whose message has ended waits for
+//! the others. So that few lanes wait, messages with as many blocks go side by side, in whatever order they come; where too few
+//! are left to fill lanes, they are computed alone. The values are the same in each case: that of [`mac::IcvKey::icv`].
+//!
+//! Nothing here takes memory: the values go to places that the caller gives, and what is kept between stands on the stack.
+//!
+//! ```rust
+//! use lanes::{LaneKey, Task, icv_all};
+//!
+//! let first = LaneKey::new(&[0x0b; 32]);
+//! let second = LaneKey::new(&[0x0c; 32]);
+//! let half = 7u32.to_be_bytes();
+//! let tasks = [
+//!     Task { key: &first, octets: b"a packet", more: &half },
+//!     Task { key: &second, octets: b"a packet without more", more: &[] },
+//! ];
+//! let mut values = [[0; 16]; 2];
+//! icv_all(&tasks, &mut values);
+//! assert_eq!(rt; values[0], mac::icv(&[0x0b; 32], &[b"a packet", &half]));
+//! ```
+//!
+//! From the bottom: [`words`] has the functions of SHA-256 on vectors, [`rounds`] its compression, [`blocks`] brings words into
+//! lanes and out of them, [`padding`] and [`message`] say which block comes next, [`absorbing`] hashes, [`tagging`] makes HMAC of
+//! it, [`eight`] takes eight messages, and [`order`] and [`batch`] any number of them.
+#![tactic(auto)]
+
+mod absorbing;
+mod batch;
+mod blocks;
+mod constants;
+mod eight;
+mod key;
+mod message;
+mod order;
+mod padding;
+mod pads;
+mod rounds;
+mod tagging;
+mod task;
+#[cfg(test)]
+mod tests;
+mod words;
+
+pub use batch::icv_all;
+pub use key::LaneKey;
+pub use task::Task;
