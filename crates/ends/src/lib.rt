@@ -1,7 +1,7 @@
-//! Whole ends: machines of IKE, gateways, and what the program plays and prints. The crate `vectors` says why tests stand apart.
+//! What the program plays and prints, whole. The crate `vectors` says why tests stand apart.
 //!
-//! `gateways` has whole gateways by the library's calls, as far as no script shows them; scripts play them in `of_engine`.
-//! `of_ike` has the machine of one end by its own step, `of_moments` what comes of a moment, `texts` what each fault prints.
+//! `of_engine` plays scripts and shows messages, `of_moments` has what comes of a moment, `of_console` what is read, `texts` what each fault
+//! prints. Whole gateways by the library's calls stand in the crate `gateways`.
 #![tactic(auto)]
 
 #[cfg(test)]

@@ -3,7 +3,7 @@ mod deleting;
 mod further_children;
 mod sealing;
 
-use crate::tests::gateways::sample::{config, fresh, policy};
+use crate::tests::sample::{config, fresh, policy};
 use association::MessageFault;
 use base::Items;
 use caller::ScriptCaller;

@@ -1,7 +1,7 @@
 //! Deletions that no script writes (RFC 7296, sections 1.4.1, 2.5, 2.21.3 and 3.11).
 use super::sealing::{INFORMATIONAL, INVALID_SYNTAX, NOTIFY, Sent, asked, counted};
 use super::{Side, agree, established, sent};
-use crate::tests::gateways::sample::fresh;
+use crate::tests::sample::fresh;
 use base::Items;
 use gateway::End;
 use ike::{Demand, IkeInput};

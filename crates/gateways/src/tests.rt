@@ -1,0 +1,7 @@
+mod every_run;
+mod flood;
+mod lists;
+mod notices;
+mod of_ike;
+mod of_peers;
+mod sample;
