@@ -1,0 +1,19 @@
+//! Two ends of one IKE association, by their moves alone (RFC 7296 sections 2.1 to 2.3).
+//!
+//! The crate knows keys, numbers and octets, and no payload, gateway or datagram. It has no code that runs: its [`laws`] say what holds of
+//! two ends over every list of steps of either, in any order, as long as what takes effect or is counted at one of them was sent by the
+//! other, and neither came to the same keys twice. In each direction:
+//!
+//! - What is in effect at one end was issued by the other, and what is answered there is in effect here.
+//! - All numbers below a gap are in effect, none from a window above it on, and no more are under way than the peer's window allows.
+//! - With windows of one the requests in effect are the first ones, those answered are the same or all but the last, and none is skipped.
+//! - All that an end sends with one number is one request, and one response.
+//!
+//! The same holds of two parties that hold many associations, for each key record under which both hold one.
+//!
+//! What an end is and does stands in `specs/Ends`, a list of steps and its premises in `specs/Histories`, what stays so in
+//! `specs/Soundness`, what is promised in `specs/Promises`, and parties in `specs/Parties`. `specs/Worked` has a list for which the premises
+//! hold.
+#![tactic(auto)]
+
+pub mod laws;
