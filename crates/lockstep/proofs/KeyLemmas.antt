@@ -1,5 +1,5 @@
 -- Keys that are told apart, and what is sent under one of them.
-use Rattle.std.proofs.Common.{◌≡◌, ◌⊎◌, ◌+◌, ◌++◌, ◌∷◌, Bool, true, false, List, [], Contains, nat_eq, ap, subst, refl, sym, arith, inl, inr}
+use Rattle.std.proofs.Common.{◌≡◌, ◌⊎◌, ◌↔◌, ◌+◌, ◌++◌, ◌∷◌, Bool, true, false, List, [], Contains, nat_eq, ap, subst, refl, sym, arith, inl, inr}
 use Rattle.std.specs.Prelude.{if◌then◌else◌}
 use Rattle.std.specs.Bool.{Decides}
 use Rattle.std.specs.Cmp.Lexicographic.{pointwise, pointwise_decides}
@@ -69,6 +69,15 @@ times_append keys (k ∷ xs) ys = (let rest = times_append keys xs ys in omega (
 
 pub one_time : (keys : KeyRecord) → times keys (keys ∷ []) ≡ 1
 one_time keys = ap (λ b. (if b then 1 else 0) + 0) (is_same keys keys refl)
+
+pub time_of_one : (keys k : KeyRecord) → times keys (k ∷ []) ≡ 1 ↔ (k ≡ keys)
+time_of_one keys k = (
+  λ is. elim (told (same_keys keys k)) [
+    | inl same ↦ sym (same_is keys k same)
+    | inr apart ↦ absurd (let none : times keys (k ∷ []) ≡ 0 = ap (λ b. (if b then 1 else 0) + 0) apart in omega (arith, is, none))
+  ],
+  λ is. ap (λ b. (if b then 1 else 0) + 0) (is_same keys k (sym is)),
+)
 
 pub at_head : {X : Type 0} (x : X) (xs : List X) → Contains (x ∷ xs) x
 at_head {X} x xs = Contains-append_left (x ∷ []) xs x (Contains-push [] x)

@@ -334,8 +334,8 @@ windows_under keys parties asking answering sound held =
     let d = direction_under keys parties asking answering sound held in
     within_windows asking answering d.sent d.others d.roles d.one d.other
 
-pub in_step_under : (keys : KeyRecord) (parties : Parties) (asking answering : Ledger) → AreSoundParties keys parties → AreHeldUnder keys parties asking answering → answering.size ≡ 1
+pub in_step_under : (keys : KeyRecord) (parties : Parties) (asking answering : Ledger) → AreSoundParties keys parties → AreHeldUnder keys parties asking answering
     → asking.window ≡ 1 → AreInStep asking answering
-in_step_under keys parties asking answering sound held size window =
+in_step_under keys parties asking answering sound held window =
     let d = direction_under keys parties asking answering sound held in
-    in_step asking answering d.sent d.others d.roles d.one d.other size window
+    in_step asking answering d.sent d.others d.roles d.one d.other window

@@ -85,21 +85,25 @@ module _ (asking answering : Ledger) (sent others : List Entry) (roles : answeri
         behind = unanswered_behind;
       }
 
-  pub in_step : answering.size ≡ 1 → asking.window ≡ 1 → AreInStep asking answering
-  in_step size window =
+  pub in_step : asking.window ≡ 1 → AreInStep asking answering
+  in_step window =
       let mine = one.windows in
       let theirs = other.windows in
       let within = mine.within in
+      let no_more_issued = above_gap answering.in_effect theirs.gap asking.next theirs.is_gap
+      (lacks_if_not answering.in_effect asking.next (λ has. let less = issued_and_in_effect.issued asking.next has in omega (arith, less))) in
       record {
         taken = theirs.gap;
-        in_effect = below_gap answering.in_effect theirs.gap theirs.is_gap (λ n above. theirs.none_above n (omega (arith, above, size)));
+        in_effect = below_gap answering.in_effect theirs.gap theirs.is_gap
+            (λ n above. lacks_if_not answering.in_effect n
+            (λ has. let less = issued_and_in_effect.issued n has in omega (arith, above, less, within, window, unanswered_behind)));
         counted = mine.unanswered;
         answered = below_gap asking.answered mine.unanswered mine.is_unanswered
             (λ n above. lacks_if_not asking.answered n (λ has. let less = mine.answered_issued n has in omega (arith, above, less, within, window)));
         no_more_counted = unanswered_behind;
-        no_more_issued = above_gap answering.in_effect theirs.gap asking.next theirs.is_gap
-            (lacks_if_not answering.in_effect asking.next (λ has. let less = issued_and_in_effect.issued asking.next has in omega (arith, less)));
+        no_more_issued = no_more_issued;
         one_under_way = omega (arith, within, window);
+        one_ahead = omega (arith, within, window, no_more_issued);
       }
 
 -- ---- the two directions
@@ -142,10 +146,10 @@ sound_windows ends asking answering sound held =
     let d = direction_of ends asking answering sound held.roles held.held in
     within_windows asking answering d.sent d.others d.roles d.one d.other
 
-pub sound_in_step : (ends : Ends) (asking answering : Ledger) → AreSoundEnds ends → AreHeld ends asking answering → answering.size ≡ 1 → asking.window ≡ 1 → AreInStep asking answering
-sound_in_step ends asking answering sound held size window =
+pub sound_in_step : (ends : Ends) (asking answering : Ledger) → AreSoundEnds ends → AreHeld ends asking answering → asking.window ≡ 1 → AreInStep asking answering
+sound_in_step ends asking answering sound held window =
     let d = direction_of ends asking answering sound held.roles held.held in
-    in_step asking answering d.sent d.others d.roles d.one d.other size window
+    in_step asking answering d.sent d.others d.roles d.one d.other window
 
 -- ---- over a list of steps
 

@@ -12,7 +12,7 @@ use Rattle.requests.specs.Incoming.{IsPassed}
 use Rattle.requests.specs.Numbers.{HasNumber}
 use Rattle.effects.specs.Moves.{first_ledger, Count, Counts, Issue, Issues, Lead, Ledger, Make, Move, TakeEffect, TakesEffectOnce}
 use Rattle.lockstep.specs.Ends.{fresh_end, made_end, request_of, response_of, sent_in, Does, End, Entry}
-use Rattle.lockstep.specs.Histories.{Ends, HasRequest, HasResponse, IsHistory, IsRun}
+use Rattle.lockstep.specs.Histories.{Ends, HasRequest, HasResponse, IsGenuineAtOnce, IsHistory, IsRun}
 use Rattle.lockstep.specs.Worked.{answered_ledger, asked_ledger, asking_party, fresh_ends, new_party, waiting_ledger, worked_ends, worked_steps, worked_turn, zero_and_one}
 use Rattle.lockstep.specs.Parties.{IsSentNow, Marked, TakesTurn}
 use Rattle.lockstep.proofs.KeyLemmas.{at_head, at_head_or_further, marked, none_there}
@@ -134,6 +134,10 @@ module _ (keys : KeyRecord) (request reply : Octets) where
     one_distinct = omega arith;
     other_distinct = omega arith;
   }
+
+module _ (keys : KeyRecord) (request reply : Octets) where
+  pub worked_at_once : IsGenuineAtOnce [] [] (worked_steps keys request reply)
+  worked_at_once = ((tt, tt), ((tt, (tt, tt)), ((request_there keys request reply, tt), (tt, ((response_there keys request reply, tt), tt)))))
 
 -- ---- the worked turn
 

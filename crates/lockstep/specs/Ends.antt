@@ -21,7 +21,7 @@ response_of number octets = record { response = true; number = number; octets = 
 pub record End : Type 0 where
   -- none before the end has come to the keys, and none once it has let the association go
   pub ledger : Option Ledger
-  -- how often it came to the keys
+  -- how often it came to keys
   pub made : ℕ
   -- all that it sent under them, in this order
   pub sent : List Entry

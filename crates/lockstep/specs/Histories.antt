@@ -57,7 +57,8 @@ IsGenuineAtOnce one other [] = Unit {0}
 IsGenuineAtOnce one other (AtOne deed ∷ steps) = AreGenuine other deed.moves × IsGenuineAtOnce (one ++ sent_in deed.moves ++ deed.again) other steps
 IsGenuineAtOnce one other (AtOther deed ∷ steps) = AreGenuine one deed.moves × IsGenuineAtOnce one (other ++ sent_in deed.moves ++ deed.again) steps
 
--- These steps lead from the old ends to the new ones, no message was forged, and neither end came to the same keys twice.
+-- These steps lead from the old ends to the new ones, no message was forged, and neither end came to keys more than once. (Of many
+-- associations see Parties, which counts by key record.)
 pub record IsHistory (old : Ends) (steps : List Step) (new : Ends) : Type 0 where
   pub run : IsRun old steps new
   pub genuine : IsGenuine new steps

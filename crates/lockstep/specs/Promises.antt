@@ -28,7 +28,8 @@ lacking_below numbers zero = 0
 lacking_below numbers (suc n) = (if set.contains numbers n then 0 else 1) + lacking_below numbers n
 
 -- The windows: at the end that answers all numbers below the gap are in effect, and none from a window above it on. At the one that asks,
--- what is under way lies in the peer's window, which begins at the least number that is not answered, and so is no more than the window.
+-- what is under way lies in the window that it counts for its peer, which begins at the least number that is not answered, and so is no
+-- more than that window.
 pub record AreWithinWindows (asking answering : Ledger) : Type 0 where
   pub gap : ℕ
   pub is_gap : IsGap answering.in_effect gap
@@ -44,7 +45,7 @@ pub record AreWithinWindows (asking answering : Ledger) : Type 0 where
   pub behind : unanswered ≤ gap
 
 -- Step by step: the requests in effect at the other end are the first `taken`, those that are answered the first `counted`, none skipped,
--- and at most one is under way.
+-- and at most one is under way. IKE_SA_INIT is counted in both for the initiator's requests.
 pub record AreInStep (asking answering : Ledger) : Type 0 where
   pub taken : ℕ
   pub in_effect : (n : ℕ) → HasNumber answering.in_effect n ↔ (n < taken)
@@ -53,3 +54,4 @@ pub record AreInStep (asking answering : Ledger) : Type 0 where
   pub no_more_counted : counted ≤ taken
   pub no_more_issued : taken ≤ asking.next
   pub one_under_way : asking.next ≤ counted + 1
+  pub one_ahead : taken ≤ counted + 1

@@ -24,13 +24,14 @@ HasAsked asking sent number = IsInitial asking number ⊎ HasRequest sent number
 abbrev pub HasAnswered : Role → List Entry → ℕ → Type 0
 HasAnswered asking sent number = IsInitial asking number ⊎ HasResponse sent number
 
--- a window has 1 to 16 places (section 2.3)
+-- a window has one place at least (section 2.3), and 16 at most, a limit of this implementation
 pub record IsWide (size : ℕ) : Type 0 where
   pub some : 1 ≤ size
   pub most : size ≤ 16
 
 -- What one end knows of its own numbers (sections 2.2 and 2.3). The peer's requests: all below the gap are in effect, and none from a
--- window above it on. Its own: what waits or is answered was issued, and not both, and what was issued lies in the peer's window.
+-- window above it on. Its own: what waits or is answered was issued, and not both, and none is issued from the end of the window on that it
+-- counts for its peer.
 pub record IsWithinWindows (l : Ledger) : Type 0 where
   pub size : IsWide l.size
   pub gap : ℕ

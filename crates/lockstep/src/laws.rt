@@ -9,11 +9,11 @@ ghost use Rattle.lockstep.specs.Ends.{request_of, response_of, Deed, Does, End, 
 ghost use Rattle.lockstep.specs.Histories.{AreGenuine, Ends, IsGenuine, IsGenuineAtOnce, IsHistory, IsRun, Step, Takes};
 ghost use Rattle.lockstep.specs.Parties.{times, under, AreHeldUnder, AreSoundParties, IsGenuineTurn, IsNewParty, IsSoundParty, Marked, Parties, Party, TakesTurn, Turn};
 ghost use Rattle.lockstep.specs.Promises.{AreHeld, AreInStep, AreIssuedAndInEffect, AreWithinWindows};
-ghost use Rattle.lockstep.specs.Soundness.{AreNewEnds, AreSoundEnds, HasAnswered, HasAsked, IsSoundEnd, IsSoundLedger};
+ghost use Rattle.lockstep.specs.Soundness.{AreNewEnds, AreSoundEnds, HasAnswered, HasAsked, IsSoundEnd, IsSoundLedger, SendsOnce};
 ghost use Rattle.lockstep.specs.Worked.{answered_ledger, asked_ledger, asking_party, fresh_ends, new_party, worked_ends, worked_steps, worked_turn};
 
-/// Two ends that never came to the keys, or came to them just now, are sound, and stay so over every list of steps, and over one step where what
-/// it takes was sent till then.
+/// Two ends that never came to the keys, or came to them just now, are sound, and stay so over every history, and over one step where what it
+/// takes was sent till then.
 pub fn ends_stay_sound()
     ensures begun { (ends : Ends) → AreNewEnds ends → AreSoundEnds ends }
     ensures kept { (old new : Ends) (steps : List Step) → AreSoundEnds old → IsHistory old steps new → AreSoundEnds new }
@@ -51,7 +51,7 @@ pub fn requests_are_issued_and_in_effect()
 {}
 
 /// In each direction, all numbers below a gap are in effect and none from a window above it on, and no more are issued and unanswered than
-/// the peer's window allows.
+/// the window that the asking end counts for its peer.
 pub fn windows_hold()
     ensures sound { (ends : Ends) (asking answering : Ledger) → AreSoundEnds ends → AreHeld ends asking answering
         → AreWithinWindows asking answering }
@@ -59,13 +59,13 @@ pub fn windows_hold()
         → AreHeld new asking answering → AreWithinWindows asking answering }
 {}
 
-/// In each direction, where the windows have one place: the requests in effect at one end are the first ones, those that the other counts as
-/// answered are the same or all but the last, and none is skipped. Windows only widen, so they had one place all along.
+/// In each direction, where the end that asks counts one place for its peer: the requests in effect at the other end are the first ones, those
+/// that it counts as answered are the same or all but the last, and none is skipped. Windows only widen, so it counted one all along.
 pub fn windows_of_one_keep_in_step()
     ensures sound { (ends : Ends) (asking answering : Ledger) → AreSoundEnds ends → AreHeld ends asking answering
-        → answering.size ≡ 1 → asking.window ≡ 1 → AreInStep asking answering }
+        → asking.window ≡ 1 → AreInStep asking answering }
     ensures always { (old new : Ends) (steps : List Step) (asking answering : Ledger) → AreNewEnds old → IsHistory old steps new
-        → AreHeld new asking answering → answering.size ≡ 1 → asking.window ≡ 1 → AreInStep asking answering }
+        → AreHeld new asking answering → asking.window ≡ 1 → AreInStep asking answering }
 {}
 
 /// With a window of one the requests take effect in the order of their numbers, and so are they answered: each is the least that was not yet.
@@ -90,6 +90,8 @@ pub fn numbers_are_sent_once()
         → Contains e.sent (request_of n a) → Contains e.sent (request_of n b) → a ≡ b }
     ensures response { (e : End) (others : List Entry) (n : ℕ) (a b : Octets) → IsSoundEnd e others
         → Contains e.sent (response_of n a) → Contains e.sent (response_of n b) → a ≡ b }
+    ensures always { (old new : Ends) (steps : List Step) → AreNewEnds old → IsHistory old steps new
+        → SendsOnce new.one.sent × SendsOnce new.other.sent }
 {}
 
 /// What is under some keys is all that was sent under them, and what was stored later comes after it.
@@ -97,6 +99,7 @@ pub fn what_was_sent_under_keys_is_told()
     ensures there { (keys : KeyRecord) (sent : List Marked) (entry : Entry)
         → Contains (under keys sent) entry ↔ Contains sent (record { keys = keys; entry = entry }) }
     ensures later { (keys : KeyRecord) (sent more : List Marked) → under keys (sent ++ more) ≡ under keys sent ++ under keys more }
+    ensures one { (keys k : KeyRecord) → times keys (k ∷ []) ≡ 1 ↔ (k ≡ keys) }
     ensures counted { (keys : KeyRecord) (made more : List KeyRecord) → times keys (made ++ more) ≡ times keys made + times keys more }
 {}
 
@@ -109,7 +112,8 @@ pub fn each_party_stays_sound()
         → ((entry : Entry) → Contains others entry → Contains later entry) → IsSoundParty keys p later }
 {}
 
-/// Two parties that hold nothing are sound under each key record, and stay so over each turn of either.
+/// Two parties that hold nothing are sound under each key record, and stay so over each turn of either, where what it takes under the record was
+/// sent under it by the other till then, and it came to the record once at most.
 pub fn parties_stay_sound()
     ensures begun { (keys : KeyRecord) (parties : Parties) → IsNewParty parties.one → IsNewParty parties.other
         → AreSoundParties keys parties }
@@ -128,7 +132,7 @@ pub fn parties_keep_in_step()
     ensures windows { (keys : KeyRecord) (parties : Parties) (asking answering : Ledger) → AreSoundParties keys parties
         → AreHeldUnder keys parties asking answering → AreWithinWindows asking answering }
     ensures steps { (keys : KeyRecord) (parties : Parties) (asking answering : Ledger) → AreSoundParties keys parties
-        → AreHeldUnder keys parties asking answering → answering.size ≡ 1 → asking.window ≡ 1 → AreInStep asking answering }
+        → AreHeldUnder keys parties asking answering → asking.window ≡ 1 → AreInStep asking answering }
 {}
 
 /// The premises are met by two ends that come to the same keys, of which one asks and the other answers, twice with the same octets; and what
@@ -136,9 +140,13 @@ pub fn parties_keep_in_step()
 pub fn premises_are_met()
     ensures history { (keys : KeyRecord) (request reply : Octets)
         → IsHistory fresh_ends (worked_steps keys request reply) (worked_ends keys request reply) }
+    ensures at_once { (keys : KeyRecord) (request reply : Octets) → IsGenuineAtOnce [] [] (worked_steps keys request reply) }
     ensures new { AreNewEnds fresh_ends }
     ensures held { (keys : KeyRecord) (request reply : Octets)
         → AreHeld (worked_ends keys request reply) (asked_ledger keys request) (answered_ledger keys reply) }
+    ensures held_back { (keys : KeyRecord) (request reply : Octets)
+        → AreHeld (worked_ends keys request reply) (answered_ledger keys reply) (asked_ledger keys request) }
+    ensures once { (keys : KeyRecord) (request : Octets) → times keys (asking_party keys request).made ≡ 1 }
     ensures turn { (keys : KeyRecord) (request : Octets)
         → TakesTurn (worked_turn keys request) new_party (asking_party keys request) }
 {}

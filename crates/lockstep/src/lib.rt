@@ -2,11 +2,12 @@
 //!
 //! The crate knows keys, numbers and octets, and no payload, gateway or datagram. It has no code that runs: its [`laws`] say what holds of
 //! two ends over every list of steps of either, in any order, as long as what takes effect or is counted at one of them was sent by the
-//! other, and neither came to the same keys twice. In each direction:
+//! other, and neither came to keys more than once. In each direction:
 //!
 //! - What is in effect at one end was issued by the other, and what is answered there is in effect here.
-//! - All numbers below a gap are in effect, none from a window above it on, and no more are under way than the peer's window allows.
-//! - With windows of one the requests in effect are the first ones, those answered are the same or all but the last, and none is skipped.
+//! - All numbers below a gap are in effect, none from a window above it on, and no more are under way than the window that the asking end counts
+//!   for its peer. That the peer told it is not seen here: moves know no payload.
+//! - Where that window is one the requests in effect are the first ones, those answered are the same or all but the last, and none is skipped.
 //! - All that an end sends with one number is one request, and one response.
 //!
 //! The same holds of two parties that hold many associations, for each key record under which both hold one.

@@ -5,5 +5,5 @@ pub returns-clause-sound : goal.returns-clause-sound
 returns-clause-sound c = sound_in_step
 
 pub returns-clause-always : goal.returns-clause-always
-returns-clause-always c = λ old new steps asking answering begun is held size window.
-    sound_in_step new asking answering (always_sound old new steps begun is) held size window
+returns-clause-always c = λ old new steps asking answering begun is held window.
+    sound_in_step new asking answering (always_sound old new steps begun is) held window
