@@ -1,4 +1,3 @@
-mod every_run;
 mod flood;
 mod lists;
 mod notices;
