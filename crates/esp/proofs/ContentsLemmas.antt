@@ -1,6 +1,6 @@
 -- The parts of a packet, by their places.
-use Rattle.std.proofs.Common.{◌≡◌, ℕ, zero, suc, ◌+◌, ◌-◌, ◌<◌, ◌≤◌, List, [], ◌∷◌, ◌++◌, length, take, drop, get_or, refl, sym, ap, ◌∙◌, subst, arith, inl, inr, add-one, length-append, length-drop}
-use Rattle.std.proofs.lemmas.List.{append_assoc, take-append-drop, drop-drop, drop_more, take_more, take_at, drop_at, get_or_at, get_or_append_left, length-take-le, take_all, get_or_push, append-nil}
+use Rattle.std.proofs.Common.{◌≡◌, ℕ, zero, suc, ◌+◌, ◌-◌, ◌<◌, ◌≤◌, List, [], ◌∷◌, ◌++◌, length, take, drop, get_or, refl, sym, ap, ◌∙◌, arith, inl, inr, add-one, length-append, length-drop}
+use Rattle.std.proofs.lemmas.List.{append_assoc, take-append-drop, drop-drop, drop_more, take_more, take_at, drop_at, get_or_at, get_or_append_left, length-take-le, get_or_push}
 use Rattle.std.proofs.lemmas.Bool.{cases_lt}
 use Rattle.esp.specs.Packet.{padding, trailer, IsContents}
 

@@ -3,6 +3,9 @@ pub mod HistoryLemmas
 pub mod ContentsLemmas
 pub mod OpeningLemmas
 pub mod SealingLemmas
+pub mod LayingLemmas
+pub mod AheadLemmas
+pub mod GroupLemmas
 pub mod PacketLemmas
 pub mod WorkedLemmas
 pub mod Runs

@@ -1,22 +1,21 @@
 -- From what the steps of opening find to what is said of the whole.
-use Rattle.std.proofs.Common.{◌≡◌, ◌≢◌, ℕ, zero, suc, ◌+◌, ◌-◌, ◌*◌, ◌/◌, ◌%◌, ◌^◌, ◌<◌, ◌≤◌, Bool, true, false, List, [], ◌∷◌, ◌++◌, length, take, drop, get_or, refl, sym, ap, ◌∙◌, subst, arith, inl, inr, Result, Ok, Err, length-append, length-drop}
-use Rattle.std.specs.Prelude.{OnOk, OnErr, slice_index}
+use Rattle.std.proofs.Common.{◌≡◌, ◌≢◌, ℕ, ◌+◌, ◌-◌, ◌%◌, ◌^◌, ◌<◌, ◌≤◌, Bool, true, false, List, ◌++◌, length, take, drop, get_or, refl, sym, ap, ◌∙◌, subst, arith, inl, inr, Result, Ok, Err, length-append, length-drop}
+use Rattle.std.specs.Prelude.{OnOk, OnErr}
 use Rattle.std.specs.Result.{is_err}
-use Rattle.std.specs.Int.{w32, from_be_bytes, to_be_bytes}
-use Rattle.std.proofs.lemmas.List.{take-append-drop, drop-drop, take-take, drop-take, take_at, drop_at, get_or-take, get_or-drop, get_or_past, length-take-le}
+use Rattle.std.proofs.lemmas.List.{take-append-drop, take-take, drop-take, take_at, drop_at, get_or-take, get_or-drop, get_or_past, length-take-le}
 use Rattle.std.proofs.lemmas.Nat.{be_bytes_4}
-use Rattle.std.proofs.lemmas.Bool.{cases_Bool, cases_lt}
-use Rattle.byteorder.specs.Endian.{big_bytes, big_number}
-use Rattle.replay.specs.Window.{Seen, IsSoundWindow, Takes, judgement}
-use Rattle.replay.specs.WindowFacts.{IsFresh, fresh}
+use Rattle.std.proofs.lemmas.Bool.{cases_lt}
+use Rattle.byteorder.specs.Endian.{big_bytes}
+use Rattle.replay.specs.Window.{Seen, Takes}
+use Rattle.replay.specs.WindowFacts.{fresh}
 use Rattle.esp.specs.declared.association.Association.{Association}
 use Rattle.esp.specs.Packet.{number_limit, head, check_value, PassesIntegrity, IsContents}
-use Rattle.esp.specs.Judging.{IsJudgedLength, low_half, IsNumber, Judges}
+use Rattle.esp.specs.Judging.{low_half, IsNumber, Judges}
 use Rattle.esp.specs.Views.{Receiving}
 use Rattle.esp.proofs.ContentsLemmas.{payload_at}
-use Rattle.esp.specs.Opening.{IsFreshNumber, TakesNumber, HandsUp, WastesNumber, Refuses, Step}
+use Rattle.esp.specs.Opening.{IsFreshNumber, TakesNumber, HandsUp, Refuses, Step}
 use Rattle.esp.specs.declared.answer.Answer.{Answer}
-use Rattle.esp.specs.declared.answer.Answer.TheVariants.{Up, Refused}
+use Rattle.esp.specs.declared.answer.Answer.TheVariants.{Refused}
 use Rattle.esp.specs.declared.fault.EspFault.{EspFault}
 use Rattle.esp.specs.declared.fault.EspFault.TheVariants.{Memory}
 

@@ -1,17 +1,17 @@
 -- What a sealed packet is to its receiver.
-use Rattle.std.proofs.Common.{◌≡◌, ℕ, zero, suc, ◌+◌, ◌-◌, ◌%◌, ◌^◌, ◌<◌, ◌≤◌, List, [], ◌∷◌, ◌++◌, length, take, drop, get_or, refl, sym, ap, ◌∙◌, subst, arith, length-append}
+use Rattle.std.proofs.Common.{◌≡◌, ℕ, ◌+◌, ◌-◌, ◌%◌, ◌^◌, List, [], ◌∷◌, ◌++◌, length, take, drop, get_or, refl, sym, ap, ◌∙◌, arith, length-append}
 use Rattle.std.proofs.lemmas.List.{append_assoc, take_at, drop_at, get_or_at}
 use Rattle.byteorder.specs.Endian.{big_bytes, big_number}
 use Rattle.byteorder.specs.Numbers.{length-bytes_high_first, big_number-reads_back}
 use Rattle.mac.proofs.HmacLemmas.{length-icv_sha256}
 use Rattle.esp.specs.declared.association.Association.{Association}
-use Rattle.esp.specs.Packet.{head, padding, trailer, packet, check_value, IsPacket, PassesIntegrity, IsContents}
+use Rattle.esp.specs.Packet.{head, padding, trailer, check_value, IsPacket, PassesIntegrity, IsContents}
 use Rattle.esp.specs.Judging.{IsJudgedLength, low_half}
 use Rattle.esp.specs.Sealing.{IsShortestPacket, FitsPacket}
 use Rattle.esp.specs.Worked.{IsOpenable}
-use Rattle.esp.proofs.ContentsLemmas.{length-padding, contents_padded, payload_at}
+use Rattle.esp.proofs.ContentsLemmas.{length-padding, payload_at}
 
-length-head : (a : Association) (n : ℕ) → length (head a n) ≡ 8
+pub length-head : (a : Association) (n : ℕ) → length (head a n) ≡ 8
 length-head a n = length-append (big_bytes 4 a.spi) (big_bytes 4 (n % 2 ^ 32)) ∙ (let l = length-bytes_high_first 4 a.spi in let k = length-bytes_high_first 4 (n % 2 ^ 32) in omega arith)
 
 module _ (a : Association) (n next : ℕ) (payload : List ℕ) (p : ℕ) (b : List ℕ) (is : IsPacket a n next payload p b) where

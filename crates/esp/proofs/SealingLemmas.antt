@@ -1,10 +1,10 @@
 -- From what the steps of sealing append to the packet.
-use Rattle.std.proofs.Common.{◌≡◌, ℕ, zero, suc, ◌+◌, ◌-◌, ◌*◌, ◌/◌, ◌%◌, ◌^◌, ◌<◌, ◌≤◌, Bool, List, [], ◌∷◌, ◌++◌, length, take, drop, refl, sym, ap, ◌∙◌, subst, arith}
+use Rattle.std.proofs.Common.{◌≡◌, ℕ, zero, suc, ◌+◌, ◌%◌, ◌<◌, ◌≤◌, List, [], ◌∷◌, ◌++◌, length, take, drop, refl, sym, ap, ◌∙◌, subst, arith}
 use Rattle.std.proofs.lemmas.List.{append_assoc, append-nil, drop_at}
 use Rattle.esp.specs.declared.association.Association.{Association}
-use Rattle.esp.specs.Packet.{padding, trailer, packet, IsPacket, number_limit}
+use Rattle.esp.specs.Packet.{padding, packet, IsPacket, number_limit}
 use Rattle.esp.specs.Views.{Sending}
-use Rattle.esp.specs.Sealing.{IsShortestPacket, HasNumber, FitsPacket, Seals}
+use Rattle.esp.specs.Sealing.{IsShortestPacket, FitsPacket, Seals}
 
 -- the first octets of padding
 pub padding_first : (p : ℕ) → p < 4 → take p (1 ∷ 2 ∷ 3 ∷ []) ≡ padding p

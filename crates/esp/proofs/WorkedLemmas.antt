@@ -1,15 +1,15 @@
 -- The worked lists are judged as they say, and no check value in them is forged.
-use Rattle.std.proofs.Common.{◌≡◌, ℕ, zero, suc, ◌+◌, ◌%◌, ◌^◌, ◌<◌, ◌≤◌, Bool, true, false, cond, List, [], ◌∷◌, length, take, refl, sym, ap, ◌∙◌, subst, arith, inl, inr, ◌⊎◌, ◌↔◌, Some, None, Option}
+use Rattle.std.proofs.Common.{◌≡◌, ℕ, zero, suc, ◌+◌, ◌%◌, ◌^◌, ◌<◌, Bool, true, false, cond, List, length, take, refl, sym, ap, ◌∙◌, subst, arith, inl, inr, ◌⊎◌, ◌↔◌, Some, None, Option}
 use Rattle.std.specs.Prelude.{slice_get, nat_eq}
 use Rattle.std.specs.Ordering.{nat_cmp}
 use Rattle.std.specs.Cmp.{nat_cmp_total, unsigned_tied}
 use Rattle.std.specs.FinSet as set
 use Rattle.std.specs.FinMap as map
-use Rattle.std.proofs.lemmas.Bool.{cases_Bool, eqb-true, eq-eqb, both_ways, false≢true, or_left}
+use Rattle.std.proofs.lemmas.Bool.{eqb-true, eq-eqb, both_ways, false≢true, or_left}
 use Rattle.replay.specs.Window.{Seen}
 use Rattle.esp.specs.Packet.{IsPacket, PassesIntegrity}
 use Rattle.esp.specs.Judging.{low_half, IsNumber, Judges, IsJudgedLength}
-use Rattle.esp.specs.Delivery.{greatest, all_taken, taken_after, taken_at, History, IsJudged, Unforged}
+use Rattle.esp.specs.Delivery.{greatest, all_taken, taken_after, taken_at}
 use Rattle.esp.specs.Worked.{worked, worked_payload, worked_packet, repeated, repeated_sent, crossing, crossing_sent, IsWorked}
 use Rattle.esp.proofs.NumberLemmas.{one_number_of, judged_as_one, contains-insert_nat, greatest-insert, greatest-is}
 use Rattle.esp.proofs.PacketLemmas.{packet_passes, packet_whole, packet_low_half}

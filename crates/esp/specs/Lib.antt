@@ -3,6 +3,8 @@ pub mod Judging
 pub mod Views
 pub mod Faults
 pub mod Opening
+pub mod Ahead
 pub mod Sealing
+pub mod Laying
 pub mod Delivery
 pub mod Worked

@@ -4,7 +4,7 @@ use Rattle.std.specs.FinSet as set
 use Rattle.std.specs.FinMap as map
 use Rattle.std.specs.Ordering.{nat_cmp}
 use Rattle.esp.specs.declared.association.Association.{Association}
-use Rattle.esp.specs.Packet.{packet, IsPacket, PassesIntegrity, IsContents}
+use Rattle.esp.specs.Packet.{packet, PassesIntegrity, IsContents}
 use Rattle.esp.specs.Judging.{IsJudgedLength}
 use Rattle.esp.specs.Delivery.{History, IsJudged, Unforged}
 

@@ -2,8 +2,8 @@
 ghost use Rattle.std.specs.Prelude.{◌≡◌, ◌+◌, ◌<◌, [], if◌then◌else◌, IfSome, IfNone};
 ghost use Rattle.esp.specs.Packet.{check_value, number_limit};
 
-use crate::packet::high_half;
-use mac::IcvKey;
+use crate::key::IntegrityKey;
+use crate::packet::{high_half, unsent_of};
 
 /// What the two ends of a one-way association agree on (RFC 4301 section 4.1).
 #[derive(Drop)]
@@ -11,7 +11,7 @@ pub struct Association {
     /// The security parameters index, which each of its packets begins with.
     pub spi: u32,
     /// The integrity key of 32 octets, prepared once.
-    pub key: IcvKey,
+    pub key: IntegrityKey,
     /// Whether sequence numbers have 64 bits, of which 32 are sent (RFC 4303 section 2.2.1), or 32.
     pub extended: bool,
 }
@@ -38,7 +38,7 @@ impl Association {
         ensures { result ≡ check_value self.now number covered.now }
     {
         let half = high_half(number);
-        let unsent = if self.extended { &half[..] } else { &[] };
-        self.key.icv(&[covered, unsent])
+        let unsent = unsent_of(self.extended, &half);
+        self.key.prepared().icv(covered, unsent)
     }
 }

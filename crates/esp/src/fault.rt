@@ -74,3 +74,22 @@ impl ListFault {
         }
     }
 }
+
+/// Why a list of payloads was not sealed to its end.
+#[derive(Clone, Copy, Debug, PartialEq, Eq, Error)]
+#[error("{fault}, after {sealed} packets")]
+pub struct SealStop {
+    /// So many payloads were sealed, and none after them.
+    pub sealed: usize,
+    /// Why the next one was not.
+    pub fault: EspFault,
+}
+
+impl SealStop {
+    /// The refusal's number, as programs print it behind `E`.
+    pub fn code(self) -> u8
+        ensures { result ≡ code_of_esp_fault self.fault }
+    {
+        self.fault.code()
+    }
+}

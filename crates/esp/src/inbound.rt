@@ -5,13 +5,17 @@ ghost use Rattle.std.specs.Vec.{vec_capacity};
 ghost use Rattle.replay.specs.Window.{IsSoundWindow};
 ghost use Rattle.esp.specs.Judging.{IsNumber};
 ghost use Rattle.esp.specs.Packet.{check_value, IsOf};
+ghost use Rattle.esp.specs.Ahead.{AreAhead, IsAhead, IsAsked, RunsFirst};
 ghost use Rattle.esp.specs.Opening.{IsOpeningRefusal, IsFreshNumber, HandsUp, Refuses, Step};
 ghost use Rattle.esp.specs.Delivery.{AnswersFirst, IsStop, JudgesAtMostOnce, JudgesExactlyAtFirst, answers_since, octets_of};
 
+use crate::ahead::{Ahead, Asked, ahead_at, values_ahead};
 use crate::association::Association;
-use crate::packet::{CHECK, HEAD, contents, is_judged_length, low_half_of};
+use crate::key::IntegrityKey;
+use crate::load::{FEWEST, gain_by_lanes};
+use crate::packet::{CHECK, HEAD, contents, high_half, is_judged_length, low_half_of};
+use crate::signing::GROUP;
 use crate::{Answer, EspFault, ListFault};
-use mac::IcvKey;
 use replay::{Judgement, Window, recover};
 use std::marker::Model;
 
@@ -52,7 +56,7 @@ impl<W: Window> Inbound<W> {
           window = W.seen window;
         } }
     {
-        let key = IcvKey::new(key);
+        let key = IntegrityKey::new(key);
         Inbound {
             association: Association { spi, key, extended },
             window,
@@ -107,8 +111,22 @@ impl<W: Window> Inbound<W> {
         ensures up { IfOk result (λ o. HandsUp self.old packet.now o.number o.next o.payload.now self.new) }
         ensures refused { IfErr result (λ e. Refuses W.may_want self.old packet.now e self.new) }
     {
+        self.open_with(packet, None)
+    }
+
+    /// Opens a packet as [`Inbound::open`] does, with its check value where it was computed ahead for its number.
+    fn open_with<'a>(
+        &mut self,
+        packet: &'a [u8],
+        ahead: Option<Ahead>,
+    ) -> Result<Opened<'a>, EspFault>
+        requires mine { IsOf self.old.association packet.now }
+        requires ahead { IfSome ahead (IsAhead self.old.association packet.now) }
+        ensures up { IfOk result (λ o. HandsUp self.old packet.now o.number o.next o.payload.now self.new) }
+        ensures refused { IfErr result (λ e. Refuses W.may_want self.old packet.now e self.new) }
+    {
         let number = self.fresh_number(packet)?;
-        if !self.is_intact(packet, number) {
+        if !self.is_intact(packet, number, ahead) {
             return Err(EspFault::BadIcv);
         }
         if self.window.take(number).is_err() {
@@ -156,14 +174,20 @@ impl<W: Window> Inbound<W> {
         }
     }
 
-    /// Whether the packet's last octets are the check value for this number over the rest.
-    fn is_intact(&self, packet: &[u8], number: u64) -> bool
-        requires { 16 ≤ length packet.now }
+    /// Whether the packet's last octets are the check value for this number over the rest. A value that was computed ahead
+    /// for another number is of no use.
+    fn is_intact(&self, packet: &[u8], number: u64, ahead: Option<Ahead>) -> bool
+        requires long { 16 ≤ length packet.now }
+        requires ahead { IfSome ahead (IsAhead self.now.association packet.now) }
         ensures { IsTrue result ↔ (drop (length packet.now - 16) packet.now
             ≡ check_value self.now.association number (take (length packet.now - 16) packet.now)) }
     {
         let (covered, check) = packet.split_at(packet.len() - CHECK);
-        self.association.check_value(number, covered).as_slice() == check
+        let value = match ahead {
+            Some(ahead) if ahead.number == number => ahead.value,
+            _ => self.association.check_value(number, covered),
+        };
+        value.as_slice() == check
     }
 
     /// Opens packets in order, and appends an answer for each. The caller asks only with packets whose first four octets,
@@ -176,6 +200,12 @@ impl<W: Window> Inbound<W> {
     ///
     /// [`ListFault::NoRoom`] with the number of packets that were opened and answered, where there was no memory for the
     /// next answer. The place of an answer is reserved before its packet is opened: none is opened without its answer.
+    ///
+    /// Check values are computed side by side, for at most 64 packets at a time, where that gains time: those of the packets that
+    /// pass length, number and window as they are at the head of the group. Packets are judged one after the other all the
+    /// same, and where another number is recovered when a packet's turn comes its check value is computed again, alone. No
+    /// value is computed ahead of a packet that is refused before its check value at the head of its group; one that an earlier
+    /// packet of its group makes old or replayed costs its own. No memory is taken but for `out` and the window.
     pub fn open_all(&mut self, packets: &[Vec<u8>], out: &mut Vec<Answer>) -> Result<(), ListFault>
         requires { All (IsOf self.old.association) (octets_of packets.now) }
         ensures at_most_once { JudgesAtMostOnce self.old (octets_of packets.now) (answers_since out.old.items out.new.items) }
@@ -190,7 +220,7 @@ impl<W: Window> Inbound<W> {
         self.answer_each(packets, out)
     }
 
-    /// Opens packets in order, each after the place of its answer was reserved.
+    /// Opens packets in order, in groups.
     fn answer_each(&mut self, packets: &[Vec<u8>], out: &mut Vec<Answer>) -> Result<(), ListFault>
         requires { All (IsOf self.old.association) (octets_of packets.now) }
         ensures all { OnOk result (AnswersFirst W.may_want (length packets.now) self.old
@@ -201,22 +231,95 @@ impl<W: Window> Inbound<W> {
     {
         // Every window is sound, also where no packet comes.
         let _ = &self.window;
-        for (done, packet) in packets.iter().enumerate() {
-            if out.reserve(1).is_err() {
-                return Err(ListFault::NoRoom(done));
+        for group in 0..packets.len().div_ceil(GROUP) {
+            let start = GROUP * group;
+            let count = (packets.len() - start).min(GROUP);
+            let answered = self.answer_group(&packets[start..start + count], out);
+            if answered < count {
+                return Err(ListFault::NoRoom(start + answered));
             }
-            let answer = self.answer(packet);
-            out.push(answer).unwrap();
         }
         Ok(())
     }
 
+    /// Opens packets in order, at most as many as a group has; answers how many. Check values are computed ahead where that
+    /// gains time: a list of one packet, as most are, takes none of the room that it needs.
+    fn answer_group(&mut self, packets: &[Vec<u8>], out: &mut Vec<Answer>) -> usize
+        requires mine { All (IsOf self.old.association) (octets_of packets.now) }
+        requires few { length packets.now ≤ GROUP }
+        ensures first { RunsFirst W.may_want result self.old (octets_of packets.now) out.old.items self.new out.new.items }
+        ensures room { vec_len out.old + length packets.now ≤ vec_capacity out.old → result ≡ length packets.now }
+        ensures capacity { vec_capacity out.old ≤ vec_capacity out.new }
+        ensures size { vec_len out.new ≡ vec_len out.old + result }
+    {
+        if !gain_by_lanes(packets) {
+            return self.answer_with(packets, &[], out);
+        }
+        let (asked, count) = self.fresh_packets(packets);
+        if count < FEWEST {
+            return self.answer_with(packets, &[], out);
+        }
+        let ahead = values_ahead(&self.association, packets, &asked[..count]);
+        self.answer_with(packets, &ahead, out)
+    }
+
+    /// The packets that have a number that was not taken, as the receiver is now; and how many.
+    fn fresh_packets(&self, packets: &[Vec<u8>]) -> ([Asked; GROUP], usize)
+        requires { length packets.now ≤ GROUP }
+        ensures asked { All (IsAsked (octets_of packets.now)) (take result.1 result.0) }
+        ensures few { result.1 ≤ length packets.now }
+    {
+        let mut asked = [Asked {
+            place: 0,
+            number: 0,
+            half: [0; 4],
+        }; GROUP];
+        let mut count = 0;
+        for (place, packet) in packets.iter().enumerate() {
+            if let Ok(number) = self.fresh_number(packet) {
+                asked[count] = Asked {
+                    place,
+                    number,
+                    half: high_half(number),
+                };
+                count += 1;
+            }
+        }
+        (asked, count)
+    }
+
+    /// Opens packets in order, each after the place of its answer was reserved, with the check values that were computed
+    /// ahead; answers how many.
+    fn answer_with(
+        &mut self,
+        packets: &[Vec<u8>],
+        ahead: &[Option<Ahead>],
+        out: &mut Vec<Answer>,
+    ) -> usize
+        requires mine { All (IsOf self.old.association) (octets_of packets.now) }
+        requires ahead { AreAhead self.old.association (octets_of packets.now) ahead.now }
+        ensures first { RunsFirst W.may_want result self.old (octets_of packets.now) out.old.items self.new out.new.items }
+        ensures room { vec_len out.old + length packets.now ≤ vec_capacity out.old → result ≡ length packets.now }
+        ensures capacity { vec_capacity out.old ≤ vec_capacity out.new }
+        ensures size { vec_len out.new ≡ vec_len out.old + result }
+    {
+        for (done, packet) in packets.iter().enumerate() {
+            if out.reserve(1).is_err() {
+                return done;
+            }
+            let answer = self.answer(packet, ahead_at(ahead, done));
+            out.push(answer).unwrap();
+        }
+        packets.len()
+    }
+
     /// Opens one packet of a list.
-    fn answer(&mut self, packet: &[u8]) -> Answer
-        requires { IsOf self.old.association packet.now }
+    fn answer(&mut self, packet: &[u8], ahead: Option<Ahead>) -> Answer
+        requires mine { IsOf self.old.association packet.now }
+        requires ahead { IfSome ahead (IsAhead self.old.association packet.now) }
         ensures { Step W.may_want self.old packet.now result self.new }
     {
-        match self.open(packet) {
+        match self.open_with(packet, ahead) {
             Ok(
                 Opened {
                     number,

@@ -5,6 +5,11 @@
 //! most once, and a packet only if its check value is right. It is generic in the replay window, and over a
 //! `BlockWindow` opening takes no memory.
 //!
+//! Lists are sealed by [`Outbound::seal_all`] and opened by [`Inbound::open_all`], with the outcome of as many calls for one
+//! packet in order. Only their check values are computed side by side, by crate `lanes`, for at most 64 packets at a time;
+//! those of fewer than six packets, or of up to sixteen that are too unequal in length to gain by it, one by one. Packets are
+//! laid out, judged and taken one after the other.
+//!
 //! ```text
 //! let mut sender = Outbound::new(256, &key, false, 6);
 //! let mut receiver = Inbound::new(256, &key, false, BlockWindow::new(alloc, 2)?);
@@ -15,15 +20,19 @@
 //! ```
 #![tactic(auto)]
 
+mod ahead;
 mod answer;
 mod association;
 mod fault;
 mod inbound;
+mod key;
 pub mod laws;
+mod load;
 mod outbound;
 mod packet;
+mod signing;
 
 pub use answer::Answer;
-pub use fault::{EspFault, ListFault};
+pub use fault::{EspFault, ListFault, SealStop};
 pub use inbound::{Inbound, Opened};
 pub use outbound::Outbound;

@@ -1,14 +1,17 @@
 //! The sender's end of an association (RFC 4303 section 3.3).
-ghost use Rattle.std.specs.Prelude.{◌≡◌, ◌≢◌, ◌+◌, ◌%◌, ◌<◌, ◌≤◌, ◌++◌, length, vec_len, IfOk, IfErr};
+ghost use Rattle.std.specs.Prelude.{◌≡◌, ◌≢◌, ◌+◌, ◌<◌, ◌≤◌, [], ◌++◌, length, drop, vec_len, get_or, replicate, IfOk, IfErr, OnOk};
 ghost use Rattle.std.specs.Vec.{vec_capacity};
-ghost use Rattle.esp.specs.Packet.{joined_parts, packet};
-ghost use Rattle.esp.specs.Sealing.{Seals, IsSealRefusal};
+ghost use Rattle.esp.specs.Packet.{head, joined_parts, packet, trailer};
+ghost use Rattle.esp.specs.Sealing.{Seals, SealsFirst, IsSealRefusal, IsSealStop, most_octets, payloads_of};
+ghost use Rattle.esp.specs.Laying.{IsReady, Lays, LaysFirst};
 ghost use Rattle.esp.specs.declared.fault.EspFault.{EspFault};
 
-use crate::EspFault;
 use crate::association::Association;
-use crate::packet::{CHECK, HEAD, MOST_PAYLOAD, TAIL, head_of};
-use mac::IcvKey;
+use crate::key::IntegrityKey;
+use crate::load::gain_by_lanes;
+use crate::packet::{CHECK, HEAD, MOST_PAYLOAD, TAIL, head_of, least_padding};
+use crate::signing::{GROUP, sign_all};
+use crate::{EspFault, SealStop};
 use std::marker::Model;
 
 /// The padding is a beginning of these octets (RFC 4303 section 2.4).
@@ -40,7 +43,7 @@ impl Outbound {
           last = last;
         } }
     {
-        let key = IcvKey::new(key);
+        let key = IntegrityKey::new(key);
         Outbound {
             association: Association { spi, key, extended },
             last,
@@ -84,6 +87,193 @@ impl Outbound {
         ensures room { vec_len out.old + (length payload.now + 29) ≤ vec_capacity out.old
             → IfErr result (λ fault. fault ≢ EspFault.Memory) }
     {
+        self.seal_one(next, payload, out)
+    }
+
+    /// Seals a payload as [`Outbound::seal`] does, in no more memory than its packet has room in.
+    fn seal_one(&mut self, next: u8, payload: &[u8], out: &mut Vec<u8>) -> Result<u64, EspFault>
+        ensures sealed { IfOk result (λ number.
+            Seals self.old next payload.now out.old.items number self.new out.new.items) }
+        ensures refused { IfErr result (λ fault. IsSealRefusal self.old payload.now fault
+            × (self.new ≡ self.old) × (out.new.items ≡ out.old.items)) }
+        ensures room { vec_len out.old + (length payload.now + 29) ≤ vec_capacity out.old
+            → IfErr result (λ fault. fault ≢ EspFault.Memory) }
+        ensures capacity { vec_capacity out.old ≤ vec_capacity out.new }
+        ensures growth { vec_len out.new ≤ vec_len out.old + (length payload.now + 29) }
+    {
+        let (number, pad) = self.prepare(payload, out)?;
+        append_packet(out, &self.association, number, next, payload, pad);
+        self.last = number;
+        Ok(number)
+    }
+
+    /// Seals payloads in order, each as [`Outbound::seal`] does: appends their packets to `out`, one after the other, with the
+    /// numbers after the last.
+    ///
+    /// Refused where sealing one of them would be, in the same way: those before it were sealed then, and none after them.
+    ///
+    /// Check values are computed side by side, for at most 64 packets at a time, where that gains time; packets are laid out one
+    /// after the other. Nothing is computed that isn't sent, and no memory is taken but for `out`.
+    pub fn seal_all(
+        &mut self,
+        next: u8,
+        payloads: &[&[u8]],
+        out: &mut Vec<u8>,
+    ) -> Result<(), SealStop>
+        ensures sealed { OnOk result (SealsFirst (length payloads.now) self.old next (payloads_of payloads.now)
+            out.old.items self.new out.new.items) }
+        ensures stopped { IfErr result (λ stop. IsSealStop self.old next (payloads_of payloads.now)
+            out.old.items stop self.new out.new.items) }
+        ensures room { vec_len out.old + most_octets (payloads_of payloads.now) ≤ vec_capacity out.old
+            → IfErr result (λ stop. stop.fault ≢ EspFault.Memory) }
+    {
+        for group in 0..payloads.len().div_ceil(GROUP) {
+            let start = GROUP * group;
+            let end = start + (payloads.len() - start).min(GROUP);
+            let (sealed, outcome) = self.seal_group(next, &payloads[start..end], out);
+            if let Err(fault) = outcome {
+                return Err(SealStop {
+                    sealed: start + sealed,
+                    fault,
+                });
+            }
+        }
+        Ok(())
+    }
+
+    /// Seals payloads, at most as many as a group has; answers how many, and why not the next one.
+    fn seal_group(
+        &mut self,
+        next: u8,
+        payloads: &[&[u8]],
+        out: &mut Vec<u8>,
+    ) -> (usize, Result<(), EspFault>)
+        requires { length payloads.now ≤ GROUP }
+        ensures first { SealsFirst result.0 self.old next (payloads_of payloads.now) out.old.items self.new out.new.items }
+        ensures all { OnOk result.1 (result.0 ≡ length payloads.now) }
+        ensures refused { IfErr result.1 (λ fault. (result.0 < length payloads.now)
+            × IsSealRefusal self.new (get_or (payloads_of payloads.now) result.0 []) fault) }
+        ensures room { vec_len out.old + most_octets (payloads_of payloads.now) ≤ vec_capacity out.old
+            → IfErr result.1 (λ fault. fault ≢ EspFault.Memory) }
+        ensures capacity { vec_capacity out.old ≤ vec_capacity out.new }
+        ensures growth { vec_len out.new + most_octets (drop result.0 (payloads_of payloads.now))
+            ≤ vec_len out.old + most_octets (payloads_of payloads.now) }
+    {
+        if gain_by_lanes(payloads) {
+            self.seal_side_by_side(next, payloads, out)
+        } else {
+            self.seal_each(next, payloads, out)
+        }
+    }
+
+    /// Seals payloads in order by a call for each; answers how many, and why not the next one.
+    fn seal_each(
+        &mut self,
+        next: u8,
+        payloads: &[&[u8]],
+        out: &mut Vec<u8>,
+    ) -> (usize, Result<(), EspFault>)
+        ensures first { SealsFirst result.0 self.old next (payloads_of payloads.now) out.old.items self.new out.new.items }
+        ensures all { OnOk result.1 (result.0 ≡ length payloads.now) }
+        ensures refused { IfErr result.1 (λ fault. (result.0 < length payloads.now)
+            × IsSealRefusal self.new (get_or (payloads_of payloads.now) result.0 []) fault) }
+        ensures room { vec_len out.old + most_octets (payloads_of payloads.now) ≤ vec_capacity out.old
+            → IfErr result.1 (λ fault. fault ≢ EspFault.Memory) }
+        ensures capacity { vec_capacity out.old ≤ vec_capacity out.new }
+        ensures growth { vec_len out.new + most_octets (drop result.0 (payloads_of payloads.now))
+            ≤ vec_len out.old + most_octets (payloads_of payloads.now) }
+    {
+        for (done, payload) in payloads.iter().enumerate() {
+            if let Err(fault) = self.seal_one(next, payload, out) {
+                return (done, Err(fault));
+            }
+        }
+        (payloads.len(), Ok(()))
+    }
+
+    /// Seals payloads in order, with their check values computed side by side; answers how many, and why not the next one.
+    fn seal_side_by_side(
+        &mut self,
+        next: u8,
+        payloads: &[&[u8]],
+        out: &mut Vec<u8>,
+    ) -> (usize, Result<(), EspFault>)
+        requires { length payloads.now ≤ GROUP }
+        ensures first { SealsFirst result.0 self.old next (payloads_of payloads.now) out.old.items self.new out.new.items }
+        ensures all { OnOk result.1 (result.0 ≡ length payloads.now) }
+        ensures refused { IfErr result.1 (λ fault. (result.0 < length payloads.now)
+            × IsSealRefusal self.new (get_or (payloads_of payloads.now) result.0 []) fault) }
+        ensures room { vec_len out.old + most_octets (payloads_of payloads.now) ≤ vec_capacity out.old
+            → IfErr result.1 (λ fault. fault ≢ EspFault.Memory) }
+        ensures capacity { vec_capacity out.old ≤ vec_capacity out.new }
+        ensures growth { vec_len out.new + most_octets (drop result.0 (payloads_of payloads.now))
+            ≤ vec_len out.old + most_octets (payloads_of payloads.now) }
+    {
+        let start = out.len();
+        let last = self.last;
+        let (count, outcome) = self.lay_all(next, payloads, out);
+        sign_all(
+            &self.association,
+            last,
+            &payloads[..count],
+            &mut out[start..],
+        );
+        (count, outcome)
+    }
+
+    /// Lays packets in order, up to the first that is refused; answers how many, and why not the next one.
+    fn lay_all(
+        &mut self,
+        next: u8,
+        payloads: &[&[u8]],
+        out: &mut Vec<u8>,
+    ) -> (usize, Result<(), EspFault>)
+        ensures first { LaysFirst result.0 self.old next (payloads_of payloads.now) out.old.items self.new out.new.items }
+        ensures all { OnOk result.1 (result.0 ≡ length payloads.now) }
+        ensures refused { IfErr result.1 (λ fault. (result.0 < length payloads.now)
+            × IsSealRefusal self.new (get_or (payloads_of payloads.now) result.0 []) fault) }
+        ensures room { vec_len out.old + most_octets (payloads_of payloads.now) ≤ vec_capacity out.old
+            → IfErr result.1 (λ fault. fault ≢ EspFault.Memory) }
+        ensures capacity { vec_capacity out.old ≤ vec_capacity out.new }
+        ensures growth { vec_len out.new + most_octets (drop result.0 (payloads_of payloads.now))
+            ≤ vec_len out.old + most_octets (payloads_of payloads.now) }
+    {
+        for (done, payload) in payloads.iter().enumerate() {
+            if let Err(fault) = self.lay(next, payload, out) {
+                return (done, Err(fault));
+            }
+        }
+        (payloads.len(), Ok(()))
+    }
+
+    /// Appends a packet, with zeros in the place of its check value. Refused as [`Outbound::seal`] is.
+    fn lay(&mut self, next: u8, payload: &[u8], out: &mut Vec<u8>) -> Result<(), EspFault>
+        ensures laid { OnOk result (Lays self.old next payload.now out.old.items self.new out.new.items) }
+        ensures refused { IfErr result (λ fault. IsSealRefusal self.old payload.now fault
+            × (self.new ≡ self.old) × (out.new.items ≡ out.old.items)) }
+        ensures room { vec_len out.old + (length payload.now + 29) ≤ vec_capacity out.old
+            → IfErr result (λ fault. fault ≢ EspFault.Memory) }
+        ensures capacity { vec_capacity out.old ≤ vec_capacity out.new }
+        ensures growth { vec_len out.new ≤ vec_len out.old + (length payload.now + 29) }
+    {
+        let (number, pad) = self.prepare(payload, out)?;
+        append_unsigned(out, &self.association, number, next, payload, pad);
+        self.last = number;
+        Ok(())
+    }
+
+    /// The number and the padding of the next packet, for which there is room from then on.
+    fn prepare(&self, payload: &[u8], out: &mut Vec<u8>) -> Result<(u64, usize), EspFault>
+        ensures ready { IfOk result (λ found. IsReady self.now payload.now found.0 found.1) }
+        ensures enough { IfOk result (λ found.
+            vec_len out.new + (8 + length payload.now + found.1 + 2 + 16) ≤ vec_capacity out.new) }
+        ensures refused { IfErr result (IsSealRefusal self.now payload.now) }
+        ensures items { out.new.items ≡ out.old.items }
+        ensures size { vec_len out.new ≡ vec_len out.old }
+        ensures room { vec_len out.old + (length payload.now + 29) ≤ vec_capacity out.old
+            → IfErr result (λ fault. fault ≢ EspFault.Memory) }
+        ensures capacity { vec_capacity out.old ≤ vec_capacity out.new }
+    {
         let Some(number) = self.association.number_after(self.last) else {
             return Err(EspFault::Exhausted);
         };
@@ -91,12 +281,13 @@ impl Outbound {
             return Err(EspFault::PayloadSize);
         }
         let pad = least_padding(payload.len());
-        out.reserve(HEAD + payload.len() + pad + TAIL + CHECK)
-            .map_err(|_| EspFault::Memory)?;
-
-        append_packet(out, &self.association, number, next, payload, pad);
-        self.last = number;
-        Ok(number)
+        if out
+            .reserve(HEAD + payload.len() + pad + TAIL + CHECK)
+            .is_err()
+        {
+            return Err(EspFault::Memory);
+        }
+        Ok((number, pad))
     }
 }
 
@@ -111,7 +302,9 @@ fn append_packet(
 )
     requires word { pad < 4 }
     requires room { vec_len out.old + (8 + length payload.now + pad + 2 + 16) ≤ vec_capacity out.old }
-    ensures { out.new.items ≡ out.old.items ++ packet association.now number next payload.now pad }
+    ensures items { out.new.items ≡ out.old.items ++ packet association.now number next payload.now pad }
+    ensures capacity { vec_capacity out.old ≤ vec_capacity out.new }
+    ensures size { vec_len out.new ≡ vec_len out.old + (8 + length payload.now + pad + 2 + 16) }
 {
     let start = out.len();
     let head = head_of(association.spi, number);
@@ -120,22 +313,43 @@ fn append_packet(
     append(out, &[&check]);
 }
 
+/// Appends a packet, for which there is room, with zeros in the place of its check value.
+fn append_unsigned(
+    out: &mut Vec<u8>,
+    association: &Association,
+    number: u64,
+    next: u8,
+    payload: &[u8],
+    pad: usize,
+)
+    requires word { pad < 4 }
+    requires room { vec_len out.old + (8 + length payload.now + pad + 2 + 16) ≤ vec_capacity out.old }
+    ensures items { out.new.items ≡ out.old.items
+        ++ ((head association.now number ++ payload.now ++ trailer pad next) ++ replicate 16 0) }
+    ensures capacity { vec_capacity out.old ≤ vec_capacity out.new }
+    ensures size { vec_len out.new ≡ vec_len out.old + (8 + length payload.now + pad + 2 + 16) }
+{
+    let head = head_of(association.spi, number);
+    append(
+        out,
+        &[
+            &head,
+            payload,
+            &PADDING[..pad],
+            &[pad as u8, next],
+            &[0; CHECK],
+        ],
+    );
+}
+
 /// Appends the parts, for which there is room, one after the other.
 fn append(out: &mut Vec<u8>, parts: &[&[u8]])
     requires { vec_len out.old + length (joined_parts parts.now) ≤ vec_capacity out.old }
     ensures items { out.new.items ≡ out.old.items ++ joined_parts parts.now }
     ensures capacity { vec_capacity out.old ≤ vec_capacity out.new }
+    ensures size { vec_len out.new ≡ vec_len out.old + length (joined_parts parts.now) }
 {
     for part in parts {
         out.extend_from_slice(part).unwrap();
     }
-}
-
-/// The least padding with which payload, padding, pad length and next header fill whole words of four octets.
-fn least_padding(payload: usize) -> usize
-    requires { payload ≤ 16384 }
-    ensures aligned { (payload + result + 2) % 4 ≡ 0 }
-    ensures least { result < 4 }
-{
-    (4 - (payload + TAIL) % 4) % 4
 }

@@ -1,9 +1,10 @@
 //! The layout of a packet (RFC 4303 section 2): the SPI in four octets, the low half of the number in four, the payload,
 //! padding, its length in one octet, the next header in one, and the check value in sixteen.
-ghost use Rattle.std.specs.Prelude.{◌≡◌, ℕ, ◌+◌, ◌-◌, ◌%◌, ◌<◌, ◌≤◌, ◌++◌, List, length, take, drop, ◌^◌, ◌/◌, IsTrue, ◌↔◌, IfSome, IfNone};
+ghost use Rattle.std.specs.Prelude.{◌≡◌, ℕ, ◌+◌, ◌-◌, ◌%◌, ◌<◌, ◌≤◌, ◌++◌, List, [], if◌then◌else◌, length, take, drop, ◌^◌, ◌/◌, IsTrue, ◌↔◌, IfSome, IfNone};
 ghost use Rattle.byteorder.specs.Endian.{big_bytes};
 ghost use Rattle.esp.specs.Packet.{IsContents, padding};
 ghost use Rattle.esp.specs.Judging.{IsJudgedLength, low_half};
+ghost use Rattle.esp.specs.Laying.{covered_size, pad_of};
 
 use byteorder::{BigEndian, ByteOrder};
 
@@ -21,6 +22,24 @@ pub const MOST_PAYLOAD: usize = 16_384;
 
 /// The longest packet that is opened, in octets: [`MOST_PAYLOAD`] and the longest padding, which is 254 octets there.
 pub const MOST_PACKET: usize = 16_664;
+
+/// The least padding with which payload, padding, pad length and next header fill whole words of four octets.
+pub fn least_padding(payload: usize) -> usize
+    requires { payload ≤ 16384 }
+    ensures value { result ≡ pad_of payload }
+    ensures aligned { (payload + result + 2) % 4 ≡ 0 }
+    ensures least { result < 4 }
+{
+    (4 - (payload + TAIL) % 4) % 4
+}
+
+/// The octets that a check value covers in the packet of a payload of so many.
+pub fn covered_size(payload: usize) -> usize
+    requires { payload ≤ 16384 }
+    ensures { result ≡ covered_size payload }
+{
+    HEAD + payload + least_padding(payload) + TAIL
+}
 
 /// Whether a packet of so many octets is judged at all.
 pub fn is_judged_length(octets: usize) -> bool
@@ -46,6 +65,13 @@ pub fn high_half(number: u64) -> [u8; 4]
     let mut half = [0; 4];
     BigEndian::write_u32(&mut half, (number >> 32) as u32);
     half
+}
+
+/// What of a number's high half the check value covers.
+pub fn unsent_of(extended: bool, half: &[u8; 4]) -> &[u8]
+    ensures { result.now ≡ (if extended then half.now else []) }
+{
+    if extended { half } else { &[] }
 }
 
 /// The low half of a packet's number.

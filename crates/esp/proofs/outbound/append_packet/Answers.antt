@@ -1,11 +1,11 @@
-use Rattle.std.proofs.Common.{rules, ◌≡◌, ℕ, ◌+◌, ◌-◌, [], ◌∷◌, ◌++◌, List, take, drop, length, ap, ◌∙◌, sym, arith}
+use Rattle.std.proofs.Common.{rules, ◌≡◌, ℕ, [], ◌∷◌, ◌++◌, List, take, drop, length, ap, ◌∙◌}
 use Rattle.std.proofs.lemmas.List.{take_rest}
-use Rattle.esp.specs.Packet.{head, padding, trailer, packet, check_value}
+use Rattle.esp.specs.Packet.{head, check_value}
 use Rattle.esp.proofs.SealingLemmas.{appended, padding_first}
 use Rattle.esp.proofs.outbound.append_packet.Goals as goal
 
-pub returns : goal.returns
-returns c =
+pub returns-clause-items : goal.returns-clause-items
+returns-clause-items c =
     let a = c.args.association.now in
     let n = c.args.number in
     let before = c.args.out.now.items in

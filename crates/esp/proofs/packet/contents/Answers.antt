@@ -1,5 +1,4 @@
-use Rattle.std.proofs.Common.{◌≡◌, ℕ, ◌+◌, ◌-◌, ◌<◌, ◌≤◌, length, get_or, sym, ap, ◌∙◌, arith}
-use Rattle.esp.specs.Packet.{IsContents}
+use Rattle.std.proofs.Common.{◌≡◌, ℕ, ◌-◌, length, get_or, sym, ap, ◌∙◌, arith}
 use Rattle.esp.proofs.ContentsLemmas.{contents_padded, sliced_contents, sliced_padding}
 use Rattle.esp.proofs.packet.contents.Goals as goal
 use Rattle.esp.proofs.packet.contents.Goals.{else-pad-end-via-then-pad-end+else-is_padding, else-pad-end-via-else-pad-end}

@@ -1,5 +1,4 @@
-use Rattle.std.proofs.Common.{◌≡◌, ℕ, ◌+◌, ◌<◌, length, get_or, sym, ap, ◌∙◌, arith}
-use Rattle.esp.specs.Packet.{padding}
+use Rattle.std.proofs.Common.{◌∙◌, arith}
 use Rattle.esp.proofs.ContentsLemmas.{not_padding}
 use Rattle.esp.proofs.packet.is_padding.Goals as goal
 

@@ -1,64 +1,80 @@
-use Rattle.std.proofs.Common.{◌≡◌, ℕ, ◌+◌, ◌<◌, ◌≤◌, List, [], ◌∷◌, ◌++◌, length, map, get_or, take, refl, sym, ap, ◌∙◌, subst, arith}
-use Rattle.std.proofs.lemmas.List.{append_assoc, length_push, length-map, get_or-map}
-use Rattle.std.specs.Global.{Vec}
+use Rattle.std.proofs.Common.{◌≡◌, ℕ, ◌+◌, ◌-◌, ◌*◌, List, length, take, drop, min, sym, subst, arith, length-drop}
+use Rattle.std.proofs.lemmas.List.{length-map, length-take-le}
 use Rattle.replay.specs.Window.{IsSoundWindow}
 use Rattle.esp.specs.declared.association.Association.{Association}
 use Rattle.esp.specs.Packet.{IsOf}
 use Rattle.esp.specs.Views.{Receiving}
-use Rattle.esp.specs.Opening.{Step, Run}
-use Rattle.esp.specs.Delivery.{AnswersFirst, octets_of}
-use Rattle.esp.specs.declared.answer.Answer.{Answer}
-use Rattle.esp.proofs.Runs.{run_more, step_keeps, take-map_more, answers_first, pushed, length_pushed}
+use Rattle.esp.specs.Ahead.{RunsFirst}
+use Rattle.esp.specs.Delivery.{octets_of}
+use Rattle.std.specs.Prelude.{All}
+use Rattle.esp.proofs.Runs.{answers_first}
+use Rattle.esp.proofs.AheadLemmas.{run_keeps, runs_more, group_part, group_of}
 use Rattle.esp.proofs.inbound.Inbound.answer_each.Goals as goal
 
-pub returns-then-is_err-clause-stopped : goal.returns-then-is_err-clause-stopped
-returns-then-is_err-clause-stopped g c =
-    let i = c.loop-done.invariant in
+pub answer_group-answered-requires-clause-mine : goal.answer_group-answered-requires-clause-mine
+answer_group-answered-requires-clause-mine g c =
+    let i = c.loop-group.invariant in
+    let first = i.first in
+    let same = run_keeps _ _ _ _ _ first.run in
+    let mine : All (IsOf c.loop-group.self.association) (octets_of c.args.packets.now) =
+    subst (λ (a : Association). All (IsOf a) (octets_of c.args.packets.now)) (sym same) c.requires
+    in
+    group_of (IsOf c.loop-group.self.association) c.args.packets.now (64 * c.loop-group.group) (64 * c.loop-group.group + c.min-count.result - 64 * c.loop-group.group) mine
+
+pub returns-then-answered-count-clause-stopped : goal.returns-then-answered-count-clause-stopped
+returns-then-answered-count-clause-stopped g c =
+    let i = c.loop-group.invariant in
     let sound : IsSoundWindow c.args.self.now.window = subst (λ (r : Receiving). IsSoundWindow r.window) c.self.view_is (g.met.W.Window.sound c.self.inside.window) in
-    let h = c.loop-done-test.true in
-    let same : c.reserve.new.self.items ≡ c.args.out.now.items ++ i.answers = c.reserve.ensures.items ∙ i.appended in
-    (simp length-map (omega arith), answers_first _ c.loop-done.done c.args.self.now _ c.args.out.now.items c.loop-done.self c.reserve.new.self.items i.answers sound same i.count i.run)
-
-pub answer-answer-requires : goal.answer-answer-requires
-answer-answer-requires g c =
-    let i = c.loop-done.invariant in
     let packets = c.args.packets.now in
-    let k = c.loop-done.done in
-    let packet = c.index-packets-done.result in
-    let h = c.loop-done-test.true in
-    let here : get_or (octets_of packets) k packet.items ≡ packet.items =
-    get_or-map (λ p. p.items) packets k packet packet.items h ∙ ap (λ (p : Vec ℕ). p.items) (sym c.index-packets-done.is)
+    let ps = octets_of packets in
+    let at = 64 * c.loop-group.group in
+    let size = at + c.min-count.result - at in
+    let k = c.answer_group-answered.result in
+    let done : min at (length packets) ≡ at = omega arith in
+    let all : length ps ≡ length packets = length-map packets (λ p. p.items) in
+    let first : RunsFirst g.W.Window.may_want at c.args.self.now ps c.args.out.now.items c.loop-group.self c.loop-group.out.items =
+    subst (λ (n : ℕ). RunsFirst g.W.Window.may_want n c.args.self.now ps c.args.out.now.items c.loop-group.self c.loop-group.out.items) done i.first
     in
-    let asked : IsOf c.args.self.now.association packet.items =
-    subst (IsOf c.args.self.now.association) here (c.requires k packet.items (simp length-map h))
+    let second : RunsFirst g.W.Window.may_want k c.loop-group.self (take size (drop at ps)) c.loop-group.out.items c.answer_group-answered.new.self c.answer_group-answered.new.out.items =
+    subst (λ (qs : List (List ℕ)). RunsFirst g.W.Window.may_want k c.loop-group.self qs c.loop-group.out.items c.answer_group-answered.new.self c.answer_group-answered.new.out.items) (group_part packets at size) c.answer_group-answered.ensures.first
     in
-    let still : IsOf c.loop-done.self.association packet.items = subst (λ (a : Association). IsOf a packet.items) (sym i.association) asked in
-    subst (IsOf c.loop-done.self.association) (sym c.deref.ensures.value) still
+    let both = runs_more _ at size k c.args.self.now c.loop-group.self c.answer_group-answered.new.self ps c.args.out.now.items c.loop-group.out.items c.answer_group-answered.new.out.items first (omega arith) second in
+    (omega arith, answers_first _ (at + k) c.args.self.now ps c.args.out.now.items c.answer_group-answered.new.self c.answer_group-answered.new.out.items both.answers sound both.appended both.count both.run)
 
-pub loop-done-preserved : goal.loop-done-preserved
-loop-done-preserved g c =
-    let i = c.loop-done.invariant in
-    let more = take-map_more (λ p. p.items) c.args.packets.now c.loop-done.done c.index-packets-done.result c.loop-done-test.true c.index-packets-done.is in
-    let step : Step g.W.Window.may_want c.loop-done.self c.index-packets-done.result.items c.answer-answer.result c.answer-answer.new.self =
-    subst (λ (b : List ℕ). Step g.W.Window.may_want c.loop-done.self b c.answer-answer.result c.answer-answer.new.self) c.deref.ensures.value c.answer-answer.ensures
+pub loop-group-preserved : goal.loop-group-preserved
+loop-group-preserved g c =
+    let i = c.loop-group.invariant in
+    let packets = c.args.packets.now in
+    let ps = octets_of packets in
+    let at = 64 * c.loop-group.group in
+    let size = at + c.min-count.result - at in
+    let k = c.answer_group-answered.result in
+    let done : min at (length packets) ≡ at = omega arith in
+    let all : length ps ≡ length packets = length-map packets (λ p. p.items) in
+    let first : RunsFirst g.W.Window.may_want at c.args.self.now ps c.args.out.now.items c.loop-group.self c.loop-group.out.items =
+    subst (λ (n : ℕ). RunsFirst g.W.Window.may_want n c.args.self.now ps c.args.out.now.items c.loop-group.self c.loop-group.out.items) done i.first
     in
+    let second : RunsFirst g.W.Window.may_want k c.loop-group.self (take size (drop at ps)) c.loop-group.out.items c.answer_group-answered.new.self c.answer_group-answered.new.out.items =
+    subst (λ (qs : List (List ℕ)). RunsFirst g.W.Window.may_want k c.loop-group.self qs c.loop-group.out.items c.answer_group-answered.new.self c.answer_group-answered.new.out.items) (group_part packets at size) c.answer_group-answered.ensures.first
+    in
+    let both = runs_more _ at size k c.args.self.now c.loop-group.self c.answer_group-answered.new.self ps c.args.out.now.items c.loop-group.out.items c.answer_group-answered.new.out.items first (omega arith) second in
+    let within = second.within in
+    let long : length (take size (drop at ps)) ≡ size = length-take-le size (drop at ps) (omega (arith, length-drop at ps)) in
+    let after : at + k ≡ min (64 * (c.loop-group.group + 1)) (length packets) = omega arith in
     record {
-      answers = i.answers ++ c.answer-answer.result ∷ [];
-      appended = pushed c.push.result _ c.args.out.now.items i.answers c.reserve.new.self.items c.push.new.self.items c.answer-answer.result c.unwrap.ensures c.push.ensures.items (c.reserve.ensures.items ∙ i.appended);
-      count = length_push i.answers c.answer-answer.result ∙ ap (λ (n : ℕ). n + 1) i.count;
-      run = subst (λ (bs : List (List ℕ)). Run g.W.Window.may_want c.args.self.now bs (i.answers ++ c.answer-answer.result ∷ []) c.answer-answer.new.self) (sym more)
-          (run_more _ c.args.self.now _ i.answers c.loop-done.self c.index-packets-done.result.items c.answer-answer.result c.answer-answer.new.self i.run step);
-      length_now = omega (arith, length_pushed c.push.result _ _ _ c.unwrap.ensures c.push.ensures.len, c.reserve.ensures.len, i.length_now);
-      capacity = omega (arith, i.capacity, c.reserve.ensures.capacity, c.push.ensures.capacity);
-      association = step_keeps _ _ _ _ _ step ∙ i.association;
+      first = subst (λ (n : ℕ). RunsFirst g.W.Window.may_want n c.args.self.now ps c.args.out.now.items c.answer_group-answered.new.self c.answer_group-answered.new.out.items) after both;
+      length_now = omega (arith, i.length_now, c.answer_group-answered.ensures.size);
+      capacity = omega (arith, i.capacity, c.answer_group-answered.ensures.capacity);
     }
 
 pub returns-clause-all : goal.returns-clause-all
 returns-clause-all g c =
-    let i = c.loop-done.invariant in
+    let i = c.loop-group.invariant in
     let sound : IsSoundWindow c.args.self.now.window = subst (λ (r : Receiving). IsSoundWindow r.window) c.self.view_is (g.met.W.Window.sound c.self.inside.window) in
-    let h = c.loop-done-test.false in
-    let e = c.loop-done.auto.done-end in
-    let all : c.loop-done.done ≡ length c.args.packets.now = omega arith in
-    let first = answers_first _ c.loop-done.done c.args.self.now _ c.args.out.now.items c.loop-done.self c.loop-done.out.items i.answers sound i.appended i.count i.run in
-    subst (λ (k : ℕ). AnswersFirst g.W.Window.may_want k c.args.self.now (map (λ p. p.items) c.args.packets.now) c.args.out.now.items c.loop-done.self c.loop-done.out.items) all first
+    let packets = c.args.packets.now in
+    let ps = octets_of packets in
+    let all : min (64 * c.loop-group.group) (length packets) ≡ length packets = omega arith in
+    let first : RunsFirst g.W.Window.may_want (length packets) c.args.self.now ps c.args.out.now.items c.loop-group.self c.loop-group.out.items =
+    subst (λ (n : ℕ). RunsFirst g.W.Window.may_want n c.args.self.now ps c.args.out.now.items c.loop-group.self c.loop-group.out.items) all i.first
+    in
+    answers_first _ (length packets) c.args.self.now ps c.args.out.now.items c.loop-group.self c.loop-group.out.items first.answers sound first.appended first.count first.run

@@ -1,18 +1,13 @@
-use Rattle.std.proofs.Common.{◌≡◌, ◌++◌, ◌+◌, ◌≤◌, List, length, map, take}
-use Rattle.std.specs.Prelude.{vec_len}
+use Rattle.std.proofs.Common.{◌≡◌, ◌+◌, ◌*◌, ◌≤◌, length, min, vec_len}
 use Rattle.std.specs.Vec.{vec_capacity}
-use Rattle.esp.specs.declared.answer.Answer.{Answer}
-use Rattle.esp.specs.Opening.{Run}
+use Rattle.esp.specs.Ahead.{RunsFirst}
+use Rattle.esp.specs.Delivery.{octets_of}
 use Rattle.esp.proofs.inbound.Inbound.answer_each.Given as goal
 
--- the packets so far were delivered in order, and their answers appended
-abbrev pub invariant-loop-done : goal.invariant-loop-done
-invariant-loop-done g l = record {
-  answers : List Answer;
-  appended : l.out.items ≡ l.fn.out.items ++ answers;
-  count : length answers ≡ l.done;
-  run : Run g.W.Window.may_want l.fn.self (take l.done (map (λ p. p.items) l.packets)) answers l.self;
-  length_now : vec_len l.out ≡ vec_len l.fn.out + l.done;
+-- the groups so far were delivered in order, and their answers appended
+abbrev pub invariant-loop-group : goal.invariant-loop-group
+invariant-loop-group g l = record {
+  first : RunsFirst g.W.Window.may_want (min (64 * l.group) (length l.packets)) l.fn.self (octets_of l.packets) l.fn.out.items l.self l.out.items;
+  length_now : vec_len l.out ≡ vec_len l.fn.out + min (64 * l.group) (length l.packets);
   capacity : vec_capacity l.fn.out ≤ vec_capacity l.out;
-  association : l.self.association ≡ l.fn.self.association;
 }

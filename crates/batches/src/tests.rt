@@ -1,0 +1,5 @@
+mod asserts;
+mod edges;
+mod fixture;
+mod opening;
+mod sealing;

@@ -1,0 +1,11 @@
+use Rattle.std.proofs.Common.{◌≡◌, ℕ, List, length, map}
+use Rattle.esp.specs.declared.association.Association.{Association}
+use Rattle.esp.specs.Ahead.{AreAhead, value_asked}
+use Rattle.esp.proofs.ahead.placed.Given as goal
+
+-- the values so far are those of the packets at their places
+abbrev pub invariant-loop-turn : goal.invariant-loop-turn
+invariant-loop-turn l = record {
+  ahead : (a : Association) (packets : List (List ℕ)) → l.values ≡ map (value_asked a packets) l.asked → AreAhead a packets l.ahead;
+  long : length l.ahead ≡ 64;
+}

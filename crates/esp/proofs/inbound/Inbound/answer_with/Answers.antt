@@ -1,0 +1,85 @@
+use Rattle.std.proofs.Common.{◌≡◌, ℕ, ◌+◌, List, [], ◌∷◌, ◌++◌, length, get_or, take, sym, ap, ◌∙◌, subst, arith}
+use Rattle.std.proofs.lemmas.List.{length_push, length-map, get_or-map}
+use Rattle.std.specs.Global.{Vec}
+use Rattle.esp.specs.declared.association.Association.{Association}
+use Rattle.esp.specs.Packet.{IsOf}
+use Rattle.esp.specs.Opening.{Step, Run}
+use Rattle.esp.specs.Ahead.{IsAhead}
+use Rattle.esp.specs.Delivery.{octets_of}
+use Rattle.esp.proofs.AheadLemmas.{if_ahead}
+use Rattle.esp.proofs.Runs.{run_more, step_keeps, take-map_more, pushed, length_pushed}
+use Rattle.esp.proofs.inbound.Inbound.answer_with.Goals as goal
+
+pub returns-then-is_err-clause-first : goal.returns-then-is_err-clause-first
+returns-then-is_err-clause-first g c =
+    let i = c.loop-done.invariant in
+    record {
+      within = simp length-map (omega arith);
+      answers = i.answers;
+      appended = c.reserve.ensures.items ∙ i.appended;
+      count = i.count;
+      run = i.run;
+    }
+
+pub answer-answer-requires-clause-mine : goal.answer-answer-requires-clause-mine
+answer-answer-requires-clause-mine g c =
+    let i = c.loop-done.invariant in
+    let packets = c.args.packets.now in
+    let k = c.loop-done.done in
+    let packet = c.index-packets-done.result in
+    let h = c.loop-done-test.true in
+    let here : get_or (octets_of packets) k packet.items ≡ packet.items =
+    get_or-map (λ p. p.items) packets k packet packet.items h ∙ ap (λ (p : Vec ℕ). p.items) (sym c.index-packets-done.is)
+    in
+    let asked : IsOf c.args.self.now.association packet.items =
+    subst (IsOf c.args.self.now.association) here (c.requires.mine k packet.items (simp length-map h))
+    in
+    let still : IsOf c.loop-done.self.association packet.items = subst (λ (a : Association). IsOf a packet.items) (sym i.association) asked in
+    subst (IsOf c.loop-done.self.association) (sym c.deref.ensures.value) still
+
+pub answer-answer-requires-clause-ahead : goal.answer-answer-requires-clause-ahead
+answer-answer-requires-clause-ahead g c =
+    let i = c.loop-done.invariant in
+    let packets = c.args.packets.now in
+    let k = c.loop-done.done in
+    let packet = c.index-packets-done.result in
+    let h = c.loop-done-test.true in
+    let here : get_or (octets_of packets) k [] ≡ c.deref.result.now =
+    get_or-map (λ p. p.items) packets k packet [] h ∙ ap (λ (p : Vec ℕ). p.items) (sym c.index-packets-done.is) ∙ sym c.deref.ensures.value
+    in
+    if_ahead (IsAhead c.loop-done.self.association c.deref.result.now) c.ahead_at.result
+    (λ found there.
+    subst (λ (a : Association). IsAhead a c.deref.result.now found) (sym i.association)
+    (subst (λ (b : List ℕ). IsAhead c.args.self.now.association b found) here (c.requires.ahead.each k found (sym c.ahead_at.ensures ∙ there))))
+
+pub loop-done-preserved : goal.loop-done-preserved
+loop-done-preserved g c =
+    let i = c.loop-done.invariant in
+    let more = take-map_more (λ p. p.items) c.args.packets.now c.loop-done.done c.index-packets-done.result c.loop-done-test.true c.index-packets-done.is in
+    let step : Step g.W.Window.may_want c.loop-done.self c.index-packets-done.result.items c.answer-answer.result c.answer-answer.new.self =
+    subst (λ (b : List ℕ). Step g.W.Window.may_want c.loop-done.self b c.answer-answer.result c.answer-answer.new.self) c.deref.ensures.value c.answer-answer.ensures
+    in
+    record {
+      answers = i.answers ++ c.answer-answer.result ∷ [];
+      appended = pushed c.push.result _ c.args.out.now.items i.answers c.reserve.new.self.items c.push.new.self.items c.answer-answer.result c.unwrap.ensures c.push.ensures.items (c.reserve.ensures.items ∙ i.appended);
+      count = length_push i.answers c.answer-answer.result ∙ ap (λ (n : ℕ). n + 1) i.count;
+      run = subst (λ (bs : List (List ℕ)). Run g.W.Window.may_want c.args.self.now bs (i.answers ++ c.answer-answer.result ∷ []) c.answer-answer.new.self) (sym more)
+          (run_more _ c.args.self.now _ i.answers c.loop-done.self c.index-packets-done.result.items c.answer-answer.result c.answer-answer.new.self i.run step);
+      length_now = omega (arith, length_pushed c.push.result _ _ _ c.unwrap.ensures c.push.ensures.len, c.reserve.ensures.len, i.length_now);
+      capacity = omega (arith, i.capacity, c.reserve.ensures.capacity, c.push.ensures.capacity);
+      association = step_keeps _ _ _ _ _ step ∙ i.association;
+    }
+
+pub returns-clause-first : goal.returns-clause-first
+returns-clause-first g c =
+    let i = c.loop-done.invariant in
+    let h = c.loop-done-test.false in
+    let e = c.loop-done.auto.done-end in
+    let all : c.loop-done.done ≡ length c.args.packets.now = omega arith in
+    record {
+      within = simp length-map (omega arith);
+      answers = i.answers;
+      appended = i.appended;
+      count = i.count ∙ all;
+      run = subst (λ (k : ℕ). Run g.W.Window.may_want c.args.self.now (take k (octets_of c.args.packets.now)) i.answers c.loop-done.self) all i.run;
+    }

@@ -1,0 +1,111 @@
+//! Check values of received packets, computed side by side before the packets are judged.
+ghost use Rattle.std.specs.Prelude.{◌≡◌, ℕ, ◌-◌, ◌<◌, ◌≤◌, All, List, None, get_or, length, map, take};
+ghost use Rattle.lanes.specs.Task.{icv_of};
+ghost use Rattle.esp.specs.declared.association.Association.{Association};
+ghost use Rattle.esp.specs.Ahead.{AreAhead, IsAsked, value_asked};
+ghost use Rattle.esp.specs.Delivery.{octets_of};
+
+use crate::association::Association;
+use crate::packet::{CHECK, unsent_of};
+use crate::signing::GROUP;
+use lanes::{Task, icv_all};
+
+/// A packet whose check value is computed ahead.
+#[derive(Clone, Copy)]
+pub struct Asked {
+    /// Its place in the group.
+    pub place: usize,
+    /// The number that it has as the receiver is at the group's head.
+    pub number: u64,
+    /// The high half of that number.
+    pub half: [u8; 4],
+}
+
+/// A check value that was computed ahead.
+#[derive(Clone, Copy)]
+pub struct Ahead {
+    /// The number that it was computed for.
+    pub number: u64,
+    /// The check value of the packet with this number.
+    pub value: [u8; CHECK],
+}
+
+/// The check value computed ahead for the packet at a place, if there is one.
+pub fn ahead_at(ahead: &[Option<Ahead>], place: usize) -> Option<Ahead>
+    ensures { result ≡ get_or ahead.now place None }
+{
+    match ahead.get(place) {
+        Some(found) => *found,
+        None => None,
+    }
+}
+
+/// The check values of the packets that are asked for, each at its packet's place.
+pub fn values_ahead(
+    association: &Association,
+    packets: &[Vec<u8>],
+    asked: &[Asked],
+) -> [Option<Ahead>; GROUP]
+    requires few { length asked.now ≤ GROUP }
+    requires room { length packets.now ≤ GROUP }
+    requires asked { All (IsAsked (octets_of packets.now)) asked.now }
+    ensures { AreAhead association.now (octets_of packets.now) result }
+{
+    let mut values = [[0; CHECK]; GROUP];
+    let count = asked.len();
+    let tasks = tasks_for(association, packets, asked);
+    icv_all(&tasks[..count], &mut values[..count]);
+    placed(asked, &values[..count])
+}
+
+/// What is asked of each packet: its covered octets, and the half of its number that is not sent.
+fn tasks_for<'a>(
+    association: &'a Association,
+    packets: &'a [Vec<u8>],
+    asked: &'a [Asked],
+) -> [Task<'a>; GROUP]
+    requires few { length asked.now ≤ GROUP }
+    requires asked { All (IsAsked (octets_of packets.now)) asked.now }
+    ensures { map icv_of (take (length asked.now) result)
+        ≡ map (value_asked association.now (octets_of packets.now)) asked.now }
+{
+    let key = association.key.prepared();
+    let mut tasks = [Task {
+        key,
+        octets: &[],
+        more: &[],
+    }; GROUP];
+    for (turn, one) in asked.iter().enumerate() {
+        tasks[turn] = Task {
+            key,
+            octets: covered_of(&packets[one.place]),
+            more: unsent_of(association.extended, &one.half),
+        };
+    }
+    tasks
+}
+
+/// The octets of a packet that its check value covers.
+fn covered_of(packet: &[u8]) -> &[u8]
+    requires { CHECK ≤ length packet.now }
+    ensures { result.now ≡ take (length packet.now - 16) packet.now }
+{
+    &packet[..packet.len() - CHECK]
+}
+
+/// The values, each at the place of the packet that it was asked for.
+fn placed(asked: &[Asked], values: &[[u8; CHECK]]) -> [Option<Ahead>; GROUP]
+    requires same { length values.now ≡ length asked.now }
+    requires places { All (λ one. one.place < GROUP) asked.now }
+    ensures { (a : Association) (packets : List (List ℕ))
+        → values.now ≡ map (value_asked a packets) asked.now → AreAhead a packets result }
+{
+    let mut ahead = [None; GROUP];
+    for (turn, one) in asked.iter().enumerate() {
+        ahead[one.place] = Some(Ahead {
+            number: one.number,
+            value: values[turn],
+        });
+    }
+    ahead
+}
