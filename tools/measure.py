@@ -1,14 +1,17 @@
 #!/usr/bin/env python3
-"""Counts the instructions of single pieces of the gateway's work, beside the compressions of SHA-256 that docs/MEASURES.md promises.
+"""Counts the instructions of single pieces of the gateway's work, beside the compressions of SHA-256 that docs/MEASURES.md promises,
+and times the caller for real peers.
 
 Builds crates/measures and runs it under valgrind (callgrind), each piece twice with two counts: the difference is the cost of
-the work alone, without the start of the program. Prints tables, and ends with status 1 where a piece costs less than its
-compressions or more than OVERHEAD above them.
+the work alone, without the start of the program. What is timed runs without valgrind, in the same way. Prints tables, and ends with
+status 1 where a piece costs less than its compressions or more than OVERHEAD above them, or takes longer than its LIMITS.
 """
 import pathlib
+import statistics
 import subprocess
 import sys
 import tempfile
+import time
 
 CRATE = pathlib.Path(__file__).resolve().parent.parent / "crates" / "measures"
 PROGRAM = CRATE / "out" / "measures"
@@ -16,9 +19,15 @@ PROGRAM = CRATE / "out" / "measures"
 # How far above its compressions a piece may cost, where there are more than a few of them.
 OVERHEAD = 0.05
 
+# What the key of a fresh receiver costs: two compressions to be prepared alone, and two more for lanes, of twice the cost each.
+FRESH_KEY = 6
+
 # Octets of payload. Beside the few compressions of the shortest the rest of the work counts for more: it is not judged.
 SHORT = 64
 SIZES = (SHORT, 1_400, 16_384)
+
+# Milliseconds on one core that a piece of the caller for real peers may take: the task, its size, two counts, the limit.
+LIMITS = [("public", None, (5, 25), 50), ("cipher", 3_000, (100, 1_100), 1)]
 
 WORDS = {
     "hash": "the bare hash of {} octets",
@@ -29,7 +38,11 @@ WORDS = {
     "decide": "a flow that only the last of {} entries holds decided on",
     "cipher": "{} octets sealed as the body of an IKE message, AES-256-CBC and HMAC-SHA-256-128",
     "public": "a public value of the 2048-bit group",
+    "remembered": "a packet of 64 octets sent, its flow remembered, with {} pairs and {} entries",
 }
+
+# How much a packet whose flow is remembered may cost beside its sealing.
+REMEMBERED = 1.1
 
 
 def build():
@@ -90,8 +103,7 @@ def counted_rows(compression):
     head("What", "Instructions", "Compressions by the formula", "Their instructions", "Counted over formula")
     pieces = [("hash", octets, hash_compressions(octets)) for octets in SIZES]
     pieces += [("seal", octets, check_value_compressions(covered(octets))) for octets in SIZES]
-    # The key of a fresh receiver is two compressions.
-    pieces += [("open", octets, check_value_compressions(covered(octets)) + 2) for octets in SIZES]
+    pieces += [("open", octets, check_value_compressions(covered(octets)) + FRESH_KEY) for octets in SIZES]
     pieces += [("table", pairs, check_value_compressions(covered(1_024))) for pairs in (1, 1_024)]
     costs, wrong = {}, []
     for task, size, compressions in pieces:
@@ -119,6 +131,46 @@ def other_rows():
     row(described("public"), f"{cost('public', few=1, many=3):,.0f}", "")
 
 
+def seconds(words):
+    """The time of one run of the program."""
+    start = time.perf_counter()
+    subprocess.run([PROGRAM, *words], check=True, stdout=subprocess.DEVNULL)
+    return time.perf_counter() - start
+
+
+def milliseconds(task, size, counts):
+    """The time of one turn, the median of five."""
+    few, many = counts
+    words = [] if size is None else [str(size)]
+    turns = [seconds([task, str(many), *words]) - seconds([task, str(few), *words]) for _ in range(5)]
+    return 1_000 * statistics.median(turns) / (many - few)
+
+
+def remembered_rows(sealing):
+    """Prints what packets of remembered flows cost; answers a line for each that costs too much beside its sealing."""
+    head("What", "Instructions", "Over sealing 64 octets")
+    wrong = []
+    for pairs, entries in [(1, 1), (1, 256), (1_024, 1), (1_024, 256)]:
+        counted = cost("remembered", pairs, entries)
+        name = WORDS["remembered"].format(f"{pairs:,}", entries)
+        row(name, f"{counted:,.0f}", f"{counted / sealing:.3f}")
+        if counted > REMEMBERED * sealing:
+            wrong.append(f"more than {REMEMBERED} of its sealing: {name}: {counted / sealing:.3f}")
+    return wrong
+
+
+def timed_rows():
+    """Prints what is timed; answers a line for each piece that takes longer than it may."""
+    head("What", "Milliseconds", "At most")
+    wrong = []
+    for task, size, counts, limit in LIMITS:
+        found = milliseconds(task, size, counts)
+        row(described(task, size), f"{found:.2f}", str(limit))
+        if found > limit:
+            wrong.append(f"more than {limit} ms: {described(task, size)}: {found:.2f}")
+    return wrong
+
+
 def main():
     build()
     compression = compression_cost()
@@ -128,8 +180,13 @@ def main():
     ratio_rows(costs)
     print()
     other_rows()
+    print()
+    wrong = [f"not between the formula and {OVERHEAD:.0%} above it: {line}" for line in wrong]
+    wrong += remembered_rows(costs["seal", SHORT])
+    print()
+    wrong += timed_rows()
     for line in wrong:
-        print(f"not between the formula and {OVERHEAD:.0%} above it: {line}", file=sys.stderr)
+        print(line, file=sys.stderr)
     return 1 if wrong else 0
 
 

@@ -1,5 +1,5 @@
 //! `measures`: does one piece of the work of a gateway so many times and no more, so that its cost can be counted from outside.
-//! `tools/measure.sh` runs it twice under a counter of instructions, with two counts: the difference is the cost of the work alone.
+//! `tools/measure.py` runs it twice under a counter of instructions, with two counts: the difference is the cost of the work alone.
 //!
 //! ```text
 //! measures hash COUNT OCTETS        SHA-256 of so many octets
@@ -8,6 +8,9 @@
 //! measures table COUNT PAIRS        of so many pairs the last one found by its SPI, and 1,024 octets sealed by it
 //! measures outbound COUNT PAIRS     of so many pairs, each with one selector a side, the last one found by its flow
 //! measures decide COUNT ENTRIES     a flow decided on that only the last of so many entries holds
+//! measures remembered COUNT PAIRS ENTRIES
+//!                                   a packet of 64 octets sealed by the last of so many pairs, its flow, which the last of so many
+//!                                   entries protects, being remembered
 //! measures public COUNT             a public value of the 2048-bit group; half of the secret's bits are set
 //! measures cipher COUNT OCTETS      so many octets sealed as the body of an IKE message, AES-256-CBC and HMAC-SHA-256-128
 //! ```
@@ -18,6 +21,7 @@
 
 mod ciphers;
 mod packets;
+mod remembered;
 mod tables;
 mod task;
 
@@ -56,6 +60,7 @@ fn work(alloc: Global, job: Job) -> Option<u8> {
         Task::Table { pairs } => tables::seal(alloc, job.count, pairs),
         Task::Outbound { pairs } => tables::outbound(alloc, job.count, pairs),
         Task::Decide { entries } => tables::decide(alloc, job.count, entries),
+        Task::Remembered { pairs, entries } => remembered::send(alloc, job.count, pairs, entries),
         Task::Public => ciphers::public(alloc, job.count),
         Task::Cipher { octets } => ciphers::seal(alloc, job.count, octets),
     }

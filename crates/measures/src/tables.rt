@@ -53,7 +53,7 @@ pub fn decide(alloc: Global, count: u32, entries: u16) -> Option<u8> {
 }
 
 /// A table of so many pairs, each for the flows to a network of its own.
-fn table_of(alloc: Global, pairs: u16) -> Option<Table> {
+pub fn table_of(alloc: Global, pairs: u16) -> Option<Table> {
     let mut table = Table::new(alloc, START);
     for place in 0..pairs {
         add_pair(alloc, &mut table, place)?;
@@ -77,6 +77,20 @@ fn policy_of(alloc: Global, entries: u16) -> Option<Policy> {
     for place in 0..entries {
         items.push(entry(place)).ok()?;
     }
+    Policy::new(items).ok()
+}
+
+/// A policy of so many entries, the last of which protects the flows to all networks, and the others those to no network.
+pub fn policy_before(alloc: Global, entries: u16) -> Option<Policy> {
+    let mut items = Items::new(alloc);
+    for place in 1..entries {
+        let mut before = entry(place);
+        before.remote = here();
+        items.push(before).ok()?;
+    }
+    let mut last = entry(0);
+    last.remote = Range::V4(0x0a01_0000, 0x0aff_ffff);
+    items.push(last).ok()?;
     Policy::new(items).ok()
 }
 

@@ -15,6 +15,8 @@ pub enum Task {
     Outbound { pairs: u16 },
     /// A policy decides on a flow.
     Decide { entries: u16 },
+    /// A packet is sent whose flow is remembered.
+    Remembered { pairs: u16, entries: u16 },
     /// A public value of the key agreement is made.
     Public,
     /// A payload is sealed as the body of an IKE message.
@@ -33,6 +35,11 @@ pub fn read(words: &[String]) -> Option<Job> {
     let (task, count) = match words {
         [_, name, count] => (task_without_size(name)?, count),
         [_, name, count, size] => (task_of_size(name, size.parse().ok()?)?, count),
+        [_, name, count, pairs, entries] => {
+            let pairs = pairs.parse().ok()?;
+            let entries = entries.parse().ok()?;
+            (task_of_sizes(name, pairs, entries)?, count)
+        }
         _ => return None,
     };
     let count = count.parse().ok()?;
@@ -55,6 +62,13 @@ fn task_of_size(name: &str, size: u16) -> Option<Task> {
         "outbound" => Some(Task::Outbound { pairs: size }),
         "decide" => Some(Task::Decide { entries: size }),
         "cipher" => Some(Task::Cipher { octets: size }),
+        _ => None,
+    }
+}
+
+fn task_of_sizes(name: &str, pairs: u16, entries: u16) -> Option<Task> {
+    match name {
+        "remembered" => Some(Task::Remembered { pairs, entries }),
         _ => None,
     }
 }

@@ -1,5 +1,5 @@
 -- What becomes of a packet goes by what the table holds, whatever room there is.
-use Rattle.std.proofs.Common.{◌≡◌, ◌⊎◌, ℕ, List, [], ap, subst, inl, inr}
+use Rattle.std.proofs.Common.{◌≡◌, ℕ, List, [], ap, subst, inl, inr}
 use Rattle.base.specs.Addresses.{family_of}
 use Rattle.base.specs.Octets.{Octets}
 use Rattle.esp.specs.declared.fault.EspFault.{EspFault}
@@ -11,7 +11,7 @@ use Rattle.sadb.specs.Database.{ChangesAt, Database, OpensAt, RefusesAt, SealsAt
 use Rattle.sadb.specs.declared.pair.Pair.{Pair}
 use Rattle.traffic.specs.NextHeaders.{next_header_of}
 use Rattle.traffic.specs.Outcomes.{Outcome, Up, Dummy, Sealed, Clear, Discarded, Dropped}
-use Rattle.traffic.specs.Receiving.{IsAddressedTo, IsAddressedToNone, IsNotOpened, IsOpened, IsRejected, IsUnopened, Receives}
+use Rattle.traffic.specs.Receiving.{IsAddressedTo, IsAddressedToNone, IsNotOpened, IsOpened, IsUnopened, Receives}
 use Rattle.traffic.specs.Sending.{IsExhausted, IsProtected, IsSealed, Protects, Sends}
 use Rattle.traffic.specs.Verdicts.{Verdict, Packet, Nothing, Refused}
 use Rattle.traffic.specs.declared.fault.PacketFault.{PacketFault}

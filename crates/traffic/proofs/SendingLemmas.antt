@@ -9,7 +9,10 @@ use Rattle.esp.specs.Views.{Sending}
 use Rattle.esp.specs.declared.association.Association.{Association}
 use Rattle.esp.specs.declared.fault.EspFault.TheVariants.{Exhausted}
 use Rattle.policy.specs.Decisions.{IsDecision}
-use Rattle.policy.specs.Packets.{IsInnerRefusal}
+use Rattle.flows.specs.Treatments.{action_of}
+use Rattle.flows.specs.declared.treatment.Treatment.{Treatment}
+use Rattle.flows.specs.declared.treatment.Treatment.TheVariants as treatments
+use Rattle.policy.specs.Packets.{IsFlowOf, IsInnerRefusal}
 use Rattle.policy.specs.declared.entry.Action.{Action}
 use Rattle.policy.specs.declared.entry.Action.TheVariants.{Protect, Bypass, Discard}
 use Rattle.policy.specs.declared.entry.Entry.{Entry}
@@ -21,9 +24,12 @@ use Rattle.sadb.specs.Database.{Carries, Database, IsOutbound, PairMap, SealRefu
 use Rattle.sadb.specs.declared.pair.Pair.{Pair}
 use Rattle.traffic.specs.Admitting.{Admits}
 use Rattle.traffic.specs.NextHeaders.{next_header_of}
-use Rattle.traffic.specs.Outcomes.{Outcome, Up, Dummy, Sealed, Clear, Discarded, Dropped}
-use Rattle.traffic.specs.Sending.{IsDecided, IsExhausted, IsProtected, IsSealed, IsTreated, Protects, Sends}
+use Rattle.std.specs.Prelude.{Result, Ok, Err, IfErr, IfOk}
+use Rattle.traffic.specs.declared.departure.Departure.{Departure}
+use Rattle.traffic.specs.Outcomes.{outcome_of_departure, Outcome, Up, Dummy, Sealed, Clear, Discarded, Dropped}
+use Rattle.traffic.specs.Sending.{Departs, IsDecided, IsExhausted, IsProtected, IsSealed, IsTreated, Protects, Sends}
 use Rattle.traffic.specs.declared.fault.PacketFault.TheVariants.{UnknownAssociation, Esp, Inner, OutsideSelectors}
+use Rattle.traffic.proofs.FollowingLemmas.{Keeps, sent}
 use Rattle.traffic.proofs.OpeningLemmas.{same_pair}
 use Rattle.traffic.proofs.VerdictLemmas.{FlowFacts}
 
@@ -292,3 +298,41 @@ protected_by facts old new policy packet flow outcome decided (inr is) =
 pub protected_outward : (facts : DecisionFacts) (old new : Database) (policy : List Entry) (packet : Octets) (flow : Flow) (outcome : Outcome)
     → IsDecided policy Outward packet flow Protect → Sends old policy packet outcome new → Protects old flow packet outcome new
 protected_outward facts old new policy packet flow outcome decided is = protected_by facts old new policy packet flow outcome decided (sent_way old policy packet outcome new is)
+
+-- ---- a flow's treatment is found before
+
+protected_sends : (old : Database) (policy : List Entry) (flow : Flow) (packet : Octets) (outcome : Outcome) (new : Database) → IsDecided policy Outward packet flow Protect
+    → Protects old flow packet outcome new → Sends old policy packet outcome new
+protected_sends old policy flow packet (Sealed child number octets) new decided is = record { flow = flow; decided = decided; protects = is }
+protected_sends old policy flow packet (Dropped UnknownAssociation) new decided is = record { flow = flow; decided = decided; protects = is }
+protected_sends old policy flow packet (Dropped (Esp fault)) new decided is = record { flow = flow; decided = decided; protects = is }
+protected_sends old policy flow packet (Dropped (Inner fault)) new decided is = absurd is
+protected_sends old policy flow packet (Dropped OutsideSelectors) new decided is = absurd is
+protected_sends old policy flow packet (Clear octets) new decided is = absurd is
+protected_sends old policy flow packet Discarded new decided is = absurd is
+protected_sends old policy flow packet (Up child number inner) new decided is = absurd is
+protected_sends old policy flow packet (Dummy child number) new decided is = absurd is
+
+-- a packet that is sent as its flow is to be treated
+pub departs : (old : Database) (policy : List Entry) (treatment : Treatment) (flow : Flow) (packet : Octets) (outcome : Outcome) (new : Database) → IsFlowOf packet flow
+    → IsDecision policy flow Outward (action_of treatment) → Departs old treatment flow packet outcome new → Sends old policy packet outcome new
+departs old policy (treatments.Carried child) flow packet outcome new flow_is decision is =
+    protected_sends old policy flow packet outcome new (record { flow_is = flow_is; decision = decision }) is
+departs old policy treatments.Uncarried flow packet outcome new flow_is decision is =
+    protected_sends old policy flow packet outcome new (record { flow_is = flow_is; decision = decision }) is
+departs old policy treatments.Bypassed flow packet outcome new flow_is decision is =
+    subst (λ (o : Outcome). Sends old policy packet o new) (sym is.0) (refl, record { flow = flow; decided = record { flow_is = flow_is; decision = decision } }, is.1)
+departs old policy treatments.Discarded flow packet outcome new flow_is decision is =
+    subst (λ (o : Outcome). Sends old policy packet o new) (sym is.0) (record { flow = flow; decided = record { flow_is = flow_is; decision = decision } }, is.1)
+
+-- a call departs, or asks for memory in vain
+pub departs_if : {E : Type 0} (old : Database) (policy : List Entry) (treatment : Treatment) (flow : Flow) (packet : Octets) (result : Result Departure E) (new : Database) → IsFlowOf packet flow
+    → IsDecision policy flow Outward (action_of treatment) → IfOk result (λ departure. Departs old treatment flow packet (outcome_of_departure departure) new)
+    → IfOk result (λ departure. Sends old policy packet (outcome_of_departure departure) new)
+departs_if old policy treatment flow packet (Ok departure) new flow_is decision is = departs old policy treatment flow packet (outcome_of_departure departure) new flow_is decision is
+departs_if old policy treatment flow packet (Err e) new flow_is decision is = tt
+
+pub sent_if : {E : Type 0} (P : Database → Database → Type 0) → Keeps P → (A B : Type 0) (old : Database) (policy : List Entry) (packet : Octets) (result : Result Departure E) (new : Database)
+    → IfOk result (λ departure. Sends old policy packet (outcome_of_departure departure) new) → IfErr result (λ _. A × B × (new ≡ old)) → P old new
+sent_if P keeps A B old policy packet (Ok departure) new sends is = sent P keeps old new policy packet (outcome_of_departure departure) sends
+sent_if P keeps A B old policy packet (Err e) new sends is = subst (P old) (sym is.2) (keeps.same old)

@@ -3,6 +3,8 @@ use Rattle.std.specs.Prelude.{◌≡◌, ℕ, List, []}
 use Rattle.base.specs.Addresses.{family_of}
 use Rattle.base.specs.Octets.{Octets}
 use Rattle.esp.specs.declared.fault.EspFault.TheVariants.{Exhausted}
+use Rattle.flows.specs.declared.treatment.Treatment.{Treatment}
+use Rattle.flows.specs.declared.treatment.Treatment.TheVariants as treatments
 use Rattle.policy.specs.Decisions.{IsDecision}
 use Rattle.policy.specs.Packets.{IsFlowOf, IsInnerRefusal}
 use Rattle.policy.specs.declared.entry.Action.{Action}
@@ -49,6 +51,13 @@ Protects old flow packet (Clear octets) new = ⊥
 Protects old flow packet Discarded new = ⊥
 Protects old flow packet (Up child number inner) new = ⊥
 Protects old flow packet (Dummy child number) new = ⊥
+
+-- a packet is sent as its flow is to be treated
+abbrev pub Departs : Database → Treatment → Flow → Octets → Outcome → Database → Type 0
+Departs old (treatments.Carried child) flow packet outcome new = Protects old flow packet outcome new
+Departs old treatments.Uncarried flow packet outcome new = Protects old flow packet outcome new
+Departs old treatments.Bypassed flow packet outcome new = (outcome ≡ Clear packet) × (new ≡ old)
+Departs old treatments.Discarded flow packet outcome new = (outcome ≡ Discarded) × (new ≡ old)
 
 pub record IsProtected (old : Database) (policy : List Entry) (packet : Octets) (outcome : Outcome) (new : Database) : Type 0 where
   pub flow : Flow

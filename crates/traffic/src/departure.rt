@@ -1,13 +1,19 @@
 //! Packets on their way out (RFC 4301, section 5.1).
 ghost use Rattle.std.specs.Prelude.{◌≡◌, IfErr, IfOk};
+ghost use Rattle.flows.specs.Memory.{AllRight};
+ghost use Rattle.flows.specs.Treatments.{action_of, IsCarriedSo};
+ghost use Rattle.policy.specs.declared.entry.Action.TheVariants.{Protect};
 ghost use Rattle.policy.specs.Packets.{IsFlowOf};
+ghost use Rattle.sadb.specs.Database.{IsOutbound};
 ghost use Rattle.traffic.specs.Outcomes.{outcome_of_departure};
-ghost use Rattle.traffic.specs.Sending.{HasCarrier, IsToBeSealed, Protects, Sends};
+ghost use Rattle.traffic.specs.Sending.{Departs, HasCarrier, IsToBeSealed, Protects, Sends};
 
 use crate::PacketFault;
 use crate::next_header::next_header_of;
 use base::Items;
-use policy::{Decision, Direction, Flow, Policy, inner};
+use flows::laws::{answers_stay_right, no_pair_comes};
+use flows::{FlowMemory, Treatment, look_up};
+use policy::{Flow, Policy, inner};
 use sadb::Table;
 use std::alloc::{AllocError, Global};
 
@@ -57,28 +63,75 @@ pub fn send<'a>(
         Ok(flow) => flow,
         Err(fault) => return Ok(Departure::Dropped(PacketFault::Inner(fault))),
     };
-    match policy.decide(&flow, Direction::Outward) {
-        Decision::Protect => protect(alloc, table, &flow, packet),
-        Decision::Bypass => Ok(Departure::Clear(packet)),
-        Decision::Discard => Ok(Departure::Discarded),
+    let treatment = look_up(table, policy, &flow);
+    depart(alloc, table, treatment, &flow, packet)
+}
+
+/// Sends a packet as [`send`] does, and asks a memory what is done with its flow: at a flow that is remembered it costs the same
+/// however many entries and pairs there are. What is remembered is right before, as it is of a memory that holds nothing, and
+/// afterwards.
+///
+/// Where the memory has no places yet, it may take memory for them as well, and does without where there is none.
+pub fn send_remembering<'a>(
+    alloc: Global,
+    table: &mut Table,
+    flows: &mut FlowMemory,
+    policy: &Policy,
+    packet: &'a [u8],
+) -> Result<Departure<'a>, AllocError>
+    requires { AllRight policy.now table.old.pairs flows.old }
+    ensures sent { IfOk result (λ departure.
+        Sends table.old policy.now packet.now (outcome_of_departure departure) table.new) }
+    ensures memory { IfErr result (λ _. IsToBeSealed table.old policy.now packet.now × (table.new ≡ table.old)) }
+    ensures right { AllRight policy.now table.new.pairs flows.new }
+{
+    answers_stay_right();
+    no_pair_comes();
+    let flow = match inner(packet) {
+        Ok(flow) => flow,
+        Err(fault) => return Ok(Departure::Dropped(PacketFault::Inner(fault))),
+    };
+    let treatment = flows.treatment(table, policy, &flow);
+    depart(alloc, table, treatment, &flow, packet)
+}
+
+/// Sends a packet as its flow is to be treated.
+fn depart<'a>(
+    alloc: Global,
+    table: &mut Table,
+    treatment: Treatment,
+    flow: &Flow,
+    packet: &'a [u8],
+) -> Result<Departure<'a>, AllocError>
+    requires flow { IsFlowOf packet.now flow.now }
+    requires carried { IsCarriedSo table.old.pairs flow.now treatment }
+    ensures sent { IfOk result (λ departure.
+        Departs table.old treatment flow.now packet.now (outcome_of_departure departure) table.new) }
+    ensures memory { IfErr result (λ _.
+        (action_of treatment ≡ Protect) × HasCarrier table.old flow.now × (table.new ≡ table.old)) }
+{
+    match treatment {
+        Treatment::Carried(child) => seal(alloc, table, child, flow, packet),
+        Treatment::Uncarried => Ok(Departure::Dropped(PacketFault::UnknownAssociation)),
+        Treatment::Bypassed => Ok(Departure::Clear(packet)),
+        Treatment::Discarded => Ok(Departure::Discarded),
     }
 }
 
 /// Seals a packet by the pair that carries its flow.
-fn protect<'a>(
+fn seal<'a>(
     alloc: Global,
     table: &mut Table,
+    child: u32,
     flow: &Flow,
     packet: &'a [u8],
 ) -> Result<Departure<'a>, AllocError>
-    requires { IsFlowOf packet.now flow.now }
+    requires flow { IsFlowOf packet.now flow.now }
+    requires carrier { IsOutbound table.old.pairs flow.now child }
     ensures sent { IfOk result (λ departure.
         Protects table.old flow.now packet.now (outcome_of_departure departure) table.new) }
-    ensures memory { IfErr result (λ _. HasCarrier table.old flow.now × (table.new ≡ table.old)) }
+    ensures memory { IfErr result (λ _. table.new ≡ table.old) }
 {
-    let Some(child) = table.outbound(flow) else {
-        return Ok(Departure::Dropped(PacketFault::UnknownAssociation));
-    };
     let mut octets = Vec::with_capacity(alloc, packet.len() + MOST_OVERHEAD)?;
     match table.seal(child, next_header_of(flow.family()), packet, &mut octets) {
         Ok(number) => Ok(Departure::Sealed {

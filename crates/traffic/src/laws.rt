@@ -1,6 +1,7 @@
 //! What follows from the definitions alone. No function here does anything.
 ghost use Rattle.std.specs.Prelude.{◌≡◌, ℕ, List, Some, true, false};
 ghost use Rattle.base.specs.Octets.{Octets};
+ghost use Rattle.flows.specs.Staying.{NoneComes};
 ghost use Rattle.policy.specs.declared.entry.Action.{Action};
 ghost use Rattle.policy.specs.declared.entry.Action.TheVariants.{Protect, Bypass};
 ghost use Rattle.policy.specs.declared.entry.Entry.{Entry};
@@ -75,6 +76,16 @@ pub fn later_tables_follow()
         → IsSoundTable old → Sends old policy packet outcome new → Follows old new }
 {
     sadb::laws::later_tables_follow();
+}
+
+/// No pair comes by a packet, so what is remembered of flows stays right.
+pub fn no_pair_comes()
+    ensures received { (old new : Database) (packet : Octets) (outcome : Outcome)
+        → Receives old packet outcome new → NoneComes old.pairs new.pairs }
+    ensures sent { (old new : Database) (policy : List Entry) (packet : Octets) (outcome : Outcome)
+        → Sends old policy packet outcome new → NoneComes old.pairs new.pairs }
+{
+    flows::laws::no_pair_comes();
 }
 
 /// A table that is ready to give an SPI without memory is so after a packet.

@@ -3,8 +3,8 @@
 //!
 //! [`receive`] finds the pair of an ESP packet by its SPI, opens the packet, and hands up what it carried where the pair's
 //! selectors hold it. [`send`] asks the policy about a packet, and seals what is to be protected by the pair that carries its
-//! flow. [`admit`] asks the policy about a packet that came in the clear. Only [`send`] takes memory. A [`PacketFault`] says why
-//! a packet is dropped.
+//! flow; [`send_remembering`] does the same, and remembers what is done with flows. [`admit`] asks the policy about a packet that
+//! came in the clear. Only sending takes memory. A [`PacketFault`] says why a packet is dropped.
 //!
 //! What becomes of a packet is an `Outcome`, plain data (`specs/Outcomes`); which one it is stands in `specs/Receiving`,
 //! `specs/Sending` and `specs/Admitting`, and the verdict on what was opened in `specs/Verdicts`. What follows from these
@@ -34,5 +34,5 @@ mod verdict;
 
 pub use admission::{Admission, admit};
 pub use arrival::{Arrival, receive};
-pub use departure::{Departure, send};
+pub use departure::{Departure, send, send_remembering};
 pub use fault::PacketFault;

@@ -1,0 +1,3 @@
+pub mod Treatments
+pub mod Memory
+pub mod Staying

@@ -1,0 +1,26 @@
+//! What is done with a flow on its way out (RFC 4301, section 5.1), and a memory of what was.
+//!
+//! A [`Treatment`] is the policy's decision about a flow and, where that is to protect, the pair that carries it. [`look_up`] finds
+//! it anew, which costs the more the more entries and pairs there are. A [`FlowMemory`] answers it at once for a flow that it was
+//! asked about before.
+//!
+//! What is remembered is always what a look-up would find: an answer that names a pair counts as long as that pair is Live, and
+//! where a pair may have come, [`FlowMemory::forget`] forgets all. What follows from the definitions alone is in [`laws`].
+//!
+//! ```text
+//! let mut memory = FlowMemory::new(alloc);
+//! match memory.treatment(&table, &policy, &flow) {
+//!     Treatment::Carried(child) => seal(child),
+//!     Treatment::Bypassed => transmit(packet),
+//!     Treatment::Uncarried | Treatment::Discarded => {}
+//! }
+//! ```
+#![tactic(auto)]
+
+pub mod laws;
+mod memory;
+mod place;
+mod treatment;
+
+pub use memory::{Answer, FlowMemory};
+pub use treatment::{Treatment, look_up};
