@@ -3,6 +3,7 @@ mod LawLemmas
 mod RunLemmas
 mod QuietLemmas
 mod WorldLemmas
+mod WorldHistoryLemmas
 mod FittingLemmas
 mod DeterminedSteps
 mod ToldLemmas
@@ -13,3 +14,10 @@ mod DeliveryLemmas
 mod WorkedLemmas
 mod WorkedRequestLemmas
 mod PromiseLemmas
+mod PartyLemmas
+mod MoveLemmas
+mod TurnLemmas
+mod SoundWorldLemmas
+mod WorkedAskingLemmas
+mod WorkedWorldLemmas
+mod FlowLemmas

@@ -22,4 +22,10 @@ keeps_promises {C} facts changes_nothing moments packets meaning_of is os old ne
       repeats = repeats_kept facts changes_nothing meaning_of old new t.passages t.history.trail;
       moments = moments_kept moments meaning_of old new t.passages t.history.trail;
       packets = packets_kept packets meaning_of old new t.passages t.history.trail;
+      every = λ others history. record {
+        requests = requests_kept facts changes_nothing meaning_of old new others history.trail;
+        repeats = repeats_kept facts changes_nothing meaning_of old new others history.trail;
+        moments = moments_kept moments meaning_of old new others history.trail;
+        packets = packets_kept packets meaning_of old new others history.trail;
+      };
     }

@@ -49,7 +49,7 @@ pub record TellsHeld (trace : Trace) (held : Held) (table : Database) : Type 0 w
 some_pair : (o : Option Pair) (pair : Pair) → o ≡ Some pair → IsSome o
 some_pair o pair is = subst (λ (x : Option Pair). IsSome x) (sym is) refl
 
-none_told : {T : Type 0} (o : Option T) (x : T) → o ≡ None → o ≡ Some x → ⊥
+pub none_told : {T : Type 0} (o : Option T) (x : T) → o ≡ None → o ≡ Some x → ⊥
 none_told o x none some = let e : None ≡ Some x = sym none ∙ some in cc
 
 nothing_told : (trace : Trace) (held : Held) (table : Database) → trace ≡ no_trace → TellsHeld trace held table
@@ -88,11 +88,11 @@ input_tells law meaning entries (input.Esp octets) old table s trace new new_tab
 input_tells law meaning entries (input.Outward packet) old table s trace new new_table st sm is = nothing_told trace new.held new_table is.0.traced
 input_tells law meaning entries (input.Inward packet) old table s trace new new_table st sm is = nothing_told trace new.held new_table is.0.traced
 
-step_tells : {C : Type 0} → TraceLaw → (meaning : Meaning) (given : Input) (s : Said) (trace : Trace) (old new : State C)
+pub step_tells : {C : Type 0} → TraceLaw → (meaning : Meaning) (given : Input) (s : Said) (trace : Trace) (old new : State C)
     → IsSoundTable old.table → IsSoundMachine old.machine old.table → Traces meaning given old s trace new → TellsHeld trace new.machine.held new.table
 step_tells {C} law meaning given s trace old new st sm is = input_tells law meaning old.entries given old.machine old.table s trace new.machine new.table st sm is.does
 
-keys_found : (held : Held) (serial : ℕ) → (h : HoldsKeys held serial) → keys_of_serial serial held.associations ≡ Some h.keys
+pub keys_found : (held : Held) (serial : ℕ) → (h : HoldsKeys held serial) → keys_of_serial serial held.associations ≡ Some h.keys
 keys_found held serial h = ap (λ (o : Option Association). option_and_then (λ a. keys_in a.phase) o) h.there ∙ h.are
 
 pub message_stored : {C : Type 0} → TraceLaw → (meaning : Meaning) (given : Input) (s : Said) (trace : Trace) (mark : Mark) (old new : State C)
@@ -133,12 +133,12 @@ abbrev pub AgainLaw : Type 0
 AgainLaw = (meaning : Meaning) (entries : List Entry) (given : ike.InputView) (old : Machine) (table : Database) (stepped : Stepped) (new : Machine) (new_table : Database) (ticked : ticking.Ticked) (r : Resent)
     → IsSoundTable table → IsSoundMachine old table → ike.Steps meaning entries given old table stepped new new_table → stepped.output ≡ made.Ticked ticked → Contains ticked.requests r → r.encrypted ≡ true → HoldsKeys new.held r.ike
 
-record SaysTicked (o : IkeOutput) (requests : List Resent) : Type 0 where
-  ticked : ticking.Ticked
-  is : o ≡ made.Ticked ticked
-  requests_are : ticked.requests ≡ requests
+pub record SaysTicked (o : IkeOutput) (requests : List Resent) : Type 0 where
+  pub ticked : ticking.Ticked
+  pub is : o ≡ made.Ticked ticked
+  pub requests_are : ticked.requests ≡ requests
 
-ticked_by : (o : IkeOutput) (requests : List Resent) (closed : List ℕ) → said_by_ike o ≡ Ticked requests closed → SaysTicked o requests
+pub ticked_by : (o : IkeOutput) (requests : List Resent) (closed : List ℕ) → said_by_ike o ≡ Ticked requests closed → SaysTicked o requests
 ticked_by (made.Reply octets ended) requests closed is = absurd cc
 ticked_by (made.Repeat octets) requests closed is = absurd cc
 ticked_by (made.Request serial octets) requests closed is = absurd cc
@@ -150,7 +150,7 @@ ticked_by (made.Dropped fault) requests closed is = absurd cc
 refused_ticks : (why : Reason) (requests : List Resent) (closed : List ℕ) → Refused why ≡ Ticked requests closed → ⊥
 refused_ticks why requests closed is = cc
 
-again_held : {C : Type 0} → AgainLaw → (meaning : Meaning) (given : Option ike.InputView) (s : Said) (requests : List Resent) (closed : List ℕ) (r : Resent) (old new : State C)
+pub again_held : {C : Type 0} → AgainLaw → (meaning : Meaning) (given : Option ike.InputView) (s : Said) (requests : List Resent) (closed : List ℕ) (r : Resent) (old new : State C)
     → IsSoundTable old.table → IsSoundMachine old.machine old.table → IkeWay meaning given old s new → s ≡ Ticked requests closed → Contains requests r → r.encrypted ≡ true → HoldsKeys new.machine.held r.ike
 again_held {C} law meaning given s requests closed r old new st sm (answered a) said there sealed =
     let t = ticked_by a.stepped.output requests closed (sym a.output ∙ said) in

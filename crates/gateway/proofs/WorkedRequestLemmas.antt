@@ -34,21 +34,23 @@ use Rattle.effects.specs.Lengths.{AreWholeKeys}
 use Rattle.effects.specs.Requests.{OpensAs}
 use Rattle.effects.specs.Taking.{TakesMessage}
 use Rattle.effects.specs.declared.taking.Effect.TheVariants as effect
-use Rattle.ike.specs.Machines.{has_serial}
+use Rattle.ike.specs.Machines.{half_open_count, has_serial}
 use Rattle.ike.specs.Outputs.{stepped_of}
 use Rattle.ike.specs.Soundness.{AreApart, AsksAsAllowed, IsSound}
 use Rattle.gateway.specs.Histories.{IsPassage}
+use Rattle.gateway.specs.Outputs.{Reply}
+use Rattle.gateway.specs.Steps.{Traces}
 use Rattle.gateway.specs.States.{IsSoundState}
-use Rattle.gateway.specs.WorkedRequests.{first_taken, gateway_with, one_more_taken, request_comes, request_comes_again, worked_association, worked_key, worked_keys, worked_meaning, worked_reply, worked_request, CanBeMeant, IsWorkedRequest}
+use Rattle.gateway.specs.WorkedRequests.{first_taken, gateway_with, one_more_taken, request_comes, request_comes_again, worked_association, worked_input, worked_key, worked_keys, worked_meaning, worked_reply, worked_request, CanBeMeant, IsWorkedRequest}
 
 -- ---- numbers
 
 -- the set has those below a bound, and no others
-record IsUpTo (numbers : NumberSet) (end : ℕ) : Type 0 where
-  has : (n : ℕ) → n < end → HasNumber numbers n
-  only : (n : ℕ) → HasNumber numbers n → n < end
+pub record IsUpTo (numbers : NumberSet) (end : ℕ) : Type 0 where
+  pub has : (n : ℕ) → n < end → HasNumber numbers n
+  pub only : (n : ℕ) → HasNumber numbers n → n < end
 
-none_there : (n : ℕ) → HasNumber set.empty n → ⊥
+pub none_there : (n : ℕ) → HasNumber set.empty n → ⊥
 none_there n is = true≢false (sym is ∙ set.contains-empty nat_cmp n)
 
 in_it : (numbers : NumberSet) (k n : ℕ) → n ≡ k → HasNumber (set.insert numbers k) n
@@ -72,27 +74,27 @@ one_more numbers end are = record {
   ];
 }
 
-lacks_if_not : (numbers : NumberSet) (n : ℕ) → (HasNumber numbers n → ⊥) → LacksNumber numbers n
+pub lacks_if_not : (numbers : NumberSet) (n : ℕ) → (HasNumber numbers n → ⊥) → LacksNumber numbers n
 lacks_if_not numbers n not =
     elim (set.contains numbers n) as (λ b. ((b ≡ true) → ⊥) → b ≡ false) [ true ↦ λ h. absurd (h refl) | false ↦ λ h. refl ] not
 
-gap_of : (numbers : NumberSet) (end : ℕ) → IsUpTo numbers end → IsGap numbers end
+pub gap_of : (numbers : NumberSet) (end : ℕ) → IsUpTo numbers end → IsGap numbers end
 gap_of numbers end are = record {
   missing = lacks_if_not numbers end (λ is. let less = are.only end is in absurd (omega arith));
   below = are.has;
 }
 
-first_two : IsUpTo first_taken.in_effect 2
+pub first_two : IsUpTo first_taken.in_effect 2
 first_two = one_more (set.insert set.empty 0) 1 (one_more set.empty 0 none_yet)
 
-first_three : IsUpTo one_more_taken.in_effect 3
+pub first_three : IsUpTo one_more_taken.in_effect 3
 first_three = one_more first_taken.in_effect 2 first_two
 
 -- with room for so many replies
 abbrev with_room : ℕ → PeerRequests
 with_room room = record first_taken { room = room }
 
-fresh_two : (room : ℕ) → IsFreshRequest (with_room room) 2
+pub fresh_two : (room : ℕ) → IsFreshRequest (with_room room) 2
 fresh_two room = record {
   not_in_effect = lacks_if_not first_taken.in_effect 2 (λ is. let less = first_two.only 2 is in absurd (omega arith));
   gap = 2;
@@ -105,17 +107,17 @@ near_two behind = let less = first_three.only behind.later behind.in_effect in l
 
 -- ---- the replies that are kept
 
-no_reply : (n : ℕ) (octets : Octets) → map.get first_taken.kept n ≡ Some octets → ⊥
+pub no_reply : (n : ℕ) (octets : Octets) → map.get first_taken.kept n ≡ Some octets → ⊥
 no_reply n octets is = let none : map.get first_taken.kept n ≡ None = map.get-empty nat_cmp n in cc
 
-record IsTheReply (n : ℕ) (octets : Octets) : Type 0 where
-  number : n ≡ 2
-  reply : octets ≡ worked_reply
+pub record IsTheReply (n : ℕ) (octets : Octets) : Type 0 where
+  pub number : n ≡ 2
+  pub reply : octets ≡ worked_reply
 
 same_octets : (one other : Octets) → Some one ≡ Some other → other ≡ one
 same_octets one other is = cc
 
-the_reply : (n : ℕ) (octets : Octets) → map.get one_more_taken.kept n ≡ Some octets → IsTheReply n octets
+pub the_reply : (n : ℕ) (octets : Octets) → map.get one_more_taken.kept n ≡ Some octets → IsTheReply n octets
 the_reply n octets is = elim (eqb_tells n 2) [
   | inl (_, same) ↦ record {
     number = same;
@@ -179,19 +181,19 @@ lone_chain Free free = (
   },
 )
 
-abbrev asked : Message
+abbrev pub asked : Message
 asked = record {
   header = record { spi_i = 1; spi_r = 2; minor = 0; exchange = 37; flags = record { initiator = true; version = false; response = false }; id = 2 };
   payloads = Sealed 0 [] ∷ [];
 }
 
-abbrev answered : Message
+abbrev pub answered : Message
 answered = record {
   header = record { spi_i = 1; spi_r = 2; minor = 0; exchange = 37; flags = record { initiator = false; version = false; response = true }; id = 2 };
   payloads = Sealed 0 [] ∷ [];
 }
 
-asked_spelled : Spells asked worked_request
+pub asked_spelled : Spells asked worked_request
 asked_spelled = record {
   first = 46;
   header = 0 ∷ 0 ∷ 0 ∷ 0 ∷ 0 ∷ 0 ∷ 0 ∷ 1 ∷ 0 ∷ 0 ∷ 0 ∷ 0 ∷ 0 ∷ 0 ∷ 0 ∷ 2 ∷ 46 ∷ 0x20 ∷ 37 ∷ 0x08 ∷ 0 ∷ 0 ∷ 0 ∷ 2 ∷ [];
@@ -209,6 +211,27 @@ asked_spelled = record {
   chain = lone_chain IsOctet (omega arith);
   limit = omega arith;
   octets = octets_if worked_request refl;
+}
+
+-- the reply, as who reads it spells it
+pub answer_spelled : Spells answered worked_reply
+answer_spelled = record {
+  first = 46;
+  header = 0 ∷ 0 ∷ 0 ∷ 0 ∷ 0 ∷ 0 ∷ 0 ∷ 1 ∷ 0 ∷ 0 ∷ 0 ∷ 0 ∷ 0 ∷ 0 ∷ 0 ∷ 2 ∷ 46 ∷ 0x20 ∷ 37 ∷ 0x20 ∷ 0 ∷ 0 ∷ 0 ∷ 2 ∷ [];
+  payloads = lone_header;
+  whole = refl;
+  head = record {
+    flags = 32;
+    has_flags = record { low = 0; high = 0; value = refl; low_bits = omega arith; high_bits = omega arith; free = (omega arith, omega arith) };
+    spelled = refl;
+    spi_i = omega arith;
+    spi_r = omega arith;
+    minor = omega arith;
+    id = omega arith;
+  };
+  chain = lone_chain IsOctet (omega arith);
+  limit = omega arith;
+  octets = octets_if worked_reply refl;
 }
 
 answered_spelled : SpellsPlainly answered worked_reply
@@ -236,7 +259,7 @@ answered_spelled = record {
 secret_fits : (secret : Octets) → IsSecret secret → FitsPayload secret
 secret_fits secret is = let whole = is.whole in record { some = omega arith; few = omega arith }
 
-can_be : CanBeMeant worked_meaning
+pub can_be : CanBeMeant worked_meaning
 can_be = record {
   opens_again = λ keys head plain fresh are. refl;
   sealed_size = λ n. n;
@@ -249,7 +272,7 @@ can_be = record {
 
 -- ---- what the octets do
 
-abbrev reply_said : Answered
+abbrev pub reply_said : Answered
 reply_said = record { octets = worked_reply; child = None; closed = false }
 
 first_takes : (setup : Setup) (table : Database)
@@ -296,7 +319,7 @@ second_takes setup table = record {
   done = (refl, record { association = refl; pairs = refl });
 }
 
-opens : (incoming : PeerRequests) → OpensAs worked_meaning.plain_of (worked_association incoming) worked_request 37 2
+pub opens : (incoming : PeerRequests) → OpensAs worked_meaning.plain_of (worked_association incoming) worked_request 37 2
 opens incoming = record {
   message = asked;
   spelled = asked_spelled;
@@ -317,7 +340,7 @@ no_pair serial pair there = let none : map.get {R = nat_cmp} (map.empty {X = Pai
 no_inbound : (serial spi : ℕ) → HasInbound map.empty spi serial → ⊥
 no_inbound serial spi is = no_pair serial is.pair is.there
 
-sound_table : IsSoundTable (empty_table 256)
+pub sound_table : IsSoundTable (empty_table 256)
 sound_table = record {
   start = record { least = omega arith; most = omega arith };
   given = omega arith;
@@ -333,7 +356,7 @@ sound_table = record {
   apart = λ serial other spi first second. absurd (no_inbound serial spi first);
 }
 
-none_asked : (number : ℕ) (request : Request) → map.get {R = nat_cmp} (map.empty {X = Request}) number ≡ Some request → ⊥
+pub none_asked : (number : ℕ) (request : Request) → map.get {R = nat_cmp} (map.empty {X = Request}) number ≡ Some request → ⊥
 none_asked number request is = let none : map.get {R = nat_cmp} (map.empty {X = Request}) number ≡ None = map.get-empty nat_cmp number in cc
 
 no_spi : (incoming : PeerRequests) (spi : ℕ) → HoldsSpi (worked_association incoming) spi → ⊥
@@ -341,15 +364,15 @@ no_spi incoming spi (inl is) = cc
 no_spi incoming spi (inr waits) = none_asked waits.number waits.awaits.request waits.awaits.outstanding
 
 -- what holds of a reply that is kept
-record IsFine (incoming : PeerRequests) (n : ℕ) (reply : Octets) : Type 0 where
-  in_effect : HasNumber incoming.in_effect n
-  near : ¬ IsLeftBehind incoming n
-  short : IsShort reply
+pub record IsFine (incoming : PeerRequests) (n : ℕ) (reply : Octets) : Type 0 where
+  pub in_effect : HasNumber incoming.in_effect n
+  pub near : ¬ IsLeftBehind incoming n
+  pub short : IsShort reply
 
-abbrev AreFine : PeerRequests → Type 0
+abbrev pub AreFine : PeerRequests → Type 0
 AreFine incoming = (n : ℕ) (reply : Octets) → map.get incoming.kept n ≡ Some reply → IsFine incoming n reply
 
-fine_before : AreFine first_taken
+pub fine_before : AreFine first_taken
 fine_before n reply is = absurd (no_reply n reply is)
 
 fine_after : AreFine one_more_taken
@@ -364,13 +387,13 @@ fine_after n reply is =
 key_octets : AreOctets worked_key
 key_octets = octets_if worked_key refl
 
-whole_keys : AreWholeKeys worked_keys
+pub whole_keys : AreWholeKeys worked_keys
 whole_keys = record {
   initiator = record { encryption_long = refl; integrity_long = refl; encryption_octets = key_octets; integrity_octets = key_octets };
   responder = record { encryption_long = refl; integrity_long = refl; encryption_octets = key_octets; integrity_octets = key_octets };
 }
 
-same_keys : (one other : KeyRecord) → Some one ≡ Some other → one ≡ other
+pub same_keys : (one other : KeyRecord) → Some one ≡ Some other → one ≡ other
 same_keys one other is = cc
 
 sound_association : (incoming : PeerRequests) → AreFine incoming → IsSound (worked_association incoming) 2 (empty_table 256)
@@ -405,7 +428,7 @@ sound_association incoming fine = record {
   whole = λ keys is. subst (λ (k : KeyRecord). AreWholeKeys k) (same_keys worked_keys keys is) whole_keys;
 }
 
-same_association : (one other : Association) → Some one ≡ Some other → one ≡ other
+pub same_association : (one other : Association) → Some one ≡ Some other → one ≡ other
 same_association one other is = cc
 
 -- the list has the one association
@@ -436,62 +459,63 @@ all_in_time a is zero d less = is
 all_in_time a is (suc place) d less = absurd (omega (arith, less))
 
 module _ {C : Type 0} (config : Config) (caller : C) (is : IsConfig config) where
-  sound_state : (incoming : PeerRequests) → AreFine incoming → IsSoundState (gateway_with config caller (worked_association incoming))
-  sound_state incoming fine = record {
+  pub sound_state_of : (a : Association) → IsSound a 2 (empty_table 256) → AsksAsAllowed config.extended a → IsInTime 0 a → half_open_count (a ∷ []) ≡ 0
+      → IsSoundState (gateway_with config caller a)
+  sound_state_of a sound asks timely none = record {
     machine = record {
       held = record {
         first = omega arith;
         serials = omega arith;
         few = omega arith;
-        few_half_open = omega arith;
-        each = λ place a there. each_is (λ b. IsSound b 2 (empty_table 256)) (worked_association incoming) (sound_association incoming fine) place a there;
-        apart = λ place later a other less there too. none_apart (worked_association incoming) (AreApart a other) place later other less too;
+        few_half_open = omega (arith, none);
+        each = λ place b there. each_is (λ c. IsSound c 2 (empty_table 256)) a sound place b there;
+        apart = λ place later b other less there too. none_apart a (AreApart b other) place later other less too;
       };
       config = is;
-      asks = λ serial a there.
-          subst (λ b. AsksAsAllowed config.extended b)
-          (found_is (has_serial serial (worked_association incoming)) (worked_association incoming) a there)
-          (record {
-            first = λ child asks. absurd cc;
-            further = λ n request further asks. absurd (none_asked n request asks);
-          });
+      asks = λ serial b there. subst (λ c. AsksAsAllowed config.extended c) (found_is (has_serial serial a) a b there) asks;
     };
     table = sound_table;
-    timely = λ place d less. all_in_time (worked_association incoming) (in_time incoming) place d less;
+    timely = λ place d less. all_in_time a timely place d less;
     reservations = λ spi there. absurd (none_there spi there);
   }
 
+  pub sound_state : (incoming : PeerRequests) → AreFine incoming → IsSoundState (gateway_with config caller (worked_association incoming))
+  sound_state incoming fine =
+      sound_state_of (worked_association incoming) (sound_association incoming fine)
+      (record { first = λ child asks. absurd cc; further = λ n request further asks. absurd (none_asked n request asks) }) (in_time incoming) refl
+
   module _ (from : Octets) (fresh : Fresh) where
+    pub first_traces : Traces worked_meaning (worked_input from fresh) (request_comes config caller from fresh).before (Reply worked_reply None) (stepped_of 1 2 (effect.Replied reply_said)).trace
+        (request_comes config caller from fresh).after
+    first_traces = record {
+      kept = refl;
+      does = inl (record {
+        stepped = stepped_of 1 2 (effect.Replied reply_said);
+        steps = (
+          refl,
+          inr (record {
+            message = asked;
+            spelled = asked_spelled;
+            done = record {
+              association = worked_association first_taken;
+              there = refl;
+              effect = effect.Replied reply_said;
+              changed = worked_association one_more_taken;
+              takes = first_takes _ _;
+              said = refl;
+              content = refl;
+            };
+          }),
+        );
+        output = refl;
+        traced = refl;
+      });
+    }
+
     first_is : IsPassage (λ _. worked_meaning) (request_comes config caller from fresh)
     first_is = record {
       sound = sound_state first_taken fine_before;
-      steps = record {
-        trace = (stepped_of 1 2 (effect.Replied reply_said)).trace;
-        traces = record {
-          kept = refl;
-          does = inl (record {
-            stepped = stepped_of 1 2 (effect.Replied reply_said);
-            steps = (
-              refl,
-              inr (record {
-                message = asked;
-                spelled = asked_spelled;
-                done = record {
-                  association = worked_association first_taken;
-                  there = refl;
-                  effect = effect.Replied reply_said;
-                  changed = worked_association one_more_taken;
-                  takes = first_takes _ _;
-                  said = refl;
-                  content = refl;
-                };
-              }),
-            );
-            output = refl;
-            traced = refl;
-          });
-        };
-      };
+      steps = record { trace = (stepped_of 1 2 (effect.Replied reply_said)).trace; traces = first_traces };
     }
 
     second_is : IsPassage (λ _. worked_meaning) (request_comes_again config caller from fresh)

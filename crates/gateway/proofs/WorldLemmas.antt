@@ -9,13 +9,15 @@ use Rattle.gateway.specs.Runs.{Runs, StepsAs}
 use Rattle.gateway.specs.States.{IsSoundState, State}
 use Rattle.gateway.specs.Steps.{Traces}
 use Rattle.gateway.specs.Storing.{TakesAt}
-use Rattle.gateway.specs.WorldRuns.{if_at, inputs_at, outputs_at, HappensAs, IsLater, PlaysFirst}
-use Rattle.gateway.specs.Worlds.{gateway_at, storing, with_gateway, Stored, TakesEvent, WorldState}
+use Rattle.gateway.specs.WorldPromises.{KeepsWorldPromises}
+use Rattle.gateway.specs.WorldRuns.{inputs_at, outputs_at, HappensAs, IsLater, PlaysFirst}
+use Rattle.gateway.specs.Worlds.{gateway_at, if_at, storing, with_gateway, Stored, TakesEvent, WorldState}
 use Rattle.gateway.specs.declared.input.Input.{Input}
 use Rattle.gateway.specs.declared.output.Output.{Output}
 use Rattle.gateway.specs.declared.world.stored.End.{End}
 use Rattle.gateway.specs.declared.world.stored.End.TheVariants.{A, B}
 use Rattle.gateway.specs.declared.world.stored.Event.{Event}
+use Rattle.gateway.proofs.WorldHistoryLemmas.{history_at}
 
 -- an event in front of a run: a step of this end, or none
 in_front : {C : Type 0} (meaning_of : C → Meaning) (end place : End) (input : Input) (o : Output) (is : List Input) (os : List Output) (old between : WorldState C) (new gateway : State C) (trace : Trace) (stored : Stored)
@@ -42,14 +44,14 @@ apart {C} meaning_of end (e ∷ es) (o ∷ os) old new run =
 apart {C} meaning_of end [] (o ∷ os) old new run = absurd run
 apart {C} meaning_of end (e ∷ es) [] old new run = absurd run
 
-stored_at : {C : Type 0} (place : End) (gateway : State C) (stored : Stored) (old : WorldState C) → (with_gateway place gateway stored old).stored ≡ stored
+pub stored_at : {C : Type 0} (place : End) (gateway : State C) (stored : Stored) (old : WorldState C) → (with_gateway place gateway stored old).stored ≡ stored
 stored_at {C} A gateway stored old = refl
 stored_at {C} B gateway stored old = refl
 
 longer : {X : Type 0} (old between new front behind : List X) → between ≡ old ++ front → new ≡ between ++ behind → new ≡ old ++ (front ++ behind)
 longer {X} old between new front behind first second = second ∙ ap (λ (xs : List X). xs ++ behind) first ∙ append_assoc old front behind
 
-later_more : (old between new more : Stored) → between.sent ≡ old.sent ++ more.sent → between.keyed ≡ old.keyed ++ more.keyed → between.children ≡ old.children ++ more.children
+pub later_more : (old between new more : Stored) → between.sent ≡ old.sent ++ more.sent → between.keyed ≡ old.keyed ++ more.keyed → between.children ≡ old.children ++ more.children
     → IsLater between new → IsLater old new
 later_more old between new more sent keyed children later = record {
   more = record { sent = more.sent ++ later.more.sent; keyed = more.keyed ++ later.more.keyed; children = more.children ++ later.more.children };
@@ -58,7 +60,7 @@ later_more old between new more sent keyed children later = record {
   children = longer old.children between.children new.children more.children later.more.children children later.children;
 }
 
-later_same : (old new : Stored) → new ≡ old → IsLater old new
+pub later_same : (old new : Stored) → new ≡ old → IsLater old new
 later_same old new same = record {
   more = record { sent = []; keyed = []; children = [] };
   sent = ap (λ (s : Stored). s.sent) same ∙ sym (append-nil old.sent);
@@ -114,15 +116,20 @@ taken_at_b {C} meaning_of event old a b before ready s gateway after at_b sound 
 abbrev pub PromisesLaw : Type 0 → Type 0
 PromisesLaw C = (meaning_of : C → Meaning) (is : List Input) (os : List Output) (old new : State C) → Runs (StepsAs meaning_of) is os old new → KeepsPromises meaning_of is os old new
 
+abbrev pub WorldPromisesLaw : Type 0 → Type 0
+WorldPromisesLaw C = (meaning_of : C → Meaning) (es : List Event) (os : List Output) (old new : WorldState C) → Runs (HappensAs meaning_of) es os old new → KeepsWorldPromises meaning_of es os old new
+
 -- a run of a world says all of it
-pub plays : {C : Type 0} → PromisesLaw C → (meaning_of : C → Meaning) (count : ℕ) (events : List Event) (old : WorldState C) (before outputs : List Output) (new : WorldState C) (after : List Output)
+pub plays : {C : Type 0} → PromisesLaw C → WorldPromisesLaw C → (meaning_of : C → Meaning) (count : ℕ) (events : List Event) (old : WorldState C) (before outputs : List Output) (new : WorldState C) (after : List Output)
     → after ≡ before ++ outputs → Runs (HappensAs meaning_of) (take count events) outputs old new → PlaysFirst meaning_of count events old before new after
-plays {C} law meaning_of count events old before outputs new after appended run = record {
+plays {C} law both meaning_of count events old before outputs new after appended run = record {
   outputs = outputs;
   appended = appended;
   runs = run;
   ends = λ end. apart meaning_of end (take count events) outputs old new run;
+  histories = λ happenings history end. history_at meaning_of end (take count events) outputs old new happenings history;
   promises = λ end. law meaning_of (inputs_at end (take count events)) (outputs_at end (take count events) outputs) (gateway_at end old) (gateway_at end new)
       (apart meaning_of end (take count events) outputs old new run);
+  together = both meaning_of (take count events) outputs old new run;
   stored = stays_stored meaning_of (take count events) outputs old new run;
 }

@@ -4,6 +4,9 @@ pub mod States
 pub mod Steps
 pub mod Runs
 pub mod Worlds
+pub mod WorldHistories
+pub mod WorldParties
+pub mod WorldPromises
 pub mod WorldRuns
 pub mod Storing
 pub mod Contents
@@ -15,3 +18,4 @@ pub mod Packets
 pub mod Promises
 pub mod Worked
 pub mod WorkedRequests
+pub mod WorkedWorlds

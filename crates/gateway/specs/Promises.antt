@@ -9,7 +9,14 @@ use Rattle.gateway.specs.States.{State}
 use Rattle.gateway.specs.declared.input.Input.{Input}
 use Rattle.gateway.specs.declared.output.Output.{Output}
 
--- What was taken has a history, of which holds what is promised of the peer's requests, of their repeats, of moments, and of ESP packets.
+-- what is promised of the peer's requests, of their repeats, of moments, and of ESP packets, over these steps
+pub record AreKept {C : Type 0} (meaning_of : C → Meaning) (passages : List (Passage C)) : Type 0 where
+  pub requests : RequestsTakeEffect meaning_of passages
+  pub repeats : RepeatsAreAnswered meaning_of passages
+  pub moments : MomentsComeInTime passages
+  pub packets : PacketsAreDelivered passages
+
+-- What was taken has a history, of which that holds; and so it does of every history of it.
 pub record KeepsPromises {C : Type 0} (meaning_of : C → Meaning) (inputs : List Input) (outputs : List Output) (old new : State C) : Type 0 where
   pub passages : List (Passage C)
   pub history : IsHistory meaning_of inputs outputs old new passages
@@ -17,3 +24,4 @@ pub record KeepsPromises {C : Type 0} (meaning_of : C → Meaning) (inputs : Lis
   pub repeats : RepeatsAreAnswered meaning_of passages
   pub moments : MomentsComeInTime passages
   pub packets : PacketsAreDelivered passages
+  pub every : (others : List (Passage C)) → IsHistory meaning_of inputs outputs old new others → AreKept meaning_of others

@@ -1,28 +1,28 @@
 -- Events at two ends as each end sees them.
 use Rattle.std.specs.Prelude.{◌≡◌, ◌<◌, ◌++◌, ℕ, List, [], ◌∷◌, length, take}
 use Rattle.effects.specs.Taking.{Meaning}
+use Rattle.gateway.specs.Histories.{IsHistory}
 use Rattle.gateway.specs.Outputs.{said}
 use Rattle.gateway.specs.Promises.{KeepsPromises}
 use Rattle.gateway.specs.Runs.{Runs, StepsAs}
-use Rattle.gateway.specs.Worlds.{gateway_at, Stored, TakesEvent, WorldState}
+use Rattle.gateway.specs.WorldHistories.{passages_at, Happening, IsWorldHistory}
+use Rattle.gateway.specs.WorldPromises.{KeepsWorldPromises}
+use Rattle.gateway.specs.Worlds.{gateway_at, if_at, Stored, TakesEvent, WorldState}
 use Rattle.gateway.specs.declared.fault.RunFault.{RunFault}
 use Rattle.gateway.specs.declared.fault.RunFault.TheVariants.{NoRoom}
 use Rattle.gateway.specs.declared.input.Input.{Input}
 use Rattle.gateway.specs.declared.output.Output.{Output}
 use Rattle.gateway.specs.declared.world.stored.End.{End}
-use Rattle.gateway.specs.declared.world.stored.End.TheVariants.{A, B}
 use Rattle.gateway.specs.declared.world.stored.Event.{Event}
 
 -- an event as the callers of both ends mean it
 abbrev pub HappensAs : {C : Type 0} → (C → Meaning) → Event → WorldState C → Output → WorldState C → Type 0
 HappensAs {C} meaning_of e old o new = TakesEvent meaning_of e old (said o) new
 
--- with one more at the front, where it is of this end
-abbrev pub if_at : {X : Type 0} → End → End → X → List X → List X
-if_at {X} A A x xs = x ∷ xs
-if_at {X} B B x xs = x ∷ xs
-if_at {X} A B x xs = xs
-if_at {X} B A x xs = xs
+-- A call with a list of events is a run over it. Calls in a row, each from where the one before ended, are runs by this step, over the list
+-- of their lists.
+abbrev pub CallsWorldAs : {C : Type 0} → (C → Meaning) → List Event → WorldState C → List Output → WorldState C → Type 0
+CallsWorldAs {C} meaning_of events old outputs new = Runs (HappensAs meaning_of) events outputs old new
 
 -- what one end is given
 abbrev pub inputs_at : End → List Event → List Input
@@ -43,13 +43,17 @@ pub record IsLater (old new : Stored) : Type 0 where
   pub children : new.children ≡ old.children ++ more.children
 
 -- The first so many events took place in order, and their outputs were appended. Each end had its own events in order, whatever happened
--- at the other: what became of it is a run of its gateway alone, of which holds what is promised of one. And what was stored is stored still.
+-- at the other: what became of it is a run of its gateway alone, whose steps are those of the world at that end, and of which holds what is
+-- promised of one. Of both ends together holds what is promised of a world. And what was stored is stored still.
 pub record PlaysFirst {C : Type 0} (meaning_of : C → Meaning) (count : ℕ) (events : List Event) (old : WorldState C) (before : List Output) (new : WorldState C) (after : List Output) : Type 0 where
   pub outputs : List Output
   pub appended : after ≡ before ++ outputs
   pub runs : Runs (HappensAs meaning_of) (take count events) outputs old new
   pub ends : (end : End) → Runs (StepsAs meaning_of) (inputs_at end (take count events)) (outputs_at end (take count events) outputs) (gateway_at end old) (gateway_at end new)
+  pub histories : (happenings : List (Happening C)) → IsWorldHistory meaning_of (take count events) outputs old new happenings → (end : End)
+      → IsHistory meaning_of (inputs_at end (take count events)) (outputs_at end (take count events) outputs) (gateway_at end old) (gateway_at end new) (passages_at end happenings)
   pub promises : (end : End) → KeepsPromises meaning_of (inputs_at end (take count events)) (outputs_at end (take count events) outputs) (gateway_at end old) (gateway_at end new)
+  pub together : KeepsWorldPromises meaning_of (take count events) outputs old new
   pub stored : IsLater old.stored new.stored
 
 -- there was no room for what comes of one more: the list was left after some, and not at its end

@@ -54,6 +54,13 @@ abbrev pub other_end : End → End
 other_end A = B
 other_end B = A
 
+-- with one more at the front, where it is of this end
+abbrev pub if_at : {X : Type 0} → End → End → X → List X → List X
+if_at {X} A A x xs = x ∷ xs
+if_at {X} B B x xs = x ∷ xs
+if_at {X} A B x xs = xs
+if_at {X} B A x xs = xs
+
 abbrev pub gateway_at : {C : Type 0} → End → WorldState C → State C
 gateway_at A w = w.a
 gateway_at B w = w.b

@@ -1,5 +1,5 @@
 //! What follows from the definitions alone. No function here does anything.
-ghost use Rattle.std.specs.Prelude.{◌≡◌, ◌++◌, ℕ, Contains, IsSome, List, Some, true, false, flat_map, map};
+ghost use Rattle.std.specs.Prelude.{◌≡◌, ◌++◌, ℕ, Bool, Contains, IsSome, List, Some, true, false, flat_map, map};
 ghost use Rattle.std.specs.List.{AllByRecursion};
 ghost use Rattle.base.specs.Octets.{Octets};
 ghost use Rattle.policy.specs.declared.entry.Action.{Action};
@@ -7,6 +7,7 @@ ghost use Rattle.policy.specs.declared.entry.Action.TheVariants.{Bypass, Protect
 ghost use Rattle.policy.specs.declared.flow.Flow.{Flow};
 ghost use Rattle.policy.specs.declared.policy.Direction.TheVariants as direction;
 ghost use Rattle.suite.specs.declared.fresh.Fresh.{Fresh};
+ghost use Rattle.suite.specs.declared.key_record.KeyRecord.{KeyRecord};
 ghost use Rattle.effects.specs.Taking.{Meaning};
 ghost use Rattle.initial.specs.Configs.{IsConfig};
 ghost use Rattle.initial.specs.declared.config.Config.{Config};
@@ -28,10 +29,14 @@ ghost use Rattle.gateway.specs.Runs.{CallsAs, Runs, StepsAs};
 ghost use Rattle.gateway.specs.States.{State};
 ghost use Rattle.gateway.specs.Storing.{again_by};
 ghost use Rattle.gateway.specs.Steps.{GoesSealed, Steps, Traces};
-ghost use Rattle.gateway.specs.WorldRuns.{inputs_at, outputs_at, HappensAs, IsLater};
+ghost use Rattle.gateway.specs.WorkedWorlds.{IsWorkedWorld};
+ghost use Rattle.gateway.specs.WorldHistories.{passages_at, Happening, IsWorldHistory, IsWorldTrail};
+ghost use Rattle.gateway.specs.WorldParties.{HasSent, IsNeverMadeTwice, IsSoundUnder};
+ghost use Rattle.gateway.specs.WorldPromises.{EndsAgree, IsUnforged, IsUnforgedByThen, KeepsWorldPromises, StaysSound};
+ghost use Rattle.gateway.specs.WorldRuns.{inputs_at, outputs_at, CallsWorldAs, HappensAs, IsLater};
 ghost use Rattle.gateway.specs.Worked.{IsWorkedRun};
 ghost use Rattle.gateway.specs.WorkedRequests.{IsWorkedRequest};
-ghost use Rattle.gateway.specs.Worlds.{child_by, gateway_at, ike_mark, keyed_by, mark_again, IsMarked, WorldState};
+ghost use Rattle.gateway.specs.Worlds.{child_by, gateway_at, ike_mark, keyed_by, mark_again, new_world, HoldsNothing, IsMarked, Stored, WorldState};
 ghost use Rattle.gateway.specs.declared.output.Output.{Output};
 ghost use Rattle.gateway.specs.declared.world.stored.End.{End};
 ghost use Rattle.gateway.specs.declared.world.stored.Event.{Event};
@@ -46,8 +51,12 @@ use deliveries::laws::{
 };
 use esp::laws::sealed_packets_open;
 use ike::laws::{
-    children_have_few_selectors, one_association_is_changed, traces_name_what_is_held,
-    what_is_sent_is_short,
+    children_have_few_selectors, one_association_is_changed, steps_are_moves,
+    traces_name_what_is_held, what_is_sent_is_short,
+};
+use lockstep::laws::{
+    each_party_stays_sound, parties_keep_in_step, parties_stay_sound,
+    what_was_sent_under_keys_is_told,
 };
 use moments::laws::some_are_held_on;
 use requests::laws::later_incoming_follow;
@@ -56,6 +65,7 @@ use traffic::laws::{
     a_packet_takes_one_number, only_the_bypassed_goes_in_the_clear, outcomes_are_determined,
     outcomes_go_by_content,
 };
+use wire::laws::octets_spell_one_message;
 
 /// What is to be protected never goes in the clear, outward or inward: outward it goes sealed or, for want of an association, of a
 /// number (E28, E12) or of memory, not at all. Only what the policy bypasses goes on as it is.
@@ -152,11 +162,16 @@ pub fn what_is_told_is_stored<C>()
     traces_name_what_is_held();
 }
 
-/// Each end of a world has its own events in order, whatever happens at the other: what becomes of it is a run of its gateway alone.
+/// Each end of a world has its own events in order, whatever happens at the other: what becomes of it is a run of its gateway alone, whose
+/// steps are those of the world at this end.
 pub fn each_end_has_its_events<C>()
-    ensures { (meaning_of : C → Meaning) (end : End) (events : List Event) (outputs : List Output) (old new : WorldState C)
+    ensures run { (meaning_of : C → Meaning) (end : End) (events : List Event) (outputs : List Output) (old new : WorldState C)
         → Runs (HappensAs meaning_of) events outputs old new
         → Runs (StepsAs meaning_of) (inputs_at end events) (outputs_at end events outputs) (gateway_at end old) (gateway_at end new) }
+    ensures history { (meaning_of : C → Meaning) (end : End) (events : List Event) (outputs : List Output) (old new : WorldState C)
+        (happenings : List (Happening C)) → IsWorldHistory meaning_of events outputs old new happenings
+        → IsHistory meaning_of (inputs_at end events) (outputs_at end events outputs) (gateway_at end old) (gateway_at end new)
+        (passages_at end happenings) }
 {}
 
 /// What is promised of a run holds of every run, over however many inputs. Each request under SK of an association takes
@@ -232,6 +247,63 @@ pub fn what_is_stored_stays<C>()
     ensures { (meaning_of : C → Meaning) (events : List Event) (outputs : List Output) (old new : WorldState C)
         → Runs (HappensAs meaning_of) events outputs old new → IsLater old.stored new.stored }
 {}
+
+/// A world of two gateways that hold nothing is sound under every key record (`begun`), and every list of events keeps a world sound under
+/// each key record under which no message was forged and to which neither end came twice: whatever history the list has (`trail`, `run`),
+/// and over many calls in a row (`calls`). That a message was not forged may be asked of what was stored before it came, or
+/// of what is stored after the list, which asks for less (`by_then`). What is asked of a later moment is so of an earlier one, and what was
+/// sent stays so (`not_twice`, `still_sent`). Of a step of IKE this uses its moves, and what its trace names.
+pub fn every_world_stays_sound<C>()
+    ensures begun { (keys : KeyRecord) (a b : State C) → HoldsNothing a → HoldsNothing b → IsSoundUnder keys (new_world a b) }
+    ensures trail { (meaning_of : C → Meaning) (happenings : List (Happening C)) (old new : WorldState C)
+        → IsWorldTrail meaning_of old happenings new → StaysSound meaning_of happenings old new }
+    ensures run { (meaning_of : C → Meaning) (events : List Event) (outputs : List Output) (old new : WorldState C)
+        → Runs (HappensAs meaning_of) events outputs old new → KeepsWorldPromises meaning_of events outputs old new }
+    ensures calls { (meaning_of : C → Meaning) (lists : List (List Event)) (outputs : List (List Output)) (old new : WorldState C)
+        → Runs (CallsWorldAs meaning_of) lists outputs old new
+        → KeepsWorldPromises meaning_of (flat_map (λ events. events) lists) (flat_map (λ list. list) outputs) old new }
+    ensures by_then { (meaning_of : C → Meaning) (keys : KeyRecord) (happenings : List (Happening C)) (old new : WorldState C)
+        → IsWorldTrail meaning_of old happenings new → IsUnforgedByThen meaning_of keys happenings
+        → IsUnforged meaning_of keys happenings new.stored }
+    ensures not_twice { (keys : KeyRecord) (now later : Stored) → IsLater now later → IsNeverMadeTwice keys later
+        → IsNeverMadeTwice keys now }
+    ensures still_sent { (end : End) (keys : KeyRecord) (response : Bool) (number : ℕ) (octets : Octets) (now later : Stored)
+        → IsLater now later → HasSent end keys response number octets now → HasSent end keys response number octets later }
+{
+    steps_are_moves();
+    traces_name_what_is_held();
+    each_party_stays_sound();
+    parties_keep_in_step();
+    parties_stay_sound();
+    what_was_sent_under_keys_is_told();
+}
+
+/// The ends of a world that is sound under a key record agree on the requests of each association that one of them holds as initiator and
+/// the other as responder under it, in both directions: what is in effect at the answering end was issued by the asking end, what that
+/// counts as answered is in effect, both keep within the windows, as the asking end counts the other's, and where it counts one place the
+/// requests in effect are the first ones, and those answered the same or all but the last. What an end took was sent by the other, also
+/// where the other holds the association no more, and one message alone was sent as each request and as each response (RFC 7296, sections
+/// 2.1 to 2.3).
+pub fn ends_of_a_sound_world_agree<C>()
+    ensures { (keys : KeyRecord) (world : WorldState C) → IsSoundUnder keys world → EndsAgree keys world }
+{
+    each_party_stays_sound();
+    parties_keep_in_step();
+    what_was_sent_under_keys_is_told();
+}
+
+/// The premises on both ends are met by a world that is sound for a key record under which each end holds an association, one as its
+/// initiator and one as its responder: a request comes to the responder, takes effect and is answered, and it was sent so before. So it
+/// is whatever the configuration, the caller's value, what went before, where the octets come from and what is fresh; the caller's
+/// cipher hides nothing, and all laws of its traits hold.
+pub fn the_premises_of_two_ends_are_met<C>()
+    ensures { (config : Config) (caller : C) (request reply from : Octets) (fresh : Fresh) → IsConfig config
+        → IsWorkedWorld config caller request reply from fresh }
+{
+    each_party_stays_sound();
+    octets_spell_one_message();
+    what_was_sent_under_keys_is_told();
+}
 
 /// A step does one thing, and a run of steps: what is said, the trace, and what the gateway holds then go by the inputs and
 /// by what it held before, whatever room there is, where no input is refused for want of memory. Of an input it is asked that a

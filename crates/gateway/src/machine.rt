@@ -13,6 +13,8 @@ ghost use Rattle.gateway.specs.Steps.{Steps, Traces};
 use crate::stepping::take;
 use crate::{Input, Output, Traced};
 use association::Association;
+use flows::FlowMemory;
+use flows::laws::answers_stay_right;
 use ike::Ike;
 use ike::laws::{no_spi_is_lost, what_is_due_comes_in_time};
 use initial::Config;
@@ -22,11 +24,13 @@ use std::alloc::Global;
 use std::marker::Model;
 use suite::{Agreement, KeyRecord, Proof, Sealer};
 
-/// A gateway: the machine of IKE, the table of associations for ESP that goes with it, the policy, and the caller.
+/// A gateway: the machine of IKE, the table of associations for ESP that goes with it, the policy, and the caller. What it
+/// remembers of flows is in no contract: each answer is the one that a look-up would find.
 #[derive(Drop)]
 pub struct Gateway<C> {
     ike: Ike,
     table: Table,
+    flows: FlowMemory,
     policy: Policy,
     caller: C,
 }
@@ -34,6 +38,7 @@ pub struct Gateway<C> {
 impl<C> Model for Gateway<C> {
     ghost use Rattle.std.specs.Coded.{codes};
     ghost use Rattle.association.specs.contracts.phase.Association as association;
+    ghost use Rattle.flows.specs.Memory.{AllRight};
     ghost use Rattle.ike.specs.Moments.{IsTimely};
     ghost use Rattle.ike.specs.Soundness.{AreReservationsHeld, IsSoundMachine};
     ghost use Rattle.sadb.specs.Database.{database_code};
@@ -45,7 +50,8 @@ impl<C> Model for Gateway<C> {
 
     ghost view = { λ g. record { machine = g.ike; table = g.table; entries = g.policy; caller = g.caller } };
 
-    ghost invariant = { λ g. IsSoundMachine g.ike g.table × IsTimely g.ike × AreReservationsHeld g.ike.held g.table };
+    ghost invariant = { λ g. IsSoundMachine g.ike g.table × IsTimely g.ike × AreReservationsHeld g.ike.held g.table
+        × AllRight g.policy g.table.pairs g.flows };
 }
 
 impl<C> Gateway<C> {
@@ -59,9 +65,11 @@ impl<C> Gateway<C> {
     {
         what_is_due_comes_in_time();
         no_spi_is_lost();
+        answers_stay_right();
         Gateway {
             ike: Ike::new(alloc, config),
             table: Table::new(alloc, start),
+            flows: FlowMemory::new(alloc),
             policy,
             caller,
         }
@@ -105,7 +113,8 @@ impl<C: Sealer + Agreement + Proof> Gateway<C> {
     ///
     /// Datagrams of IKE and orders are refused or dropped as [`Ike::step`] says, packets dropped as [`traffic::receive`],
     /// [`traffic::send`] and [`traffic::admit`] say. A packet on its way out is refused ([`Reason::Memory`](crate::Reason), E20) for want of
-    /// memory for its ESP packet; an ESP packet that came takes none.
+    /// memory for its ESP packet; an ESP packet that came takes none. What is done with flows outward is remembered, as far as there is
+    /// memory for it.
     ///
     /// What is refused changes nothing but the table's room.
     pub fn step<'a>(&mut self, alloc: Global, input: &'a Input) -> Output<'a>
@@ -148,6 +157,7 @@ impl<C: Sealer + Agreement + Proof> Gateway<C> {
             input,
             &mut self.ike,
             &mut self.table,
+            &mut self.flows,
             &self.policy,
             &self.caller,
         )

@@ -1,5 +1,7 @@
 //! One input of each kind.
-ghost use Rattle.std.specs.Prelude.{◌≡◌};
+ghost use Rattle.std.specs.Prelude.{◌≡◌, MatchOption};
+ghost use Rattle.flows.specs.Memory.{AllRight, HoldsNone};
+ghost use Rattle.flows.specs.Staying.{NoneComes};
 ghost use Rattle.ike.specs.Moments.{IsTimely};
 ghost use Rattle.ike.specs.Soundness.{AreReservationsHeld, IsSoundMachine};
 ghost use Rattle.ike.specs.Steps.{input_view};
@@ -7,13 +9,19 @@ ghost use Rattle.gateway.specs.Outputs.{said};
 ghost use Rattle.gateway.specs.Steps.{AdmitsPacket, DoesInput, ReceivesPacket, SendsPacket, StepsIke};
 
 use crate::{Input, Output, Reason, Traced};
-use ike::laws::{no_spi_is_lost, soundness_asks_for_reservations, what_is_due_comes_in_time};
-use ike::{Demand, Ike, IkeInput};
+use flows::FlowMemory;
+use flows::laws::answers_stay_right;
+use ike::laws::{
+    no_spi_is_lost, soundness_asks_for_reservations, traces_name_what_is_held,
+    what_is_due_comes_in_time,
+};
+use ike::{Demand, Ike, IkeInput, MadeChild};
 use policy::Policy;
 use sadb::Table;
 use std::alloc::Global;
 use suite::{Agreement, Proof, Sealer};
-use traffic::{admit, receive, send};
+use traffic::laws::no_pair_comes;
+use traffic::{admit, receive, send_remembering};
 
 /// Takes an input of any kind.
 pub(crate) fn take<'a, C: Sealer + Agreement + Proof>(
@@ -21,12 +29,14 @@ pub(crate) fn take<'a, C: Sealer + Agreement + Proof>(
     input: &'a Input,
     ike: &mut Ike,
     table: &mut Table,
+    flows: &mut FlowMemory,
     policy: &Policy,
     caller: &C,
 ) -> Traced<'a>
     requires sound { IsSoundMachine ike.old table.old }
     requires timely { IsTimely ike.old }
     requires reservations { AreReservationsHeld ike.old.held table.old }
+    requires right { AllRight policy.now table.old.pairs flows.old }
     ensures done { DoesInput
         (record {
           cipher = C.cipher;
@@ -43,9 +53,11 @@ pub(crate) fn take<'a, C: Sealer + Agreement + Proof>(
     ensures sound { IsSoundMachine ike.new table.new }
     ensures timely { IsTimely ike.new }
     ensures reservations { AreReservationsHeld ike.new.held table.new }
+    ensures right { AllRight policy.now table.new.pairs flows.new }
 {
     soundness_asks_for_reservations();
     no_spi_is_lost();
+    answers_stay_right();
     match input {
         Input::Ike {
             from,
@@ -57,7 +69,7 @@ pub(crate) fn take<'a, C: Sealer + Agreement + Proof>(
                 octets: octets.as_slice(),
                 fresh,
             };
-            step_ike(alloc, &message, ike, table, policy, caller)
+            step_ike(alloc, &message, ike, table, flows, policy, caller)
         }
         Input::Start {
             ike: serial,
@@ -69,38 +81,101 @@ pub(crate) fn take<'a, C: Sealer + Agreement + Proof>(
                 entry: *entry,
                 fresh,
             };
-            step_ike(alloc, &order, ike, table, policy, caller)
+            step_ike(alloc, &order, ike, table, flows, policy, caller)
         }
         Input::Probe { ike: asked, fresh } => {
             let what = Demand::Probe { ike: *asked };
             let order = IkeInput::Order { what, fresh };
-            step_ike(alloc, &order, ike, table, policy, caller)
+            step_ike(alloc, &order, ike, table, flows, policy, caller)
         }
         Input::DeleteChild { child, fresh } => {
             let what = Demand::DeleteChild { child: *child };
             let order = IkeInput::Order { what, fresh };
-            step_ike(alloc, &order, ike, table, policy, caller)
+            step_ike(alloc, &order, ike, table, flows, policy, caller)
         }
         Input::DeleteIke { ike: asked, fresh } => {
             let what = Demand::DeleteIke { ike: *asked };
             let order = IkeInput::Order { what, fresh };
-            step_ike(alloc, &order, ike, table, policy, caller)
+            step_ike(alloc, &order, ike, table, flows, policy, caller)
         }
         Input::Secret { secret } => {
-            step_ike(alloc, &IkeInput::Secret(secret), ike, table, policy, caller)
+            step_ike(
+                alloc,
+                &IkeInput::Secret(secret),
+                ike,
+                table,
+                flows,
+                policy,
+                caller,
+            )
         }
         Input::Tick { moment } => {
-            step_ike(alloc, &IkeInput::Tick(*moment), ike, table, policy, caller)
+            step_ike(
+                alloc,
+                &IkeInput::Tick(*moment),
+                ike,
+                table,
+                flows,
+                policy,
+                caller,
+            )
         }
         Input::Esp { octets } => Traced::plain(receive_packet(table, octets.as_slice())),
         Input::Outward { packet } => {
-            Traced::plain(send_packet(alloc, table, policy, packet.as_slice()))
+            Traced::plain(send_packet(alloc, table, flows, policy, packet.as_slice()))
         }
         Input::Inward { packet } => Traced::plain(admit_packet(policy, packet.as_slice())),
     }
 }
 
+/// Has the machine of IKE take a step.
 fn step_ike<'a, C: Sealer + Agreement + Proof>(
+    alloc: Global,
+    input: &IkeInput<'_>,
+    ike: &mut Ike,
+    table: &mut Table,
+    flows: &mut FlowMemory,
+    policy: &Policy,
+    caller: &C,
+) -> Traced<'a>
+    requires sound { IsSoundMachine ike.old table.old }
+    requires timely { IsTimely ike.old }
+    requires reservations { AreReservationsHeld ike.old.held table.old }
+    requires right { AllRight policy.now table.old.pairs flows.old }
+    ensures stepped { StepsIke
+        (record {
+          cipher = C.cipher;
+          body_of = C.body_of;
+          plain_of = C.plain_of;
+          group = C.group_number;
+          public_value = C.public_value;
+          shared_secret = C.shared_secret;
+          own_method = C.own_method caller.now;
+          proof_of = C.proof_of caller.now;
+          accepts = C.accepts caller.now;
+        })
+        policy.now (input_view input.now) ike.old table.old (said result.output) result.trace ike.new table.new }
+    ensures sound { IsSoundMachine ike.new table.new }
+    ensures timely { IsTimely ike.new }
+    ensures reservations { AreReservationsHeld ike.new.held table.new }
+    ensures right { AllRight policy.now table.new.pairs flows.new }
+{
+    answers_stay_right();
+    let traced = step_machine(alloc, input, ike, table, policy, caller);
+    forget_with(flows, traced.trace.child);
+    traced
+}
+
+/// Forgets what is remembered of flows, where a child was made: its pair may carry them from now on.
+fn forget_with(flows: &mut FlowMemory, child: Option<MadeChild>)
+    ensures { MatchOption child (flows.new ≡ flows.old) (λ _. HoldsNone flows.new) }
+{
+    if child.is_some() {
+        flows.forget();
+    }
+}
+
+fn step_machine<'a, C: Sealer + Agreement + Proof>(
     alloc: Global,
     input: &IkeInput<'_>,
     ike: &mut Ike,
@@ -127,9 +202,12 @@ fn step_ike<'a, C: Sealer + Agreement + Proof>(
     ensures sound { IsSoundMachine ike.new table.new }
     ensures timely { IsTimely ike.new }
     ensures reservations { AreReservationsHeld ike.new.held table.new }
+    ensures pairs { result.trace.child ≡ None → NoneComes table.old.pairs table.new.pairs }
 {
     what_is_due_comes_in_time();
     no_spi_is_lost();
+    traces_name_what_is_held();
+    table.invariants_hold();
     match ike.step(alloc, input, table, policy, caller) {
         Ok(stepped) => Traced::by_ike(stepped),
         Err(fault) => Traced::plain(Output::Refused {
@@ -141,20 +219,25 @@ fn step_ike<'a, C: Sealer + Agreement + Proof>(
 fn receive_packet<'a>(table: &mut Table, packet: &'a [u8]) -> Output<'a>
     ensures received { ReceivesPacket table.old packet.now (said result) table.new }
     ensures reserved { table.new.reserved ≡ table.old.reserved }
+    ensures pairs { NoneComes table.old.pairs table.new.pairs }
 {
+    no_pair_comes();
     Output::of_arrival(receive(table, packet))
 }
 
 fn send_packet<'a>(
     alloc: Global,
     table: &mut Table,
+    flows: &mut FlowMemory,
     policy: &Policy,
     packet: &'a [u8],
 ) -> Output<'a>
+    requires { AllRight policy.now table.old.pairs flows.old }
     ensures sent { SendsPacket policy.now table.old packet.now (said result) table.new }
     ensures reserved { table.new.reserved ≡ table.old.reserved }
+    ensures right { AllRight policy.now table.new.pairs flows.new }
 {
-    match send(alloc, table, policy, packet) {
+    match send_remembering(alloc, table, flows, policy, packet) {
         Ok(departure) => Output::of_departure(departure),
         Err(_) => Output::Refused {
             reason: Reason::Memory,

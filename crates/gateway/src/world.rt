@@ -1,12 +1,15 @@
 //! Two gateways, and what passed between them.
 ghost use Rattle.std.specs.Prelude.{◌≡◌, MatchOption, None, Some, IfErr, IfOk};
 ghost use Rattle.gateway.specs.Outputs.{said};
+ghost use Rattle.suite.specs.declared.key_record.KeyRecord.{KeyRecord};
+ghost use Rattle.gateway.specs.WorldParties.{IsSoundUnder};
 ghost use Rattle.gateway.specs.Worlds.{datagram_at, gateway_at, new_world, HoldsNothing, TakesEvent};
 
 mod log;
 mod running;
 mod stored;
 
+use crate::laws::every_world_stays_sound;
 use crate::{Gateway, Output};
 use log::{Log, most_again, take};
 pub use running::run_world;
@@ -42,12 +45,15 @@ impl<C> Model for World<C> {
 }
 
 impl<C> World<C> {
-    /// Two gateways that hold no association and have given no SPI, at the moment 0: nothing was sent yet. Takes no memory.
+    /// Two gateways that hold no association and have given no SPI, at the moment 0: nothing was sent yet. Takes no memory. Such a world
+    /// is sound under every key record.
     pub fn new(alloc: Global, a: Gateway<C>, b: Gateway<C>) -> World<C>
         requires a { HoldsNothing a }
         requires b { HoldsNothing b }
-        ensures { result ≡ new_world a b }
+        ensures content { result ≡ new_world a b }
+        ensures sound { (keys : KeyRecord) → IsSoundUnder keys result }
     {
+        every_world_stays_sound::<C>();
         World {
             a,
             b,

@@ -3,7 +3,7 @@ ghost use Rattle.std.specs.Prelude.{OnOk, IfErr, length};
 ghost use Rattle.gateway.specs.WorldRuns.{PlaysFirst, StopsPlaying};
 
 use super::{Event, World};
-use crate::laws::every_run_keeps_its_promises;
+use crate::laws::{every_run_keeps_its_promises, every_world_stays_sound};
 use crate::{Output, RunFault};
 use std::alloc::Global;
 use suite::{Agreement, Proof, Sealer};
@@ -13,6 +13,15 @@ use suite::{Agreement, Proof, Sealer};
 /// [`RunFault::NoRoom`] (E38) with the number of events that took place, where there was no memory for the place of the next output or
 /// for what may be stored of it: one datagram of at most 16,664 octets, one key record, and one child, and for a moment 3000 octets for
 /// each request that waits for an answer. All of it is reserved before an event takes place: none does without its output.
+///
+/// Of each end alone is promised what [`run`](crate::run) promises. Of both together, over whatever list: a world that is sound under a key
+/// record, as a new one is, stays so, as long as neither end came to the record twice and no message under it was forged: what opened
+/// under it as the other end's request or response was sent so by the other end. In a sound world, of each association that one end holds
+/// as initiator and the other as responder under the record, and for the requests of either: what is in effect at the answering end was
+/// issued by the asking end, what that counts as answered is in effect, both keep within the windows, as the asking end counts the
+/// other's, and where it counts one place the requests in effect are the first ones, none skipped, and those answered the same or all
+/// but the last (RFC 7296, sections 2.1 to 2.3). That two ends come to one record, or count the window that the other was set to, is
+/// not promised here.
 pub fn run_world<'a, C: Sealer + Agreement + Proof>(
     alloc: Global,
     world: &mut World<C>,
@@ -47,6 +56,7 @@ pub fn run_world<'a, C: Sealer + Agreement + Proof>(
         events.now world.old outputs.old.items fault world.new outputs.new.items) }
 {
     every_run_keeps_its_promises::<C>();
+    every_world_stays_sound::<C>();
     for (done, event) in events.iter().enumerate() {
         if outputs.reserve(1).is_err() {
             return Err(RunFault::NoRoom { done });

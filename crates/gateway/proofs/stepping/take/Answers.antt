@@ -26,3 +26,7 @@ returns-in-Outward-clause-reservations g c =
     c.no_spi_is_lost.ensures.kept c.args.ike.now.held c.args.table.now c.send_packet.new.table
     (λ spi h. subst (λ (r : set.FinSet nat_cmp). set.contains r spi ≡ true) c.send_packet.ensures.reserved h)
     c.requires.reservations
+
+pub returns-in-Esp-clause-right : goal.returns-in-Esp-clause-right
+returns-in-Esp-clause-right g c =
+    c.answers_stay_right.ensures.stay c.args.policy.now c.args.table.now.pairs c.receive_packet.new.table.pairs c.args.flows.now c.receive_packet.ensures.pairs c.requires.right

@@ -15,4 +15,5 @@ invariant_of-result g c =
       subst (λ (m : Machine). IsTimely m) (sym c.new.ensures.content) (c.what_is_due_comes_in_time.ensures.first c.args.config),
       subst (λ (m : Machine). AreReservationsHeld m.held c.new-2.result) (sym c.new.ensures.content)
           (c.no_spi_is_lost.ensures.begun c.args.config c.new-2.result (λ spi there. none_reserved spi (none spi there))),
+      c.answers_stay_right.ensures.none c.args.policy c.new-2.result.pairs c.new-3.result c.new-3.ensures,
     )

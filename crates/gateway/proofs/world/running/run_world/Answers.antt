@@ -21,7 +21,7 @@ returns-then-is_err-clause-stopped g c =
       proof_of = g.C.Proof.proof_of caller;
       accepts = g.C.Proof.accepts caller;
     } in
-    (c.loop-done-test.true, plays c.every_run_keeps_its_promises.ensures meaning_of c.loop-done.done c.args.events.now c.args.world.now c.args.outputs.now.items i.answers c.loop-done.world c.reserve.new.self.items (c.reserve.ensures.items ∙ i.appended) i.runs)
+    (c.loop-done-test.true, plays c.every_run_keeps_its_promises.ensures c.every_world_stays_sound.ensures.run meaning_of c.loop-done.done c.args.events.now c.args.world.now c.args.outputs.now.items i.answers c.loop-done.world c.reserve.new.self.items (c.reserve.ensures.items ∙ i.appended) i.runs)
 
 pub returns-in_default-clause-stopped : goal.returns-in_default-clause-stopped
 returns-in_default-clause-stopped g c =
@@ -37,7 +37,7 @@ returns-in_default-clause-stopped g c =
       proof_of = g.C.Proof.proof_of caller;
       accepts = g.C.Proof.accepts caller;
     } in
-    let played = plays c.every_run_keeps_its_promises.ensures meaning_of c.loop-done.done c.args.events.now c.args.world.now c.args.outputs.now.items i.answers c.loop-done.world c.reserve.new.self.items (c.reserve.ensures.items ∙ i.appended) i.runs in
+    let played = plays c.every_run_keeps_its_promises.ensures c.every_world_stays_sound.ensures.run meaning_of c.loop-done.done c.args.events.now c.args.world.now c.args.outputs.now.items i.answers c.loop-done.world c.reserve.new.self.items (c.reserve.ensures.items ∙ i.appended) i.runs in
     (c.loop-done-test.true, subst (λ w. PlaysFirst meaning_of c.loop-done.done c.args.events.now c.args.world.now c.args.outputs.now.items w c.reserve.new.self.items) (sym c.in_default.ensures.refused) played)
 
 pub loop-done-preserved : goal.loop-done-preserved
@@ -82,4 +82,4 @@ returns-clause-all g c =
     } in
     let all : c.loop-done.done ≡ length c.args.events.now = omega arith in
     subst (λ (k : ℕ). PlaysFirst meaning_of k c.args.events.now c.args.world.now c.args.outputs.now.items c.loop-done.world c.loop-done.outputs.items) all
-    (plays c.every_run_keeps_its_promises.ensures meaning_of c.loop-done.done c.args.events.now c.args.world.now c.args.outputs.now.items i.answers c.loop-done.world c.loop-done.outputs.items i.appended i.runs)
+    (plays c.every_run_keeps_its_promises.ensures c.every_world_stays_sound.ensures.run meaning_of c.loop-done.done c.args.events.now c.args.world.now c.args.outputs.now.items i.answers c.loop-done.world c.loop-done.outputs.items i.appended i.runs)
