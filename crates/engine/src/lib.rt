@@ -1,4 +1,4 @@
-//! The engine of `gw`: what its commands do with a file's octets, over any reader and any writer. It is a crate of its own, so
+//! The engine of `gw`: what its commands do, with a file's octets over any reader and any writer. It is a crate of its own, so
 //! that it is checked without the program's command line.
 //!
 //! [`play`] plays a script. Its first line names its kind; each further line is a directive, and what came of it is printed.
@@ -30,14 +30,18 @@
 //!
 //! [`show`] prints an IKE message (RFC 7296 section 3) whose octets the file has as hexadecimal digits.
 //!
+//! [`check`] computes exact values that are known from elsewhere ([`vectors`]), and prints how many hold.
+//!
 //! Each answers the exit status, and prints why it stopped ([`Stop`]).
 #![tactic(auto)]
 
+mod checking;
 mod playing;
 mod script;
 mod showing;
 mod stop;
 
+pub use checking::check;
 pub use playing::play;
 pub use showing::show;
 pub use stop::{Stop, end};

@@ -14,12 +14,14 @@ pub enum Command<'a> {
     Play { file: &'a str },
     /// `show`: the file at this path is shown as an IKE message.
     Show { file: &'a str },
+    /// `check`: exact values are computed and compared. It takes no file.
+    Check,
 }
 
 /// Why the command line was not read.
 #[derive(Clone, Copy, Debug, PartialEq, Eq)]
 pub enum CommandFault {
-    /// The words are not a command with its one file. Asking for help is no command.
+    /// The words are not a command with its one file, or `check` alone. Asking for help is no command.
     Words,
     /// There was no memory.
     Memory,
@@ -59,7 +61,8 @@ pub fn read<'a>(alloc: Global, words: &'a [String]) -> Result<Command<'a>, Comma
     let gw = clap::Command::new(alloc, "gw")
         .subcommand_required(true)
         .subcommand(with_file(alloc, "play")?)?
-        .subcommand(with_file(alloc, "show")?)?;
+        .subcommand(with_file(alloc, "show")?)?
+        .subcommand(clap::Command::new(alloc, "check"))?;
     let matches = gw.try_get_matches_from(words)?;
     let (name, found) = matches.subcommand().ok_or(CommandFault::Words)?;
     match name {
@@ -69,6 +72,7 @@ pub fn read<'a>(alloc: Global, words: &'a [String]) -> Result<Command<'a>, Comma
         "show" => Ok(Command::Show {
             file: file_of(found)?,
         }),
+        "check" => Ok(Command::Check),
         _ => Err(CommandFault::Words),
     }
 }

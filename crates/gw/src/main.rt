@@ -22,6 +22,8 @@
 //!
 //! `gw show FILE` prints an IKE message (RFC 7296 section 3) whose octets the file has as hexadecimal digits.
 //!
+//! `gw check` computes exact values that are known from elsewhere, and prints how many hold.
+//!
 //! A refusal in a script is printed as its number and is no fault. The exit status is 0 where all was done, 1 where input
 //! was refused or output not written, and 2 where the command line's words are no command.
 #![tactic(auto)]
@@ -30,7 +32,7 @@ mod command;
 
 use command::{Command, CommandFault};
 use console::Status;
-use engine::{Stop, end, play, show};
+use engine::{Stop, check, end, play, show};
 use std::alloc::Global;
 use std::fs::File;
 use std::io;
@@ -65,21 +67,36 @@ fn refuse(rt: &HostRuntime, fault: CommandFault) -> u8 {
 }
 
 fn follow(rt: &HostRuntime, command: Command) -> u8 {
-    let (Command::Play { file } | Command::Show { file }) = command;
+    match command {
+        Command::Play { file } => follow_with(rt, file, Use::Played),
+        Command::Show { file } => follow_with(rt, file, Use::Shown),
+        Command::Check => check(rt.alloc(), &mut io::writer(rt)),
+    }
+}
+
+/// What is done with a file.
+#[derive(Clone, Copy)]
+enum Use {
+    Played,
+    Shown,
+}
+
+/// Does it with the file at a path.
+fn follow_with(rt: &HostRuntime, file: &str, is: Use) -> u8 {
     let mut writer = io::writer(rt);
     if file == STANDARD_INPUT {
-        return act(rt.alloc(), command, &mut rt.reader(), &mut writer);
+        return act(rt.alloc(), is, &mut rt.reader(), &mut writer);
     }
     match File::open(rt, file) {
-        Ok(mut reader) => act(rt.alloc(), command, &mut reader, &mut writer),
+        Ok(mut reader) => act(rt.alloc(), is, &mut reader, &mut writer),
         Err(_) => end(Err(Stop::File), &mut writer).code(),
     }
 }
 
-/// Does what the command asks for with what its file holds.
-fn act<R: Read, W: Write>(alloc: Global, command: Command, reader: &mut R, writer: &mut W) -> u8 {
-    match command {
-        Command::Play { .. } => play(alloc, reader, writer),
-        Command::Show { .. } => show(alloc, reader, writer),
+/// Does it with what the reader has.
+fn act<R: Read, W: Write>(alloc: Global, is: Use, reader: &mut R, writer: &mut W) -> u8 {
+    match is {
+        Use::Played => play(alloc, reader, writer),
+        Use::Shown => show(alloc, reader, writer),
     }
 }

@@ -7,5 +7,9 @@
 //! numbers that RFC 7296 gives.
 #![tactic(auto)]
 
+mod entry;
+mod report;
 #[cfg(test)]
 mod tests;
+
+pub use report::{ENTRIES, Report, check_all};

@@ -1,2 +1,3 @@
+mod checking;
 mod playing;
 mod showing;

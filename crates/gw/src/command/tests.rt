@@ -4,7 +4,7 @@ use std::test::Fail;
 
 /// Words that are no command, a line for each.
 const NONE: &str =
-    "\nhelp\n--help\n-h\n--version\nplay\nplay --help\nplay a b\nplay -x\nhelp play\ncheck\n--\n-- play a\nPlay a\nplay=a\nplays a\nfile a\nplay a show b";
+    "\nhelp\n--help\n-h\n--version\nplay\nplay --help\nplay a b\nplay -x\nhelp play\ncheck a\ncheck check\ncheck --help\n--\n-- play a\nPlay a\nplay=a\nplays a\nfile a\nplay a show b";
 
 fn words_of(alloc: Global, line: &str) -> Result<Vec<String>, AllocError> {
     let mut words = vec![in alloc; String::from_str(alloc, "gw")?]?;
@@ -22,6 +22,7 @@ fn commands(rt: HostRuntime) -> Result<(), Fail> {
         ("play -- -x", Command::Play { file: "-x" }),
         ("show show", Command::Show { file: "show" }),
         ("play -", Command::Play { file: "-" }),
+        ("check", Command::Check),
     ];
     for (line, command) in lines {
         let words = words_of(rt.alloc(), line)?;

@@ -2,6 +2,7 @@
 mod deleting;
 mod failures;
 mod further_children;
+mod hostile;
 mod probes;
 mod refusals;
 mod runs;

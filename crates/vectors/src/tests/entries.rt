@@ -1,0 +1,13 @@
+//! The entries that `check_all` counts.
+use crate::{ENTRIES, Report, check_all};
+
+#[test]
+fn all_hold(rt: HostRuntime) {
+    let wanted = Report {
+        passed: ENTRIES,
+        failed: 0,
+        unread: 0,
+        first_failed: None,
+    };
+    assert_eq!(rt; check_all(rt.alloc()), wanted);
+}
