@@ -4,10 +4,12 @@
 //! message says of traffic (RFC 7296 section 3.13.1), what a policy decides about, and what an association covers. `specs/`
 //! has the words that definitions share: `Octets` of lists of octets, `Lists` of lists of anything, `Addresses` of ranges.
 //!
-//! ```text
-//! let local = Range::V4(0x0a00_0000, 0x0a00_00ff);   // 10.0.0.0 to 10.0.0.255
-//! local.holds(Address::V4(0x0a00_0001))              // true
-//! local.holds(Address::V6(0x0a00_0001))              // false: another family
+//! ```rust
+//! use base::{Address, Range};
+//!
+//! let local = Range::V4(0x0a00_0000, 0x0a00_00ff); // 10.0.0.0 to 10.0.0.255
+//! assert!(rt; local.holds(Address::V4(0x0a00_0001)));
+//! assert!(rt; !local.holds(Address::V6(0x0a00_0001))); // another family
 //! ```
 #![tactic(auto)]
 

@@ -3,4 +3,3 @@ mod lists;
 mod notices;
 mod of_ike;
 mod of_peers;
-mod sample;

@@ -12,11 +12,24 @@
 //! Nothing here hides how long a call takes: tables are read by secret octets, powers branch on secret bits, and a check value
 //! or a proof is compared up to its first wrong octet.
 //!
-//! ```text
-//! let peer = Peer { kind: 2, id: Items::from_slice(alloc, b"gw.example")?, secret: Items::from_slice(alloc, b"our secret")? };
-//! let caller = PeerCaller { own: Items::from_slice(alloc, b"our secret")?, peers };
-//! let public = caller.public(alloc, &secret)?;                  // 256 octets, for a KE payload
-//! caller.seal(&keys, head, plain, &fresh, &mut body)?;          // vector, encrypted payloads, check value
+//! ```rust
+//! use base::Items;
+//! use peers::{Peer, PeerCaller};
+//! use suite::Agreement;
+//!
+//! let peer = Peer {
+//!     kind: 2,
+//!     id: Items::from_slice(rt.alloc(), b"gw.example")?,
+//!     secret: Items::from_slice(rt.alloc(), b"our secret")?,
+//! };
+//! let mut peers = Items::new(rt.alloc());
+//! peers.push(peer)?;
+//! let caller = PeerCaller {
+//!     own: Items::from_slice(rt.alloc(), b"our secret")?,
+//!     peers,
+//! };
+//! let public = caller.public(rt.alloc(), &[1; 32])?;
+//! assert_eq!(rt; public.len(), 256); // octets, for a KE payload
 //! ```
 #![tactic(auto)]
 

@@ -13,14 +13,27 @@
 //! The sets stand in `specs/Points`, decisions in `specs/Decisions`, the responder's choice in `specs/Narrowing`, and the
 //! layout of packets in `specs/Packets`.
 //!
-//! ```text
-//! let policy = Policy::new(entries)?;
-//! match policy.decide(&inner(packet)?, Direction::Outward) {
-//!     Decision::Protect => ..,
-//!     Decision::Bypass => ..,
-//!     Decision::Discard => ..,
-//! }
-//! let narrowed = narrow(alloc, &offered_i, &offered_r, &policy)?;
+//! ```rust
+//! use base::{Items, Range};
+//! use policy::{Action, Decision, Direction, Entry, Policy, inner};
+//!
+//! let entry = Entry {
+//!     protocol: 0,
+//!     local: Range::V4(0x0a00_0000, 0x0a00_00ff),
+//!     remote: Range::V4(0x0a01_0000, 0x0a01_00ff),
+//!     local_ports: (0, 65535),
+//!     remote_ports: (0, 65535),
+//!     action: Action::Protect,
+//! };
+//! let policy = Policy::new(Items::from_slice(rt.alloc(), &[entry])?)?;
+//! // A header of IPv4 alone, from 10.0.0.1 to 10.1.0.1.
+//! let packet = [
+//!     0x45, 0, 0, 20, 0, 0, 0, 0, 64, 1, 0, 0, 10, 0, 0, 1, 10, 1, 0, 1,
+//! ];
+//! assert_eq!(rt;
+//!     policy.decide(&inner(&packet)?, Direction::Outward),
+//!     Decision::Protect
+//! );
 //! ```
 #![tactic(auto)]
 

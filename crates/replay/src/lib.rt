@@ -5,13 +5,17 @@
 //! ([`Window::judge`]) is apart from taking ([`Window::take`]), so that a packet's number is taken only after its check
 //! value was found right.
 //!
-//! ```text
-//! let mut window = BlockWindow::new(alloc, 2)?;   // spans 64 numbers
-//! window.take(65)?;
-//! window.judge(2)     // Fresh
-//! window.judge(1)     // Old
-//! window.judge(65)    // Taken
-//! window.judge(0)     // Zero
+//! ```rust
+//! use replay::{BlockWindow, Judgement, Window};
+//!
+//! let mut window = BlockWindow::new(rt.alloc(), 2)?; // spans 64 numbers
+//! if let Judgement::Fresh = window.judge(65) {
+//!     window.take(65)?;
+//! }
+//! assert_eq!(rt; window.judge(2), Judgement::Fresh);
+//! assert_eq!(rt; window.judge(1), Judgement::Old);
+//! assert_eq!(rt; window.judge(65), Judgement::Taken);
+//! assert_eq!(rt; window.judge(0), Judgement::Zero);
 //! ```
 #![tactic(auto)]
 

@@ -9,13 +9,34 @@
 //! `Proposals` (3.3), `Fields` (3.4, 3.5, 3.8 to 3.11), `Selectors` (3.13), what is refused in `Refusals`, how long payloads are
 //! in `Sizes`, and the numbers that all of them cite in `Numbers`. What follows from these alone is in [`laws`].
 //!
-//! ```text
-//! let message = decode_message(alloc, &datagram)?;
+//! ```rust
+//! use base::Items;
+//! use wire::{Flags, Header, Message, Payload, decode_message, encode_message};
+//!
+//! let mut payloads = Items::new(rt.alloc());
+//! payloads.push(Payload::Nonce(Items::from_slice(rt.alloc(), &[7; 32])?))?;
+//! let flags = Flags {
+//!     initiator: true,
+//!     version: false,
+//!     response: false,
+//! };
+//! let header = Header {
+//!     spi_i: 1,
+//!     spi_r: 0,
+//!     minor: 0,
+//!     exchange: 34,
+//!     flags,
+//!     id: 0,
+//! };
+//! let mut datagram = Vec::new(rt.alloc());
+//! encode_message(&Message { header, payloads }, &mut datagram)?;
+//!
+//! let message = decode_message(rt.alloc(), &datagram)?;
 //! for payload in message.payloads.as_slice() {
-//!     if let Payload::Nonce(nonce) = payload { .. }
+//!     if let Payload::Nonce(nonce) = payload {
+//!         assert_eq!(rt; nonce.as_slice(), [7; 32].as_slice());
+//!     }
 //! }
-//! let mut out = Vec::new(alloc);
-//! encode_message(&message, &mut out)?;
 //! ```
 #![tactic(auto)]
 

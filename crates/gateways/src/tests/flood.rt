@@ -1,8 +1,8 @@
 //! Many requests of IKE_SA_INIT from senders that were made up (RFC 7296, section 2.6), and SPIs that can't be used.
-use super::sample::{further, gateway, message, order};
 use caller::ScriptCaller;
 use gateway::{End, Gateway, Input, Output};
 use sa_init::request;
+use samples::{further, gateway, message, order};
 use std::alloc::{AllocError, Global};
 use std::test::Fail;
 

@@ -1,7 +1,7 @@
 //! Lists of inputs at one gateway, and of events at two.
-use super::sample::{gateway, message, order};
 use caller::ScriptCaller;
 use gateway::{Child, Datagram, End, Event, Input, Mark, Output, RunFault, World, run, run_world};
+use samples::{gateway, message, order};
 use std::alloc::{AllocError, Global};
 use std::process::Abort;
 use std::test::Fail;

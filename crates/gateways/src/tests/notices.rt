@@ -1,10 +1,10 @@
 //! Requests of IKE_AUTH, made by hand, that close their association (RFC 7296, sections 2.21.2 and 3.10.1).
-use super::sample::{gateway, message};
 use caller::ScriptCaller;
 use console::read_hex;
 use gateway::{End, Gateway, Output};
 use mac::icv;
 use sa_init::request;
+use samples::{gateway, message};
 use std::alloc::{AllocError, Global};
 use std::process::Abort;
 use std::test::Fail;

@@ -3,7 +3,6 @@ mod deleting;
 mod further_children;
 mod sealing;
 
-use crate::tests::sample::{config, fresh, policy};
 use association::MessageFault;
 use base::Items;
 use caller::ScriptCaller;
@@ -12,6 +11,7 @@ use ike::{Demand, Ike, IkeFault, IkeInput, IkeOutput};
 use mac::icv;
 use policy::Policy;
 use sadb::Table;
+use samples::{config, fresh, policy};
 use std::alloc::{AllocError, Global};
 use std::marker::Model;
 use std::process::Abort;

@@ -2,10 +2,10 @@
 ghost use Rattle.std.specs.Prelude.{IfOk};
 ghost use Rattle.gateway.specs.Worlds.{HoldsNothing};
 
-use super::sample::{gateway_of, message, order, own_name};
 use base::Items;
 use gateway::{Datagram, End, Event, Gateway, Input, Output, World, run_world};
 use peers::{Peer, PeerCaller};
+use samples::{gateway_of, message, order, own_name};
 use std::alloc::{AllocError, Global};
 use std::process::Abort;
 use std::test::Fail;

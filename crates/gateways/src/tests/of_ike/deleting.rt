@@ -1,10 +1,10 @@
 //! Deletions that no script writes (RFC 7296, sections 1.4.1, 2.5, 2.21.3 and 3.11).
 use super::sealing::{INFORMATIONAL, INVALID_SYNTAX, NOTIFY, Sent, asked, counted};
 use super::{Side, agree, established, sent};
-use crate::tests::sample::fresh;
 use base::Items;
 use gateway::End;
 use ike::{Demand, IkeInput};
+use samples::fresh;
 use std::alloc::Global;
 use std::test::Fail;
 

@@ -1,10 +1,10 @@
 //! Further children that no script asks for (RFC 7296, sections 1.3.1, 2.5, 2.21.3 and 3.10.1).
 use super::sealing::{CREATE_CHILD, INVALID_SYNTAX, NOTIFY, Sent, asked, counted};
 use super::{Side, established, established_with, sent};
-use crate::tests::sample::fresh;
 use base::Items;
 use ike::{IkeFault, IkeInput};
 use sadb::Table;
+use samples::fresh;
 use std::alloc::{AllocError, Global};
 use std::test::Fail;
 

@@ -1,19 +1,18 @@
-//! What the tests share: two gateways, each the other's peer, that protect what goes between 10.0.0.0/24, A's, and 10.1.0.0/24.
+//! Two gateways, each the other's peer, that protect what goes between 10.0.0.0/24, A's, and 10.1.0.0/24.
 ghost use Rattle.std.specs.Prelude.{IfOk};
 ghost use Rattle.auth.specs.Proofs.{IsIdentity};
 ghost use Rattle.auth.specs.Windows.{IsWindow};
 ghost use Rattle.initial.specs.Configs.{IsConfig};
 ghost use Rattle.gateway.specs.Worlds.{HoldsNothing};
 
+use crate::SampleFault;
 use auth::Identity;
 use base::{Items, Range};
 use caller::ScriptCaller;
-use gateway::{End, Gateway, Input};
+use gateway::{End, Gateway};
 use initial::Config;
 use policy::{Action, Entry, Policy};
 use std::alloc::{AllocError, Global};
-use std::test::Fail;
-use suite::Fresh;
 
 /// The name that an end goes by.
 pub fn own_name(end: End) -> [u8; 9] {
@@ -58,7 +57,7 @@ pub fn config(alloc: Global, end: End, window: u8) -> Result<Config, AllocError>
 }
 
 /// What an end protects.
-pub fn policy(alloc: Global, end: End) -> Result<Policy, Fail> {
+pub fn policy(alloc: Global, end: End) -> Result<Policy, SampleFault> {
     let a = Range::V4(0x0a00_0000, 0x0a00_00ff);
     let b = Range::V4(0x0a01_0000, 0x0a01_00ff);
     let (local, remote) = match end {
@@ -77,14 +76,14 @@ pub fn policy(alloc: Global, end: End) -> Result<Policy, Fail> {
 }
 
 /// A gateway that holds nothing, with the caller of scripts.
-pub fn gateway(alloc: Global, end: End) -> Result<Gateway<ScriptCaller>, Fail>
+pub fn gateway(alloc: Global, end: End) -> Result<Gateway<ScriptCaller>, SampleFault>
     ensures { IfOk result HoldsNothing }
 {
     gateway_of(alloc, end, ScriptCaller)
 }
 
 /// A gateway that holds nothing. Its first SPI of ESP is 4096 at A, 8192 at B.
-pub fn gateway_of<C: Drop>(alloc: Global, end: End, caller: C) -> Result<Gateway<C>, Fail>
+pub fn gateway_of<C: Drop>(alloc: Global, end: End, caller: C) -> Result<Gateway<C>, SampleFault>
     ensures { IfOk result HoldsNothing }
 {
     let policy = policy(alloc, end)?;
@@ -94,49 +93,4 @@ pub fn gateway_of<C: Drop>(alloc: Global, end: End, caller: C) -> Result<Gateway
         End::B => 8192,
     };
     Ok(Gateway::new(alloc, config, policy, start, caller))
-}
-
-/// The order to begin an association, with fresh octets of this SPI.
-pub fn order(spi: u64) -> Input {
-    Input::Start {
-        ike: None,
-        entry: 0,
-        fresh: fresh(spi),
-    }
-}
-
-/// The order for a further child of an association.
-pub fn further(ike: u32) -> Input {
-    Input::Start {
-        ike: Some(ike),
-        entry: 0,
-        fresh: fresh(9),
-    }
-}
-
-/// A datagram of IKE, with fresh octets of this SPI.
-pub fn message(alloc: Global, octets: &[u8], spi: u64) -> Result<Input, AllocError> {
-    Ok(Input::Ike {
-        from: [192, 0, 2, 9],
-        octets: Items::from_slice(alloc, octets)?,
-        fresh: fresh(spi),
-    })
-}
-
-/// Fresh octets of this SPI.
-pub fn fresh(spi: u64) -> Fresh {
-    Fresh {
-        spi,
-        nonce: [9; 32],
-        secret: [7; 32],
-        seal: [0; 16],
-    }
-}
-
-/// The order to ask whether the peer of an association is there.
-pub fn probe(ike: u32) -> Input {
-    Input::Probe {
-        ike,
-        fresh: fresh(9),
-    }
 }

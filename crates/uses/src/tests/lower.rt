@@ -1,0 +1,84 @@
+//! The pages of the lower crates.
+use std::test::Fail;
+
+#[test]
+fn the_page_of_base(rt: HostRuntime) -> Result<(), Fail> {
+    use base::{Address, Range};
+
+    let local = Range::V4(0x0a00_0000, 0x0a00_00ff); // 10.0.0.0 to 10.0.0.255
+    assert!(rt; local.holds(Address::V4(0x0a00_0001)));
+    assert!(rt; !local.holds(Address::V6(0x0a00_0001))); // another family
+    Ok(())
+}
+
+#[test]
+fn the_page_of_replay(rt: HostRuntime) -> Result<(), Fail> {
+    use replay::{BlockWindow, Judgement, Window};
+
+    let mut window = BlockWindow::new(rt.alloc(), 2)?; // spans 64 numbers
+    if let Judgement::Fresh = window.judge(65) {
+        window.take(65)?;
+    }
+    assert_eq!(rt; window.judge(2), Judgement::Fresh);
+    assert_eq!(rt; window.judge(1), Judgement::Old);
+    assert_eq!(rt; window.judge(65), Judgement::Taken);
+    assert_eq!(rt; window.judge(0), Judgement::Zero);
+    Ok(())
+}
+
+#[test]
+fn the_page_of_wire(rt: HostRuntime) -> Result<(), Fail> {
+    use base::Items;
+    use wire::{Flags, Header, Message, Payload, decode_message, encode_message};
+
+    let mut payloads = Items::new(rt.alloc());
+    payloads.push(Payload::Nonce(Items::from_slice(rt.alloc(), &[7; 32])?))?;
+    let flags = Flags {
+        initiator: true,
+        version: false,
+        response: false,
+    };
+    let header = Header {
+        spi_i: 1,
+        spi_r: 0,
+        minor: 0,
+        exchange: 34,
+        flags,
+        id: 0,
+    };
+    let mut datagram = Vec::new(rt.alloc());
+    encode_message(&Message { header, payloads }, &mut datagram)?;
+
+    let message = decode_message(rt.alloc(), &datagram)?;
+    for payload in message.payloads.as_slice() {
+        if let Payload::Nonce(nonce) = payload {
+            assert_eq!(rt; nonce.as_slice(), [7; 32].as_slice());
+        }
+    }
+    Ok(())
+}
+
+#[test]
+fn the_page_of_policy(rt: HostRuntime) -> Result<(), Fail> {
+    use base::{Items, Range};
+    use policy::{Action, Decision, Direction, Entry, Policy, inner};
+
+    let entry = Entry {
+        protocol: 0,
+        local: Range::V4(0x0a00_0000, 0x0a00_00ff),
+        remote: Range::V4(0x0a01_0000, 0x0a01_00ff),
+        local_ports: (0, 65535),
+        remote_ports: (0, 65535),
+        action: Action::Protect,
+    };
+    let policy = Policy::new(Items::from_slice(rt.alloc(), &[entry])?)?;
+    // A header of IPv4 alone, from 10.0.0.1 to 10.1.0.1.
+    let packet = [
+        0x45, 0, 0, 20, 0, 0, 0, 0, 64, 1, 0, 0, 10, 0, 0, 1, 10, 1, 0, 1,
+    ];
+    assert_eq!(rt;
+        policy.decide(&inner(&packet)?, Direction::Outward),
+        Decision::Protect
+    );
+    Ok(())
+}

@@ -1,0 +1,102 @@
+#!/usr/bin/env python3
+"""Refuses each allocation of crates/starved in turn, alone and with all after it, and looks at what the program says of it.
+
+From anywhere, after (cd crates/starved && rt run): python3 tools/want_of_memory.py. The C library's allocator is put aside by a small
+library of C, which is built with cc. Alone, the program has to find that all is as with memory, or that memory was wanted for its own
+lists (status 3). With all after it refused, it can only find that nothing was changed by what was refused (status 3). It is no part of the
+gate. Ends with status 1 where the program says anything else, or doesn't end by itself.
+"""
+import collections
+import pathlib
+import subprocess
+import sys
+import tempfile
+
+PROGRAM = pathlib.Path(__file__).resolve().parent.parent / "crates" / "starved" / "out" / "starved"
+
+# Counts the calls, from 1, and refuses the one of number REFUSED, or all from it on where ONWARD is set.
+ALLOCATOR = r"""
+#define _GNU_SOURCE
+#include <dlfcn.h>
+#include <errno.h>
+#include <stdio.h>
+#include <stdlib.h>
+#include <unistd.h>
+
+static long calls, refused = -1, onward;
+
+__attribute__((constructor)) static void begin(void) {
+    const char *number = getenv("REFUSED");
+    if (number) refused = atol(number);
+    onward = getenv("ONWARD") != NULL;
+}
+
+__attribute__((destructor)) static void end(void) {
+    const char *file = getenv("COUNTED");
+    FILE *out = file ? fopen(file, "w") : NULL;
+    if (out) {
+        refused = -1;
+        fprintf(out, "%ld\n", calls);
+        fclose(out);
+    }
+}
+
+static int refuses(void) {
+    calls++;
+    return refused > 0 && (onward ? calls >= refused : calls == refused);
+}
+
+#define NEXT(name) ((__typeof__(&name))dlsym(RTLD_NEXT, #name))
+
+extern void *__libc_malloc(size_t), *__libc_calloc(size_t, size_t), *__libc_realloc(void *, size_t), *__libc_memalign(size_t, size_t);
+
+void *malloc(size_t size) { return refuses() ? NULL : __libc_malloc(size); }
+void *calloc(size_t count, size_t size) { return refuses() ? NULL : __libc_calloc(count, size); }
+void *realloc(void *at, size_t size) { return refuses() ? NULL : __libc_realloc(at, size); }
+void *aligned_alloc(size_t align, size_t size) { return refuses() ? NULL : __libc_memalign(align, size); }
+int posix_memalign(void **at, size_t align, size_t size) {
+    void *found = refuses() ? NULL : __libc_memalign(align, size);
+    if (!found) return ENOMEM;
+    *at = found;
+    return 0;
+}
+"""
+
+ALONE = {
+    ("all as with memory, nothing refused", 0),
+    ("all as with memory, one step refused and given again", 0),
+    ("no memory", 3),
+}
+ONWARD = {("no memory", 3), ("all as with memory, nothing refused", 0)}
+
+
+def run(library, **environment):
+    ran = subprocess.run([PROGRAM], env={"LD_PRELOAD": str(library), **environment}, capture_output=True, text=True, timeout=60)
+    return ran.stdout.strip(), ran.returncode
+
+
+def main():
+    with tempfile.TemporaryDirectory() as folder:
+        room = pathlib.Path(folder)
+        (room / "allocator.c").write_text(ALLOCATOR)
+        library = room / "allocator.so"
+        subprocess.run(["cc", "-O1", "-fPIC", "-shared", "-o", library, room / "allocator.c"], check=True)
+        counted = room / "counted"
+        print("with memory:", *run(library, COUNTED=str(counted)))
+        calls = int(counted.read_text())
+        wrong = 0
+        for words, allowed in (({}, ALONE), ({"ONWARD": "1"}, ONWARD)):
+            found = collections.Counter()
+            for number in range(1, calls + 1):
+                said = run(library, REFUSED=str(number), **words)
+                found[said] += 1
+                if said not in allowed:
+                    wrong += 1
+                    print(f"allocation {number}{' and all after it' if words else ''}: {said}")
+            print("with all after it refused:" if words else "each alone refused:")
+            for (said, status), times in sorted(found.items()):
+                print(f"  {times} times: {said} (status {status})")
+    return 1 if wrong else 0
+
+
+sys.exit(main())
