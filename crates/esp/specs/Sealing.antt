@@ -62,7 +62,7 @@ pub record IsSealStop (old : Sending) (next : ℕ) (payloads : List (List ℕ)) 
   pub first : SealsFirst stop.sealed old next payloads before new after
   pub refused : (payload : List ℕ) → slice_get payloads stop.sealed ≡ Some payload → IsSealRefusal new payload stop.fault
 
--- more octets than the packets of these payloads have: a packet is its payload and 26 to 29 octets more
+-- at least as many octets as the packets of these payloads have: a packet is its payload and 26 to 29 octets more
 abbrev pub most_octets : List (List ℕ) → ℕ
 most_octets [] = 0
 most_octets (payload ∷ payloads) = length payload + 29 + most_octets payloads

@@ -243,7 +243,7 @@ impl<W: Window> Inbound<W> {
     }
 
     /// Opens packets in order, at most as many as a group has; answers how many. Check values are computed ahead where that
-    /// gains time: a list of one packet, as most are, takes none of the room that it needs.
+    /// gains time: a list of one packet, as most are, needs none of the arrays.
     fn answer_group(&mut self, packets: &[Vec<u8>], out: &mut Vec<Answer>) -> usize
         requires mine { All (IsOf self.old.association) (octets_of packets.now) }
         requires few { length packets.now ≤ GROUP }

@@ -5,7 +5,9 @@
 //! asked about before.
 //!
 //! What is remembered is always what a look-up would find: an answer that names a pair counts as long as that pair is Live, and
-//! where a pair may have come, [`FlowMemory::forget`] forgets all. What follows from the definitions alone is in [`laws`].
+//! whoever holds the memory calls [`FlowMemory::forget`] where a pair came, as
+//! [`FlowMemory::treatment`] asks for. RFC 4301 calls such a memory a cache of the policy (section 4.4.1); with one exact flow a place the
+//! policy needs no decorrelation. What follows from the definitions alone is in [`laws`].
 //!
 //! ```text
 //! let mut memory = FlowMemory::new(alloc);
