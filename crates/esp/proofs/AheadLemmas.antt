@@ -44,21 +44,21 @@ asked_more f j tasks asked t d in_tasks in_asked so_far here =
     ∙ sym (map-append f (take j asked) (get_or asked j d ∷ []))
     ∙ sym (ap (map f) (take_more asked j d in_asked))
 
-one_alone : (packets : List (List ℕ)) (one : Asked) → IsAsked packets one → (i : ℕ) → i < length (one ∷ []) → IsAsked packets (get_or (one ∷ []) i one)
-one_alone packets one here zero h = here
-one_alone packets one here (suc i) h = here
+one_alone : (P : Asked → Type 0) (one : Asked) → P one → (i : ℕ) → i < length (one ∷ []) → P (get_or (one ∷ []) i one)
+one_alone P one here zero h = here
+one_alone P one here (suc i) h = here
 
 -- one more is asked for
-pub found_more : (packets : List (List ℕ)) (before after : List Asked) (k m : ℕ) (one : Asked) → after ≡ set before k one → m ≡ k + 1 → k < length before
-    → All (IsAsked packets) (take k before) → IsAsked packets one → All (IsAsked packets) (take m after)
-found_more packets before after k m one is count within so_far here =
+pub found_more : (P : Asked → Type 0) (before after : List Asked) (k m : ℕ) (one : Asked) → after ≡ set before k one → m ≡ k + 1 → k < length before
+    → All P (take k before) → P one → All P (take m after)
+found_more P before after k m one is count within so_far here =
     let more : take m after ≡ take k before ++ one ∷ [] =
     ap (take m) is ∙ ap (λ (n : ℕ). take n (set before k one)) count ∙ take_more_set before k one within
     in
-    let both : All (IsAsked packets) (take k before ++ one ∷ []) =
-    All-append (IsAsked packets) (take k before) (one ∷ []) so_far (All-from_get_or (IsAsked packets) (one ∷ []) one (one_alone packets one here))
+    let both : All P (take k before ++ one ∷ []) =
+    All-append P (take k before) (one ∷ []) so_far (All-from_get_or P (one ∷ []) one (one_alone P one here))
     in
-    subst (All (IsAsked packets)) (sym more) both
+    subst (All P) (sym more) both
 
 -- ---- what was computed ahead
 

@@ -6,7 +6,7 @@ use Rattle.esp.specs.declared.ahead.Asked.{Asked}
 use Rattle.esp.specs.declared.ahead.Ahead.{Ahead}
 use Rattle.esp.specs.declared.answer.Answer.{Answer}
 use Rattle.esp.specs.Packet.{check_value}
-use Rattle.esp.specs.Opening.{Run}
+use Rattle.esp.specs.Opening.{IsFreshNumber, Run}
 use Rattle.esp.specs.Views.{Receiving}
 
 -- what the check value of this packet is under this number
@@ -18,6 +18,10 @@ pub record IsAsked (packets : List (List ℕ)) (one : Asked) : Type 0 where
   pub within : one.place < length packets
   pub long : 16 ≤ length (get_or packets one.place [])
   pub half : one.half ≡ big_bytes 4 (one.number / 2 ^ 32)
+
+-- its number is that of the packet, as the receiver is, and was not taken
+abbrev pub HasFreshNumber : Receiving → List (List ℕ) → Asked → Type 0
+HasFreshNumber r packets one = IsFreshNumber r (get_or packets one.place []) one.number
 
 -- the check value that is asked for
 abbrev pub value_asked : Association → List (List ℕ) → Asked → List ℕ

@@ -5,7 +5,7 @@ ghost use Rattle.std.specs.Vec.{vec_capacity};
 ghost use Rattle.replay.specs.Window.{IsSoundWindow};
 ghost use Rattle.esp.specs.Judging.{IsNumber};
 ghost use Rattle.esp.specs.Packet.{check_value, IsOf};
-ghost use Rattle.esp.specs.Ahead.{AreAhead, IsAhead, IsAsked, RunsFirst};
+ghost use Rattle.esp.specs.Ahead.{AreAhead, HasFreshNumber, IsAhead, IsAsked, RunsFirst};
 ghost use Rattle.esp.specs.Opening.{IsOpeningRefusal, IsFreshNumber, HandsUp, Refuses, Step};
 ghost use Rattle.esp.specs.Delivery.{AnswersFirst, IsStop, JudgesAtMostOnce, JudgesExactlyAtFirst, answers_since, octets_of};
 
@@ -267,6 +267,7 @@ impl<W: Window> Inbound<W> {
     fn fresh_packets(&self, packets: &[Vec<u8>]) -> ([Asked; GROUP], usize)
         requires { length packets.now ≤ GROUP }
         ensures asked { All (IsAsked (octets_of packets.now)) (take result.1 result.0) }
+        ensures fresh { All (HasFreshNumber self.now (octets_of packets.now)) (take result.1 result.0) }
         ensures few { result.1 ≤ length packets.now }
     {
         let mut asked = [Asked {

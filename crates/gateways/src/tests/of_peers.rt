@@ -42,7 +42,7 @@ fn gateway(
 {
     let peer = peer(alloc, end.other(), known)?;
     let caller = caller(alloc, own, peer)?;
-    gateway_of(alloc, end, caller)
+    Ok(gateway_of(alloc, end, caller)?)
 }
 
 /// Two gateways to which nothing happened. A knows B by B's secret, and B knows A by this one.

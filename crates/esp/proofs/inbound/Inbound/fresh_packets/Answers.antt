@@ -2,7 +2,8 @@ use Rattle.std.proofs.Common.{rules, ◌≡◌, ℕ, ◌≤◌, List, [], length
 use Rattle.std.proofs.lemmas.List.{get_or-map, length-map, length-set}
 use Rattle.std.specs.Global.{Vec}
 use Rattle.esp.specs.declared.ahead.Asked.{Asked}
-use Rattle.esp.specs.Ahead.{IsAsked}
+use Rattle.esp.specs.Ahead.{HasFreshNumber, IsAsked}
+use Rattle.esp.specs.Opening.{IsFreshNumber}
 use Rattle.esp.specs.Delivery.{octets_of}
 use Rattle.esp.proofs.AheadLemmas.{found_more}
 use Rattle.esp.proofs.inbound.Inbound.fresh_packets.Goals as goal
@@ -28,7 +29,9 @@ loop-place-preserved g c =
             half = w.high_half.ensures;
           } in
           record {
-            asked = found_more (octets_of packets) c.loop-place.asked c.match-fresh_number.asked c.loop-place.count c.match-fresh_number.count one w.asked-is w.count-is (omega arith) i.asked asked;
+            asked = found_more (IsAsked (octets_of packets)) c.loop-place.asked c.match-fresh_number.asked c.loop-place.count c.match-fresh_number.count one w.asked-is w.count-is (omega arith) i.asked asked;
+            fresh = found_more (HasFreshNumber c.args.self.now (octets_of packets)) c.loop-place.asked c.match-fresh_number.asked c.loop-place.count c.match-fresh_number.count one w.asked-is w.count-is (omega arith) i.fresh
+                (subst (λ (b : List ℕ). IsFreshNumber c.args.self.now b w.in-Ok.number) (sym here) w.in-Ok.ensures.fresh);
             few = omega arith;
             long = ap length w.asked-is ∙ length-set c.loop-place.asked c.loop-place.count one ∙ i.long;
           }

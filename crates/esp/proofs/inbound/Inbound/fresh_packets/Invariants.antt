@@ -1,6 +1,6 @@
 use Rattle.std.proofs.Common.{◌≡◌, ◌≤◌, length, take}
 use Rattle.std.specs.Prelude.{All}
-use Rattle.esp.specs.Ahead.{IsAsked}
+use Rattle.esp.specs.Ahead.{HasFreshNumber, IsAsked}
 use Rattle.esp.specs.Delivery.{octets_of}
 use Rattle.esp.proofs.inbound.Inbound.fresh_packets.Given as goal
 
@@ -8,6 +8,7 @@ use Rattle.esp.proofs.inbound.Inbound.fresh_packets.Given as goal
 abbrev pub invariant-loop-place : goal.invariant-loop-place
 invariant-loop-place g l = record {
   asked : All (IsAsked (octets_of l.packets)) (take l.count l.asked);
+  fresh : All (HasFreshNumber l.self (octets_of l.packets)) (take l.count l.asked);
   few : l.count ≤ l.place;
   long : length l.asked ≡ 64;
 }
