@@ -1,11 +1,9 @@
 //! Long lists of inputs to whole gateways, and what is known of them beforehand by a plain rule. The crate `vectors` says why tests stand
 //! apart.
 //!
-//! `inward` gives one end a hundred thousand inputs: `arrivals` has what comes, `plain_rule` what is due to a packet by a rule that forgets
-//! no number, `played` compares, `repeats` has a request that comes again and again. `outward` sends a hundred thousand packets: `packets`
-//! has them, `ends` two gateways, `played` what is done about children between them, and the look-up beside which a gateway that remembers
-//! flows is held. `worlds` has two ends and random events between them: `game` makes them, `book` writes down what was sent, and `promises`
-//! has what is promised of both.
+//! `outward` sends a hundred thousand packets: `packets` has them, `ends` two gateways, `played` what is done about children between them,
+//! and the look-up beside which a gateway that remembers flows is held. `worlds` has two ends and random events between them: `game` makes
+//! them, `book` writes down what was sent, and `promises` has what is promised of both.
 #![tactic(auto)]
 
 #[cfg(test)]
