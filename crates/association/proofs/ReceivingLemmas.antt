@@ -9,7 +9,7 @@ use Rattle.requests.specs.Incoming.{IsJudgement, IsSameJudgement, PeerRequests}
 use Rattle.requests.specs.declared.incoming.Judgement.{Judgement}
 use Rattle.requests.specs.declared.incoming.Judgement.TheVariants as judged
 use Rattle.association.specs.Purposes.{exchange_of}
-use Rattle.association.specs.Receiving.{admits, answering_reception, fresh_reception, is_closed, judged_reception, opened_by, reception_by, repeated_reception, Answers, AnswersInitial, IsAnswering, IsAnsweringInitial, IsDue, IsEffective, IsReceived, IsReceivedBy, Opening, Reception, Refused, TakesEffect}
+use Rattle.association.specs.Receiving.{admits, answering_reception, fresh_reception, is_closed, judged_reception, opened_by, reception_by, repeated_reception, Answers, AnswersInitial, IsAnswering, IsAnsweringInitial, IsAwaited, IsEffective, IsReceived, IsReceivedBy, Opening, Reception, Refused, TakesEffect}
 use Rattle.association.specs.Finding.{is_waiting}
 use Rattle.association.specs.declared.phase.Association.{Association}
 use Rattle.association.specs.declared.fault.MessageFault.TheVariants.{WrongPhase}
@@ -239,7 +239,7 @@ request_answers_initial p exchange (Some q) (judged.Repeat reply) is = cc
 request_answers_initial p exchange opened judged.Forgotten is = cc
 request_answers_initial p exchange opened judged.Outside is = cc
 
-due_at : (a : Association) (m : Message) → m.header.flags.response ≡ true → Due a.phase m.header.exchange (map.get a.outgoing.outstanding m.header.id) → IsDue a m
+due_at : (a : Association) (m : Message) → m.header.flags.response ≡ true → Due a.phase m.header.exchange (map.get a.outgoing.outstanding m.header.id) → IsAwaited a m
 due_at a m flag due = record { response = flag; open_yet = due.open_yet; request = due.r; outstanding = due.is; exchange_is = due.same }
 
 answering_by : (plain_of : Opening) (a : Association) (octets : Octets) (m : Message) (plain : Plain) (response : Bool) → m.header.flags.response ≡ response

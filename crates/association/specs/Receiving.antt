@@ -163,7 +163,7 @@ pub record IsRepeating (plain_of : Opening) (a : Association) (octets : Octets) 
   pub opened : opened_by plain_of a octets m.payloads ≡ Some plain
 
 -- The response to an outstanding request of its number and its exchange.
-pub record IsDue (a : Association) (m : Message) : Type 0 where
+pub record IsAwaited (a : Association) (m : Message) : Type 0 where
   pub response : m.header.flags.response ≡ true
   pub open_yet : is_closed a.phase ≡ false
   pub request : Request
@@ -172,10 +172,10 @@ pub record IsDue (a : Association) (m : Message) : Type 0 where
 
 -- one that opens under the peer's keys
 pub record IsAnswering (plain_of : Opening) (a : Association) (octets : Octets) (m : Message) (plain : Plain) : Type 0 where
-  pub due : IsDue a m
+  pub due : IsAwaited a m
   pub opened : opened_by plain_of a octets m.payloads ≡ Some plain
 
 -- that of IKE_SA_INIT, which this end waits for
 pub record IsAnsweringInitial (a : Association) (m : Message) : Type 0 where
-  pub due : IsDue a m
+  pub due : IsAwaited a m
   pub waiting : is_waiting a.phase ≡ true

@@ -21,7 +21,7 @@ pub enum MessageFault {
     #[error("E31: the number lies outside the window")]
     OutsideWindow,
     /// The association is in a phase, or has a request outstanding, to which this message doesn't belong.
-    #[error("E32: the association is in another phase")]
+    #[error("E32: the association is in another phase, or this message is not due to it")]
     WrongPhase,
     /// The flag I doesn't fit the association: the message claims the role that this end has (section 3.1).
     #[error("E33: the message claims the role of this end")]

@@ -2,24 +2,24 @@
 use Rattle.std.specs.Prelude.{ℕ}
 use Rattle.sadb.specs.Database.{Database, IsTableRefusal}
 use Rattle.sadb.specs.declared.fault.TableFault.TheVariants as table
-use Rattle.children.specs.declared.fault.ChildFault.{ChildFault}
-use Rattle.children.specs.declared.fault.ChildFault.TheVariants.{Message, Window, Narrowing, Table}
+use Rattle.children.specs.declared.fault.MemoryFault.{MemoryFault}
+use Rattle.children.specs.declared.fault.MemoryFault.TheVariants.{Message, Window, Narrowing, Table}
 
-abbrev pub code_of_child_fault : ChildFault → ℕ
-code_of_child_fault Message = 10
-code_of_child_fault Window = 20
-code_of_child_fault Narrowing = 24
-code_of_child_fault Table = 27
+abbrev pub code_of_memory_fault : MemoryFault → ℕ
+code_of_memory_fault Message = 10
+code_of_memory_fault Window = 20
+code_of_memory_fault Narrowing = 24
+code_of_memory_fault Table = 27
 
 -- for what a pair holds: its replay window, or its selectors
-abbrev pub IsWantOfPair : ChildFault → Type 0
+abbrev pub IsWantOfPair : MemoryFault → Type 0
 IsWantOfPair Message = ⊥
 IsWantOfPair Window = Unit {0}
 IsWantOfPair Narrowing = Unit {0}
 IsWantOfPair Table = ⊥
 
 -- at the end that answers: for the pair's place in the table only where that takes more pairs and has no room
-abbrev pub CanBeWanted : Database → ChildFault → Type 0
+abbrev pub CanBeWanted : Database → MemoryFault → Type 0
 CanBeWanted d Message = Unit {0}
 CanBeWanted d Window = Unit {0}
 CanBeWanted d Narrowing = Unit {0}

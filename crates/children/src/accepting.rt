@@ -6,7 +6,7 @@ ghost use Rattle.children.specs.Making.{terms_of};
 ghost use Rattle.children.specs.Faults.{IsWantOfPair};
 
 use crate::making::{Agreed, make_pair, spi_of};
-use crate::{Asked, ChildFault, Setting};
+use crate::{Asked, MemoryFault, Setting};
 use exchange::{Role, only_sa, only_ts_i, only_ts_r};
 use policy::are_inside;
 use sadb::Pair;
@@ -25,7 +25,7 @@ pub fn accept(
     answer: &[Payload],
     asked: &Asked,
     setting: &Setting,
-) -> Result<Option<Pair>, ChildFault>
+) -> Result<Option<Pair>, MemoryFault>
     requires { IsBlockCount setting.now.blocks }
     ensures accepted { IfOk result (λ pair. MatchOption pair
         (IsUnacceptable asked.now answer.now)

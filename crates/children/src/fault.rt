@@ -1,13 +1,13 @@
 //! The refusals of this crate, each for want of memory alone.
 ghost use Rattle.std.specs.Prelude.{◌≡◌};
-ghost use Rattle.children.specs.Faults.{code_of_child_fault};
+ghost use Rattle.children.specs.Faults.{code_of_memory_fault};
 
 use std::alloc::AllocError;
 use thiserror::Error;
 
 /// For what there was no memory.
 #[derive(Clone, Copy, Debug, PartialEq, Eq, Error)]
-pub enum ChildFault {
+pub enum MemoryFault {
     /// There was no memory for the payloads.
     #[error("E10: no memory")]
     Message,
@@ -22,27 +22,27 @@ pub enum ChildFault {
     Table,
 }
 
-impl ChildFault {
+impl MemoryFault {
     /// The refusal's number, as programs print it behind `E`.
     pub fn code(self) -> u8
-        ensures { result ≡ code_of_child_fault self }
+        ensures { result ≡ code_of_memory_fault self }
     {
         match self {
-            ChildFault::Message => 10,
-            ChildFault::Window => 20,
-            ChildFault::Narrowing => 24,
-            ChildFault::Table => 27,
+            MemoryFault::Message => 10,
+            MemoryFault::Window => 20,
+            MemoryFault::Narrowing => 24,
+            MemoryFault::Table => 27,
         }
     }
 }
 
-impl From<AllocError> for ChildFault {
+impl From<AllocError> for MemoryFault {
     ghost use Rattle.std.specs.Prelude.{◌≡◌};
-    ghost use Rattle.children.specs.declared.fault.ChildFault.TheVariants.{Message};
+    ghost use Rattle.children.specs.declared.fault.MemoryFault.TheVariants.{Message};
 
     ghost from_gives = { λ _ e. e ≡ Message };
 
-    fn from(_refused: AllocError) -> ChildFault {
-        ChildFault::Message
+    fn from(_refused: AllocError) -> MemoryFault {
+        MemoryFault::Message
     }
 }

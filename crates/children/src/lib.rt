@@ -37,6 +37,6 @@ mod setting;
 
 pub use accepting::accept;
 pub use asking::{Asked, ask};
-pub use fault::ChildFault;
+pub use fault::MemoryFault;
 pub use responding::{Made, Response, install, respond};
 pub use setting::Setting;

@@ -6,7 +6,7 @@ ghost use Rattle.children.specs.Making.{terms_of};
 ghost use Rattle.children.specs.Pairs.{new_pair};
 ghost use Rattle.children.specs.Faults.{IsWantOfPair};
 
-use crate::{ChildFault, Setting};
+use crate::{MemoryFault, Setting};
 use base::{Items, Selector};
 use byteorder::{BigEndian, ByteOrder};
 use esp::{Inbound, Outbound};
@@ -32,19 +32,19 @@ pub fn make_pair(
     role: Role,
     setting: &Setting,
     agreed: &Agreed<'_>,
-) -> Result<Pair, ChildFault>
+) -> Result<Pair, MemoryFault>
     requires { IsBlockCount setting.now.blocks }
     ensures made { IfOk result (λ pair. pair ≡ new_pair role setting.now (terms_of agreed.now)) }
     ensures wanted { IfErr result IsWantOfPair }
 {
     let Ok(window) = BlockWindow::new(alloc, setting.blocks) else {
-        return Err(ChildFault::Window);
+        return Err(MemoryFault::Window);
     };
     let Ok(ts_i) = Items::from_slice(alloc, agreed.ts_i) else {
-        return Err(ChildFault::Narrowing);
+        return Err(MemoryFault::Narrowing);
     };
     let Ok(ts_r) = Items::from_slice(alloc, agreed.ts_r) else {
-        return Err(ChildFault::Narrowing);
+        return Err(MemoryFault::Narrowing);
     };
     let [key_i, key_r] = &setting.keys;
     let extended = agreed.extended;

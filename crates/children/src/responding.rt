@@ -4,12 +4,12 @@ ghost use Rattle.replay.specs.Window.{IsBlockCount};
 ghost use Rattle.sadb.specs.Database.{IsAsBefore, IsReady};
 ghost use Rattle.exchange.specs.Children.{offered};
 ghost use Rattle.children.specs.Faults.{CanBeWanted};
-ghost use Rattle.children.specs.declared.fault.ChildFault.TheVariants as child;
+ghost use Rattle.children.specs.declared.fault.MemoryFault.TheVariants as child;
 ghost use Rattle.children.specs.Responding.{answered_proposals, made_of, next_spi, AddsNext, IsChildResponse, IsRefusedAtOnce, LeavesRoom};
 
 use crate::asking::lone;
 use crate::making::{Agreed, make_pair, spi_of};
-use crate::{ChildFault, Setting};
+use crate::{MemoryFault, Setting};
 use base::Items;
 use exchange::{ChildOffer, ChildPayloads, Notice, Role, answer};
 use policy::{NarrowFault, Narrowed, Policy, narrow};
@@ -53,7 +53,7 @@ pub fn respond(
     setting: &Setting,
     policy: &Policy,
     table: &mut Table,
-) -> Result<Response, ChildFault>
+) -> Result<Response, MemoryFault>
     requires { IsBlockCount setting.now.blocks }
     ensures response { IfOk result
         (IsChildResponse setting.now extended policy.now table.old (offered offer.now)) }
@@ -69,12 +69,12 @@ pub fn respond(
     let narrowed = match narrow(alloc, offer.ts_i, offer.ts_r, policy) {
         Ok(narrowed) => narrowed,
         Err(NarrowFault::Unacceptable) => return Ok(Response::Refused(Notice::TsUnacceptable)),
-        Err(NarrowFault::Memory) => return Err(ChildFault::Narrowing),
+        Err(NarrowFault::Memory) => return Err(MemoryFault::Narrowing),
     };
     table.invariants_hold();
     let own = match table.prepare() {
         Ok(own) => own,
-        Err(TableFault::Memory) => return Err(ChildFault::Table),
+        Err(TableFault::Memory) => return Err(MemoryFault::Table),
         Err(_) => return Ok(Response::Refused(Notice::NoAdditionalSas)),
     };
     let peer = spi_of(&offer.proposals[chosen.place]);
@@ -91,7 +91,7 @@ fn make(
     peer: u32,
     own: u32,
     narrowed: Narrowed,
-) -> Result<Made, ChildFault>
+) -> Result<Made, MemoryFault>
     requires { IsBlockCount setting.now.blocks }
     ensures wanted { IfErr result (λ fault. fault ≢ child.Table) }
     ensures made { IfOk result (λ made. made ≡ made_of setting.now wanted.now chosen.now (record {
@@ -111,7 +111,7 @@ fn make(
     };
     let pair = make_pair(alloc, Role::Responder, setting, &agreed)?;
     let Ok(proposals) = answered_proposals(alloc, wanted, chosen, own) else {
-        return Err(ChildFault::Message);
+        return Err(MemoryFault::Message);
     };
     let payloads = ChildPayloads {
         proposals,

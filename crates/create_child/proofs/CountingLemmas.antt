@@ -18,7 +18,7 @@ use Rattle.association.specs.declared.phase.Request.{Request}
 use Rattle.association.specs.declared.purpose.FurtherChild.{FurtherChild}
 use Rattle.association.specs.declared.purpose.Purpose.TheVariants.{CreateChild}
 use Rattle.children.specs.declared.asking.Asked.{Asked}
-use Rattle.children.specs.declared.fault.ChildFault.{ChildFault}
+use Rattle.children.specs.declared.fault.MemoryFault.{MemoryFault}
 use Rattle.initial.specs.Concluding.{with_outgoing}
 use Rattle.initial.specs.Configs.{Setup}
 use Rattle.further.specs.Concluding.{Concludes, KeepsTo}
@@ -33,7 +33,7 @@ its_own asked spi conclusion.NoChild same keeps = tt
 
 pub concluded_at : (setup : Setup) (a : Association) (keys : KeyRecord) (number : ℕ) (plain : Plain) (request : Request) (further : FurtherChild) (asked : Asked)
     → map.get a.outgoing.outstanding number ≡ Some request → request.purpose ≡ CreateChild further → asked ≡ asked_of further.child
-    → (r : Result Conclusion ChildFault) → IfOk r (Concludes setup.config.blocks a.serial keys asked further.nonce plain) → IfOk r (KeepsTo asked) → IfOk r (ConcludesAt setup a keys number plain)
+    → (r : Result Conclusion MemoryFault) → IfOk r (Concludes setup.config.blocks a.serial keys asked further.nonce plain) → IfOk r (KeepsTo asked) → IfOk r (ConcludesAt setup a keys number plain)
 concluded_at setup a keys number plain request further asked there is same (Ok o) due keeps = record {
   at = record { request = request; outstanding = there; further = further; asked = is };
   due = subst (λ (x : Asked). Concludes setup.config.blocks a.serial keys x further.nonce plain o) same due;

@@ -22,7 +22,7 @@ use Rattle.initial.specs.Configs.{Setup}
 use Rattle.initial.specs.Issuing.{new_request, IssuesNext}
 use Rattle.informational.specs.Asking.{request_message}
 use Rattle.informational.specs.Orders.{IsEstablished, RefusesOrder}
-use Rattle.informational.specs.declared.fault.OrderFault.TheVariants as order
+use Rattle.informational.specs.declared.fault.InformationalFault.TheVariants as order
 use Rattle.further.specs.Payloads.{further_payloads}
 use Rattle.create_child.specs.declared.fault.AskFault.{AskFault}
 use Rattle.create_child.specs.declared.fault.AskFault.TheVariants.{WrongPhase, Busy, NumbersSpent, TableFull, SpisSpent, TableMemory, Memory}

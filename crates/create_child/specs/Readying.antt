@@ -9,7 +9,7 @@ use Rattle.children.specs.declared.asking.Asked.{Asked}
 use Rattle.initial.specs.Concluding.{with_outgoing}
 use Rattle.initial.specs.Issuing.{new_request, IssuesNext}
 use Rattle.informational.specs.Orders.{RefusesOrder}
-use Rattle.informational.specs.declared.fault.OrderFault.TheVariants as order
+use Rattle.informational.specs.declared.fault.InformationalFault.TheVariants as order
 use Rattle.create_child.specs.declared.fault.AskFault.{AskFault}
 use Rattle.create_child.specs.declared.fault.AskFault.TheVariants.{Busy, NumbersSpent, TableFull, SpisSpent, TableMemory}
 

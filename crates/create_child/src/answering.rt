@@ -17,11 +17,11 @@ use association::laws::spis_stay_held;
 use association::{Association, Phase};
 use auth::ChildAnswer;
 use base::Items;
-use children::{ChildFault, install};
+use children::{MemoryFault, install};
 use exchange::laws::short_messages_can_be_sent;
 use exchange::{Plain, sent_header};
 use further::{answer_payloads, decide};
-use initial::{Answered, Step, sealed};
+use initial::{Answered, Setup, sealed};
 use sadb::{Pair, Table};
 use std::alloc::{AllocError, Global};
 use suite::{KeyRecord, Sealer};
@@ -39,17 +39,17 @@ use wire::numbers::CREATE_CHILD_SA;
 /// the table. An error is for want of memory alone: association and table are as they were then, but for the table's room.
 pub fn answer<C: Sealer>(
     alloc: Global,
-    step: &Step<'_, C>,
+    setup: &Setup<'_, C>,
     association: &mut Association,
     table: &mut Table,
     number: u32,
     plain: &Plain,
-) -> Result<Answered, ChildFault>
-    requires config { IsConfig step.now.config.now }
+) -> Result<Answered, MemoryFault>
+    requires config { IsConfig setup.now.config.now }
     requires established { IsEstablished association.old.phase }
     requires fresh { IsFreshRequest association.old.incoming number }
     requires reserved { HoldsReserved association.old table.old }
-    ensures answered { IfOk result (λ answered. AnswersFurther C.body_of (setup_of step.now)
+    ensures answered { IfOk result (λ answered. AnswersFurther C.body_of (setup_of setup.now)
         association.old table.old number plain.now answered association.new table.new) }
     ensures refused { IfErr result (λ _. (association.new ≡ association.old) × IsAsBefore table.old table.new) }
     ensures wanted { IfErr result (CanBeWanted table.old) }
@@ -61,7 +61,7 @@ pub fn answer<C: Sealer>(
     let deleting = association.is_deleting();
     let decision = decide(
         alloc,
-        step,
+        setup,
         table,
         association.serial,
         keys,
@@ -70,12 +70,12 @@ pub fn answer<C: Sealer>(
     )?;
     let closed = decision.is_closing();
     let (answer, pair) = decision.into_parts();
-    let octets = make_reply(alloc, step, association, keys, number, answer)?;
+    let octets = make_reply(alloc, setup, association, keys, number, answer)?;
     let kept = Items::from_slice(alloc, octets.as_slice())?;
     association.incoming.prepare()?;
     // From here on nothing can be refused.
     association.incoming.take(number, kept);
-    let child = conclude(association, table, closed, pair, step.moment);
+    let child = conclude(association, table, closed, pair, setup.moment);
     Ok(Answered {
         octets,
         child,
@@ -85,18 +85,18 @@ pub fn answer<C: Sealer>(
 
 fn make_reply<C: Sealer>(
     alloc: Global,
-    step: &Step<'_, C>,
+    setup: &Setup<'_, C>,
     association: &Association,
     keys: &KeyRecord,
     number: u32,
     answer: ChildAnswer,
 ) -> Result<Items<u8>, AllocError>
     requires { FitsAnswer answer }
-    ensures { IfOk result (IsSealed C.body_of (keys_of association.now.role keys.now) step.now.fresh.now.seal
-        (reply_message association.now CREATE_CHILD_SA number (further_answer answer step.now.fresh.now.nonce))) }
+    ensures { IfOk result (IsSealed C.body_of (keys_of association.now.role keys.now) setup.now.fresh.now.seal
+        (reply_message association.now CREATE_CHILD_SA number (further_answer answer setup.now.fresh.now.nonce))) }
 {
     short_messages_can_be_sent();
-    let payloads = answer_payloads(alloc, answer, &step.fresh.nonce)?;
+    let payloads = answer_payloads(alloc, answer, &setup.fresh.nonce)?;
     let role = association.role;
     let message = Message {
         header: sent_header(
@@ -109,7 +109,7 @@ fn make_reply<C: Sealer>(
         ),
         payloads,
     };
-    sealed(alloc, step.caller, role, keys, &message, &step.fresh.seal)
+    sealed(alloc, setup.caller, role, keys, &message, &setup.fresh.seal)
 }
 
 // The association is closed, or the child is added, if there is one.

@@ -21,7 +21,7 @@ use children::Asked;
 use exchange::laws::short_messages_can_be_sent;
 use exchange::sent_header;
 use informational::Issued;
-use initial::{Step, new_request, sealed};
+use initial::{Setup, new_request, sealed};
 use requests::RequestFault;
 use sadb::{Spi, Table};
 use std::alloc::{AllocError, Global};
@@ -41,7 +41,7 @@ use wire::numbers::CREATE_CHILD_SA;
 /// The caller gives selectors that a message can carry.
 pub fn ask<C: Sealer>(
     alloc: Global,
-    step: &Step<'_, C>,
+    setup: &Setup<'_, C>,
     association: &mut Association,
     table: &mut Table,
     local: &Selector,
@@ -49,7 +49,7 @@ pub fn ask<C: Sealer>(
 ) -> Result<Issued, AskFault>
     requires local { IsSendableSelector local.now }
     requires remote { IsSendableSelector remote.now }
-    ensures asked { IfOk result (λ issued. AsksForFurther C.body_of (setup_of step.now) local.now remote.now
+    ensures asked { IfOk result (λ issued. AsksForFurther C.body_of (setup_of setup.now) local.now remote.now
         association.old table.old issued.octets association.new table.new) }
     ensures number { IfOk result (λ issued. issued.number ≡ association.old.outgoing.next) }
     ensures refused { IfErr result (λ fault. RefusesFurther association.old table.old fault
@@ -64,17 +64,17 @@ pub fn ask<C: Sealer>(
         spi,
         local: *local,
         remote: *remote,
-        extended: step.config.extended,
+        extended: setup.config.extended,
     };
-    let octets = make_request(alloc, step, association, keys, number, &asked)?;
+    let octets = make_request(alloc, setup, association, keys, number, &asked)?;
     let kept = Items::from_slice(alloc, octets.as_slice())?;
     issue(
         association,
         table,
         kept,
         &asked,
-        &step.fresh.nonce,
-        step.moment,
+        &setup.fresh.nonce,
+        setup.moment,
     )?;
     Ok(Issued { number, octets })
 }
@@ -116,7 +116,7 @@ fn prepare(table: &mut Table) -> Result<u32, AskFault>
 // The request, sealed.
 fn make_request<C: Sealer>(
     alloc: Global,
-    step: &Step<'_, C>,
+    setup: &Setup<'_, C>,
     association: &Association,
     keys: &KeyRecord,
     number: u32,
@@ -124,12 +124,12 @@ fn make_request<C: Sealer>(
 ) -> Result<Items<u8>, AllocError>
     requires local { IsSendableSelector asked.now.local }
     requires remote { IsSendableSelector asked.now.remote }
-    ensures { IfOk result (IsSealed C.body_of (keys_of association.now.role keys.now) step.now.fresh.now.seal
+    ensures { IfOk result (IsSealed C.body_of (keys_of association.now.role keys.now) setup.now.fresh.now.seal
         (request_message association.now CREATE_CHILD_SA number
-        (further_payloads (child_request asked.now) step.now.fresh.now.nonce))) }
+        (further_payloads (child_request asked.now) setup.now.fresh.now.nonce))) }
 {
     short_messages_can_be_sent();
-    let payloads = further::ask(alloc, asked, &step.fresh.nonce)?;
+    let payloads = further::ask(alloc, asked, &setup.fresh.nonce)?;
     let role = association.role;
     let message = Message {
         header: sent_header(
@@ -142,7 +142,7 @@ fn make_request<C: Sealer>(
         ),
         payloads,
     };
-    sealed(alloc, step.caller, role, keys, &message, &step.fresh.seal)
+    sealed(alloc, setup.caller, role, keys, &message, &setup.fresh.seal)
 }
 
 // Reserves the child's SPI, and one more request waits for its answer, under the next number.

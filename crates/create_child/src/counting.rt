@@ -2,17 +2,17 @@
 ghost use Rattle.std.specs.Prelude.{◌≡◌, ◌≢◌, IfOk, IfErr};
 ghost use Rattle.sadb.specs.Database.{IsReserved};
 ghost use Rattle.association.specs.Closing.{HoldsReserved, HoldsSpi};
-ghost use Rattle.children.specs.declared.fault.ChildFault.TheVariants as child;
+ghost use Rattle.children.specs.declared.fault.MemoryFault.TheVariants as child;
 ghost use Rattle.initial.specs.Configs.{setup_of, IsConfig};
 ghost use Rattle.informational.specs.Orders.{IsEstablished};
 ghost use Rattle.create_child.specs.Counting.{is_closing_conclusion, AsksAt, ConcludesAt, CountsFurther, EndsFurther, HasItsSpi};
 
 use association::laws::{children_are_asked_for, spis_stay_held};
 use association::{Association, Phase, Purpose};
-use children::ChildFault;
+use children::MemoryFault;
 use exchange::Plain;
 use further::{Conclusion, conclude_response};
-use initial::{Ended, Step};
+use initial::{Ended, Setup};
 use sadb::{Spi, Table};
 use std::alloc::Global;
 use suite::KeyRecord;
@@ -26,17 +26,17 @@ use suite::KeyRecord;
 /// table stands since its SPI was reserved. It changes nothing.
 pub fn count<C>(
     alloc: Global,
-    step: &Step<'_, C>,
+    setup: &Setup<'_, C>,
     association: &mut Association,
     table: &mut Table,
     number: u32,
     plain: &Plain,
-) -> Result<Ended, ChildFault>
-    requires config { IsConfig step.now.config.now }
+) -> Result<Ended, MemoryFault>
+    requires config { IsConfig setup.now.config.now }
     requires established { IsEstablished association.old.phase }
     requires asked { AsksAt association.old.outgoing number }
     requires reserved { HoldsReserved association.old table.old }
-    ensures counted { IfOk result (λ ended. CountsFurther (setup_of step.now)
+    ensures counted { IfOk result (λ ended. CountsFurther (setup_of setup.now)
         association.old table.old number plain.now ended association.new table.new) }
     ensures refused { IfErr result (λ _. (association.new ≡ association.old) × (table.new ≡ table.old)) }
     ensures wanted { IfErr result (λ fault. fault ≢ child.Table) }
@@ -46,29 +46,29 @@ pub fn count<C>(
     };
     spis_stay_held();
     children_are_asked_for();
-    let conclusion = conclusion_at(alloc, step, association, keys, number, plain)?;
+    let conclusion = conclusion_at(alloc, setup, association, keys, number, plain)?;
     // From here on nothing can be refused.
     let request = association.outgoing.count(number);
     let Some(spi) = request.purpose.into_spi() else {
         unreachable!();
     };
     let closed = is_closing(&conclusion);
-    let child = conclude(association, table, spi, conclusion, step.moment);
+    let child = conclude(association, table, spi, conclusion, setup.moment);
     Ok(Ended { child, closed })
 }
 
 // What the response makes of the request of its number.
 fn conclusion_at<C>(
     alloc: Global,
-    step: &Step<'_, C>,
+    setup: &Setup<'_, C>,
     association: &Association,
     keys: &KeyRecord,
     number: u32,
     plain: &Plain,
-) -> Result<Conclusion, ChildFault>
-    requires config { IsConfig step.now.config.now }
+) -> Result<Conclusion, MemoryFault>
+    requires config { IsConfig setup.now.config.now }
     requires asked { AsksAt association.now.outgoing number }
-    ensures concluded { IfOk result (ConcludesAt (setup_of step.now) association.now keys.now number plain.now) }
+    ensures concluded { IfOk result (ConcludesAt (setup_of setup.now) association.now keys.now number plain.now) }
     ensures wanted { IfErr result (λ fault. fault ≢ child.Table) }
 {
     let Some(request) = association.outgoing.get(number) else {
@@ -84,7 +84,7 @@ fn conclusion_at<C>(
         &further.nonce,
         association.serial,
         keys,
-        step.config.blocks,
+        setup.config.blocks,
     )
 }
 

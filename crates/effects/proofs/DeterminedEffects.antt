@@ -49,7 +49,7 @@ use Rattle.further.specs.declared.deciding.Decision as further
 use Rattle.create_child.specs.Answering.{AnswersFurther, ConcludesFurther}
 use Rattle.create_child.specs.Counting.{is_closing_conclusion, CountsFurther, EndsFurther}
 use Rattle.effects.specs.Lengths.{AreWholeKeys, HoldsWholeKeys, TellsLengths}
-use Rattle.effects.specs.Taking.{asked_further, asker_of, prover_of, Does, DoesAnswer, DoesFurther, DoesInitial, DoesRequest, DoesResponse, IsPassedOver, Meaning, Says, TakesMessage}
+use Rattle.effects.specs.Taking.{asked_further, asker_of, prover_of, Does, DoesAnswer, DoesAtEstablished, DoesInitial, DoesRequest, DoesResponse, IsPassedOver, Meaning, Says, TakesMessage}
 use Rattle.initial.specs.declared.answering.Answered.{Answered}
 use Rattle.initial.specs.declared.concluding.Outcome.{Outcome}
 use Rattle.initial.specs.declared.deciding.Decision.{Decision}
@@ -336,7 +336,7 @@ pub record Replies (meaning : Meaning) (setup : Setup) (number : ℕ) (plain : P
   pub is : e ≡ effect.Replied answered
   pub answers : AnswersAuth (prover_of meaning) setup old table number plain answered new new_table
 
-pub record Counts (meaning : Meaning) (setup : Setup) (number : ℕ) (plain : Plain) (e : Effect) (old : Association) (table : Database) (new : Association) (new_table : Database) : Type 0 where
+pub record CountsResponse (meaning : Meaning) (setup : Setup) (number : ℕ) (plain : Plain) (e : Effect) (old : Association) (table : Database) (new : Association) (new_table : Database) : Type 0 where
   pub ended : Ended
   pub is : e ≡ effect.Counted ended
   pub ends : EndsAuth meaning.accepts setup old table number plain ended new new_table
@@ -367,7 +367,7 @@ module _ (meaning : Meaning) (setup : Setup) (old : Association) (table : Databa
   refused_is fault (effect.Repeated s) is = absurd is
   refused_is fault (effect.Replied s) is = absurd is
   refused_is fault (effect.Again s) is = absurd is
-  refused_is fault (effect.Identified s) is = absurd is
+  refused_is fault (effect.AsksAuth s) is = absurd is
   refused_is fault (effect.Counted s) is = absurd is
 
   pub repeated_is : (reply : Octets) (e : Effect) → Does meaning setup old table octets m (Repeat reply) e new new_table → Repeats reply e old table new new_table
@@ -375,7 +375,7 @@ module _ (meaning : Meaning) (setup : Setup) (old : Association) (table : Databa
   repeated_is reply (effect.Repeated s) is = record { is = ap (λ (x : Octets). effect.Repeated x) is.0; passed = is.1 }
   repeated_is reply (effect.Replied s) is = absurd is
   repeated_is reply (effect.Again s) is = absurd is
-  repeated_is reply (effect.Identified s) is = absurd is
+  repeated_is reply (effect.AsksAuth s) is = absurd is
   repeated_is reply (effect.Counted s) is = absurd is
 
 module _ (meaning : Meaning) (setup : Setup) (number : ℕ) (plain : Plain) (old : Association) (table : Database) (new : Association) (new_table : Database) where
@@ -384,7 +384,7 @@ module _ (meaning : Meaning) (setup : Setup) (number : ℕ) (plain : Plain) (old
   FurtherDone true e = Informs meaning setup number plain e old table new new_table
   FurtherDone false e = AnswersChild meaning setup number plain e old table new new_table
 
-  further_is : (informational : Bool) (e : Effect) → DoesFurther informational meaning setup old table number plain e new new_table → FurtherDone informational e
+  further_is : (informational : Bool) (e : Effect) → DoesAtEstablished informational meaning setup old table number plain e new new_table → FurtherDone informational e
   further_is true (effect.Replied s) is = record { answered = s; is = refl; answers = is }
   further_is true e is = absurd is
   further_is false (effect.Replied s) is = record { answered = s; is = refl; answers = is }
@@ -415,7 +415,7 @@ module _ (meaning : Meaning) (setup : Setup) (number : ℕ) (plain : Plain) (old
   answer_is false e is = absurd is
 
   abbrev pub ResponseDone : Phase → Effect → Type 0
-  ResponseDone (phase.AuthSent sent) e = Counts meaning setup number plain e old table new new_table
+  ResponseDone (phase.AuthSent sent) e = CountsResponse meaning setup number plain e old table new new_table
   ResponseDone (phase.Established keys) e = AnswerDone (asked_further old number) e
   ResponseDone p e = Refuses WrongPhase e old table new new_table
 
@@ -429,27 +429,27 @@ module _ (meaning : Meaning) (setup : Setup) (number : ℕ) (plain : Plain) (old
 -- the effect that goes with how it is gone on
 abbrev effect_of : Continued → Effect
 effect_of (continued.Again next) = effect.Again next
-effect_of (continued.Identity next) = effect.Identified next
+effect_of (continued.AsksAuth next) = effect.AsksAuth next
 effect_of continued.Unfit = effect.Refused WrongPhase
 
 said_is : (e : Effect) (c : Continued) → Says e c → e ≡ effect_of c
 said_is (effect.Refused s) (continued.Again c) is = absurd is
-said_is (effect.Refused s) (continued.Identity c) is = absurd is
+said_is (effect.Refused s) (continued.AsksAuth c) is = absurd is
 said_is (effect.Refused s) continued.Unfit is = ap (λ (x : MessageFault). effect.Refused x) is
 said_is (effect.Repeated s) (continued.Again c) is = absurd is
-said_is (effect.Repeated s) (continued.Identity c) is = absurd is
+said_is (effect.Repeated s) (continued.AsksAuth c) is = absurd is
 said_is (effect.Repeated s) continued.Unfit is = absurd is
 said_is (effect.Replied s) (continued.Again c) is = absurd is
-said_is (effect.Replied s) (continued.Identity c) is = absurd is
+said_is (effect.Replied s) (continued.AsksAuth c) is = absurd is
 said_is (effect.Replied s) continued.Unfit is = absurd is
 said_is (effect.Again s) (continued.Again c) is = ap (λ (x : Octets). effect.Again x) is
-said_is (effect.Again s) (continued.Identity c) is = absurd is
+said_is (effect.Again s) (continued.AsksAuth c) is = absurd is
 said_is (effect.Again s) continued.Unfit is = absurd is
-said_is (effect.Identified s) (continued.Again c) is = absurd is
-said_is (effect.Identified s) (continued.Identity c) is = ap (λ (x : Octets). effect.Identified x) is
-said_is (effect.Identified s) continued.Unfit is = absurd is
+said_is (effect.AsksAuth s) (continued.Again c) is = absurd is
+said_is (effect.AsksAuth s) (continued.AsksAuth c) is = ap (λ (x : Octets). effect.AsksAuth x) is
+said_is (effect.AsksAuth s) continued.Unfit is = absurd is
 said_is (effect.Counted s) (continued.Again c) is = absurd is
-said_is (effect.Counted s) (continued.Identity c) is = absurd is
+said_is (effect.Counted s) (continued.AsksAuth c) is = absurd is
 said_is (effect.Counted s) continued.Unfit is = absurd is
 
 -- ---- two receptions that are one
@@ -466,7 +466,7 @@ module _ (laws : Laws) (meaning : Meaning) (setup : Setup) (old other : Associat
       let one = one_answer laws meaning setup old other same table another alike tells whole number plain is.answered also.answered a b a_table b_table is.answers also.answers in
       record { effect_is = is.is ∙ one.effect_is ∙ sym also.is; association = one.association; table = one.table }
 
-  both_count : (number : ℕ) (plain : Plain) → Counts meaning setup number plain e old table a a_table → Counts meaning setup number plain f other another b b_table → SameEnd e f a b a_table b_table
+  both_count : (number : ℕ) (plain : Plain) → CountsResponse meaning setup number plain e old table a a_table → CountsResponse meaning setup number plain f other another b b_table → SameEnd e f a b a_table b_table
   both_count number plain is also =
       let one = one_end laws meaning setup old other same table another alike number plain is.ended also.ended a b a_table b_table is.ends also.ends in
       record { effect_is = is.is ∙ one.effect_is ∙ sym also.is; association = one.association; table = one.table }

@@ -127,7 +127,7 @@ module _ (messages : MessageLaws) (numbers : OutgoingLaws) (asker : Asker) (setu
 
   one_identity : TellsLengths asker.body_of setup.fresh.seal → (m : Message) (octets one_octets two_octets : Octets) (keys : KeyRecord) (a b : Association) → AreWholeKeys keys
       → TellsIdentity asker setup old sent number m octets keys one_octets a → TellsIdentity asker setup other sent number m octets keys two_octets b
-      → SameGoing (continued.Identity one_octets) (continued.Identity two_octets) a b
+      → SameGoing (continued.AsksAuth one_octets) (continued.AsksAuth two_octets) a b
   one_identity tells m octets one_octets two_octets keys a b whole is also =
       let request : also.request ≡ is.request = same_request (map.get other.outgoing.outstanding number) also.request is.request also.outstanding
       (sym (ap (λ (x : Association). map.get x.outgoing.outstanding number) same) ∙ is.outstanding) in
@@ -143,7 +143,7 @@ module _ (messages : MessageLaws) (numbers : OutgoingLaws) (asker : Asker) (setu
       let outgoing : outgoing_content a.outgoing ≡ outgoing_content b.outgoing = one_issue numbers number_0_answered number_0_answered a.outgoing b.outgoing (new_request one_octets Identify setup.moment) refl is.issued issued in
       let next : Phase = phase.AuthSent (record { keys = keys; first = octets; child = sent.child }) in
       record {
-        continued_is = ap (λ (x : Octets). continued.Identity x) one;
+        continued_is = ap (λ (x : Octets). continued.AsksAuth x) one;
         association =
             ap association_content is.content
             ∙ ap (λ (x : Association). record x { spi_r = m.header.spi_r; outgoing = outgoing_content a.outgoing; phase = next }) same
@@ -157,47 +157,47 @@ module _ (messages : MessageLaws) (numbers : OutgoingLaws) (asker : Asker) (setu
   module _ (m : Message) (octets : Octets) (a b : Association) where
     after_cookie : (cookie : Bor Octets) (next : Octets) (r : Response) (d : Continued) → IsSameResponse (response.Cookie cookie) r → BringsCookie asker setup.moment old sent number cookie.now next a → Continues asker setup other sent number m octets r d b → SameGoing (continued.Again next) d a b
     after_cookie cookie next (response.Cookie x) (continued.Again y) like is also = one_cookie cookie.now next y a b is (subst (λ (o : Octets). BringsCookie asker setup.moment other sent number o y b) (sym like) also)
-    after_cookie cookie next (response.Cookie x) (continued.Identity y) like is also = absurd also
+    after_cookie cookie next (response.Cookie x) (continued.AsksAuth y) like is also = absurd also
     after_cookie cookie next (response.Cookie x) continued.Unfit like is also = absurd also
     after_cookie cookie next (response.Keys x) (continued.Again y) like is also = absurd like
-    after_cookie cookie next (response.Keys x) (continued.Identity y) like is also = absurd like
+    after_cookie cookie next (response.Keys x) (continued.AsksAuth y) like is also = absurd like
     after_cookie cookie next (response.Keys x) continued.Unfit like is also = absurd like
     after_cookie cookie next response.Unfit (continued.Again y) like is also = absurd like
-    after_cookie cookie next response.Unfit (continued.Identity y) like is also = absurd like
+    after_cookie cookie next response.Unfit (continued.AsksAuth y) like is also = absurd like
     after_cookie cookie next response.Unfit continued.Unfit like is also = absurd like
 
-    after_keys : (keys : KeyRecord) (next : Octets) → TellsLengths asker.body_of setup.fresh.seal → AreWholeKeys keys → (r : Response) (d : Continued) → IsSameResponse (response.Keys keys) r → TellsIdentity asker setup old sent number m octets keys next a → Continues asker setup other sent number m octets r d b → SameGoing (continued.Identity next) d a b
+    after_keys : (keys : KeyRecord) (next : Octets) → TellsLengths asker.body_of setup.fresh.seal → AreWholeKeys keys → (r : Response) (d : Continued) → IsSameResponse (response.Keys keys) r → TellsIdentity asker setup old sent number m octets keys next a → Continues asker setup other sent number m octets r d b → SameGoing (continued.AsksAuth next) d a b
     after_keys keys next tells whole (response.Cookie x) (continued.Again y) like is also = absurd like
-    after_keys keys next tells whole (response.Cookie x) (continued.Identity y) like is also = absurd like
+    after_keys keys next tells whole (response.Cookie x) (continued.AsksAuth y) like is also = absurd like
     after_keys keys next tells whole (response.Cookie x) continued.Unfit like is also = absurd like
     after_keys keys next tells whole (response.Keys x) (continued.Again y) like is also = absurd also
-    after_keys keys next tells whole (response.Keys x) (continued.Identity y) like is also = one_identity tells m octets next y keys a b whole is (subst (λ (k : KeyRecord). TellsIdentity asker setup other sent number m octets k y b) (sym like) also)
+    after_keys keys next tells whole (response.Keys x) (continued.AsksAuth y) like is also = one_identity tells m octets next y keys a b whole is (subst (λ (k : KeyRecord). TellsIdentity asker setup other sent number m octets k y b) (sym like) also)
     after_keys keys next tells whole (response.Keys x) continued.Unfit like is also = absurd also
     after_keys keys next tells whole response.Unfit (continued.Again y) like is also = absurd like
-    after_keys keys next tells whole response.Unfit (continued.Identity y) like is also = absurd like
+    after_keys keys next tells whole response.Unfit (continued.AsksAuth y) like is also = absurd like
     after_keys keys next tells whole response.Unfit continued.Unfit like is also = absurd like
 
     after_unfit : (r : Response) (d : Continued) → IsSameResponse (response.Unfit) r → a ≡ old → Continues asker setup other sent number m octets r d b → SameGoing (continued.Unfit) d a b
     after_unfit (response.Cookie x) (continued.Again y) like is also = absurd like
-    after_unfit (response.Cookie x) (continued.Identity y) like is also = absurd like
+    after_unfit (response.Cookie x) (continued.AsksAuth y) like is also = absurd like
     after_unfit (response.Cookie x) continued.Unfit like is also = absurd like
     after_unfit (response.Keys x) (continued.Again y) like is also = absurd like
-    after_unfit (response.Keys x) (continued.Identity y) like is also = absurd like
+    after_unfit (response.Keys x) (continued.AsksAuth y) like is also = absurd like
     after_unfit (response.Keys x) continued.Unfit like is also = absurd like
     after_unfit response.Unfit (continued.Again y) like is also = absurd also
-    after_unfit response.Unfit (continued.Identity y) like is also = absurd also
+    after_unfit response.Unfit (continued.AsksAuth y) like is also = absurd also
     after_unfit response.Unfit continued.Unfit like is also = one_unfit a b is also
 
     one_going : TellsLengths asker.body_of setup.fresh.seal → (q r : Response) (c d : Continued) → ((keys : KeyRecord) → q ≡ response.Keys keys → AreWholeKeys keys) → IsSameResponse q r
         → Continues asker setup old sent number m octets q c a → Continues asker setup other sent number m octets r d b → SameGoing c d a b
     one_going tells (response.Cookie q) r (continued.Again c) d whole like is also = after_cookie q c r d like is also
-    one_going tells (response.Cookie q) r (continued.Identity c) d whole like is also = absurd is
+    one_going tells (response.Cookie q) r (continued.AsksAuth c) d whole like is also = absurd is
     one_going tells (response.Cookie q) r continued.Unfit d whole like is also = absurd is
     one_going tells (response.Keys q) r (continued.Again c) d whole like is also = absurd is
-    one_going tells (response.Keys q) r (continued.Identity c) d whole like is also = after_keys q c tells (whole q refl) r d like is also
+    one_going tells (response.Keys q) r (continued.AsksAuth c) d whole like is also = after_keys q c tells (whole q refl) r d like is also
     one_going tells (response.Keys q) r continued.Unfit d whole like is also = absurd is
     one_going tells response.Unfit r (continued.Again c) d whole like is also = absurd is
-    one_going tells response.Unfit r (continued.Identity c) d whole like is also = absurd is
+    one_going tells response.Unfit r (continued.AsksAuth c) d whole like is also = absurd is
     one_going tells response.Unfit r continued.Unfit d whole like is also = after_unfit r d like is also
 
 pub gives_whole : KeyLaws → (cipher : Cipher) (group : ℕ) (shared_secret : Octets → Octets → Option Octets) (sent : WaitingView) (m : Message) (r : Response) → IsResponse cipher group shared_secret sent m r

@@ -128,7 +128,7 @@ way_timely closing meaning setup old table octets m (effect.Again next) new new_
     (same_has (Waits setup.moment) (map.insert old.outgoing.outstanding m.header.id (new_request next Begin setup.moment)) new.outgoing.outstanding
     (ap (λ (r : OwnRequests Request). r.outstanding) d.replaced.content)
     (insert_has (Waits setup.moment) old.outgoing.outstanding m.header.id (new_request next Begin setup.moment) (new_waits next Begin setup.moment) (all_wait setup.moment old timely)))
-way_timely closing meaning setup old table octets m (effect.Identified next) new new_table timely is =
+way_timely closing meaning setup old table octets m (effect.AsksAuth next) new new_table timely is =
     let d = is.done in
     by_parts setup.moment new (ap (λ (x : Association). is_over setup.moment x.phase) d.content) (begun_by setup.moment new.phase _ (ap (λ (x : Association). x.phase) d.content) (omega arith))
     (issued_wait setup.moment number_0_answered next Identify new.outgoing d.issued (empty_has (Waits setup.moment)))

@@ -6,10 +6,10 @@ use Rattle.std.proofs.lemmas.Bool.{eqb-true}
 use Rattle.wire.specs.Numbers.{CREATE_CHILD_SA, IKE_AUTH, INFORMATIONAL}
 use Rattle.wire.specs.declared.message.Message.{Message}
 use Rattle.suite.specs.declared.key_record.KeyRecord.{KeyRecord}
-use Rattle.children.specs.declared.fault.ChildFault.{ChildFault}
-use Rattle.children.specs.declared.fault.ChildFault.TheVariants as child
+use Rattle.children.specs.declared.fault.MemoryFault.{MemoryFault}
+use Rattle.children.specs.declared.fault.MemoryFault.TheVariants as child
 use Rattle.association.specs.Purposes.{asks_for_child, exchange_of}
-use Rattle.association.specs.Receiving.{admits, IsDue}
+use Rattle.association.specs.Receiving.{admits, IsAwaited}
 use Rattle.association.specs.declared.phase.Association.{Association}
 use Rattle.association.specs.declared.phase.AuthSent.{AuthSent}
 use Rattle.association.specs.declared.phase.HalfOpen.{HalfOpen}
@@ -38,7 +38,7 @@ further_exchange p keys exchange was is other =
 same_request : (one other : Request) → Some one ≡ Some other → one ≡ other
 same_request one other is = cc
 
-pub asked_exchange : (old : Association) (request : Request) (further : FurtherChild) (m : Message) → map.get old.outgoing.outstanding m.header.id ≡ Some request → request.purpose ≡ CreateChild further → IsDue old m
+pub asked_exchange : (old : Association) (request : Request) (further : FurtherChild) (m : Message) → map.get old.outgoing.outstanding m.header.id ≡ Some request → request.purpose ≡ CreateChild further → IsAwaited old m
     → m.header.exchange ≡ CREATE_CHILD_SA
 asked_exchange old request further m there asked due =
     sym (eqb-true (exchange_of due.request.purpose) m.header.exchange due.exchange_is)
@@ -49,19 +49,19 @@ pub identity_asked : (old : Association) (sent : AuthSent) (number : ℕ) (reque
     → map.get old.outgoing.outstanding number ≡ Some request → request.purpose ≡ Identify
 identity_asked old sent number request was waits there = (subst (λ (p : Phase). SuitPhase p old.outgoing.outstanding) was waits number request there).1
 
-pub identity_exchange : (old : Association) (sent : AuthSent) (m : Message) → old.phase ≡ phase.AuthSent sent → IsDue old m → SuitPhase old.phase old.outgoing.outstanding → m.header.exchange ≡ IKE_AUTH
+pub identity_exchange : (old : Association) (sent : AuthSent) (m : Message) → old.phase ≡ phase.AuthSent sent → IsAwaited old m → SuitPhase old.phase old.outgoing.outstanding → m.header.exchange ≡ IKE_AUTH
 identity_exchange old sent m was due waits =
     sym (eqb-true (exchange_of due.request.purpose) m.header.exchange due.exchange_is)
     ∙ ap exchange_of (identity_asked old sent m.header.id due.request was waits due.outstanding)
 
 -- by what a child takes at the end that asked for it, and at the one that answers
-pub wants_asked : (p : Phase) (exchange : ℕ) (d : Database) (f : ChildFault) → IsForChild p true exchange → f ≢ child.Table → CanWantIn p true exchange d f
+pub wants_asked : (p : Phase) (exchange : ℕ) (d : Database) (f : MemoryFault) → IsForChild p true exchange → f ≢ child.Table → CanWantIn p true exchange d f
 wants_asked p exchange d child.Message kind other = inl refl
 wants_asked p exchange d child.Window kind other = inr (kind, tt)
 wants_asked p exchange d child.Narrowing kind other = inr (kind, tt)
 wants_asked p exchange d child.Table kind other = absurd (other refl)
 
-pub wants_answered : (p : Phase) (exchange : ℕ) (d : Database) (f : ChildFault) → IsForChild p false exchange → CanBeWanted d f → CanWantIn p false exchange d f
+pub wants_answered : (p : Phase) (exchange : ℕ) (d : Database) (f : MemoryFault) → IsForChild p false exchange → CanBeWanted d f → CanWantIn p false exchange d f
 wants_answered p exchange d child.Message kind can = inl refl
 wants_answered p exchange d child.Window kind can = inr (kind, tt)
 wants_answered p exchange d child.Narrowing kind can = inr (kind, tt)
@@ -72,7 +72,7 @@ pub asked_identity : (old : Association) (sent : AuthSent) (number : ℕ) (reque
 asked_identity old sent number request was waits there = ap asks_for_child (identity_asked old sent number request was waits there)
 
 -- and its first child takes no place in the table any more
-pub wants_first : (old : Association) (sent : AuthSent) (m : Message) (d : Database) (f : ChildFault) → old.phase ≡ phase.AuthSent sent → IsDue old m → SuitPhase old.phase old.outgoing.outstanding → f ≢ child.Table
+pub wants_first : (old : Association) (sent : AuthSent) (m : Message) (d : Database) (f : MemoryFault) → old.phase ≡ phase.AuthSent sent → IsAwaited old m → SuitPhase old.phase old.outgoing.outstanding → f ≢ child.Table
     → CanWantIn old.phase true m.header.exchange d f
 wants_first old sent m d f was due waits other =
     wants_asked old.phase m.header.exchange d f (inl (record { awaited = record { sent = sent; is = was }; exchange_is = identity_exchange old sent m was due waits })) other

@@ -240,7 +240,7 @@ way_spis facts meaning setup old table octets m (effect.Replied answered) new ne
 way_spis facts meaning setup old table octets m (effect.Replied answered) new new_table (inr (inr is)) = further_answered_spis facts meaning setup old table octets m answered new new_table is
 way_spis facts meaning setup old table octets m (effect.Replied answered) new new_table (inr (inl is)) = informed_spis facts meaning.body_of setup old table m.header.id is.plain answered new new_table is.done
 way_spis facts meaning setup old table octets m (effect.Again next) new new_table is = asked_spis facts meaning setup old table m next new new_table is
-way_spis facts meaning setup old table octets m (effect.Identified next) new new_table is = identified_spis facts meaning setup old table octets m next new new_table is
+way_spis facts meaning setup old table octets m (effect.AsksAuth next) new new_table is = identified_spis facts meaning setup old table octets m next new new_table is
 way_spis facts meaning setup old table octets m (effect.Counted ended) new new_table (inl is) = ended_spis facts meaning.accepts setup old table m.header.id is.plain ended new new_table is.done
 way_spis facts meaning setup old table octets m (effect.Counted ended) new new_table (inr (inr is)) = further_counted_spis facts meaning setup old table octets m ended new new_table is
 way_spis facts meaning setup old table octets m (effect.Counted ended) new new_table (inr (inl is)) = counted_spis facts setup old table m ended new new_table is

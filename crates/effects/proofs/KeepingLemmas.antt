@@ -270,7 +270,7 @@ issued_short old request new before short is =
     (same_short octets_of old.outstanding is.ready.outstanding (ap (λ (r : OwnRequests Request). r.outstanding) is.prepared.content) before))
 
 identified_leaves : (meaning : Meaning) (setup : Setup) (old : Association) (table : Database) (octets : Octets) (m : Message) (next : Octets) (new : Association) (new_table : Database)
-    → WasIdentified meaning setup old table octets m next new new_table → Leaves (effect.Identified next) old new
+    → WasIdentified meaning setup old table octets m next new new_table → Leaves (effect.AsksAuth next) old new
 identified_leaves meaning setup old table octets m next new new_table is =
     let d = is.done in
     record {
@@ -301,7 +301,7 @@ way_leaves facts meaning setup old table octets m (effect.Repeated reply) new ne
 way_leaves facts meaning setup old table octets m (effect.Replied answered) new new_table (inl is) = auth_answered_leaves meaning setup old table octets m answered new new_table is
 way_leaves facts meaning setup old table octets m (effect.Replied answered) new new_table (inr is) = later_answered_leaves meaning setup old m answered new (answered_later meaning setup old table octets m answered new new_table is)
 way_leaves facts meaning setup old table octets m (effect.Again next) new new_table is = asked_leaves meaning setup old table m next new new_table is
-way_leaves facts meaning setup old table octets m (effect.Identified next) new new_table is = identified_leaves meaning setup old table octets m next new new_table is
+way_leaves facts meaning setup old table octets m (effect.AsksAuth next) new new_table is = identified_leaves meaning setup old table octets m next new new_table is
 way_leaves facts meaning setup old table octets m (effect.Counted ended) new new_table (inl is) = auth_counted_leaves meaning setup old table octets m ended new new_table is
 way_leaves facts meaning setup old table octets m (effect.Counted ended) new new_table (inr is) = later_counted_leaves setup old m ended new (counted_later meaning setup old table octets m ended new new_table is)
 
@@ -333,8 +333,8 @@ pub keys_come : RepeatFacts → (meaning : Meaning) (setup : Setup) (old : Assoc
 keys_come facts meaning setup old table octets m e new new_table keys are is = (leaves facts meaning setup old table octets m e new new_table is).come keys are
 
 pub none_before : (meaning : Meaning) (setup : Setup) (old : Association) (table : Database) (octets : Octets) (m : Message) (next : Octets) (new : Association) (new_table : Database)
-    → TakesMessage meaning setup old table octets m (effect.Identified next) new new_table → keys_in old.phase ≡ None
-none_before meaning setup old table octets m next new new_table is = ap keys_in (way_of meaning setup old table octets m (effect.Identified next) new new_table is).was
+    → TakesMessage meaning setup old table octets m (effect.AsksAuth next) new new_table → keys_in old.phase ≡ None
+none_before meaning setup old table octets m next new new_table is = ap keys_in (way_of meaning setup old table octets m (effect.AsksAuth next) new new_table is).was
 
 pub none_again : (meaning : Meaning) (setup : Setup) (old : Association) (table : Database) (octets : Octets) (m : Message) (next : Octets) (new : Association) (new_table : Database)
     → TakesMessage meaning setup old table octets m (effect.Again next) new new_table → keys_in new.phase ≡ None

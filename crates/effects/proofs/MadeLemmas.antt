@@ -555,7 +555,7 @@ way_makes facts laws meaning setup old table octets m (effect.Repeated reply) se
 way_makes facts laws meaning setup old table octets m (effect.Replied answered) serial new new_table sound held holds named takes (inl is) = replied_makes facts meaning setup old table octets m answered serial new new_table named takes is
 way_makes facts laws meaning setup old table octets m (effect.Replied answered) serial new new_table sound held holds named takes (inr (inl is)) = absurd (none_some serial (sym is.done.child ∙ named))
 way_makes facts laws meaning setup old table octets m (effect.Again next) serial new new_table sound held holds named takes is = absurd (none_some serial named)
-way_makes facts laws meaning setup old table octets m (effect.Identified next) serial new new_table sound held holds named takes is = absurd (none_some serial named)
+way_makes facts laws meaning setup old table octets m (effect.AsksAuth next) serial new new_table sound held holds named takes is = absurd (none_some serial named)
 way_makes facts laws meaning setup old table octets m (effect.Counted ended) serial new new_table sound held holds named takes (inl is) = counted_makes facts meaning setup old table octets m ended serial new new_table sound held holds named takes is
 way_makes facts laws meaning setup old table octets m (effect.Counted ended) serial new new_table sound held holds named takes (inr (inl is)) = absurd (none_some serial (sym is.done.child ∙ named))
 way_makes facts laws meaning setup old table octets m (effect.Replied answered) serial new new_table sound held holds named takes (inr (inr is)) = further_replied_makes facts laws meaning setup old table octets m answered serial new new_table named takes is
@@ -587,9 +587,9 @@ identified_asks meaning setup old table octets m next new new_table is =
     }
 
 pub asks_for_child : (meaning : Meaning) (setup : Setup) (old : Association) (table : Database) (octets : Octets) (m : Message) (next : Octets) (new : Association) (new_table : Database)
-    → TakesMessage meaning setup old table octets m (effect.Identified next) new new_table → AsksForChild meaning setup next new
+    → TakesMessage meaning setup old table octets m (effect.AsksAuth next) new new_table → AsksForChild meaning setup next new
 asks_for_child meaning setup old table octets m next new new_table is =
-    identified_asks meaning setup old table octets m next new new_table (way_of meaning setup old table octets m (effect.Identified next) new new_table is)
+    identified_asks meaning setup old table octets m next new new_table (way_of meaning setup old table octets m (effect.AsksAuth next) new new_table is)
 
 -- so does an end for a further one
 pub asks_further : (body_of : Keys → Octets → Octets → Octets → Octets) (setup : Setup) (local remote : Selector) (old : Association) (table : Database) (octets : Octets) (new : Association) (new_table : Database)
@@ -648,7 +648,7 @@ way_waits meaning setup old table octets m (effect.Replied answered) new new_tab
     absurd (closed_if_waits answered.closed d.ends.serials (with_incoming old d.incoming) d.ends.before setup.moment new d.ends.after d.keys sent d.was d.ends.is waits)
 way_waits meaning setup old table octets m (effect.Again next) new new_table sent waits is =
     absurd (initial_waits (record is.sent { cookie = Some is.cookie; cookies_taken = is.sent.cookies_taken + 1 }) sent (sym (ap (λ (x : Association). x.phase) is.done.content) ∙ waits))
-way_waits meaning setup old table octets m (effect.Identified next) new new_table sent waits is = inr (record { octets = next; is = refl })
+way_waits meaning setup old table octets m (effect.AsksAuth next) new new_table sent waits is = inr (record { octets = next; is = refl })
 way_waits meaning setup old table octets m (effect.Counted ended) new new_table sent waits (inl is) =
     let d = is.done in
     absurd (concluded_waits setup (record old { outgoing = d.outgoing }) table d.verdict ended.child new new_table d.sent.keys sent (ap established_of d.was) d.concluded waits)
@@ -692,7 +692,7 @@ way_asked meaning setup old table octets m (effect.Replied answered) new new_tab
     absurd (concluded_asks new.phase child (concluded_if answered.closed d.ends.serials (with_incoming old d.incoming) d.ends.before setup.moment new d.ends.after d.keys d.was d.ends.is) asks)
 way_asked meaning setup old table octets m (effect.Again next) new new_table child asks is =
     ap first_asked is.was ∙ sym (ap (λ (x : Association). first_asked x.phase) is.done.content) ∙ asks
-way_asked meaning setup old table octets m (effect.Identified next) new new_table child asks is =
+way_asked meaning setup old table octets m (effect.AsksAuth next) new new_table child asks is =
     ap first_asked is.was ∙ sym (ap (λ (x : Association). first_asked x.phase) is.done.content) ∙ asks
 way_asked meaning setup old table octets m (effect.Counted ended) new new_table child asks (inl is) =
     let d = is.done in

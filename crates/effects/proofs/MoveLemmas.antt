@@ -52,7 +52,7 @@ use Rattle.suite.specs.declared.keys.Keys.{Keys}
 use Rattle.effects.specs.Moves.{and_closes, first_ledger, ledger, ledger_of, ledger_with, makes_and_issues, moves_of, octets_out, put, ClosesLedger, Close, Count, Counts, Issue, Issues, KeepsReply, KeepWindows, Lead, Ledger, Make, Move, Remove, TakeEffect, TakesEffectOnce, WaitsWith}
 use Rattle.effects.specs.Requests.{IsSoundlyHeld}
 use Rattle.effects.specs.Sending.{SendsRequest}
-use Rattle.effects.specs.Taking.{asked_further, Does, DoesAnswer, DoesFurther, DoesRequest, DoesResponse, Meaning, TakesMessage}
+use Rattle.effects.specs.Taking.{asked_further, Does, DoesAnswer, DoesAtEstablished, DoesRequest, DoesResponse, Meaning, TakesMessage}
 use Rattle.effects.specs.Waiting.{MayBeOutstanding, TookFirstRequest}
 use Rattle.effects.specs.declared.taking.Effect.{Effect}
 use Rattle.effects.specs.declared.taking.Effect.TheVariants as effect
@@ -117,9 +117,9 @@ record Stays (role : Role) (number : ℕ) (l m : Ledger) : Type 0 where
   content : m ≡ record l { size = m.size; window = m.window }
 
 -- it stays so, or it is closed
-abbrev Ends : Bool → Role → ℕ → Ledger → Option Ledger → Type 0
-Ends false role number l o = (m : Ledger) × (o ≡ Some m) × Stays role number l m
-Ends true role number l o = (m : Ledger) × (o ≡ Some m) × ClosesLedger l m
+abbrev EndsAs : Bool → Role → ℕ → Ledger → Option Ledger → Type 0
+EndsAs false role number l o = (m : Ledger) × (o ≡ Some m) × Stays role number l m
+EndsAs true role number l o = (m : Ledger) × (o ≡ Some m) × ClosesLedger l m
 
 -- windows that were kept before
 keep_from : (role : Role) (number : ℕ) (old l m : Ledger) → l.role ≡ old.role → l.size ≡ old.size → l.window ≡ old.window → KeepWindows role number l m → KeepWindows role number old m
@@ -159,7 +159,7 @@ counted_with number old l size window windows is =
       content = ap (λ (x : Ledger). record x { size = size; window = window }) is.content;
     }
 
-taken_leads : (closed : Bool) (number : ℕ) (reply : Octets) (old l : Ledger) (o : Option Ledger) → TakesEffectOnce number reply old l → l.size ≡ old.size → l.window ≡ old.window → Ends closed Responder number l o
+taken_leads : (closed : Bool) (number : ℕ) (reply : Octets) (old l : Ledger) (o : Option Ledger) → TakesEffectOnce number reply old l → l.size ≡ old.size → l.window ≡ old.window → EndsAs closed Responder number l o
     → Lead (and_closes (TakeEffect number reply) closed) (Some old) o
 taken_leads true number reply old l o takes size window ends = (Some l, takes, (Some ends.0, ends.2, ends.1))
 taken_leads false number reply old l o takes size window ends =
@@ -170,7 +170,7 @@ taken_leads false number reply old l o takes size window ends =
     (taken_with number reply old l m.size m.window (subst (λ (x : Ledger). KeepWindows Responder number old x) ends.2.content windows) takes) in
     (Some m, all, ends.1)
 
-counted_leads : (closed : Bool) (number : ℕ) (old l : Ledger) (o : Option Ledger) → Counts number old l → l.size ≡ old.size → l.window ≡ old.window → Ends closed Initiator number l o
+counted_leads : (closed : Bool) (number : ℕ) (old l : Ledger) (o : Option Ledger) → Counts number old l → l.size ≡ old.size → l.window ≡ old.window → EndsAs closed Initiator number l o
     → Lead (and_closes (Count number) closed) (Some old) o
 counted_leads true number old l o counts size window ends = (Some l, counts, (Some ends.0, ends.2, ends.1))
 counted_leads false number old l o counts size window ends =
@@ -182,7 +182,7 @@ counted_leads false number old l o counts size window ends =
     (Some m, all, ends.1)
 
 closed_ends : (role : Role) (number : ℕ) (a : Association) (keys : KeyRecord) (moment : ℕ) (new : Association) → keys_in a.phase ≡ Some keys → is_closed a.phase ≡ false → GivesUpRequests a.outgoing new.outgoing
-    → new ≡ record a { outgoing = new.outgoing; phase = phase.Closed (keys_in a.phase) moment } → Ends true role number (ledger_of a keys) (ledger new)
+    → new ≡ record a { outgoing = new.outgoing; phase = phase.Closed (keys_in a.phase) moment } → EndsAs true role number (ledger_of a keys) (ledger new)
 closed_ends role number a keys moment new are is_open gives content =
     let l = ledger_of a keys in
     let closed : Ledger = record l { is_closed = true; outstanding = λ number. None } in (
@@ -195,14 +195,14 @@ closed_ends role number a keys moment new are is_open gives content =
     )
 
 over_ends : (role : Role) (number : ℕ) (a : Association) (keys : KeyRecord) (table : Database) (moment : ℕ) (new : Association) (new_table : Database) → keys_in a.phase ≡ Some keys → is_closed a.phase ≡ false
-    → Closes a table moment new new_table → Ends true role number (ledger_of a keys) (ledger new)
+    → Closes a table moment new new_table → EndsAs true role number (ledger_of a keys) (ledger new)
 over_ends role number a keys table moment new new_table are is_open is = closed_ends role number a keys moment new are is_open is.requests is.content
 
-same_ends : (role : Role) (number : ℕ) (a : Association) (keys : KeyRecord) (new : Association) → keys_in a.phase ≡ Some keys → new ≡ a → Ends false role number (ledger_of a keys) (ledger new)
+same_ends : (role : Role) (number : ℕ) (a : Association) (keys : KeyRecord) (new : Association) → keys_in a.phase ≡ Some keys → new ≡ a → EndsAs false role number (ledger_of a keys) (ledger new)
 same_ends role number a keys new are same = (ledger_of a keys, ap ledger same ∙ keyed a keys are, record { windows = inl (refl, refl); content = refl })
 
 closed_if_ends : (role : Role) (number : ℕ) (ending : Bool) (serials : List ℕ) (a : Association) (keys : KeyRecord) (table : Database) (moment : ℕ) (new : Association) (new_table : Database) → keys_in a.phase ≡ Some keys
-    → is_closed a.phase ≡ false → ClosesIf ending serials a table moment new new_table → Ends ending role number (ledger_of a keys) (ledger new)
+    → is_closed a.phase ≡ false → ClosesIf ending serials a table moment new new_table → EndsAs ending role number (ledger_of a keys) (ledger new)
 closed_if_ends role number true serials a keys table moment new new_table are is_open is = over_ends role number a keys table moment new new_table are is_open is
 closed_if_ends role number false serials a keys table moment new new_table are is_open is = same_ends role number a keys new are is.0
 
@@ -223,7 +223,7 @@ record AwaitsWindows (setup : Setup) (role : Role) (number : ℕ) (a : Associati
   tells : TellsWindow o
 
 concluded_ends : (setup : Setup) (role : Role) (number : ℕ) (a : Association) (keys : KeyRecord) (table : Database) (o : Outcome) (child : Option ℕ) (new : Association) (new_table : Database)
-    → AwaitsWindows setup role number a o → keys_in a.phase ≡ Some keys → is_closed a.phase ≡ false → ConcludesBy setup a table o child new new_table → Ends (is_closing o) role number (ledger_of a keys) (ledger new)
+    → AwaitsWindows setup role number a o → keys_in a.phase ≡ Some keys → is_closed a.phase ≡ false → ConcludesBy setup a table o child new new_table → EndsAs (is_closing o) role number (ledger_of a keys) (ledger new)
 concluded_ends setup role number a keys table outcome.Closes child new new_table windows are is_open is = over_ends role number a keys table setup.moment new new_table are is_open is.over
 concluded_ends setup role number a keys table (outcome.Establishes pair window) child new new_table windows are is_open is =
     let l = ledger_of a keys in
@@ -332,7 +332,7 @@ way_moves windows meaning setup old table octets m (effect.Replied answered) new
     from_keys (and_closes (TakeEffect m.header.id answered.octets) answered.closed) old keys (ledger new) (ap keys_in d.was)
     (taken_leads answered.closed m.header.id answered.octets (ledger_of old keys) (ledger_of (with_incoming old d.incoming) keys) (ledger new)
     (taken_moves old keys d.ready d.incoming m.header.id answered.octets is_open d.prepared d.taken) size refl
-    (subst (λ (b : Bool). Ends b Responder m.header.id (ledger_of (with_incoming old d.incoming) keys) (ledger new)) (sym d.closed)
+    (subst (λ (b : Bool). EndsAs b Responder m.header.id (ledger_of (with_incoming old d.incoming) keys) (ledger new)) (sym d.closed)
     (concluded_ends setup Responder m.header.id (with_incoming old d.incoming) keys d.between (outcome_of d.decision) answered.child new new_table awaits (ap keys_in d.was) is_open d.concluded)))
 way_moves windows meaning setup old table octets m (effect.Replied answered) new new_table held config (inr is) =
     let d = answered_later meaning setup old table octets m answered new new_table is in
@@ -360,7 +360,7 @@ way_moves windows meaning setup old table octets m (effect.Counted ended) new ne
     from_keys (and_closes (Count m.header.id) ended.closed) old keys (ledger new) (ap keys_in d.was)
     (counted_leads ended.closed m.header.id (ledger_of old keys) (ledger_of (with_outgoing old d.outgoing) keys) (ledger new)
     (counted_moves old keys m.header.id d.request d.outgoing is_open d.counted) refl window
-    (subst (λ (b : Bool). Ends b Initiator m.header.id (ledger_of (with_outgoing old d.outgoing) keys) (ledger new)) (sym d.closed)
+    (subst (λ (b : Bool). EndsAs b Initiator m.header.id (ledger_of (with_outgoing old d.outgoing) keys) (ledger new)) (sym d.closed)
     (concluded_ends setup Initiator m.header.id (with_outgoing old d.outgoing) keys table d.verdict ended.child new new_table awaits (ap keys_in d.was) is_open d.concluded)))
 way_moves windows meaning setup old table octets m (effect.Counted ended) new new_table held config (inr is) =
     let d = counted_later meaning setup old table octets m ended new new_table is in
@@ -370,7 +370,7 @@ way_moves windows meaning setup old table octets m (effect.Counted ended) new ne
     (counted_moves old d.keys m.header.id d.request d.outgoing is_open d.counted) refl (counted_window old.outgoing m.header.id d.request d.outgoing d.counted)
     (closed_if_ends Initiator m.header.id ended.closed d.ends.serials (with_outgoing old d.outgoing) d.keys d.ends.before setup.moment new d.ends.after (ap keys_in d.was) is_open d.ends.is))
 way_moves windows meaning setup old table octets m (effect.Again next) new new_table held config is = ap ledger is.done.content ∙ sym (no_ledger old (ap keys_in is.was))
-way_moves windows meaning setup old table octets m (effect.Identified next) new new_table held config is =
+way_moves windows meaning setup old table octets m (effect.AsksAuth next) new new_table held config is =
     let d = is.done in
     let are : keys_in new.phase ≡ Some is.keys = ap (λ (x : Association). keys_in x.phase) d.content in
     let made : Ledger = with_own (ledger_of new is.keys) number_0_answered in
@@ -529,12 +529,12 @@ waiting_again a number request held there other =
 -- ---- keys come by IKE_SA_INIT
 
 identified_further : (informational : Bool) (meaning : Meaning) (setup : Setup) (old : Association) (table : Database) (number : ℕ) (plain : Plain) (next : Octets) (new : Association) (new_table : Database)
-    → DoesFurther informational meaning setup old table number plain (effect.Identified next) new new_table → ⊥
+    → DoesAtEstablished informational meaning setup old table number plain (effect.AsksAuth next) new new_table → ⊥
 identified_further true meaning setup old table number plain next new new_table is = is
 identified_further false meaning setup old table number plain next new new_table is = is
 
 identified_request : (p : Phase) (meaning : Meaning) (setup : Setup) (exchange : ℕ) (old : Association) (table : Database) (number : ℕ) (plain : Plain) (next : Octets) (new : Association) (new_table : Database)
-    → DoesRequest meaning setup p exchange old table number plain (effect.Identified next) new new_table → ⊥
+    → DoesRequest meaning setup p exchange old table number plain (effect.AsksAuth next) new new_table → ⊥
 identified_request (phase.InitSent sent) meaning setup exchange old table number plain next new new_table is = is
 identified_request (phase.AuthSent sent) meaning setup exchange old table number plain next new new_table is = is
 identified_request (phase.HalfOpen opened) meaning setup exchange old table number plain next new new_table is = is
@@ -543,12 +543,12 @@ identified_request (phase.Established keys) meaning setup exchange old table num
 identified_request (phase.Closed keys at) meaning setup exchange old table number plain next new new_table is = is
 
 identified_answer : (further : Bool) (setup : Setup) (old : Association) (table : Database) (number : ℕ) (plain : Plain) (next : Octets) (new : Association) (new_table : Database)
-    → DoesAnswer further setup old table number plain (effect.Identified next) new new_table → ⊥
+    → DoesAnswer further setup old table number plain (effect.AsksAuth next) new new_table → ⊥
 identified_answer true setup old table number plain next new new_table is = is
 identified_answer false setup old table number plain next new new_table is = is
 
 identified_response : (p : Phase) (meaning : Meaning) (setup : Setup) (old : Association) (table : Database) (number : ℕ) (plain : Plain) (next : Octets) (new : Association) (new_table : Database)
-    → DoesResponse meaning setup p old table number plain (effect.Identified next) new new_table → ⊥
+    → DoesResponse meaning setup p old table number plain (effect.AsksAuth next) new new_table → ⊥
 identified_response (phase.InitSent sent) meaning setup old table number plain next new new_table is = is
 identified_response (phase.AuthSent sent) meaning setup old table number plain next new new_table is = is
 identified_response (phase.HalfOpen opened) meaning setup old table number plain next new new_table is = is
@@ -556,7 +556,7 @@ identified_response (phase.Established keys) meaning setup old table number plai
 identified_response (phase.Closed keys at) meaning setup old table number plain next new new_table is = is
 
 identified_reception : (r : Reception) (meaning : Meaning) (setup : Setup) (old : Association) (table : Database) (octets : Octets) (m : Message) (next : Octets) (new : Association) (new_table : Database)
-    → Does meaning setup old table octets m r (effect.Identified next) new new_table → r ≡ AnswersInitial
+    → Does meaning setup old table octets m r (effect.AsksAuth next) new new_table → r ≡ AnswersInitial
 identified_reception (Refused fault) meaning setup old table octets m next new new_table is = absurd is
 identified_reception (Repeat reply) meaning setup old table octets m next new new_table is = absurd is
 identified_reception (TakesEffect plain) meaning setup old table octets m next new new_table is =
@@ -574,7 +574,7 @@ waiting_initial (phase.Closed keys at) number asked waits may = absurd may
 
 pub identified_by : ((plain_of : Opening) (a : Association) (octets : Octets) (m : Message) → IsReceived plain_of a octets m AnswersInitial → IsAnsweringInitial a m)
     → (meaning : Meaning) (setup : Setup) (old : Association) (table : Database) (octets : Octets) (m : Message) (next : Octets) (new : Association) (new_table : Database)
-    → IsSoundlyHeld old → TakesMessage meaning setup old table octets m (effect.Identified next) new new_table → (m.header.exchange ≡ IKE_SA_INIT) × (m.header.flags.response ≡ true)
+    → IsSoundlyHeld old → TakesMessage meaning setup old table octets m (effect.AsksAuth next) new new_table → (m.header.exchange ≡ IKE_SA_INIT) × (m.header.flags.response ≡ true)
 identified_by why meaning setup old table octets m next new new_table held is =
     let same = identified_reception is.reception meaning setup old table octets m next new new_table is.done in
     let answers = why meaning.plain_of old octets m (subst (λ (r : Reception). IsReceived meaning.plain_of old octets m r) same is.received) in
@@ -598,5 +598,5 @@ few_moves number keys (effect.Refused fault) = omega arith
 few_moves number keys (effect.Repeated octets) = omega arith
 few_moves number keys (effect.Replied answered) = few_ended (TakeEffect number answered.octets) answered.closed
 few_moves number keys (effect.Again octets) = omega arith
-few_moves number keys (effect.Identified octets) = few_made keys octets
+few_moves number keys (effect.AsksAuth octets) = few_made keys octets
 few_moves number keys (effect.Counted ended) = few_ended (Count number) ended.closed

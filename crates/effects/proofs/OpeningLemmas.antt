@@ -61,7 +61,7 @@ use Rattle.effects.specs.Lengths.{AreWholeKeys, HoldsWholeKeys}
 use Rattle.effects.specs.Openings.{OpensAsMessage, OpensWhatItSeals}
 use Rattle.effects.specs.Requests.{PutsIntoEffect}
 use Rattle.effects.specs.Sending.{SendsRequest}
-use Rattle.effects.specs.Taking.{Does, DoesFurther, DoesRequest, Meaning, TakesMessage}
+use Rattle.effects.specs.Taking.{Does, DoesAtEstablished, DoesRequest, Meaning, TakesMessage}
 use Rattle.effects.specs.declared.taking.Effect.{Effect}
 use Rattle.effects.specs.declared.taking.Effect.TheVariants as effect
 use Rattle.effects.proofs.DeterminedReadings.{keys_by_role}
@@ -178,7 +178,7 @@ replies_open meaning setup old table octets m answered new new_table opens whole
 
 -- the request of IKE_AUTH: this end knows the responder's SPI from then on
 way_identifies : (meaning : Meaning) (setup : Setup) (old : Association) (table : Database) (octets : Octets) (m : Message) (next : Octets) (new : Association) (new_table : Database)
-    → OpensWhatItSeals meaning.body_of meaning.plain_of setup.fresh.seal → HoldsWholeKeys new.phase → Way meaning setup old table octets m (effect.Identified next) new new_table
+    → OpensWhatItSeals meaning.body_of meaning.plain_of setup.fresh.seal → HoldsWholeKeys new.phase → Way meaning setup old table octets m (effect.AsksAuth next) new new_table
     → OpensAsMessage meaning.plain_of new new.role false 1 next
 way_identifies meaning setup old table octets m next new new_table opens whole is =
     let d = is.done in
@@ -190,10 +190,10 @@ way_identifies meaning setup old table octets m next new new_table opens whole i
     (request_clear meaning.own_method meaning.proof_of setup.config.own.identity (proving_of Initiator is.keys d.request.octets) (child_request (asked_of is.sent.child)) setup.config.window) sealed
 
 pub identities_open : (meaning : Meaning) (setup : Setup) (old : Association) (table : Database) (octets : Octets) (m : Message) (next : Octets) (new : Association) (new_table : Database)
-    → OpensWhatItSeals meaning.body_of meaning.plain_of setup.fresh.seal → HoldsWholeKeys new.phase → TakesMessage meaning setup old table octets m (effect.Identified next) new new_table
+    → OpensWhatItSeals meaning.body_of meaning.plain_of setup.fresh.seal → HoldsWholeKeys new.phase → TakesMessage meaning setup old table octets m (effect.AsksAuth next) new new_table
     → OpensAsMessage meaning.plain_of new new.role false 1 next
 identities_open meaning setup old table octets m next new new_table opens whole is =
-    way_identifies meaning setup old table octets m next new new_table opens whole (way_of meaning setup old table octets m (effect.Identified next) new new_table is)
+    way_identifies meaning setup old table octets m next new new_table opens whole (way_of meaning setup old table octets m (effect.AsksAuth next) new new_table is)
 
 pub requests_open : (body_of : Keys → Octets → Octets → Octets → Octets) (plain_of : Opening) (setup : Setup) (old : Association) (octets : Octets) (new : Association)
     → OpensWhatItSeals body_of plain_of setup.fresh.seal → HoldsWholeKeys old.phase → SendsRequest body_of setup old octets new
@@ -263,7 +263,7 @@ answering_opens plain_of a octets m plain spelled meant not_first is = peers_ope
 
 -- only a response is counted
 no_further : (informational : Bool) (meaning : Meaning) (setup : Setup) (old : Association) (table : Database) (number : ℕ) (plain : Plain) (ended : Ended) (new : Association) (new_table : Database)
-    → DoesFurther informational meaning setup old table number plain (effect.Counted ended) new new_table → ⊥
+    → DoesAtEstablished informational meaning setup old table number plain (effect.Counted ended) new new_table → ⊥
 no_further true meaning setup old table number plain ended new new_table is = is
 no_further false meaning setup old table number plain ended new new_table is = is
 

@@ -163,7 +163,7 @@ way_keeps facts meaning setup old table octets m (effect.Replied answered) new n
 way_keeps facts meaning setup old table octets m (effect.Replied answered) new new_table q apart (inr (inl is)) kept =
     closed_if_keeps (is_closing_verdict (verdict_on table.pairs old.serial is.done.payloads)) (gone_by (verdict_on table.pairs old.serial is.done.payloads)) (record old { incoming = is.done.incoming }) table setup.moment new new_table q apart is.done.concluded kept
 way_keeps facts meaning setup old table octets m (effect.Again next) new new_table q apart is kept = unchanged_keeps table new_table q is.pairs kept
-way_keeps facts meaning setup old table octets m (effect.Identified next) new new_table q apart is kept = unchanged_keeps table new_table q is.pairs kept
+way_keeps facts meaning setup old table octets m (effect.AsksAuth next) new new_table q apart is kept = unchanged_keeps table new_table q is.pairs kept
 way_keeps facts meaning setup old table octets m (effect.Counted ended) new new_table q apart (inl is) kept =
     end_keeps facts meaning.accepts setup old table m.header.id is.plain ended new new_table q apart is.done kept
 way_keeps facts meaning setup old table octets m (effect.Counted ended) new new_table q apart (inr (inr is)) kept =

@@ -114,7 +114,7 @@ way_proves facts meaning setup old table octets m (effect.Replied answered) new 
     inl (closed_if_before answered.closed d.ends.serials (with_incoming old d.incoming) d.ends.before setup.moment new d.ends.after keys d.ends.is established)
 way_proves facts meaning setup old table octets m (effect.Again next) new new_table keys is established =
     absurd (waiting_is_not _ keys (sym (ap phase_of is.done.content) ∙ established))
-way_proves facts meaning setup old table octets m (effect.Identified next) new new_table keys is established =
+way_proves facts meaning setup old table octets m (effect.AsksAuth next) new new_table keys is established =
     absurd (asking_is_not _ keys (sym (ap phase_of is.done.content) ∙ established))
 way_proves facts meaning setup old table octets m (effect.Counted ended) new new_table keys (inl is) established =
     inr (record {

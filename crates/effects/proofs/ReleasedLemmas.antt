@@ -336,7 +336,7 @@ module _ (meaning : Meaning) (setup : Setup) (old : Association) (table : Databa
   way_keeps (effect.Replied answered) waits (inr (inl is)) = informed_keeps answered is
   way_keeps (effect.Replied answered) waits (inr (inr is)) = further_answered_keeps answered is
   way_keeps (effect.Again next) waits is = asked_keeps next waits is
-  way_keeps (effect.Identified next) waits is = identified_keeps next waits is
+  way_keeps (effect.AsksAuth next) waits is = identified_keeps next waits is
   way_keeps (effect.Counted ended) waits (inl is) = ended_keeps ended waits is
   way_keeps (effect.Counted ended) waits (inr (inl is)) = counted_keeps ended is
   way_keeps (effect.Counted ended) waits (inr (inr is)) = further_counted_keeps ended is

@@ -60,7 +60,7 @@ use Rattle.informational.specs.Orders.{ClosesIf}
 use Rattle.effects.specs.Keeping.{HasKeys}
 use Rattle.effects.specs.Requests.{is_concluded, IsPassing, IsSoundlyHeld, KeepsWindow, PutsIntoEffect, StaysConcluded}
 use Rattle.effects.specs.Sending.{SendsRequest}
-use Rattle.effects.specs.Taking.{asked_further, prover_of, Does, DoesAnswer, DoesFurther, DoesRequest, DoesResponse, Meaning, TakesMessage}
+use Rattle.effects.specs.Taking.{asked_further, prover_of, Does, DoesAnswer, DoesAtEstablished, DoesRequest, DoesResponse, Meaning, TakesMessage}
 use Rattle.effects.specs.Waiting.{AreIssued, MayBeOutstanding, SuitPhase}
 use Rattle.effects.specs.declared.taking.Effect.{Effect}
 use Rattle.effects.specs.declared.taking.Effect.TheVariants as effect
@@ -569,7 +569,7 @@ way_leaves laws windows meaning setup old table octets m (effect.Again next) new
     (λ one. ap (λ (r : OwnRequests Request). r.window) is.done.replaced.content ∙ one)
     (ap (λ (x : Association). x.role) is.done.content)
     (replaced_issued old.outgoing m.header.id is.done.was (new_request next Begin setup.moment) new.outgoing is.done.replaced)
-way_leaves laws windows meaning setup old table octets m (effect.Identified next) new new_table is = early_leaves laws setup.config.window old new is.sent (ap (λ (x : Association). x.incoming) is.done.content) is.was (λ opened opens. absurd (auth_opens _ opened (sym (ap (λ (x : Association). x.phase) is.done.content) ∙ opens)))
+way_leaves laws windows meaning setup old table octets m (effect.AsksAuth next) new new_table is = early_leaves laws setup.config.window old new is.sent (ap (λ (x : Association). x.incoming) is.done.content) is.was (λ opened opens. absurd (auth_opens _ opened (sym (ap (λ (x : Association). x.phase) is.done.content) ∙ opens)))
     (λ keyed initiator zero. is.named (sym (ap (λ (x : Association). x.spi_r) is.done.content) ∙ zero))
     (λ before. issued_waits new _ number_0_answered (new_request next Identify setup.moment) (ap (λ (x : Association). x.phase) is.done.content) is.done.issued
     (λ number request there. absurd (none_outstanding number request there)) (refl, refl))
@@ -704,7 +704,7 @@ auth_taken laws meaning setup old table m plain answered new new_table admitted 
 }
 
 further_taken : (laws : FollowLaws) (informational : Bool) (meaning : Meaning) (setup : Setup) (old : Association) (table : Database) (m : Message) (plain : Plain) (e : Effect) (new : Association) (new_table : Database)
-    → admits old.phase m.header.exchange ≡ true → DoesFurther informational meaning setup old table m.header.id plain e new new_table → Taken old m e new
+    → admits old.phase m.header.exchange ≡ true → DoesAtEstablished informational meaning setup old table m.header.id plain e new new_table → Taken old m e new
 further_taken laws true meaning setup old table m plain (effect.Replied answered) new new_table admitted is =
     later_taken laws meaning setup old m answered new admitted (informed_later meaning setup old table m plain answered new new_table is)
 further_taken laws true meaning setup old table m plain e new new_table admitted is = absurd is
@@ -739,7 +739,7 @@ way_same laws meaning setup old table octets m (effect.Refused fault) new new_ta
 way_same laws meaning setup old table octets m (effect.Repeated reply) new new_table is = inl (same_in_effect old new is.same.association)
 way_same laws meaning setup old table octets m (effect.Replied answered) new new_table is = inr (record { answered = answered; is = refl })
 way_same laws meaning setup old table octets m (effect.Again next) new new_table is = inl (ap (λ (a : Association). a.incoming.in_effect) is.done.content)
-way_same laws meaning setup old table octets m (effect.Identified next) new new_table is = inl (ap (λ (a : Association). a.incoming.in_effect) is.done.content)
+way_same laws meaning setup old table octets m (effect.AsksAuth next) new new_table is = inl (ap (λ (a : Association). a.incoming.in_effect) is.done.content)
 way_same laws meaning setup old table octets m (effect.Counted ended) new new_table (inl is) =
     let d = is.done in
     inl (auth_concludes laws setup (with_outgoing old d.outgoing) table d.verdict ended.child new new_table d.sent.keys (ap established_of d.was) d.concluded).in_effect
@@ -861,7 +861,7 @@ does_repeat meaning setup old table octets m reply (effect.Refused fault) new ne
 does_repeat meaning setup old table octets m reply (effect.Repeated said) new new_table is = ap effect.Repeated is.0
 does_repeat meaning setup old table octets m reply (effect.Replied answered) new new_table is = absurd is
 does_repeat meaning setup old table octets m reply (effect.Again next) new new_table is = absurd is
-does_repeat meaning setup old table octets m reply (effect.Identified next) new new_table is = absurd is
+does_repeat meaning setup old table octets m reply (effect.AsksAuth next) new new_table is = absurd is
 does_repeat meaning setup old table octets m reply (effect.Counted ended) new new_table is = absurd is
 
 does_refuse : (meaning : Meaning) (setup : Setup) (old : Association) (table : Database) (octets : Octets) (m : Message) (f : MessageFault) (e : Effect) (new : Association) (new_table : Database)
@@ -870,7 +870,7 @@ does_refuse meaning setup old table octets m f (effect.Refused fault) new new_ta
 does_refuse meaning setup old table octets m f (effect.Repeated said) new new_table is = absurd is
 does_refuse meaning setup old table octets m f (effect.Replied answered) new new_table is = absurd is
 does_refuse meaning setup old table octets m f (effect.Again next) new new_table is = absurd is
-does_refuse meaning setup old table octets m f (effect.Identified next) new new_table is = absurd is
+does_refuse meaning setup old table octets m f (effect.AsksAuth next) new new_table is = absurd is
 does_refuse meaning setup old table octets m f (effect.Counted ended) new new_table is = absurd is
 
 pub repeat_is_answered : (meaning : Meaning) (setup : Setup) (old : Association) (table : Database) (octets : Octets) (m : Message) (e : Effect) (new : Association) (new_table : Database) (plain : Plain) (reply : Octets)

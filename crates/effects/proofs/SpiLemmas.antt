@@ -46,7 +46,7 @@ Idle (effect.Refused fault) old table new new_table = IsPassedOver old table new
 Idle (effect.Repeated octets) old table new new_table = IsPassedOver old table new new_table
 Idle (effect.Replied answered) old table new new_table = Unit {0}
 Idle (effect.Again octets) old table new new_table = Unit {0}
-Idle (effect.Identified octets) old table new new_table = Unit {0}
+Idle (effect.AsksAuth octets) old table new new_table = Unit {0}
 Idle (effect.Counted ended) old table new new_table = Unit {0}
 
 idle_by : (e : Effect) (old new : Association) (table new_table : Database) → IsPassedOver old table new new_table → Idle e old table new new_table
@@ -54,7 +54,7 @@ idle_by (effect.Refused fault) old new table new_table same = same
 idle_by (effect.Repeated octets) old new table new_table same = same
 idle_by (effect.Replied answered) old new table new_table same = tt
 idle_by (effect.Again octets) old new table new_table same = tt
-idle_by (effect.Identified octets) old new table new_table same = tt
+idle_by (effect.AsksAuth octets) old new table new_table same = tt
 idle_by (effect.Counted ended) old new table new_table same = tt
 
 -- It stays itself.
@@ -245,7 +245,7 @@ asked_leaves meaning setup old table m next new new_table is =
     }
 
 identified_leaves : (meaning : Meaning) (setup : Setup) (old : Association) (table : Database) (octets : Octets) (m : Message) (next : Octets) (new : Association) (new_table : Database)
-    → WasIdentified meaning setup old table octets m next new new_table → Leaves (effect.Identified next) old table new new_table
+    → WasIdentified meaning setup old table octets m next new new_table → Leaves (effect.AsksAuth next) old table new new_table
 identified_leaves meaning setup old table octets m next new new_table is =
     let asking : AuthSent = record { keys = is.keys; first = octets; child = is.sent.child } in
     record {
@@ -272,7 +272,7 @@ way_leaves meaning setup old table octets m (effect.Replied answered) new new_ta
 way_leaves meaning setup old table octets m (effect.Replied answered) new new_table (inr (inr is)) = further_answered_leaves meaning setup old table octets m answered new new_table is
 way_leaves meaning setup old table octets m (effect.Replied answered) new new_table (inr (inl is)) = informed_leaves meaning.body_of setup old table m.header.id is.plain answered new new_table is.done
 way_leaves meaning setup old table octets m (effect.Again next) new new_table is = asked_leaves meaning setup old table m next new new_table is
-way_leaves meaning setup old table octets m (effect.Identified next) new new_table is = identified_leaves meaning setup old table octets m next new new_table is
+way_leaves meaning setup old table octets m (effect.AsksAuth next) new new_table is = identified_leaves meaning setup old table octets m next new new_table is
 way_leaves meaning setup old table octets m (effect.Counted ended) new new_table (inl is) = ended_leaves meaning.accepts setup old table m.header.id is.plain ended new new_table is.done
 way_leaves meaning setup old table octets m (effect.Counted ended) new new_table (inr (inr is)) = further_counted_leaves meaning setup old table octets m ended new new_table is
 way_leaves meaning setup old table octets m (effect.Counted ended) new new_table (inr (inl is)) = counted_leaves setup old table m ended new new_table is

@@ -35,7 +35,7 @@ way_told meaning setup old table octets m (effect.Replied answered) new new_tabl
 way_told meaning setup old table octets m (effect.Replied answered) new new_table (inr (inl is)) =
     closed_if_told (is_closing_verdict (verdict_on table.pairs old.serial is.done.payloads)) (gone_by (verdict_on table.pairs old.serial is.done.payloads)) (with_incoming old is.done.incoming) table setup.moment answered.child new new_table is.done.concluded
 way_told meaning setup old table octets m (effect.Again next) new new_table is = unchanged_told table None new_table is.pairs
-way_told meaning setup old table octets m (effect.Identified next) new new_table is = unchanged_told table None new_table is.pairs
+way_told meaning setup old table octets m (effect.AsksAuth next) new new_table is = unchanged_told table None new_table is.pairs
 way_told meaning setup old table octets m (effect.Counted ended) new new_table (inl is) =
     concluded_told setup (with_outgoing old is.done.outgoing) table table is.done.verdict ended.child new new_table (itself_same table) is.done.concluded
 way_told meaning setup old table octets m (effect.Counted ended) new new_table (inr (inr is)) =

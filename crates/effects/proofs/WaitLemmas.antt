@@ -39,7 +39,7 @@ use Rattle.informational.specs.declared.ordering.Order.TheVariants as order
 use Rattle.effects.specs.Sending.{SendsRequest}
 use Rattle.effects.specs.Taking.{Meaning, TakesMessage}
 use Rattle.effects.specs.Requests.{IsSoundlyHeld}
-use Rattle.effects.specs.Waiting.{asked_by, Ends, StartsWaiting, TakesCookie, SuitPhase, KeepTimers, WaitUntil}
+use Rattle.effects.specs.Waiting.{asked_by, ClosesAssociation, StartsWaiting, TakesCookie, SuitPhase, KeepTimers, WaitUntil}
 use Rattle.effects.specs.declared.taking.Effect.{Effect}
 use Rattle.effects.specs.declared.taking.Effect.TheVariants as effect
 use Rattle.effects.proofs.MapLemmas.{some_none}
@@ -145,7 +145,7 @@ way_waits meaning setup old table octets m (effect.Again next) new new_table hel
       | inl before ↦ inl before
       | inr (here, now) ↦ inr (goes_out next Begin setup.moment old new number found (inr takes) now)
     ]
-way_waits meaning setup old table octets m (effect.Identified next) new new_table held is =
+way_waits meaning setup old table octets m (effect.AsksAuth next) new new_table held is =
     λ number found there.
     elim (issued_put number_0_answered (new_request next Identify setup.moment) new.outgoing number found is.done.issued there) [
       | inl before ↦ absurd (none_first number found before)
@@ -196,7 +196,7 @@ way_further meaning setup old table octets m (effect.Counted ended) new new_tabl
 ]
 way_further meaning setup old table octets m (effect.Again next) new new_table number request timers held is there asks =
     absurd (early_asks new _ number request held (ap (λ (x : Association). x.phase) is.done.content) there asks)
-way_further meaning setup old table octets m (effect.Identified next) new new_table number request timers held is there asks =
+way_further meaning setup old table octets m (effect.AsksAuth next) new new_table number request timers held is there asks =
     absurd (auth_asks new _ number request held (ap (λ (x : Association). x.phase) is.done.content) there asks)
 
 pub waits_further : FollowLaws → Windows → (meaning : Meaning) (setup : Setup) (old : Association) (table : Database) (octets : Octets) (m : Message) (e : Effect) (new : Association) (new_table : Database) (number : ℕ) (request : Request)
@@ -251,7 +251,7 @@ way_until meaning setup old table octets m (effect.Counted ended) new new_table 
     let d = counted_later meaning setup old table octets m ended new new_table is in
     counted_until old.outgoing d.outgoing new.outgoing m.header.id d.request ended.closed ended.closed d.counted refl (closed_keeps ended.closed d.ends.serials (with_outgoing old d.outgoing) d.ends.before setup.moment new d.ends.after d.ends.is)
 way_until meaning setup old table octets m (effect.Again next) new new_table held is = λ number request there. inr (init_number old is.sent number request held is.was there)
-way_until meaning setup old table octets m (effect.Identified next) new new_table held is = λ number request there. inr (init_number old is.sent number request held is.was there)
+way_until meaning setup old table octets m (effect.AsksAuth next) new new_table held is = λ number request there. inr (init_number old is.sent number request held is.was there)
 
 pub message_until : (meaning : Meaning) (setup : Setup) (old : Association) (table : Database) (octets : Octets) (m : Message) (e : Effect) (new : Association) (new_table : Database)
     → IsSoundlyHeld old → TakesMessage meaning setup old table octets m e new new_table → WaitUntil m.header.id e old.outgoing new.outgoing
@@ -291,7 +291,7 @@ auth_closed : (sent : AuthSent) (keys : Option KeyRecord) (at : ℕ) → phase.A
 auth_closed sent keys at is = cc
 
 way_closes : (meaning : Meaning) (setup : Setup) (old : Association) (table : Database) (octets : Octets) (m : Message) (e : Effect) (new : Association) (new_table : Database) (keys : Option KeyRecord) (at : ℕ)
-    → Way meaning setup old table octets m e new new_table → new.phase ≡ phase.Closed keys at → (old.phase ≡ phase.Closed keys at) ⊎ ((at ≡ setup.moment) × Ends e)
+    → Way meaning setup old table octets m e new new_table → new.phase ≡ phase.Closed keys at → (old.phase ≡ phase.Closed keys at) ⊎ ((at ≡ setup.moment) × ClosesAssociation e)
 way_closes meaning setup old table octets m (effect.Refused fault) new new_table keys at is = λ closed. inl (sym (ap (λ (x : Association). x.phase) is.association) ∙ closed)
 way_closes meaning setup old table octets m (effect.Repeated reply) new new_table keys at is = λ closed. inl (sym (ap (λ (x : Association). x.phase) is.same.association) ∙ closed)
 way_closes meaning setup old table octets m (effect.Replied answered) new new_table keys at (inl is) =
@@ -309,10 +309,10 @@ way_closes meaning setup old table octets m (effect.Counted ended) new new_table
     let d = counted_later meaning setup old table octets m ended new new_table is in
     ending_closes ended.closed d.ends.serials (with_outgoing old d.outgoing) d.ends.before setup.moment new d.ends.after keys at d.ends.is
 way_closes meaning setup old table octets m (effect.Again next) new new_table keys at is = λ closed. absurd (init_closed _ keys at (sym (ap (λ (x : Association). x.phase) is.done.content) ∙ closed))
-way_closes meaning setup old table octets m (effect.Identified next) new new_table keys at is = λ closed. absurd (auth_closed _ keys at (sym (ap (λ (x : Association). x.phase) is.done.content) ∙ closed))
+way_closes meaning setup old table octets m (effect.AsksAuth next) new new_table keys at is = λ closed. absurd (auth_closed _ keys at (sym (ap (λ (x : Association). x.phase) is.done.content) ∙ closed))
 
 pub message_closes : (meaning : Meaning) (setup : Setup) (old : Association) (table : Database) (octets : Octets) (m : Message) (e : Effect) (new : Association) (new_table : Database) (keys : Option KeyRecord) (at : ℕ)
-    → TakesMessage meaning setup old table octets m e new new_table → new.phase ≡ phase.Closed keys at → (old.phase ≡ phase.Closed keys at) ⊎ ((at ≡ setup.moment) × Ends e)
+    → TakesMessage meaning setup old table octets m e new new_table → new.phase ≡ phase.Closed keys at → (old.phase ≡ phase.Closed keys at) ⊎ ((at ≡ setup.moment) × ClosesAssociation e)
 message_closes meaning setup old table octets m e new new_table keys at is = way_closes meaning setup old table octets m e new new_table keys at (way_of meaning setup old table octets m e new new_table is)
 
 -- ---- as an association asks, and begins

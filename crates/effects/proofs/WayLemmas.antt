@@ -38,7 +38,7 @@ use Rattle.further.specs.declared.concluding.Conclusion.{Conclusion}
 use Rattle.further.specs.declared.concluding.Conclusion.TheVariants as conclusion
 use Rattle.create_child.specs.Answering.{AnswersFurther, ConcludesFurther}
 use Rattle.create_child.specs.Counting.{is_closing_conclusion, CountsFurther, EndsFurther}
-use Rattle.effects.specs.Taking.{asked_further, asker_of, prover_of, Does, DoesAnswer, DoesFurther, DoesRequest, DoesResponse, IsPassedOver, Meaning, Says, TakesMessage}
+use Rattle.effects.specs.Taking.{asked_further, asker_of, prover_of, Does, DoesAnswer, DoesAtEstablished, DoesRequest, DoesResponse, IsPassedOver, Meaning, Says, TakesMessage}
 use Rattle.initial.specs.declared.answering.Answered.{Answered}
 use Rattle.initial.specs.declared.ending.Ended.{Ended}
 use Rattle.initial.specs.declared.reading.Continued.{Continued}
@@ -108,14 +108,14 @@ Way meaning setup old table octets m (effect.Replied answered) new new_table =
     AnsweredAuth meaning setup old table octets m answered new new_table
     ⊎ (AnsweredInformational meaning setup old table octets m answered new new_table ⊎ AnsweredFurther meaning setup old table octets m answered new new_table)
 Way meaning setup old table octets m (effect.Again next) new new_table = WasAsked meaning setup old table m next new new_table
-Way meaning setup old table octets m (effect.Identified next) new new_table = WasIdentified meaning setup old table octets m next new new_table
+Way meaning setup old table octets m (effect.AsksAuth next) new new_table = WasIdentified meaning setup old table octets m next new new_table
 Way meaning setup old table octets m (effect.Counted ended) new new_table =
     CountedAuth meaning setup old table octets m ended new new_table
     ⊎ (CountedInformational setup old table m ended new new_table ⊎ CountedFurther meaning setup old table octets m ended new new_table)
 
 further_way : (meaning : Meaning) (setup : Setup) (informational : Bool) (old : Association) (table : Database) (octets : Octets) (m : Message) (plain : Plain) (e : Effect) (new : Association) (new_table : Database)
     → (m.header.exchange == INFORMATIONAL) ≡ informational → IsReceived meaning.plain_of old octets m (TakesEffect plain)
-    → DoesFurther informational meaning setup old table m.header.id plain e new new_table → Way meaning setup old table octets m e new new_table
+    → DoesAtEstablished informational meaning setup old table m.header.id plain e new new_table → Way meaning setup old table octets m e new new_table
 further_way meaning setup true old table octets m plain (effect.Replied answered) new new_table one received is = inr (inl (record { one = one; plain = plain; received = received; done = is }))
 further_way meaning setup true old table octets m plain e new new_table one received is = absurd is
 further_way meaning setup false old table octets m plain (effect.Replied answered) new new_table other received is = inr (inr (record { plain = plain; received = received; other = other; done = is }))
@@ -159,7 +159,7 @@ initial_way meaning setup old sent table octets m (effect.Again said) (continued
       pairs = same;
     }
 initial_way meaning setup old sent table octets m (effect.Again said) (continued.Again next) r new new_table was means is says same = absurd is
-initial_way meaning setup old sent table octets m (effect.Identified said) (continued.Identity next) (response.Keys keys) new new_table was means is says same =
+initial_way meaning setup old sent table octets m (effect.AsksAuth said) (continued.AsksAuth next) (response.Keys keys) new new_table was means is says same =
     record {
       sent = sent;
       was = was;
@@ -168,7 +168,7 @@ initial_way meaning setup old sent table octets m (effect.Identified said) (cont
       done = subst (λ (o : Octets). TellsIdentity (asker_of meaning) setup old sent m.header.id m octets keys o new) (sym says) is;
       pairs = same;
     }
-initial_way meaning setup old sent table octets m (effect.Identified said) (continued.Identity next) r new new_table was means is says same = absurd is
+initial_way meaning setup old sent table octets m (effect.AsksAuth said) (continued.AsksAuth next) r new new_table was means is says same = absurd is
 initial_way meaning setup old sent table octets m (effect.Refused fault) continued.Unfit response.Unfit new new_table was means is says same = record { association = is; pairs = same }
 initial_way meaning setup old sent table octets m (effect.Refused fault) continued.Unfit r new new_table was means is says same = absurd is
 initial_way meaning setup old sent table octets m e c r new new_table was means is says same = absurd says

@@ -81,13 +81,13 @@ derived_keys p keys has whole others is =
 continued_whole : (asker : Asker) (setup : Setup) (old : Association) (sent : InitSent) (number : ℕ) (m : Message) (octets : Octets) (r : Response) (c : Continued) (new : Association)
     → ((keys : KeyRecord) → r ≡ response.Keys keys → AreWholeKeys keys) → HoldsWholeKeys old.phase → Continues asker setup old sent number m octets r c new → HoldsWholeKeys new.phase
 continued_whole asker setup old sent number m octets (response.Cookie q) (continued.Again c) new gives whole is = no_keys new.phase (ap held_keys is.content)
-continued_whole asker setup old sent number m octets (response.Cookie q) (continued.Identity c) new gives whole is = absurd is
+continued_whole asker setup old sent number m octets (response.Cookie q) (continued.AsksAuth c) new gives whole is = absurd is
 continued_whole asker setup old sent number m octets (response.Cookie q) continued.Unfit new gives whole is = absurd is
 continued_whole asker setup old sent number m octets (response.Keys q) (continued.Again c) new gives whole is = absurd is
-continued_whole asker setup old sent number m octets (response.Keys q) (continued.Identity c) new gives whole is = derived_keys new.phase q (ap held_keys is.content) (gives q refl)
+continued_whole asker setup old sent number m octets (response.Keys q) (continued.AsksAuth c) new gives whole is = derived_keys new.phase q (ap held_keys is.content) (gives q refl)
 continued_whole asker setup old sent number m octets (response.Keys q) continued.Unfit new gives whole is = absurd is
 continued_whole asker setup old sent number m octets response.Unfit (continued.Again c) new gives whole is = absurd is
-continued_whole asker setup old sent number m octets response.Unfit (continued.Identity c) new gives whole is = absurd is
+continued_whole asker setup old sent number m octets response.Unfit (continued.AsksAuth c) new gives whole is = absurd is
 continued_whole asker setup old sent number m octets response.Unfit continued.Unfit new gives whole is = subst (λ (x : Association). HoldsWholeKeys x.phase) (sym is) whole
 
 passed_whole : (old : Association) (table : Database) (new : Association) (new_table : Database) → HoldsWholeKeys old.phase → IsPassedOver old table new new_table → HoldsWholeKeys new.phase

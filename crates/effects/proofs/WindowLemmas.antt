@@ -98,7 +98,7 @@ way_peers laws meaning setup old table octets m (effect.Replied answered) new ne
     let d = answered_later meaning setup old table octets m answered new new_table is in
     inl (window_if answered.closed d.ends.serials (with_incoming old d.incoming) d.ends.before setup.moment new d.ends.after d.ends.is)
 way_peers laws meaning setup old table octets m (effect.Again next) new new_table held is = inl (ap (λ (r : OwnRequests Request). r.window) is.done.replaced.content)
-way_peers laws meaning setup old table octets m (effect.Identified next) new new_table held is =
+way_peers laws meaning setup old table octets m (effect.AsksAuth next) new new_table held is =
     inl (issued_window number_0_answered (new_request next Identify setup.moment) new.outgoing is.done.issued ∙ sym (held.took_none (inl (record { sent = is.sent; is = is.was }))).window)
 way_peers laws meaning setup old table octets m (effect.Counted ended) new new_table held (inl is) =
     let d = is.done in
@@ -165,7 +165,7 @@ way_widens laws meaning setup old table octets m (effect.Replied answered) new n
     absurd (yes_no (is_concluded old.phase) (ap is_concluded d.was) open_yet)
 way_widens laws meaning setup old table octets m (effect.Again next) new new_table open_yet stands is =
     absurd (initial_established _ stands.keys (sym (ap (λ (x : Association). x.phase) is.done.content) ∙ stands.is))
-way_widens laws meaning setup old table octets m (effect.Identified next) new new_table open_yet stands is =
+way_widens laws meaning setup old table octets m (effect.AsksAuth next) new new_table open_yet stands is =
     absurd (sent_established _ stands.keys (sym (ap (λ (x : Association). x.phase) is.done.content) ∙ stands.is))
 way_widens laws meaning setup old table octets m (effect.Counted ended) new new_table open_yet stands (inl is) =
     let d = is.done in

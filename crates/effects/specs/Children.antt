@@ -151,7 +151,7 @@ MadeBy meaning setup old octets m (effect.Refused fault) keys pair = ⊥
 MadeBy meaning setup old octets m (effect.Repeated said) keys pair = ⊥
 MadeBy meaning setup old octets m (effect.Replied answered) keys pair = (kind : ChildKind) × AnswersForChild kind meaning setup old octets m answered keys pair
 MadeBy meaning setup old octets m (effect.Again next) keys pair = ⊥
-MadeBy meaning setup old octets m (effect.Identified next) keys pair = ⊥
+MadeBy meaning setup old octets m (effect.AsksAuth next) keys pair = ⊥
 MadeBy meaning setup old octets m (effect.Counted ended) keys pair = EndsWithChild meaning old octets m keys pair ⊎ EndsWithFurther meaning old octets m keys pair
 
 -- A message made a child, under this serial.
@@ -195,4 +195,4 @@ pub record AsksForFurtherChild (body_of : Keys → Octets → Octets → Octets 
 -- the effect by which an initiator asks
 pub record IsAsking (e : Effect) : Type 0 where
   pub octets : Octets
-  pub is : e ≡ effect.Identified octets
+  pub is : e ≡ effect.AsksAuth octets

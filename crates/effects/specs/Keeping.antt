@@ -33,7 +33,7 @@ octets_of_effect (effect.Refused fault) = None
 octets_of_effect (effect.Repeated octets) = Some octets
 octets_of_effect (effect.Replied answered) = Some answered.octets
 octets_of_effect (effect.Again octets) = Some octets
-octets_of_effect (effect.Identified octets) = Some octets
+octets_of_effect (effect.AsksAuth octets) = Some octets
 octets_of_effect (effect.Counted ended) = None
 
 -- the serial of the child that was made
@@ -42,7 +42,7 @@ child_in (effect.Refused fault) = None
 child_in (effect.Repeated octets) = None
 child_in (effect.Replied answered) = answered.child
 child_in (effect.Again octets) = None
-child_in (effect.Identified octets) = None
+child_in (effect.AsksAuth octets) = None
 child_in (effect.Counted ended) = ended.child
 
 -- both ends have come to keys
@@ -56,5 +56,5 @@ KeyedBy (effect.Refused fault) p = Unit {0}
 KeyedBy (effect.Repeated octets) p = HasKeys p
 KeyedBy (effect.Replied answered) p = HasKeys p
 KeyedBy (effect.Again octets) p = Unit {0}
-KeyedBy (effect.Identified octets) p = HasKeys p
+KeyedBy (effect.AsksAuth octets) p = HasKeys p
 KeyedBy (effect.Counted ended) p = HasKeys p

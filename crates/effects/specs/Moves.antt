@@ -164,7 +164,7 @@ abbrev pub moves_of : ℕ → Option KeyRecord → Effect → List Move
 moves_of number keys (effect.Refused fault) = []
 moves_of number keys (effect.Repeated octets) = []
 moves_of number keys (effect.Again octets) = []
-moves_of number keys (effect.Identified octets) = makes_and_issues keys octets
+moves_of number keys (effect.AsksAuth octets) = makes_and_issues keys octets
 moves_of number keys (effect.Replied answered) = and_closes (TakeEffect number answered.octets) answered.closed
 moves_of number keys (effect.Counted ended) = and_closes (Count number) ended.closed
 

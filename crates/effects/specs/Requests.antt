@@ -65,7 +65,7 @@ IsPassing (effect.Refused fault) = Unit {0}
 IsPassing (effect.Repeated reply) = Unit {0}
 IsPassing (effect.Replied answered) = ⊥
 IsPassing (effect.Again octets) = ⊥
-IsPassing (effect.Identified octets) = ⊥
+IsPassing (effect.AsksAuth octets) = ⊥
 IsPassing (effect.Counted ended) = ⊥
 
 -- IKE_AUTH is done, or the association is closed

@@ -9,8 +9,8 @@ use Rattle.suite.specs.declared.sealer.Cipher.{Cipher}
 use Rattle.exchange.specs.declared.sealed.Plain.{Plain}
 use Rattle.sadb.specs.Database.{Database, IsTableRefusal}
 use Rattle.sadb.specs.declared.fault.TableFault.TheVariants as table
-use Rattle.children.specs.declared.fault.ChildFault.{ChildFault}
-use Rattle.children.specs.declared.fault.ChildFault.TheVariants as child
+use Rattle.children.specs.declared.fault.MemoryFault.{MemoryFault}
+use Rattle.children.specs.declared.fault.MemoryFault.TheVariants as child
 use Rattle.association.specs.Purposes.{asks_for_child}
 use Rattle.association.specs.Receiving.{Answers, AnswersInitial, IsAnswering, IsEffective, IsReceived, Opening, Reception, Refused, Repeat, TakesEffect}
 use Rattle.association.specs.declared.fault.MessageFault.TheVariants.{WrongPhase}
@@ -86,40 +86,40 @@ IsForChild p response exchange = IsForFirst p response exchange ⊎ IsForFurther
 
 -- What a child takes: a replay window and selectors, and at the end that answers a place in the table, where that takes more pairs and has no
 -- room; the end that asked has its place since it did.
-abbrev pub CanTakeOf : Bool → Database → ChildFault → Type 0
+abbrev pub CanTakeOf : Bool → Database → MemoryFault → Type 0
 CanTakeOf response d child.Message = ⊥
 CanTakeOf response d child.Window = Unit {0}
 CanTakeOf response d child.Narrowing = Unit {0}
 CanTakeOf response d child.Table = (response ≡ false) × IsTableRefusal d table.Memory
 
 -- a request that takes effect, or a response that is counted
-abbrev pub Counts : Bool → Opening → Association → Octets → Message → Plain → Type 0
-Counts false plain_of a octets m plain = IsEffective plain_of a octets m plain
-Counts true plain_of a octets m plain = IsAnswering plain_of a octets m plain
+abbrev pub HasItsEffect : Bool → Opening → Association → Octets → Message → Plain → Type 0
+HasItsEffect false plain_of a octets m plain = IsEffective plain_of a octets m plain
+HasItsEffect true plain_of a octets m plain = IsAnswering plain_of a octets m plain
 
 -- a child may be made of the message: it counts, and its exchange is one by which a child is made
 pub record CanMakeChild (plain_of : Opening) (a : Association) (octets : Octets) (m : Message) : Type 0 where
   pub plain : Plain
-  pub counts : Counts m.header.flags.response plain_of a octets m plain
+  pub counts : HasItsEffect m.header.flags.response plain_of a octets m plain
   pub kind : IsForChild a.phase m.header.flags.response m.header.exchange
 
 -- what memory can be wanted for: the message; where a child may be made of it, also what that takes
-abbrev pub CanWant : Opening → Association → Database → Octets → Message → ChildFault → Type 0
+abbrev pub CanWant : Opening → Association → Database → Octets → Message → MemoryFault → Type 0
 CanWant plain_of a d octets m f = (f ≡ child.Message) ⊎ (CanMakeChild plain_of a octets m × CanTakeOf m.header.flags.response d f)
 
 -- so by the phase and the exchange alone; only private contracts cite this
-abbrev pub CanWantIn : Phase → Bool → ℕ → Database → ChildFault → Type 0
+abbrev pub CanWantIn : Phase → Bool → ℕ → Database → MemoryFault → Type 0
 CanWantIn p response exchange d f = (f ≡ child.Message) ⊎ (IsForChild p response exchange × CanTakeOf response d f)
 
 -- what a request of these payloads does at an established association: that of INFORMATIONAL, or else of CREATE_CHILD_SA, since no other
 -- belongs there
-abbrev pub DoesFurther : Bool → Meaning → Setup → Association → Database → ℕ → Plain → Effect → Association → Database → Type 0
-DoesFurther true meaning setup old table number plain (effect.Replied answered) new new_table =
+abbrev pub DoesAtEstablished : Bool → Meaning → Setup → Association → Database → ℕ → Plain → Effect → Association → Database → Type 0
+DoesAtEstablished true meaning setup old table number plain (effect.Replied answered) new new_table =
     AnswersInformational meaning.body_of setup old table number plain answered new new_table
-DoesFurther true meaning setup old table number plain e new new_table = ⊥
-DoesFurther false meaning setup old table number plain (effect.Replied answered) new new_table =
+DoesAtEstablished true meaning setup old table number plain e new new_table = ⊥
+DoesAtEstablished false meaning setup old table number plain (effect.Replied answered) new new_table =
     AnswersFurther meaning.body_of setup old table number plain answered new new_table
-DoesFurther false meaning setup old table number plain e new new_table = ⊥
+DoesAtEstablished false meaning setup old table number plain e new new_table = ⊥
 
 -- what a request of this exchange and these payloads does: IKE_AUTH to a half-open association, and others to an established one
 abbrev pub DoesRequest : Meaning → Setup → Phase → ℕ → Association → Database → ℕ → Plain → Effect → Association → Database → Type 0
@@ -127,7 +127,7 @@ DoesRequest meaning setup (phase.HalfOpen opened) exchange old table number plai
     AnswersAuth (prover_of meaning) setup old table number plain answered new new_table
 DoesRequest meaning setup (phase.HalfOpen opened) exchange old table number plain e new new_table = ⊥
 DoesRequest meaning setup (phase.Established keys) exchange old table number plain e new new_table =
-    DoesFurther (exchange == INFORMATIONAL) meaning setup old table number plain e new new_table
+    DoesAtEstablished (exchange == INFORMATIONAL) meaning setup old table number plain e new new_table
 DoesRequest meaning setup p exchange old table number plain (effect.Refused fault) new new_table = (fault ≡ WrongPhase) × IsPassedOver old table new new_table
 DoesRequest meaning setup p exchange old table number plain e new new_table = ⊥
 
@@ -159,7 +159,7 @@ DoesResponse meaning setup p old table number plain e new new_table = ⊥
 -- what is done about the response to IKE_SA_INIT, by how it is gone on
 abbrev pub Says : Effect → Continued → Type 0
 Says (effect.Again octets) (continued.Again next) = octets ≡ next
-Says (effect.Identified octets) (continued.Identity next) = octets ≡ next
+Says (effect.AsksAuth octets) (continued.AsksAuth next) = octets ≡ next
 Says (effect.Refused fault) continued.Unfit = fault ≡ WrongPhase
 Says e c = ⊥
 

@@ -52,7 +52,7 @@ pub record TookFirstRequest (a : Association) : Type 0 where
 -- the request that goes out by an effect: again with a cookie, or for the first time
 abbrev pub asked_by : Effect → Option Octets
 asked_by (effect.Again octets) = Some octets
-asked_by (effect.Identified octets) = Some octets
+asked_by (effect.AsksAuth octets) = Some octets
 asked_by _ = None
 
 -- what waits was issued
@@ -79,10 +79,10 @@ KeepTimers moment sent old new =
     (number : ℕ) (request : Request) → map.get new.outgoing.outstanding number ≡ Some request → (map.get old.outgoing.outstanding number ≡ Some request) ⊎ StartsWaiting moment sent old new number request
 
 -- the association ends by this
-abbrev pub Ends : Effect → Type 0
-Ends (effect.Replied answered) = answered.closed ≡ true
-Ends (effect.Counted ended) = ended.closed ≡ true
-Ends _ = ⊥
+abbrev pub ClosesAssociation : Effect → Type 0
+ClosesAssociation (effect.Replied answered) = answered.closed ≡ true
+ClosesAssociation (effect.Counted ended) = ended.closed ≡ true
+ClosesAssociation _ = ⊥
 
 -- A request of this number waits no more by a message of that one: it is answered, or the association ends; or it is the request of
 -- IKE_SA_INIT, which goes out anew with a cookie, or whose answer brought the keys.
@@ -91,7 +91,7 @@ WaitsNoMore id (effect.Refused fault) number = ⊥
 WaitsNoMore id (effect.Repeated octets) number = ⊥
 WaitsNoMore id (effect.Replied answered) number = answered.closed ≡ true
 WaitsNoMore id (effect.Again octets) number = number ≡ 0
-WaitsNoMore id (effect.Identified octets) number = number ≡ 0
+WaitsNoMore id (effect.AsksAuth octets) number = number ≡ 0
 WaitsNoMore id (effect.Counted ended) number = (number ≡ id) ⊎ (ended.closed ≡ true)
 
 -- what waited waits on, unless it stops so

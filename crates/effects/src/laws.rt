@@ -53,7 +53,7 @@ ghost use Rattle.effects.specs.Moves.{ledger, moves_of, Close, Issue, KeepsReply
 ghost use Rattle.initial.specs.Ending.{EndsAuth};
 ghost use Rattle.effects.specs.Keeping.{child_in, octets_of_effect, IsShort, KeepsShort, KeyedBy};
 ghost use Rattle.effects.specs.Requests.{is_concluded, IsPassing, IsSoundlyHeld, KeepsPeersWindow, KeepsWindow, PutsIntoEffect, StaysConcluded, WidensPeersWindow, WidensWindow};
-ghost use Rattle.effects.specs.Waiting.{asked_by, Ends, KeepTimers, WaitUntil};
+ghost use Rattle.effects.specs.Waiting.{asked_by, ClosesAssociation, KeepTimers, WaitUntil};
 ghost use Rattle.effects.specs.Offers.{AnswersInitialSa, AnswersMessageSa, AnswersSealedSa};
 ghost use Rattle.effects.specs.Openings.{OpensAsMessage, OpensWhatItSeals};
 ghost use Rattle.effects.specs.Lengths.{HoldsWholeKeys, TellsLengths};
@@ -67,7 +67,7 @@ ghost use Rattle.effects.specs.Pairs.{LeavesPairs};
 ghost use Rattle.effects.specs.Taking.{Meaning, KeepsIdentity, TakesMessage};
 ghost use Rattle.association.specs.declared.fault.MessageFault.{MessageFault};
 ghost use Rattle.effects.specs.declared.taking.Effect.{Effect};
-ghost use Rattle.effects.specs.declared.taking.Effect.TheVariants.{Again, Counted, Identified, Refused, Repeated, Replied};
+ghost use Rattle.effects.specs.declared.taking.Effect.TheVariants.{Again, Counted, AsksAuth, Refused, Repeated, Replied};
 
 use association::Request;
 use association::laws::{
@@ -83,9 +83,9 @@ use children::laws::{
 use create_child::laws::what_is_answered_is_given_back;
 use deletions::laws::removals_are_determined;
 use exchange::laws::{
-    ciphers_tell_lengths, ends_agree, sealed_messages_are_determined, what_counts_fits,
+    ciphers_tell_lengths, ends_agree, sealed_messages_are_determined, sealed_messages_open,
+    what_counts_fits,
 };
-use exchange::sealed_messages_open;
 use further::laws::{
     further_children_are_determined, further_children_keep_to_their_offers,
     further_pairs_are_children, further_pairs_have_few_selectors,
@@ -249,7 +249,7 @@ pub fn keys_stay()
         → (keys_in old.phase ≡ Some keys) ⊎ IsAsking effect }
     ensures none { (meaning : Meaning) (setup : Setup) (old : Association) (table : Database) (octets : Octets) (m : Message)
         (next : Octets) (new : Association) (new_table : Database)
-        → TakesMessage meaning setup old table octets m (Identified next) new new_table → keys_in old.phase ≡ None }
+        → TakesMessage meaning setup old table octets m (AsksAuth next) new new_table → keys_in old.phase ≡ None }
     ensures again { (meaning : Meaning) (setup : Setup) (old : Association) (table : Database) (octets : Octets) (m : Message)
         (next : Octets) (new : Association) (new_table : Database)
         → TakesMessage meaning setup old table octets m (Again next) new new_table → keys_in new.phase ≡ None }
@@ -271,7 +271,7 @@ pub fn children_are_made_of_their_messages()
         → MakesChild meaning setup old table octets m effect serial new new_table }
     ensures asked { (meaning : Meaning) (setup : Setup) (old : Association) (table : Database) (octets : Octets) (m : Message)
         (next : Octets) (new : Association) (new_table : Database)
-        → TakesMessage meaning setup old table octets m (Identified next) new new_table
+        → TakesMessage meaning setup old table octets m (AsksAuth next) new new_table
         → AsksForChild meaning setup next new }
     ensures waits { (meaning : Meaning) (setup : Setup) (old : Association) (table : Database) (octets : Octets) (m : Message)
         (effect : Effect) (new : Association) (new_table : Database) (sent : AuthSent) → new.phase ≡ phase.AuthSent sent
@@ -554,7 +554,7 @@ pub fn messages_make_moves()
         → ledger (begun serial beginning child) ≡ None }
     ensures initial { (meaning : Meaning) (setup : Setup) (old : Association) (table : Database) (octets : Octets) (m : Message)
         (next : Octets) (new : Association) (new_table : Database) → IsSoundlyHeld old
-        → TakesMessage meaning setup old table octets m (Identified next) new new_table
+        → TakesMessage meaning setup old table octets m (AsksAuth next) new new_table
         → (m.header.exchange ≡ IKE_SA_INIT) × (m.header.flags.response ≡ true) }
     ensures sending { (now : ℕ) (old new : Association) → SendsAgain now old new → Lead [] (ledger old) (ledger new) }
     ensures closing { (now : ℕ) (old new : Association) (keys : KeyRecord) → IsSoundlyHeld old
@@ -594,7 +594,7 @@ pub fn messages_open()
     ensures identity { (meaning : Meaning) (setup : Setup) (old : Association) (table : Database) (octets : Octets) (m : Message)
         (next : Octets) (new : Association) (new_table : Database)
         → OpensWhatItSeals meaning.body_of meaning.plain_of setup.fresh.seal → HoldsWholeKeys new.phase
-        → TakesMessage meaning setup old table octets m (Identified next) new new_table
+        → TakesMessage meaning setup old table octets m (AsksAuth next) new new_table
         → OpensAsMessage meaning.plain_of new new.role false 1 next }
     ensures requested { (body_of : Keys → Octets → Octets → Octets → Octets) (plain_of : Opening) (setup : Setup) (old : Association)
         (octets : Octets) (new : Association) → OpensWhatItSeals body_of plain_of setup.fresh.seal → HoldsWholeKeys old.phase
@@ -656,7 +656,7 @@ pub fn requests_wait_on()
     ensures closed { (meaning : Meaning) (setup : Setup) (old : Association) (table : Database) (octets : Octets) (m : Message)
         (effect : Effect) (new : Association) (new_table : Database) (keys : Option KeyRecord) (at : ℕ)
         → TakesMessage meaning setup old table octets m effect new new_table → new.phase ≡ phase.Closed keys at
-        → (old.phase ≡ phase.Closed keys at) ⊎ ((at ≡ setup.moment) × Ends effect) }
+        → (old.phase ≡ phase.Closed keys at) ⊎ ((at ≡ setup.moment) × ClosesAssociation effect) }
     ensures begun { (cipher : Cipher) (group : ℕ) (public_value : Octets → Octets) (fresh : Fresh) (moment serial : ℕ)
         (beginning : Beginning) (child : AskedChildView) (number : ℕ) (request : Request)
         → Begins cipher group public_value fresh moment beginning

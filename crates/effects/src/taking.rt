@@ -5,19 +5,19 @@ ghost use Rattle.wire.specs.Numbers.{INFORMATIONAL};
 ghost use Rattle.requests.specs.Incoming.{IsFreshRequest};
 ghost use Rattle.sadb.specs.Database.{IsAsBefore};
 ghost use Rattle.association.specs.Closing.{HoldsReserved};
-ghost use Rattle.association.specs.Receiving.{admits, IsAnsweringInitial, IsDue, IsReceived};
+ghost use Rattle.association.specs.Receiving.{admits, IsAnsweringInitial, IsAwaited, IsReceived};
 ghost use Rattle.initial.specs.Configs.{setup_of, IsConfig};
 ghost use Rattle.initial.specs.Reading.{IsInitSent};
 ghost use Rattle.informational.specs.Orders.{IsEstablished};
 ghost use Rattle.effects.specs.Waiting.{SuitPhase};
-ghost use Rattle.effects.specs.Taking.{asked_further, reception_of, CanWant, CanWantIn, DoesAnswer, DoesFurther, DoesInitial, DoesRequest, DoesResponse, TakesMessage};
+ghost use Rattle.effects.specs.Taking.{asked_further, reception_of, CanWant, CanWantIn, DoesAnswer, DoesAtEstablished, DoesInitial, DoesRequest, DoesResponse, TakesMessage};
 
 use association::laws::receptions_say_why;
 use association::{Association, MessageFault, Phase, Received, receive};
 use base::Items;
-use children::ChildFault;
+use children::MemoryFault;
 use exchange::Plain;
-use initial::{Answered, Continued, Ended, Step, answer_auth, end_auth, read_response};
+use initial::{Answered, Continued, Ended, Setup, answer_auth, end_auth, read_response};
 use sadb::Table;
 use std::alloc::{AllocError, Global};
 use suite::{Agreement, Proof, Sealer};
@@ -36,7 +36,7 @@ pub enum Effect {
     /// The response to IKE_SA_INIT asks for a cookie, and this request goes out again with it.
     Again(Items<u8>),
     /// The response to IKE_SA_INIT was taken: the keys are there, and IKE_AUTH goes out.
-    Identified(Items<u8>),
+    AsksAuth(Items<u8>),
     /// The response to a request of another exchange was counted.
     Counted(Ended),
 }
@@ -48,17 +48,17 @@ pub enum Effect {
 ///
 /// The octets are those that the message was decoded from, the SPIs that the association holds for children are reserved in the table, and
 /// what waits for an answer belongs to its phase. An error is for want of memory alone, and changes nothing but the table's room:
-/// [`ChildFault::Message`], or where the message counts and IKE_AUTH or CREATE_CHILD_SA makes a child also one of the other three,
-/// [`ChildFault::Table`] only at the end that answers, of a table that takes more pairs and has no room.
+/// [`MemoryFault::Message`], or where the message counts and IKE_AUTH or CREATE_CHILD_SA makes a child also one of the other three,
+/// [`MemoryFault::Table`] only at the end that answers, of a table that takes more pairs and has no room.
 pub fn take_message<C: Sealer + Agreement + Proof>(
     alloc: Global,
-    step: &Step<'_, C>,
+    setup: &Setup<'_, C>,
     association: &mut Association,
     table: &mut Table,
     octets: &[u8],
     message: &Message,
-) -> Result<Effect, ChildFault>
-    requires config { IsConfig step.now.config.now }
+) -> Result<Effect, MemoryFault>
+    requires config { IsConfig setup.now.config.now }
     requires spelled { Spells message.now octets.now }
     requires reserved { HoldsReserved association.old table.old }
     requires waits { SuitPhase association.old.phase association.old.outgoing.outstanding }
@@ -70,29 +70,29 @@ pub fn take_message<C: Sealer + Agreement + Proof>(
           group = C.group_number;
           public_value = C.public_value;
           shared_secret = C.shared_secret;
-          own_method = C.own_method step.now.caller.now;
-          proof_of = C.proof_of step.now.caller.now;
-          accepts = C.accepts step.now.caller.now;
+          own_method = C.own_method setup.now.caller.now;
+          proof_of = C.proof_of setup.now.caller.now;
+          accepts = C.accepts setup.now.caller.now;
         })
-        (setup_of step.now) association.old table.old octets.now message.now effect association.new table.new) }
+        (setup_of setup.now) association.old table.old octets.now message.now effect association.new table.new) }
     ensures refused { IfErr result (λ _. (association.new ≡ association.old) × IsAsBefore table.old table.new) }
     ensures wanted { IfErr result (CanWant C.plain_of association.old table.old octets.now message.now) }
 {
     receptions_say_why();
-    match received(alloc, step.caller, association, octets, message)? {
+    match received(alloc, setup.caller, association, octets, message)? {
         Taken::Refused(fault) => Ok(Effect::Refused(fault)),
         Taken::Repeat(reply) => Ok(Effect::Repeated(reply)),
-        Taken::InitialResponse => Ok(take_initial(alloc, step, association, octets, message)?),
+        Taken::InitialResponse => Ok(take_initial(alloc, setup, association, octets, message)?),
         Taken::Request(plain) => take_request(
             alloc,
-            step,
+            setup,
             association,
             table,
             message.header.exchange,
             message.header.id,
             &plain,
         ),
-        Taken::Response(plain) => take_response(alloc, step, association, table, message, &plain),
+        Taken::Response(plain) => take_response(alloc, setup, association, table, message, &plain),
     }
 }
 
@@ -127,12 +127,12 @@ fn received<S: Sealer>(
 
 fn take_initial<C: Sealer + Agreement + Proof>(
     alloc: Global,
-    step: &Step<'_, C>,
+    setup: &Setup<'_, C>,
     association: &mut Association,
     octets: &[u8],
     message: &Message,
 ) -> Result<Effect, AllocError>
-    requires config { IsConfig step.now.config.now }
+    requires config { IsConfig setup.now.config.now }
     requires spelled { Spells message.now octets.now }
     requires due { IsAnsweringInitial association.old message.now }
     ensures taken { IfOk result (λ effect. DoesInitial
@@ -143,30 +143,37 @@ fn take_initial<C: Sealer + Agreement + Proof>(
           group = C.group_number;
           public_value = C.public_value;
           shared_secret = C.shared_secret;
-          own_method = C.own_method step.now.caller.now;
-          proof_of = C.proof_of step.now.caller.now;
-          accepts = C.accepts step.now.caller.now;
+          own_method = C.own_method setup.now.caller.now;
+          proof_of = C.proof_of setup.now.caller.now;
+          accepts = C.accepts setup.now.caller.now;
         })
-        (setup_of step.now) association.old octets.now message.now effect association.new) }
+        (setup_of setup.now) association.old octets.now message.now effect association.new) }
     ensures refused { IfErr result (λ _. association.new ≡ association.old) }
 {
-    match read_response(alloc, step, association, message.header.id, octets, message)? {
+    match read_response(
+        alloc,
+        setup,
+        association,
+        message.header.id,
+        octets,
+        message,
+    )? {
         Continued::Again(next) => Ok(Effect::Again(next)),
-        Continued::Identity(next) => Ok(Effect::Identified(next)),
+        Continued::AsksAuth(next) => Ok(Effect::AsksAuth(next)),
         Continued::Unfit => Ok(Effect::Refused(MessageFault::WrongPhase)),
     }
 }
 
 fn take_request<C: Sealer + Agreement + Proof>(
     alloc: Global,
-    step: &Step<'_, C>,
+    setup: &Setup<'_, C>,
     association: &mut Association,
     table: &mut Table,
     exchange: u8,
     number: u32,
     plain: &Plain,
-) -> Result<Effect, ChildFault>
-    requires config { IsConfig step.now.config.now }
+) -> Result<Effect, MemoryFault>
+    requires config { IsConfig setup.now.config.now }
     requires fresh { IsFreshRequest association.old.incoming number }
     requires admitted { admits association.old.phase exchange ≡ true }
     requires reserved { HoldsReserved association.old table.old }
@@ -178,22 +185,22 @@ fn take_request<C: Sealer + Agreement + Proof>(
           group = C.group_number;
           public_value = C.public_value;
           shared_secret = C.shared_secret;
-          own_method = C.own_method step.now.caller.now;
-          proof_of = C.proof_of step.now.caller.now;
-          accepts = C.accepts step.now.caller.now;
+          own_method = C.own_method setup.now.caller.now;
+          proof_of = C.proof_of setup.now.caller.now;
+          accepts = C.accepts setup.now.caller.now;
         })
-        (setup_of step.now) association.old.phase exchange association.old table.old number plain.now effect association.new table.new) }
+        (setup_of setup.now) association.old.phase exchange association.old table.old number plain.now effect association.new table.new) }
     ensures refused { IfErr result (λ _. (association.new ≡ association.old) × IsAsBefore table.old table.new) }
     ensures wanted { IfErr result (CanWantIn association.old.phase false exchange table.old) }
 {
     match &association.phase {
         Phase::HalfOpen(_) => {
-            let answered = answer_auth(alloc, step, association, table, number, plain)?;
+            let answered = answer_auth(alloc, setup, association, table, number, plain)?;
             Ok(Effect::Replied(answered))
         }
-        Phase::Established(_) => take_further(
+        Phase::Established(_) => take_at_established(
             alloc,
-            step,
+            setup,
             association,
             table,
             exchange,
@@ -205,21 +212,21 @@ fn take_request<C: Sealer + Agreement + Proof>(
 }
 
 // A request at an established association: of INFORMATIONAL, or else of CREATE_CHILD_SA.
-fn take_further<C: Sealer + Agreement + Proof>(
+fn take_at_established<C: Sealer + Agreement + Proof>(
     alloc: Global,
-    step: &Step<'_, C>,
+    setup: &Setup<'_, C>,
     association: &mut Association,
     table: &mut Table,
     exchange: u8,
     number: u32,
     plain: &Plain,
-) -> Result<Effect, ChildFault>
-    requires config { IsConfig step.now.config.now }
+) -> Result<Effect, MemoryFault>
+    requires config { IsConfig setup.now.config.now }
     requires established { IsEstablished association.old.phase }
     requires fresh { IsFreshRequest association.old.incoming number }
     requires admitted { admits association.old.phase exchange ≡ true }
     requires reserved { HoldsReserved association.old table.old }
-    ensures taken { IfOk result (λ effect. DoesFurther (exchange == INFORMATIONAL)
+    ensures taken { IfOk result (λ effect. DoesAtEstablished (exchange == INFORMATIONAL)
         (record {
           cipher = C.cipher;
           body_of = C.body_of;
@@ -227,32 +234,32 @@ fn take_further<C: Sealer + Agreement + Proof>(
           group = C.group_number;
           public_value = C.public_value;
           shared_secret = C.shared_secret;
-          own_method = C.own_method step.now.caller.now;
-          proof_of = C.proof_of step.now.caller.now;
-          accepts = C.accepts step.now.caller.now;
+          own_method = C.own_method setup.now.caller.now;
+          proof_of = C.proof_of setup.now.caller.now;
+          accepts = C.accepts setup.now.caller.now;
         })
-        (setup_of step.now) association.old table.old number plain.now effect association.new table.new) }
+        (setup_of setup.now) association.old table.old number plain.now effect association.new table.new) }
     ensures refused { IfErr result (λ _. (association.new ≡ association.old) × IsAsBefore table.old table.new) }
     ensures wanted { IfErr result (CanWantIn association.old.phase false exchange table.old) }
 {
     let answered = if exchange == INFORMATIONAL {
-        informational::answer(alloc, step, association, table, number, plain)?
+        informational::answer(alloc, setup, association, table, number, plain)?
     } else {
-        create_child::answer(alloc, step, association, table, number, plain)?
+        create_child::answer(alloc, setup, association, table, number, plain)?
     };
     Ok(Effect::Replied(answered))
 }
 
 fn take_response<C: Sealer + Agreement + Proof>(
     alloc: Global,
-    step: &Step<'_, C>,
+    setup: &Setup<'_, C>,
     association: &mut Association,
     table: &mut Table,
     message: &Message,
     plain: &Plain,
-) -> Result<Effect, ChildFault>
-    requires config { IsConfig step.now.config.now }
-    requires due { IsDue association.old message.now }
+) -> Result<Effect, MemoryFault>
+    requires config { IsConfig setup.now.config.now }
+    requires due { IsAwaited association.old message.now }
     requires waits { SuitPhase association.old.phase association.old.outgoing.outstanding }
     requires reserved { HoldsReserved association.old table.old }
     ensures taken { IfOk result (λ effect. DoesResponse
@@ -263,20 +270,20 @@ fn take_response<C: Sealer + Agreement + Proof>(
           group = C.group_number;
           public_value = C.public_value;
           shared_secret = C.shared_secret;
-          own_method = C.own_method step.now.caller.now;
-          proof_of = C.proof_of step.now.caller.now;
-          accepts = C.accepts step.now.caller.now;
+          own_method = C.own_method setup.now.caller.now;
+          proof_of = C.proof_of setup.now.caller.now;
+          accepts = C.accepts setup.now.caller.now;
         })
-        (setup_of step.now) association.old.phase association.old table.old message.now.header.id plain.now effect association.new table.new) }
+        (setup_of setup.now) association.old.phase association.old table.old message.now.header.id plain.now effect association.new table.new) }
     ensures refused { IfErr result (λ _. (association.new ≡ association.old) × (table.new ≡ table.old)) }
     ensures wanted { IfErr result (CanWantIn association.old.phase true message.now.header.exchange table.old) }
 {
     match &association.phase {
         Phase::AuthSent(_) => {
-            let ended = end_auth(alloc, step, association, table, message.header.id, plain)?;
+            let ended = end_auth(alloc, setup, association, table, message.header.id, plain)?;
             Ok(Effect::Counted(ended))
         }
-        Phase::Established(_) => take_answer(alloc, step, association, table, message, plain),
+        Phase::Established(_) => take_answer(alloc, setup, association, table, message, plain),
         _ => Ok(Effect::Refused(MessageFault::WrongPhase)),
     }
 }
@@ -284,26 +291,26 @@ fn take_response<C: Sealer + Agreement + Proof>(
 // A response at an established association, by what its request asked for.
 fn take_answer<C>(
     alloc: Global,
-    step: &Step<'_, C>,
+    setup: &Setup<'_, C>,
     association: &mut Association,
     table: &mut Table,
     message: &Message,
     plain: &Plain,
-) -> Result<Effect, ChildFault>
-    requires config { IsConfig step.now.config.now }
+) -> Result<Effect, MemoryFault>
+    requires config { IsConfig setup.now.config.now }
     requires established { IsEstablished association.old.phase }
-    requires due { IsDue association.old message.now }
+    requires due { IsAwaited association.old message.now }
     requires reserved { HoldsReserved association.old table.old }
     ensures taken { IfOk result (λ effect. DoesAnswer (asked_further association.old message.now.header.id)
-        (setup_of step.now) association.old table.old message.now.header.id plain.now effect association.new table.new) }
+        (setup_of setup.now) association.old table.old message.now.header.id plain.now effect association.new table.new) }
     ensures refused { IfErr result (λ _. (association.new ≡ association.old) × (table.new ≡ table.old)) }
     ensures wanted { IfErr result (CanWantIn association.old.phase true message.now.header.exchange table.old) }
 {
     let number = message.header.id;
     let ended = if asked_further(association, number) {
-        create_child::count(alloc, step, association, table, number, plain)?
+        create_child::count(alloc, setup, association, table, number, plain)?
     } else {
-        informational::count(alloc, step, association, table, number, plain)?
+        informational::count(alloc, setup, association, table, number, plain)?
     };
     Ok(Effect::Counted(ended))
 }

@@ -6,12 +6,13 @@ use Rattle.wire.specs.declared.proposal.Transform.{Transform}
 use Rattle.suite.specs.declared.choice.Chosen.{Chosen}
 use Rattle.suite.specs.declared.choice.Wanted.{Wanted}
 use Rattle.suite.specs.declared.choice.Wanted.TheVariants.{Ike, Esp}
+use Rattle.suite.specs.Transforms.{AUTH_HMAC_SHA2_256_128, ENCR, ENCR_NULL, INTEG}
 use Rattle.suite.specs.Choice.{acceptable_transforms, kinds, wanted_protocol, sequence_numbers, without_attributes, IsAcceptableProposal, IsChosenProposal}
 
 -- What stands of each type of transform but sequence numbers, of which one transform alone is acceptable.
 abbrev pub fixed_transforms : Wanted → List Transform
 fixed_transforms (Ike encr key_length group) = acceptable_transforms (Ike encr key_length group)
-fixed_transforms (Esp extended) = without_attributes 1 11 ∷ without_attributes 3 12 ∷ []
+fixed_transforms (Esp extended) = without_attributes ENCR ENCR_NULL ∷ without_attributes INTEG AUTH_HMAC_SHA2_256_128 ∷ []
 
 -- extended sequence numbers are offered first, where they are allowed
 abbrev pub offered_transforms : Wanted → List Transform

@@ -1,5 +1,6 @@
 //! What follows from the definitions alone.
 ghost use Rattle.std.specs.Prelude.{◌≡◌, ◌≤◌, List, ℕ, ◌∷◌, [], Some, All, Contains, length, slice_get};
+ghost use Rattle.wire.specs.Payloads.{IsClear};
 ghost use Rattle.std.specs.List.{AllByRecursion, sum_by};
 ghost use Rattle.base.specs.Octets.{AreOctets};
 ghost use Rattle.suite.specs.Sealing.{AreKeys};
@@ -16,11 +17,13 @@ ghost use Rattle.wire.specs.declared.payload.Payload.TheVariants.{Sa, TsI, TsR};
 ghost use Rattle.exchange.specs.Counting.{only_sa, only_ts_i, only_ts_r};
 ghost use Rattle.exchange.specs.Notices.{asked_cookie, payload_of_notice, FitsNotice};
 ghost use Rattle.exchange.specs.declared.notices.Notice.{Notice};
-ghost use Rattle.exchange.specs.Sealed.{CanBeSealed, IsSealed, TellsLength};
+ghost use Rattle.exchange.specs.Sealed.{CanBeSealed, IsSealed, OpensAgain, TellsLength};
 ghost use Rattle.exchange.specs.Offers.{answer_of, offer_of, IsAcceptableAnswer, IsTakenFrom};
 
 use suite::Sealer;
-use wire::laws::{messages_that_fit_are_spelled, plain_spellings_are_determined};
+use wire::laws::{
+    messages_that_fit_are_spelled, plain_spellings_are_determined, plain_spellings_are_spellings,
+};
 
 /// What is offered is acceptable to an end that wants the same. What answers a proposal of number 1 is an answer to the one who
 /// wanted the same, with the sequence numbers that were chosen. Does nothing.
@@ -87,4 +90,12 @@ pub fn sealed_messages_are_determined()
         → TellsLength body_of keys fresh → IsSealed body_of keys fresh m a → IsSealed body_of keys fresh m b → a ≡ b }
 {
     plain_spellings_are_determined();
+}
+
+/// What was sealed opens again, to the payloads that were sealed. Does nothing.
+pub fn sealed_messages_open<S: Sealer>(sealer: &S)
+    ensures { (keys : Keys) (fresh : List ℕ) (m : Message) (b : List ℕ) → AreKeys keys → AreOctets fresh → length fresh ≡ 16
+        → AllByRecursion IsClear m.payloads → IsSealed S.body_of keys fresh m b → OpensAgain S.plain_of keys m b }
+{
+    plain_spellings_are_spellings();
 }

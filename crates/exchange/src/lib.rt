@@ -36,4 +36,4 @@ pub use payloads::{
     has_ke, offers_ike, only, only_auth, only_id_i, only_id_r, only_ke, only_nonce, only_sa,
     only_ts_i, only_ts_r, unknown_critical,
 };
-pub use sealed::{Plain, open_message, seal_message, sealed_messages_open};
+pub use sealed::{Plain, open_message, seal_message};

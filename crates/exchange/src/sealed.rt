@@ -1,14 +1,12 @@
 //! Messages whose payloads are encrypted (RFC 7296, section 3.14).
 ghost use Rattle.std.specs.Prelude.{◌≡◌, ◌≢◌, ◌<◌, ◌≤◌, ◌+◌, ◌-◌, ◌++◌, ◌∷◌, [], List, ℕ, Ok, None, Some, length, OnOk, OnErr, IfErr, IfOk, IsOk};
-ghost use Rattle.base.specs.Octets.{Appends, AreOctets};
+ghost use Rattle.base.specs.Octets.{Appends};
 ghost use Rattle.wire.specs.Messages.{Spells};
-ghost use Rattle.wire.specs.Payloads.{SpellsChain, IsClear};
-ghost use Rattle.std.specs.List.{AllByRecursion};
+ghost use Rattle.wire.specs.Payloads.{SpellsChain};
 ghost use Rattle.wire.specs.declared.message.Message.{Message};
 ghost use Rattle.wire.specs.declared.payload.Payload.{Payload};
 ghost use Rattle.suite.specs.declared.keys.Keys.{Keys};
-ghost use Rattle.suite.specs.Sealing.{AreKeys};
-ghost use Rattle.exchange.specs.Sealed.{plain_of_message, lone_body, sealed_head, sealed_octets, IsSealed, IsSealingFaultOf, CanBeSealed, OpensAgain};
+ghost use Rattle.exchange.specs.Sealed.{plain_of_message, lone_body, sealed_head, sealed_octets, IsSealed, IsSealingFaultOf, CanBeSealed};
 
 use std::alloc::{AllocError, Global};
 use suite::{Keys, Sealer};
@@ -123,12 +121,4 @@ pub fn open_message<S: Sealer>(
         first: *first,
         octets: Items::from_vec(plain),
     }))
-}
-
-/// What was sealed opens again, to the payloads that were sealed. Does nothing.
-pub fn sealed_messages_open<S: Sealer>(sealer: &S)
-    ensures { (keys : Keys) (fresh : List ℕ) (m : Message) (b : List ℕ) → AreKeys keys → AreOctets fresh → length fresh ≡ 16
-        → AllByRecursion IsClear m.payloads → IsSealed S.body_of keys fresh m b → OpensAgain S.plain_of keys m b }
-{
-    plain_spellings_are_spellings();
 }

@@ -1,12 +1,12 @@
 //! What an initiator makes of the answer to its request for a further child.
 ghost use Rattle.std.specs.Prelude.{◌≡◌, ◌≢◌, Some, IfErr, IfOk};
 ghost use Rattle.replay.specs.Window.{IsBlockCount};
-ghost use Rattle.children.specs.declared.fault.ChildFault.TheVariants.{Table};
+ghost use Rattle.children.specs.declared.fault.MemoryFault.TheVariants.{Table};
 ghost use Rattle.further.specs.Concluding.{Concludes, IsConclusion, KeepsTo};
 
 use crate::deciding::further_setting;
 use children::laws::what_is_accepted_was_asked;
-use children::{Asked, ChildFault, accept};
+use children::{Asked, MemoryFault, accept};
 use exchange::{Plain, has_invalid_syntax, only_nonce};
 use initial::read_chain;
 use sadb::Pair;
@@ -46,7 +46,7 @@ pub fn conclude_response(
     ike: u32,
     keys: &KeyRecord,
     blocks: u32,
-) -> Result<Conclusion, ChildFault>
+) -> Result<Conclusion, MemoryFault>
     requires { IsBlockCount blocks }
     ensures concluded { IfOk result (Concludes blocks ike keys.now asked.now own_nonce.now plain.now) }
     ensures keeps { IfOk result (KeepsTo asked.now) }
@@ -77,7 +77,7 @@ fn conclude_on(
     ike: u32,
     keys: &KeyRecord,
     blocks: u32,
-) -> Result<Conclusion, ChildFault>
+) -> Result<Conclusion, MemoryFault>
     requires { IsBlockCount blocks }
     ensures concluded { IfOk result (IsConclusion blocks ike keys.now asked.now own_nonce.now (Some answer.now)) }
     ensures keeps { IfOk result (KeepsTo asked.now) }

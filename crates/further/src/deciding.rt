@@ -14,10 +14,10 @@ ghost use Rattle.further.specs.Judging.{further_request_view, Admitted};
 use crate::{FurtherRequest, Judgement, judge};
 use auth::ChildAnswer;
 use children::laws::payloads_fit;
-use children::{ChildFault, Made, Response, Setting, respond};
+use children::{Made, MemoryFault, Response, Setting, respond};
 use exchange::laws::what_counts_fits;
 use exchange::{Notice, Plain};
-use initial::{Step, read_chain};
+use initial::{Setup, read_chain};
 use sadb::{Pair, Table};
 use std::alloc::Global;
 use suite::{KeyRecord, child_keys};
@@ -75,15 +75,15 @@ impl Decision {
 /// [`children::install`] wants it. An error is for want of memory alone.
 pub fn decide<C>(
     alloc: Global,
-    step: &Step<'_, C>,
+    setup: &Setup<'_, C>,
     table: &mut Table,
     ike: u32,
     keys: &KeyRecord,
     deleting: bool,
     plain: &Plain,
-) -> Result<Decision, ChildFault>
-    requires { IsConfig step.now.config.now }
-    ensures decided { IfOk result (DecidesFurther (setup_of step.now) ike keys.now table.old deleting plain.now) }
+) -> Result<Decision, MemoryFault>
+    requires { IsConfig setup.now.config.now }
+    ensures decided { IfOk result (DecidesFurther (setup_of setup.now) ike keys.now table.old deleting plain.now) }
     ensures table { IsAsBefore table.old table.new }
     ensures wanted { IfErr result (CanBeWanted table.old) }
     ensures early { IsFurtherRefusedAtOnce deleting plain.now → table.new ≡ table.old }
@@ -94,23 +94,31 @@ pub fn decide<C>(
     octets_spell_one_message();
     match read_chain(alloc, plain)? {
         None => Ok(Decision::Refused(Notice::InvalidSyntax)),
-        Some(payloads) => decide_on(alloc, step, table, ike, keys, deleting, payloads.as_slice()),
+        Some(payloads) => decide_on(
+            alloc,
+            setup,
+            table,
+            ike,
+            keys,
+            deleting,
+            payloads.as_slice(),
+        ),
     }
 }
 
 // What is decided about these payloads.
 fn decide_on<C>(
     alloc: Global,
-    step: &Step<'_, C>,
+    setup: &Setup<'_, C>,
     table: &mut Table,
     ike: u32,
     keys: &KeyRecord,
     deleting: bool,
     payloads: &[Payload],
-) -> Result<Decision, ChildFault>
-    requires config { IsConfig step.now.config.now }
+) -> Result<Decision, MemoryFault>
+    requires config { IsConfig setup.now.config.now }
     requires fits { AllByRecursion FitsFields payloads.now }
-    ensures decided { IfOk result (DecidesFurtherOn (setup_of step.now) ike keys.now table.old deleting payloads.now) }
+    ensures decided { IfOk result (DecidesFurtherOn (setup_of setup.now) ike keys.now table.old deleting payloads.now) }
     ensures table { IsAsBefore table.old table.new }
     ensures wanted { IfErr result (CanBeWanted table.old) }
     ensures early { IsRefusedFurther deleting (Some payloads.now) → table.new ≡ table.old }
@@ -123,22 +131,22 @@ fn decide_on<C>(
             notice.fits();
             Ok(Decision::Refused(notice))
         }
-        Judgement::Asked(request) => respond_to(alloc, step, table, ike, keys, &request),
+        Judgement::Asked(request) => respond_to(alloc, setup, table, ike, keys, &request),
     }
 }
 
 // What answers the child that is asked for.
 fn respond_to<C>(
     alloc: Global,
-    step: &Step<'_, C>,
+    setup: &Setup<'_, C>,
     table: &mut Table,
     ike: u32,
     keys: &KeyRecord,
     request: &FurtherRequest<'_>,
-) -> Result<Decision, ChildFault>
-    requires config { IsConfig step.now.config.now }
+) -> Result<Decision, MemoryFault>
+    requires config { IsConfig setup.now.config.now }
     requires fits { CanBeAnswered (offered request.now.offer) }
-    ensures decided { IfOk result (DecidesFurtherBy (setup_of step.now) ike keys.now table.old (Admitted (further_request_view request.now))) }
+    ensures decided { IfOk result (DecidesFurtherBy (setup_of setup.now) ike keys.now table.old (Admitted (further_request_view request.now))) }
     ensures table { IsAsBefore table.old table.new }
     ensures wanted { IfErr result (CanBeWanted table.old) }
     ensures room { IfOk result (λ decision. LeavesRoomForFurther decision table.new) }
@@ -146,18 +154,18 @@ fn respond_to<C>(
 {
     payloads_fit();
     let setting = further_setting(
-        step.config.blocks,
+        setup.config.blocks,
         ike,
         keys,
         request.nonce,
-        &step.fresh.nonce,
+        &setup.fresh.nonce,
     );
     match respond(
         alloc,
         &request.offer,
-        step.config.extended,
+        setup.config.extended,
         &setting,
-        step.policy,
+        setup.policy,
         table,
     )? {
         Response::Made(made) => Ok(Decision::Made(made)),

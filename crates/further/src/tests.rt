@@ -10,9 +10,9 @@ use crate::{
 };
 use auth::{ChildAnswer, Identity};
 use base::{Items, Range, Selector};
-use children::{Asked, ChildFault};
+use children::{Asked, MemoryFault};
 use exchange::{Notice, Plain, Role, sent_header};
-use initial::{Config, End, Step};
+use initial::{Config, EndConfig, Setup};
 use policy::{Action, Entry, Policy};
 use sadb::{Pair, Table};
 use std::alloc::{AllocError, Global};
@@ -154,10 +154,10 @@ fn identity(alloc: Global, last: u8) -> Result<Identity, AllocError>
     })
 }
 
-fn end(alloc: Global, last: u8) -> Result<End, AllocError>
+fn end(alloc: Global, last: u8) -> Result<EndConfig, AllocError>
     ensures { IfOk result (λ end. IsIdentity end.identity) }
 {
-    Ok(End {
+    Ok(EndConfig {
         identity: identity(alloc, last)?,
         address: [192, 0, 2, last],
     })
@@ -229,14 +229,14 @@ fn decided(
         secret: [0; 32],
         seal: [0; 16],
     };
-    let step = Step {
+    let setup = Setup {
         caller: &(),
         config: &config,
         policy: &policy,
         fresh: &fresh,
         moment: 0,
     };
-    Ok(decide(alloc, &step, table, 1, &keys(), deleting, plain)?)
+    Ok(decide(alloc, &setup, table, 1, &keys(), deleting, plain)?)
 }
 
 // The type of the notice, 0 where a child is made, and whether it closes.
@@ -350,11 +350,11 @@ fn keys() -> KeyRecord {
 }
 
 // What the initiator makes of an answer.
-fn concluded(alloc: Global, plain: &Plain, extended: bool) -> Result<Conclusion, ChildFault> {
+fn concluded(alloc: Global, plain: &Plain, extended: bool) -> Result<Conclusion, MemoryFault> {
     conclude_response(alloc, plain, &asked(extended), &[9; 32], 6, &keys(), 2)
 }
 
-fn conclusion(alloc: Global, first: u8, octets: &[u8]) -> Result<Kind, ChildFault> {
+fn conclusion(alloc: Global, first: u8, octets: &[u8]) -> Result<Kind, MemoryFault> {
     let plain = Plain {
         first,
         octets: Items::from_slice(alloc, octets)?,

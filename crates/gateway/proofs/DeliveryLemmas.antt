@@ -35,7 +35,7 @@ use Rattle.deliveries.specs.Passages as tables
 use Rattle.deliveries.specs.Passages.{BringsUnused, ComesUnused, Leads, LeavesWindows, Reception}
 use Rattle.deliveries.specs.Promises.{PacketsAreJudged}
 use Rattle.gateway.specs.Histories.{IsPassage, IsTrail, Passage}
-use Rattle.gateway.specs.Outputs.{said_by_ike, said_of_outcome, wants_memory, Dummy, Said, Up}
+use Rattle.gateway.specs.Outputs.{view_of_ike, view_of_outcome, wants_memory, Dummy, OutputView, Up}
 use Rattle.gateway.specs.Packets.{outcome_of_said, reception_of, table_passage, table_passages, JudgesOne, PacketsAreDelivered, SaysDue, TakesPacket, TurnsAway}
 use Rattle.gateway.specs.States.{State}
 use Rattle.gateway.specs.Steps.{DoesInput, SendsPacket, StepsIke}
@@ -75,7 +75,7 @@ brings_none : (old new : Database) → LeavesFewer old new → BringsUnused old 
 brings_none old new is = record { next = omega (arith, is.next); each = λ serial pair there. inl (is.each serial pair there) }
 
 -- the packets of a table are told back by what is said of them
-outcome_back : (o : Outcome) → outcome_of_said (said_of_outcome o) ≡ Some o
+outcome_back : (o : Outcome) → outcome_of_said (view_of_outcome o) ≡ Some o
 outcome_back (traffic.Up child number packet) = refl
 outcome_back (traffic.Dummy child number) = refl
 outcome_back (traffic.Sealed child number octets) = refl
@@ -83,7 +83,7 @@ outcome_back (traffic.Clear packet) = refl
 outcome_back traffic.Discarded = refl
 outcome_back (traffic.Dropped fault) = refl
 
-reception_is : (octets : Octets) (s : Said) (o : Outcome) → s ≡ said_of_outcome o → reception_of (input.Esp octets) s ≡ Some (record { packet = octets; outcome = o })
+reception_is : (octets : Octets) (s : OutputView) (o : Outcome) → s ≡ view_of_outcome o → reception_of (input.Esp octets) s ≡ Some (record { packet = octets; outcome = o })
 reception_is octets s o is =
     ap (λ (x : Option Outcome). option_map (λ (outcome : Outcome). record { packet = octets; outcome = outcome }) x) (ap outcome_of_said is ∙ outcome_back o)
 
@@ -107,7 +107,7 @@ module _ (facts : DeliveryFacts) where
   ike_windows meaning entries (ike.Tick moment) old table stepped new new_table sound is =
       facts.bringing table new_table sound (brings_none table new_table (facts.fewer _ old.held.associations table is.takes.ticked new.held.associations new_table is.takes.ticks))
 
-  steps_windows : (meaning : Meaning) (entries : List Entry) (view : ike.InputView) (old : Machine) (table : Database) (s : Said) (trace : Trace) (new : Machine) (new_table : Database) → IsSoundTable table
+  steps_windows : (meaning : Meaning) (entries : List Entry) (view : ike.InputView) (old : Machine) (table : Database) (s : OutputView) (trace : Trace) (new : Machine) (new_table : Database) → IsSoundTable table
       → StepsIke meaning entries view old table s trace new new_table → LeavesWindows table new_table
   steps_windows meaning entries view old table s trace new new_table sound (inl is) = ike_windows meaning entries view old table is.stepped new new_table sound is.steps
   steps_windows meaning entries view old table s trace new new_table sound (inr is) = facts.preparing table new_table sound is.pairs
@@ -115,13 +115,13 @@ module _ (facts : DeliveryFacts) where
   same_windows : (table new_table : Database) → IsSoundTable table → new_table ≡ table → LeavesWindows table new_table
   same_windows table new_table sound same = subst (λ (d : Database). LeavesWindows table d) (sym same) (facts.unchanged table sound)
 
-  sends_windows : (entries : List Entry) (table : Database) (packet : Octets) (s : Said) (new_table : Database) → IsSoundTable table → SendsPacket entries table packet s new_table → LeavesWindows table new_table
+  sends_windows : (entries : List Entry) (table : Database) (packet : Octets) (s : OutputView) (new_table : Database) → IsSoundTable table → SendsPacket entries table packet s new_table → LeavesWindows table new_table
   sends_windows entries table packet s new_table sound (inl is) = facts.sending table new_table entries packet is.outcome sound is.sends
   sends_windows entries table packet s new_table sound (inr is) = same_windows table new_table sound is.unchanged
 
   -- ---- a step of the gateway is one of its table
 
-  leads : (meaning : Meaning) (entries : List Entry) (given : Input) (old : Machine) (table : Database) (s : Said) (trace : Trace) (new : Machine) (new_table : Database) → IsSoundTable table
+  leads : (meaning : Meaning) (entries : List Entry) (given : Input) (old : Machine) (table : Database) (s : OutputView) (trace : Trace) (new : Machine) (new_table : Database) → IsSoundTable table
       → DoesInput meaning entries given old table s trace new new_table → Leads table (reception_of given s) new_table
   leads meaning entries (input.Ike from octets fresh) old table s trace new new_table sound is = steps_windows meaning entries (ike.Message from octets fresh) old table s trace new new_table sound is
   leads meaning entries (input.Start serial entry fresh) old table s trace new new_table sound is = steps_windows meaning entries (ike.Start serial entry fresh) old table s trace new new_table sound is
@@ -148,7 +148,7 @@ module _ (facts : DeliveryFacts) where
 
 -- ---- in the words of the gateway
 
-asks_none : (o : Outcome) → wants_memory (said_of_outcome o) ≡ false
+asks_none : (o : Outcome) → wants_memory (view_of_outcome o) ≡ false
 asks_none (traffic.Up child number packet) = refl
 asks_none (traffic.Dummy child number) = refl
 asks_none (traffic.Sealed child number octets) = refl
@@ -160,7 +160,7 @@ asks_none (traffic.Dropped fault) = refl
 record Came {C : Type 0} (octets : Octets) (p : Passage C) : Type 0 where
   outcome : Outcome
   receives : Receives p.before.table octets outcome p.after.table
-  said : p.said ≡ said_of_outcome outcome
+  said : p.said ≡ view_of_outcome outcome
   kept : p.after ≡ record p.before { table = p.after.table }
 
 came : {C : Type 0} (meaning_of : C → Meaning) (octets : Octets) (p : Passage C) → IsPassage meaning_of p → p.given ≡ input.Esp octets → Came octets p
@@ -191,7 +191,7 @@ packet_of octets (Some outcome) r is = cc
 nothing_came : (r : Reception) (A : Type 0) → None ≡ Some r → A
 nothing_came r A is = absurd cc
 
-received_given : (given : Input) (s : Said) (r : Reception) → reception_of given s ≡ Some r → given ≡ input.Esp r.packet
+received_given : (given : Input) (s : OutputView) (r : Reception) → reception_of given s ≡ Some r → given ≡ input.Esp r.packet
 received_given (input.Ike from octets fresh) s r is = nothing_came r _ is
 received_given (input.Start serial entry fresh) s r is = nothing_came r _ is
 received_given (input.Probe serial fresh) s r is = nothing_came r _ is
@@ -204,12 +204,12 @@ received_given (input.Outward packet) s r is = nothing_came r _ is
 received_given (input.Inward packet) s r is = nothing_came r _ is
 
 -- this is said of packets that came alone
-abbrev goes_up : Said → Bool
+abbrev goes_up : OutputView → Bool
 goes_up (Up child number packet) = true
 goes_up (Dummy child number) = true
 goes_up _ = false
 
-ike_up : (o : IkeOutput) → goes_up (said_by_ike o) ≡ false
+ike_up : (o : IkeOutput) → goes_up (view_of_ike o) ≡ false
 ike_up (made.Reply octets closed) = refl
 ike_up (made.Repeat octets) = refl
 ike_up (made.Request serial octets) = refl
@@ -218,7 +218,7 @@ ike_up (made.Ticked ticked) = refl
 ike_up made.Done = refl
 ike_up (made.Dropped fault) = refl
 
-sent_up : (old : Database) (policy : List Entry) (packet : Octets) (o : Outcome) (new : Database) → Sends old policy packet o new → goes_up (said_of_outcome o) ≡ false
+sent_up : (old : Database) (policy : List Entry) (packet : Octets) (o : Outcome) (new : Database) → Sends old policy packet o new → goes_up (view_of_outcome o) ≡ false
 sent_up old policy packet (traffic.Up child number inner) new is = absurd is
 sent_up old policy packet (traffic.Dummy child number) new is = absurd is
 sent_up old policy packet (traffic.Sealed child number octets) new is = refl
@@ -226,7 +226,7 @@ sent_up old policy packet (traffic.Clear octets) new is = refl
 sent_up old policy packet traffic.Discarded new is = refl
 sent_up old policy packet (traffic.Dropped fault) new is = refl
 
-admitted_up : (policy : List Entry) (packet : Octets) (o : Outcome) → Admits policy packet o → goes_up (said_of_outcome o) ≡ false
+admitted_up : (policy : List Entry) (packet : Octets) (o : Outcome) → Admits policy packet o → goes_up (view_of_outcome o) ≡ false
 admitted_up policy packet (traffic.Up child number inner) is = absurd is
 admitted_up policy packet (traffic.Dummy child number) is = absurd is
 admitted_up policy packet (traffic.Sealed child number octets) is = refl
@@ -234,12 +234,12 @@ admitted_up policy packet (traffic.Clear octets) is = refl
 admitted_up policy packet traffic.Discarded is = refl
 admitted_up policy packet (traffic.Dropped fault) is = refl
 
-steps_up : (meaning : Meaning) (entries : List Entry) (view : ike.InputView) (old : Machine) (table : Database) (s : Said) (trace : Trace) (new : Machine) (new_table : Database)
+steps_up : (meaning : Meaning) (entries : List Entry) (view : ike.InputView) (old : Machine) (table : Database) (s : OutputView) (trace : Trace) (new : Machine) (new_table : Database)
     → StepsIke meaning entries view old table s trace new new_table → goes_up s ≡ false
 steps_up meaning entries view old table s trace new new_table (inl is) = ap goes_up is.output ∙ ike_up is.stepped.output
 steps_up meaning entries view old table s trace new new_table (inr is) = ap goes_up is.output
 
-sends_up : (entries : List Entry) (table : Database) (packet : Octets) (s : Said) (new_table : Database) → SendsPacket entries table packet s new_table → goes_up s ≡ false
+sends_up : (entries : List Entry) (table : Database) (packet : Octets) (s : OutputView) (new_table : Database) → SendsPacket entries table packet s new_table → goes_up s ≡ false
 sends_up entries table packet s new_table (inl is) = ap goes_up is.output ∙ sent_up table entries packet is.outcome new_table is.sends
 sends_up entries table packet s new_table (inr is) = ap goes_up is.output
 
@@ -250,7 +250,7 @@ record IsPacket (given : Input) : Type 0 where
 neither : (b : Bool) (A : Type 0) → b ≡ true → b ≡ false → A
 neither b A one other = absurd cc
 
-came_up : (meaning : Meaning) (entries : List Entry) (given : Input) (old : Machine) (table : Database) (s : Said) (trace : Trace) (new : Machine) (new_table : Database)
+came_up : (meaning : Meaning) (entries : List Entry) (given : Input) (old : Machine) (table : Database) (s : OutputView) (trace : Trace) (new : Machine) (new_table : Database)
     → DoesInput meaning entries given old table s trace new new_table → goes_up s ≡ true → IsPacket given
 came_up meaning entries (input.Ike from octets fresh) old table s trace new new_table is up = neither (goes_up s) _ up (steps_up meaning entries (ike.Message from octets fresh) old table s trace new new_table is)
 came_up meaning entries (input.Start serial entry fresh) old table s trace new new_table is up = neither (goes_up s) _ up (steps_up meaning entries (ike.Start serial entry fresh) old table s trace new new_table is)
@@ -270,7 +270,7 @@ one_outcome : (a b : Outcome) → Some a ≡ Some b → a ≡ b
 one_outcome a b is = cc
 
 -- what is said tells the outcome
-told_outcome : (s : Said) (a b : Outcome) → s ≡ said_of_outcome a → s ≡ said_of_outcome b → a ≡ b
+told_outcome : (s : OutputView) (a b : Outcome) → s ≡ view_of_outcome a → s ≡ view_of_outcome b → a ≡ b
 told_outcome s a b one other = one_outcome a b (sym (outcome_back a) ∙ ap outcome_of_said (sym one ∙ other) ∙ outcome_back b)
 
 there_too : {C : Type 0} (ps : List (Passage C)) (place : ℕ) (p : Passage C) → slice_get ps place ≡ Some p → slice_get (table_passages ps) place ≡ Some (table_passage p)
@@ -287,7 +287,7 @@ module _ {C : Type 0} (facts : DeliveryFacts) (meaning_of : C → Meaning) where
       let t = takes_packet one.octets p one.judges.given (came meaning_of one.octets p is one.judges.given) in
       record { reception = record { packet = one.octets; outcome = t.outcome }; received = t.received; takes = one.judges.takes }
 
-  judged_up : (child number : ℕ) (p : Passage C) (outcome : Outcome) → IsPassage meaning_of p → p.said ≡ said_of_outcome outcome → goes_up (said_of_outcome outcome) ≡ true
+  judged_up : (child number : ℕ) (p : Passage C) (outcome : Outcome) → IsPassage meaning_of p → p.said ≡ view_of_outcome outcome → goes_up (view_of_outcome outcome) ≡ true
       → ((octets : Octets) → Receives p.before.table octets outcome p.after.table → TakesNumberAt p.before.table octets child number p.after.table) → JudgesOne child number p
   judged_up child number p outcome is said up takes =
       let packet = came_up (meaning_of p.before.caller) p.before.entries p.given p.before.machine p.before.table p.said is.steps.trace p.after.machine p.after.table is.steps.traces.does (ap goes_up said ∙ up) in
@@ -328,7 +328,7 @@ module _ {C : Type 0} (facts : DeliveryFacts) (meaning_of : C → Meaning) where
         (λ child number j. none child number (to_gateway child number p (passage_at place p there) j)) in
         record {
           fault = away.fault;
-          said = t.said ∙ ap said_of_outcome away.dropped;
+          said = t.said ∙ ap view_of_outcome away.dropped;
           before_judging = away.before_judging;
           unchanged = t.kept ∙ ap (λ (d : Database). record p.before { table = d }) away.unchanged;
         }

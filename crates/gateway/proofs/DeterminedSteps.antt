@@ -22,7 +22,7 @@ use Rattle.traffic.specs.Receiving.{Receives}
 use Rattle.traffic.specs.Sending.{Sends}
 use Rattle.gateway.specs.Contents.{state_content}
 use Rattle.gateway.specs.Lengths.{IsGiven}
-use Rattle.gateway.specs.Outputs.{wants_memory, said, said_by_ike, said_of_outcome, Refused, Said}
+use Rattle.gateway.specs.Outputs.{wants_memory, output_view, view_of_ike, view_of_outcome, Refused, OutputView}
 use Rattle.gateway.specs.Runs.{Runs, StepsAs}
 use Rattle.gateway.specs.States.{State}
 use Rattle.gateway.specs.Steps.{AdmitsPacket, AnswersIke, DoesInput, LeavesIke, ReceivesPacket, RefusesIke, SendsPacket, Steps, StepsIke, Traces}
@@ -60,7 +60,7 @@ pub record Laws : Type 0 where
   pub prepared : (old new : Database) → IsAsBefore old new → table_content new ≡ table_content old
 
 -- what is said and told, and what is held
-pub record SameDoing (one two : Said) (trace other : Trace) (a b : Machine) (a_table b_table : Database) : Type 0 where
+pub record SameDoing (one two : OutputView) (trace other : Trace) (a b : Machine) (a_table b_table : Database) : Type 0 where
   pub said_is : one ≡ two
   pub traced : trace ≡ other
   pub machine : machine_content a ≡ machine_content b
@@ -71,7 +71,7 @@ clash true one other = cc
 clash false one other = cc
 
 module _ (laws : Laws) (meaning : Meaning) (entries : List Entry) (old other : Machine) (table another : Database) (same : machine_content old ≡ machine_content other) (alike : table_content table ≡ table_content another)
-    (one two : Said) (trace mark : Trace) (a b : Machine) (a_table b_table : Database) (first : wants_memory one ≡ false) (second : wants_memory two ≡ false) where
+    (one two : OutputView) (trace mark : Trace) (a b : Machine) (a_table b_table : Database) (first : wants_memory one ≡ false) (second : wants_memory two ≡ false) where
   -- ---- the machine of IKE
 
   both_answer : (given : ike.InputView) → IsTold meaning given → HoldWholeKeys old.held → AnswersIke meaning entries given old table one trace a a_table → AnswersIke meaning entries given other another two mark b b_table
@@ -79,7 +79,7 @@ module _ (laws : Laws) (meaning : Meaning) (entries : List Entry) (old other : M
   both_answer given told whole is also =
       let end = laws.ike.steps meaning entries given old other a b table another a_table b_table is.stepped also.stepped told whole same alike is.steps also.steps in
       record {
-        said_is = is.output ∙ ap (λ (s : Stepped). said_by_ike s.output) end.0 ∙ sym also.output;
+        said_is = is.output ∙ ap (λ (s : Stepped). view_of_ike s.output) end.0 ∙ sym also.output;
         traced = is.traced ∙ ap (λ (s : Stepped). s.trace) end.0 ∙ sym also.traced;
         machine = end.1;
         table = end.2;
@@ -127,7 +127,7 @@ module _ (laws : Laws) (meaning : Meaning) (entries : List Entry) (old other : M
   one_arrival packet is also =
       let here = laws.packets.received_here another table b_table packet also.1.outcome (sym alike) also.1.receives in
       let end = laws.packets.received table a_table (record b_table { room = table.room }) packet is.1.outcome also.1.outcome is.1.receives here in
-      left_alone is.0 also.0 (is.1.output ∙ ap said_of_outcome end.0 ∙ sym also.1.output) (ap table_content end.1)
+      left_alone is.0 also.0 (is.1.output ∙ ap view_of_outcome end.0 ∙ sym also.1.output) (ap table_content end.1)
 
   one_departure : (packet : Octets) → LeavesIke old trace a × SendsPacket entries table packet one a_table → LeavesIke other mark b × SendsPacket entries another packet two b_table → SameDoing one two trace mark a b a_table b_table
   one_departure packet is also = elim is.1 [
@@ -135,7 +135,7 @@ module _ (laws : Laws) (meaning : Meaning) (entries : List Entry) (old other : M
       | inl too ↦
           let here = laws.packets.sent_here another table b_table entries packet too.outcome (sym alike) too.sends in
           let end = laws.packets.sent table a_table (record b_table { room = table.room }) entries packet sends.outcome too.outcome sends.sends here in
-          left_alone is.0 also.0 (sends.output ∙ ap said_of_outcome end.0 ∙ sym too.output) (ap table_content end.1)
+          left_alone is.0 also.0 (sends.output ∙ ap view_of_outcome end.0 ∙ sym too.output) (ap table_content end.1)
       | inr lacks ↦ absurd (clash (wants_memory two) (ap wants_memory lacks.output) second)
     ]
     | inr lacks ↦ absurd (clash (wants_memory one) (ap wants_memory lacks.output) first)
@@ -144,7 +144,7 @@ module _ (laws : Laws) (meaning : Meaning) (entries : List Entry) (old other : M
   one_entry : (packet : Octets) → LeavesIke old trace a × AdmitsPacket entries packet one × (a_table ≡ table) → LeavesIke other mark b × AdmitsPacket entries packet two × (b_table ≡ another) → SameDoing one two trace mark a b a_table b_table
   one_entry packet is also =
       let outcome = laws.packets.admitted entries packet is.1.outcome also.1.outcome is.1.admits also.1.admits in
-      left_alone is.0 also.0 (is.1.output ∙ ap said_of_outcome outcome ∙ sym also.1.output) (ap table_content is.2 ∙ alike ∙ sym (ap table_content also.2))
+      left_alone is.0 also.0 (is.1.output ∙ ap view_of_outcome outcome ∙ sym also.1.output) (ap table_content is.2 ∙ alike ∙ sym (ap table_content also.2))
 
   one_doing : (given : Input) → IsGiven meaning given → HoldWholeKeys old.held → DoesInput meaning entries given old table one trace a a_table → DoesInput meaning entries given other another two mark b b_table
       → SameDoing one two trace mark a b a_table b_table
@@ -171,7 +171,7 @@ kept_rest {C} old other a b same is also machine table =
     ∙ ap (λ (t : Database). record (state_content other) { machine = machine_content b.machine; table = t }) table
     ∙ sym (ap state_content also)
 
-pub one_trace : {C : Type 0} → Laws → (meaning : Meaning) (given : Input) (old other a b : State C) (one two : Said) (trace mark : Trace)
+pub one_trace : {C : Type 0} → Laws → (meaning : Meaning) (given : Input) (old other a b : State C) (one two : OutputView) (trace mark : Trace)
     → IsGiven meaning given → HoldWholeKeys old.machine.held → state_content old ≡ state_content other → wants_memory one ≡ false → wants_memory two ≡ false
     → Traces meaning given old one trace a → Traces meaning given other two mark b → (one ≡ two) × (trace ≡ mark) × (state_content a ≡ state_content b)
 one_trace {C} laws meaning given old other a b one two trace mark told whole same first second is also =
@@ -181,7 +181,7 @@ one_trace {C} laws meaning given old other a b one two trace mark told whole sam
     given told whole is.does does in
     (end.said_is, end.traced, kept_rest old other a b same is.kept also.kept end.machine end.table)
 
-pub one_step : {C : Type 0} → Laws → (meaning : Meaning) (given : Input) (old other a b : State C) (one two : Said)
+pub one_step : {C : Type 0} → Laws → (meaning : Meaning) (given : Input) (old other a b : State C) (one two : OutputView)
     → IsGiven meaning given → HoldWholeKeys old.machine.held → state_content old ≡ state_content other → wants_memory one ≡ false → wants_memory two ≡ false
     → Steps meaning given old one a → Steps meaning given other two b → (one ≡ two) × (state_content a ≡ state_content b)
 one_step {C} laws meaning given old other a b one two told whole same first second is also =
@@ -193,12 +193,12 @@ one_step {C} laws meaning given old other a b one two told whole same first seco
 machine_whole : (old new : Machine) → new ≡ old → HoldWholeKeys old.held → HoldWholeKeys new.held
 machine_whole old new same whole = subst (λ (m : Machine). HoldWholeKeys m.held) (sym same) whole
 
-ike_whole : IkeLaws → (meaning : Meaning) (entries : List Entry) (given : ike.InputView) (old : Machine) (table : Database) (s : Said) (trace : Trace) (new : Machine) (new_table : Database) → HoldWholeKeys old.held
+ike_whole : IkeLaws → (meaning : Meaning) (entries : List Entry) (given : ike.InputView) (old : Machine) (table : Database) (s : OutputView) (trace : Trace) (new : Machine) (new_table : Database) → HoldWholeKeys old.held
     → StepsIke meaning entries given old table s trace new new_table → HoldWholeKeys new.held
 ike_whole laws meaning entries given old table s trace new new_table whole (inl is) = laws.whole meaning entries given old table is.stepped new new_table whole is.steps
 ike_whole laws meaning entries given old table s trace new new_table whole (inr is) = machine_whole old new is.machine whole
 
-done_whole : IkeLaws → (meaning : Meaning) (entries : List Entry) (given : Input) (old : Machine) (table : Database) (s : Said) (trace : Trace) (new : Machine) (new_table : Database) → HoldWholeKeys old.held
+done_whole : IkeLaws → (meaning : Meaning) (entries : List Entry) (given : Input) (old : Machine) (table : Database) (s : OutputView) (trace : Trace) (new : Machine) (new_table : Database) → HoldWholeKeys old.held
     → DoesInput meaning entries given old table s trace new new_table → HoldWholeKeys new.held
 done_whole laws meaning entries (input.Ike from octets fresh) old table s trace new new_table whole is = ike_whole laws meaning entries (ike.Message from octets fresh) old table s trace new new_table whole is
 done_whole laws meaning entries (input.Start serial entry fresh) old table s trace new new_table whole is = ike_whole laws meaning entries (ike.Start serial entry fresh) old table s trace new new_table whole is
@@ -211,20 +211,20 @@ done_whole laws meaning entries (input.Esp octets) old table s trace new new_tab
 done_whole laws meaning entries (input.Outward packet) old table s trace new new_table whole is = machine_whole old new is.0.machine whole
 done_whole laws meaning entries (input.Inward packet) old table s trace new new_table whole is = machine_whole old new is.0.machine whole
 
-pub step_whole : {C : Type 0} → IkeLaws → (meaning : Meaning) (given : Input) (old : State C) (s : Said) (new : State C) → HoldWholeKeys old.machine.held → Steps meaning given old s new → HoldWholeKeys new.machine.held
+pub step_whole : {C : Type 0} → IkeLaws → (meaning : Meaning) (given : Input) (old : State C) (s : OutputView) (new : State C) → HoldWholeKeys old.machine.held → Steps meaning given old s new → HoldWholeKeys new.machine.held
 step_whole {C} laws meaning given old s new whole is = done_whole laws meaning old.entries given old.machine old.table s is.trace new.machine new.table whole is.traces.does
 
 -- ---- runs
 
 abbrev pub HadMemory : Output → Type 0
-HadMemory o = wants_memory (said o) ≡ false
+HadMemory o = wants_memory (output_view o) ≡ false
 
-said_next : (o p : Output) (os ps : List Output) → said o ≡ said p → map said os ≡ map said ps → map said (o ∷ os) ≡ map said (p ∷ ps)
-said_next o p os ps one others = ap (λ (s : Said). s ∷ map said os) one ∙ ap (λ (l : List Said). said p ∷ l) others
+said_next : (o p : Output) (os ps : List Output) → output_view o ≡ output_view p → map output_view os ≡ map output_view ps → map output_view (o ∷ os) ≡ map output_view (p ∷ ps)
+said_next o p os ps one others = ap (λ (s : OutputView). s ∷ map output_view os) one ∙ ap (λ (l : List OutputView). output_view p ∷ l) others
 
 pub one_run : {C : Type 0} → Laws → (meaning_of : C → Meaning) (meaning : Meaning) (is : List Input) (os ps : List Output) (old other a b : State C) → meaning_of old.caller ≡ meaning
     → AllByRecursion (IsGiven meaning) is → AllByRecursion HadMemory os → AllByRecursion HadMemory ps → HoldWholeKeys old.machine.held → state_content old ≡ state_content other
-    → Runs (StepsAs meaning_of) is os old a → Runs (StepsAs meaning_of) is ps other b → (map said os ≡ map said ps) × (state_content a ≡ state_content b)
+    → Runs (StepsAs meaning_of) is os old a → Runs (StepsAs meaning_of) is ps other b → (map output_view os ≡ map output_view ps) × (state_content a ≡ state_content b)
 one_run {C} laws meaning_of meaning [] [] [] old other a b meant told first second whole same run also = (refl, ap state_content run ∙ same ∙ sym (ap state_content also))
 one_run {C} laws meaning_of meaning [] [] (p ∷ ps) old other a b meant told first second whole same run also = absurd also
 one_run {C} laws meaning_of meaning [] (o ∷ os) ps old other a b meant told first second whole same run also = absurd run
@@ -232,9 +232,9 @@ one_run {C} laws meaning_of meaning (i ∷ is) [] ps old other a b meant told fi
 one_run {C} laws meaning_of meaning (i ∷ is) (o ∷ os) [] old other a b meant told first second whole same run also = absurd also
 one_run {C} laws meaning_of meaning (i ∷ is) (o ∷ os) (p ∷ ps) old other a b meant told first second whole same run also =
     let callers : old.caller ≡ other.caller = ap (λ (s : State C). s.caller) same in
-    let mine : Steps meaning i old (said o) run.0 = subst (λ (m : Meaning). Steps m i old (said o) run.0) meant run.1.steps in
-    let theirs : Steps meaning i other (said p) also.0 = subst (λ (m : Meaning). Steps m i other (said p) also.0) (ap meaning_of (sym callers) ∙ meant) also.1.steps in
+    let mine : Steps meaning i old (output_view o) run.0 = subst (λ (m : Meaning). Steps m i old (output_view o) run.0) meant run.1.steps in
+    let theirs : Steps meaning i other (output_view p) also.0 = subst (λ (m : Meaning). Steps m i other (output_view p) also.0) (ap meaning_of (sym callers) ∙ meant) also.1.steps in
     let stays : run.0.caller ≡ old.caller = ap (λ (s : State C). s.caller) mine.traces.kept in
-    let here = one_step laws meaning i old other run.0 also.0 (said o) (said p) told.0 whole same first.0 second.0 mine theirs in
-    let rest = one_run laws meaning_of meaning is os ps run.0 also.0 a b (ap meaning_of stays ∙ meant) told.1 first.1 second.1 (step_whole laws.ike meaning i old (said o) run.0 whole mine) here.1 run.2 also.2 in
+    let here = one_step laws meaning i old other run.0 also.0 (output_view o) (output_view p) told.0 whole same first.0 second.0 mine theirs in
+    let rest = one_run laws meaning_of meaning is os ps run.0 also.0 a b (ap meaning_of stays ∙ meant) told.1 first.1 second.1 (step_whole laws.ike meaning i old (output_view o) run.0 whole mine) here.1 run.2 also.2 in
     (said_next o p os ps here.0 rest.0, rest.1)

@@ -27,7 +27,7 @@ use Rattle.traffic.specs.Admitting.{Admits}
 use Rattle.traffic.specs.Outcomes as traffic
 use Rattle.traffic.specs.Receiving.{Receives}
 use Rattle.traffic.specs.Sending.{Sends}
-use Rattle.gateway.specs.Outputs.{said_by_ike, said_of_outcome, FewAgain, FewSelectors, FitsChild, FitsDatagram, Said}
+use Rattle.gateway.specs.Outputs.{view_of_ike, view_of_outcome, FewAgain, FewSelectors, FitsChild, FitsDatagram, OutputView}
 use Rattle.gateway.specs.States.{State}
 use Rattle.gateway.specs.Storing.{again_by}
 use Rattle.gateway.specs.Steps.{DoesInput, SendsPacket, StepsIke, Traces}
@@ -43,7 +43,7 @@ pub record SentLaws : Type 0 where
   pub openable : (a : Association) (n next : ℕ) (payload b : List ℕ) → IsShortestPacket a n next payload b → FitsPacket payload → IsOpenable a n next payload b
 
 said_fits : (output : IkeOutput) → ((octets : Octets) → octets_in output ≡ Some octets → length octets ≤ MESSAGE_LIMIT)
-    → ((ticked : Ticked) → output ≡ made.Ticked ticked → All (λ (r : Resent). length r.octets ≤ MESSAGE_LIMIT) ticked.requests) → FitsDatagram (said_by_ike output)
+    → ((ticked : Ticked) → output ≡ made.Ticked ticked → All (λ (r : Resent). length r.octets ≤ MESSAGE_LIMIT) ticked.requests) → FitsDatagram (view_of_ike output)
 said_fits (made.Reply octets closed) short again = let few = short octets refl in omega arith
 said_fits (made.Repeat octets) short again = let few = short octets refl in omega arith
 said_fits (made.Request serial octets) short again = let few = short octets refl in omega arith
@@ -52,14 +52,14 @@ said_fits (made.Ticked ticked) short again = again ticked refl
 said_fits made.Done short again = tt
 said_fits (made.Dropped fault) short again = tt
 
-by_ike_fits : (laws : SentLaws) (meaning : Meaning) (entries : List Entry) (given : ike.InputView) (old : Machine) (table : Database) (s : Said) (trace : Trace) (new : Machine) (new_table : Database)
+by_ike_fits : (laws : SentLaws) (meaning : Meaning) (entries : List Entry) (given : ike.InputView) (old : Machine) (table : Database) (s : OutputView) (trace : Trace) (new : Machine) (new_table : Database)
     → IsSoundMachine old table → StepsIke meaning entries given old table s trace new new_table → FitsDatagram s
 by_ike_fits laws meaning entries given old table s trace new new_table sound (inl a) =
     subst FitsDatagram (sym a.output) (said_fits a.stepped.output (λ octets is. laws.short meaning entries given old table a.stepped new new_table octets sound a.steps is)
     (λ ticked is. laws.again meaning entries given old table a.stepped new new_table ticked sound a.steps is))
 by_ike_fits laws meaning entries given old table s trace new new_table sound (inr r) = subst FitsDatagram (sym r.output) tt
 
-received_fits : (old : Database) (packet : Octets) (outcome : traffic.Outcome) (new : Database) → Receives old packet outcome new → FitsDatagram (said_of_outcome outcome)
+received_fits : (old : Database) (packet : Octets) (outcome : traffic.Outcome) (new : Database) → Receives old packet outcome new → FitsDatagram (view_of_outcome outcome)
 received_fits old packet (traffic.Up child number inner) new is = tt
 received_fits old packet (traffic.Dummy child number) new is = tt
 received_fits old packet (traffic.Sealed child number octets) new is = absurd is
@@ -71,7 +71,7 @@ packet_fits : (laws : SentLaws) (a : Association) (n next : ℕ) (payload packet
 packet_fits laws a n next payload packet octets same shortest fits =
     subst (λ (b : List ℕ). length b ≤ 16664) (sym same) (laws.openable a n next payload packet shortest fits).whole.most
 
-sent_fits : (laws : SentLaws) (entries : List Entry) (old : Database) (packet : Octets) (outcome : traffic.Outcome) (new : Database) → Sends old entries packet outcome new → FitsDatagram (said_of_outcome outcome)
+sent_fits : (laws : SentLaws) (entries : List Entry) (old : Database) (packet : Octets) (outcome : traffic.Outcome) (new : Database) → Sends old entries packet outcome new → FitsDatagram (view_of_outcome outcome)
 sent_fits laws entries old packet (traffic.Up child number inner) new is = tt
 sent_fits laws entries old packet (traffic.Dummy child number) new is = tt
 sent_fits laws entries old packet (traffic.Sealed child number octets) new is =
@@ -81,11 +81,11 @@ sent_fits laws entries old packet (traffic.Clear octets) new is = tt
 sent_fits laws entries old packet traffic.Discarded new is = tt
 sent_fits laws entries old packet (traffic.Dropped fault) new is = tt
 
-sends_fit : (laws : SentLaws) (entries : List Entry) (old : Database) (packet : Octets) (s : Said) (new : Database) → SendsPacket entries old packet s new → FitsDatagram s
+sends_fit : (laws : SentLaws) (entries : List Entry) (old : Database) (packet : Octets) (s : OutputView) (new : Database) → SendsPacket entries old packet s new → FitsDatagram s
 sends_fit laws entries old packet s new (inl m) = subst FitsDatagram (sym m.output) (sent_fits laws entries old packet m.outcome new m.sends)
 sends_fit laws entries old packet s new (inr m) = subst FitsDatagram (sym m.output) tt
 
-admitted_fits : (entries : List Entry) (packet : Octets) (outcome : traffic.Outcome) → Admits entries packet outcome → FitsDatagram (said_of_outcome outcome)
+admitted_fits : (entries : List Entry) (packet : Octets) (outcome : traffic.Outcome) → Admits entries packet outcome → FitsDatagram (view_of_outcome outcome)
 admitted_fits entries packet (traffic.Up child number inner) is = tt
 admitted_fits entries packet (traffic.Dummy child number) is = tt
 admitted_fits entries packet (traffic.Sealed child number octets) is = absurd is
@@ -93,7 +93,7 @@ admitted_fits entries packet (traffic.Clear octets) is = tt
 admitted_fits entries packet traffic.Discarded is = tt
 admitted_fits entries packet (traffic.Dropped fault) is = tt
 
-input_fits : (laws : SentLaws) (meaning : Meaning) (entries : List Entry) (given : Input) (old : Machine) (table : Database) (s : Said) (trace : Trace) (new : Machine) (new_table : Database)
+input_fits : (laws : SentLaws) (meaning : Meaning) (entries : List Entry) (given : Input) (old : Machine) (table : Database) (s : OutputView) (trace : Trace) (new : Machine) (new_table : Database)
     → IsSoundMachine old table → DoesInput meaning entries given old table s trace new new_table → FitsDatagram s
 input_fits laws meaning entries (input.Ike from octets fresh) old table s trace new new_table sound is = by_ike_fits laws meaning entries (ike.Message from octets fresh) old table s trace new new_table sound is
 input_fits laws meaning entries (input.Start serial entry fresh) old table s trace new new_table sound is = by_ike_fits laws meaning entries (ike.Start serial entry fresh) old table s trace new new_table sound is
@@ -108,7 +108,7 @@ input_fits laws meaning entries (input.Outward packet) old table s trace new new
 input_fits laws meaning entries (input.Inward packet) old table s trace new new_table sound is =
     subst FitsDatagram (sym is.1.output) (admitted_fits entries packet is.1.outcome is.1.admits)
 
-pub step_fits : {C : Type 0} (laws : SentLaws) (meaning : Meaning) (given : Input) (s : Said) (trace : Trace) (old new : State C)
+pub step_fits : {C : Type 0} (laws : SentLaws) (meaning : Meaning) (given : Input) (s : OutputView) (trace : Trace) (old new : State C)
     → IsSoundMachine old.machine old.table → Traces meaning given old s trace new → FitsDatagram s
 step_fits {C} laws meaning given s trace old new sound is = input_fits laws meaning old.entries given old.machine old.table s trace new.machine new.table sound is.does
 
@@ -118,7 +118,7 @@ AgainLaw =
     (meaning : Meaning) (entries : List Entry) (given : ike.InputView) (old : Machine) (table : Database) (stepped : Stepped) (new : Machine) (new_table : Database) (ticked : Ticked)
     → ike.Steps meaning entries given old table stepped new new_table → stepped.output ≡ made.Ticked ticked → (ike.is_tick given ≡ true) × (length ticked.requests ≤ outstanding_count old.held.associations)
 
-few_said : (output : IkeOutput) (most : ℕ) → ((ticked : Ticked) → output ≡ made.Ticked ticked → length ticked.requests ≤ most) → FewAgain (said_by_ike output) most
+few_said : (output : IkeOutput) (most : ℕ) → ((ticked : Ticked) → output ≡ made.Ticked ticked → length ticked.requests ≤ most) → FewAgain (view_of_ike output) most
 few_said (made.Reply octets closed) most few = tt
 few_said (made.Repeat octets) most few = tt
 few_said (made.Request serial octets) most few = tt
@@ -127,19 +127,19 @@ few_said (made.Ticked ticked) most few = few ticked refl
 few_said made.Done most few = tt
 few_said (made.Dropped fault) most few = tt
 
-few_by_ike : (law : AgainLaw) (meaning : Meaning) (entries : List Entry) (given : ike.InputView) (old : Machine) (table : Database) (s : Said) (trace : Trace) (new : Machine) (new_table : Database) (most : ℕ)
+few_by_ike : (law : AgainLaw) (meaning : Meaning) (entries : List Entry) (given : ike.InputView) (old : Machine) (table : Database) (s : OutputView) (trace : Trace) (new : Machine) (new_table : Database) (most : ℕ)
     → ((count : ℕ) → ike.is_tick given ≡ true → count ≤ outstanding_count old.held.associations → count ≤ most) → StepsIke meaning entries given old table s trace new new_table → FewAgain s most
 few_by_ike law meaning entries given old table s trace new new_table most bound (inl a) =
-    subst (λ (x : Said). FewAgain x most) (sym a.output)
+    subst (λ (x : OutputView). FewAgain x most) (sym a.output)
     (few_said a.stepped.output most (λ ticked is.
     let few = law meaning entries given old table a.stepped new new_table ticked a.steps is in
     bound (length ticked.requests) few.0 few.1))
-few_by_ike law meaning entries given old table s trace new new_table most bound (inr r) = subst (λ (x : Said). FewAgain x most) (sym r.output) tt
+few_by_ike law meaning entries given old table s trace new new_table most bound (inr r) = subst (λ (x : OutputView). FewAgain x most) (sym r.output) tt
 
 no_tick : (count most held : ℕ) → false ≡ true → count ≤ held → count ≤ most
 no_tick count most held e less = absurd cc
 
-few_of_outcome : (outcome : traffic.Outcome) (most : ℕ) → FewAgain (said_of_outcome outcome) most
+few_of_outcome : (outcome : traffic.Outcome) (most : ℕ) → FewAgain (view_of_outcome outcome) most
 few_of_outcome (traffic.Up child number inner) most = tt
 few_of_outcome (traffic.Dummy child number) most = tt
 few_of_outcome (traffic.Sealed child number octets) most = tt
@@ -147,11 +147,11 @@ few_of_outcome (traffic.Clear octets) most = tt
 few_of_outcome traffic.Discarded most = tt
 few_of_outcome (traffic.Dropped fault) most = tt
 
-few_sent : (entries : List Entry) (old : Database) (packet : Octets) (s : Said) (new : Database) (most : ℕ) → SendsPacket entries old packet s new → FewAgain s most
-few_sent entries old packet s new most (inl m) = subst (λ (x : Said). FewAgain x most) (sym m.output) (few_of_outcome m.outcome most)
-few_sent entries old packet s new most (inr m) = subst (λ (x : Said). FewAgain x most) (sym m.output) tt
+few_sent : (entries : List Entry) (old : Database) (packet : Octets) (s : OutputView) (new : Database) (most : ℕ) → SendsPacket entries old packet s new → FewAgain s most
+few_sent entries old packet s new most (inl m) = subst (λ (x : OutputView). FewAgain x most) (sym m.output) (few_of_outcome m.outcome most)
+few_sent entries old packet s new most (inr m) = subst (λ (x : OutputView). FewAgain x most) (sym m.output) tt
 
-input_few : (law : AgainLaw) (meaning : Meaning) (entries : List Entry) (given : Input) (old : Machine) (table : Database) (s : Said) (trace : Trace) (new : Machine) (new_table : Database)
+input_few : (law : AgainLaw) (meaning : Meaning) (entries : List Entry) (given : Input) (old : Machine) (table : Database) (s : OutputView) (trace : Trace) (new : Machine) (new_table : Database)
     → DoesInput meaning entries given old table s trace new new_table → FewAgain s (again_by given old)
 input_few law meaning entries (input.Ike from octets fresh) old table s trace new new_table is =
     few_by_ike law meaning entries (ike.Message from octets fresh) old table s trace new new_table 0 (λ n e less. no_tick n 0 (outstanding_count old.held.associations) e less) is
@@ -167,11 +167,11 @@ input_few law meaning entries (input.Secret secret) old table s trace new new_ta
     few_by_ike law meaning entries (ike.Secret secret) old table s trace new new_table 0 (λ n e less. no_tick n 0 (outstanding_count old.held.associations) e less) is
 input_few law meaning entries (input.Tick moment) old table s trace new new_table is =
     few_by_ike law meaning entries (ike.Tick moment) old table s trace new new_table (outstanding_count old.held.associations) (λ n e less. less) is
-input_few law meaning entries (input.Esp octets) old table s trace new new_table is = subst (λ (x : Said). FewAgain x 0) (sym is.1.output) (few_of_outcome is.1.outcome 0)
+input_few law meaning entries (input.Esp octets) old table s trace new new_table is = subst (λ (x : OutputView). FewAgain x 0) (sym is.1.output) (few_of_outcome is.1.outcome 0)
 input_few law meaning entries (input.Outward packet) old table s trace new new_table is = few_sent entries table packet s new_table 0 is.1
-input_few law meaning entries (input.Inward packet) old table s trace new new_table is = subst (λ (x : Said). FewAgain x 0) (sym is.1.output) (few_of_outcome is.1.outcome 0)
+input_few law meaning entries (input.Inward packet) old table s trace new new_table is = subst (λ (x : OutputView). FewAgain x 0) (sym is.1.output) (few_of_outcome is.1.outcome 0)
 
-pub step_few : {C : Type 0} (law : AgainLaw) (meaning : Meaning) (given : Input) (s : Said) (trace : Trace) (old new : State C) → Traces meaning given old s trace new → FewAgain s (again_by given old.machine)
+pub step_few : {C : Type 0} (law : AgainLaw) (meaning : Meaning) (given : Input) (s : OutputView) (trace : Trace) (old new : State C) → Traces meaning given old s trace new → FewAgain s (again_by given old.machine)
 step_few {C} law meaning given s trace old new is = input_few law meaning old.entries given old.machine old.table s trace new.machine new.table is.does
 
 -- what the machine of IKE says of the child that a step made
@@ -190,14 +190,14 @@ made_fits (Some m) pairs few = few m refl
 none_fits : (trace : Trace) (pairs : PairMap) → trace ≡ no_trace → FitsChild trace.child pairs
 none_fits trace pairs is = subst (λ (t : Trace). FitsChild t.child pairs) (sym is) tt
 
-by_ike_made : (laws : MadeLaws) (meaning : Meaning) (entries : List Entry) (given : ike.InputView) (old : Machine) (table : Database) (s : Said) (trace : Trace) (new : Machine) (new_table : Database)
+by_ike_made : (laws : MadeLaws) (meaning : Meaning) (entries : List Entry) (given : ike.InputView) (old : Machine) (table : Database) (s : OutputView) (trace : Trace) (new : Machine) (new_table : Database)
     → IsSoundTable table → IsSoundMachine old table → StepsIke meaning entries given old table s trace new new_table → FitsChild trace.child new_table.pairs
 by_ike_made laws meaning entries given old table s trace new new_table sound_table sound (inl a) =
     subst (λ (t : Trace). FitsChild t.child new_table.pairs) (sym a.traced)
     (made_fits a.stepped.trace.child new_table.pairs (λ child is. few_in (pair_at new_table.pairs child.serial) (λ pair there. laws.few meaning entries given old table a.stepped new new_table child pair sound_table sound a.steps is there)))
 by_ike_made laws meaning entries given old table s trace new new_table sound_table sound (inr r) = none_fits trace new_table.pairs r.traced
 
-input_made : (laws : MadeLaws) (meaning : Meaning) (entries : List Entry) (given : Input) (old : Machine) (table : Database) (s : Said) (trace : Trace) (new : Machine) (new_table : Database)
+input_made : (laws : MadeLaws) (meaning : Meaning) (entries : List Entry) (given : Input) (old : Machine) (table : Database) (s : OutputView) (trace : Trace) (new : Machine) (new_table : Database)
     → IsSoundTable table → IsSoundMachine old table → DoesInput meaning entries given old table s trace new new_table → FitsChild trace.child new_table.pairs
 input_made laws meaning entries (input.Ike from octets fresh) old table s trace new new_table st sm is = by_ike_made laws meaning entries (ike.Message from octets fresh) old table s trace new new_table st sm is
 input_made laws meaning entries (input.Start serial entry fresh) old table s trace new new_table st sm is = by_ike_made laws meaning entries (ike.Start serial entry fresh) old table s trace new new_table st sm is
@@ -210,6 +210,6 @@ input_made laws meaning entries (input.Esp octets) old table s trace new new_tab
 input_made laws meaning entries (input.Outward packet) old table s trace new new_table st sm is = none_fits trace new_table.pairs is.0.traced
 input_made laws meaning entries (input.Inward packet) old table s trace new new_table st sm is = none_fits trace new_table.pairs is.0.traced
 
-pub step_made : {C : Type 0} (laws : MadeLaws) (meaning : Meaning) (given : Input) (s : Said) (trace : Trace) (old new : State C)
+pub step_made : {C : Type 0} (laws : MadeLaws) (meaning : Meaning) (given : Input) (s : OutputView) (trace : Trace) (old new : State C)
     → IsSoundTable old.table → IsSoundMachine old.machine old.table → Traces meaning given old s trace new → FitsChild trace.child new.table.pairs
 step_made {C} laws meaning given s trace old new st sm is = input_made laws meaning old.entries given old.machine old.table s trace new.machine new.table st sm is.does

@@ -9,7 +9,7 @@ use Rattle.flows.specs.declared.memory.Answer.{Answer}
 use Rattle.flows.specs.Memory.{AllRight, HoldsNone}
 use Rattle.flows.specs.Staying.{NoneComes, WasThere}
 use Rattle.ike.specs.Machines.{Held}
-use Rattle.ike.specs.Pairs.{IsMarked}
+use Rattle.ike.specs.Pairs.{BecameDeleting}
 use Rattle.ike.specs.Tracing.{IsTraced, NamesChild}
 use Rattle.ike.specs.declared.output.MadeChild.{MadeChild}
 use Rattle.ike.specs.declared.output.Stepped.{Stepped}
@@ -17,7 +17,7 @@ use Rattle.ike.specs.declared.output.Stepped.{Stepped}
 itself : (pairs : PairMap) (serial : ℕ) (pair : Pair) → pair_at pairs serial ≡ Some pair → WasThere pairs serial pair
 itself pairs serial pair there = record { was = pair; there = there; local = refl; remote = refl; live = λ live. live }
 
-was_marked : (old : Database) (serial : ℕ) (pair : Pair) → IsMarked old serial pair → WasThere old.pairs serial pair
+was_marked : (old : Database) (serial : ℕ) (pair : Pair) → BecameDeleting old serial pair → WasThere old.pairs serial pair
 was_marked old serial pair is = record {
   was = is.was;
   there = is.stood;

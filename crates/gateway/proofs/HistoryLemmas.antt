@@ -21,7 +21,7 @@ use Rattle.ike.specs.declared.output.Stepped.{Stepped}
 use Rattle.ike.specs.declared.output.Trace.{Trace}
 use Rattle.gateway.specs.Histories.{IsHistory, IsPassage, IsTrail, Passage}
 use Rattle.traffic.specs.Outcomes as traffic
-use Rattle.gateway.specs.Outputs.{said, said_by_ike, said_of_outcome, Refused, Repeat, Reply, Said, Ticked}
+use Rattle.gateway.specs.Outputs.{output_view, view_of_ike, view_of_outcome, Refused, Repeat, Reply, OutputView, Ticked}
 use Rattle.gateway.specs.Requests.{for_ike}
 use Rattle.gateway.specs.Runs.{Runs, StepsAs}
 use Rattle.gateway.specs.States.{association_in, State}
@@ -40,10 +40,10 @@ pub record Told {C : Type 0} (meaning_of : C → Meaning) (is : List Input) (os 
 told_first : {C : Type 0} (meaning_of : C → Meaning) (i : Input) (is : List Input) (o : Output) (os : List Output) (old between new : State C)
     → StepsAs meaning_of i old o between → Told meaning_of is os between new → Told meaning_of (i ∷ is) (o ∷ os) old new
 told_first {C} meaning_of i is o os old between new step rest = record {
-  passages = record { before = old; given = i; said = said o; after = between } ∷ rest.passages;
+  passages = record { before = old; given = i; said = output_view o; after = between } ∷ rest.passages;
   history = record {
     takes = ap (λ (xs : List Input). i ∷ xs) rest.history.takes;
-    says = ap (λ (xs : List Said). said o ∷ xs) rest.history.says;
+    says = ap (λ (xs : List OutputView). output_view o ∷ xs) rest.history.says;
     trail = (refl, record { sound = step.sound; steps = step.steps }, rest.history.trail);
   };
 }
@@ -94,13 +94,13 @@ exists {C} (p ∷ ps) (suc k) less = let rest = exists ps k (omega (arith, less)
 -- ---- what a step is to the machine of IKE
 
 -- what may come of a packet
-abbrev pub IsOfPacket : Said → Type 0
+abbrev pub IsOfPacket : OutputView → Type 0
 IsOfPacket (Reply octets closed) = ⊥
 IsOfPacket (Repeat octets) = ⊥
 IsOfPacket (Ticked requests closed) = ⊥
 IsOfPacket _ = Unit {0}
 
-outcome_said : (outcome : traffic.Outcome) → IsOfPacket (said_of_outcome outcome)
+outcome_said : (outcome : traffic.Outcome) → IsOfPacket (view_of_outcome outcome)
 outcome_said (traffic.Up child number packet) = tt
 outcome_said (traffic.Dummy child number) = tt
 outcome_said (traffic.Sealed child number octets) = tt
@@ -108,18 +108,18 @@ outcome_said (traffic.Clear packet) = tt
 outcome_said traffic.Discarded = tt
 outcome_said (traffic.Dropped fault) = tt
 
-sent_said : (entries : List Entry) (old : Database) (packet : List ℕ) (s : Said) (new : Database) → SendsPacket entries old packet s new → IsOfPacket s
+sent_said : (entries : List Entry) (old : Database) (packet : List ℕ) (s : OutputView) (new : Database) → SendsPacket entries old packet s new → IsOfPacket s
 sent_said entries old packet s new (inl sends) = subst IsOfPacket (sym sends.output) (outcome_said sends.outcome)
 sent_said entries old packet s new (inr lacks) = subst IsOfPacket (sym lacks.output) tt
 
-pub record IkeStep {C : Type 0} (meaning : Meaning) (given : Option ike.InputView) (old : State C) (s : Said) (new : State C) : Type 0 where
+pub record IkeStep {C : Type 0} (meaning : Meaning) (given : Option ike.InputView) (old : State C) (s : OutputView) (new : State C) : Type 0 where
   pub view : ike.InputView
   pub is : given ≡ Some view
   pub stepped : Stepped
   pub steps : ike.Steps meaning old.entries view old.machine old.table stepped new.machine new.table
-  pub output : s ≡ said_by_ike stepped.output
+  pub output : s ≡ view_of_ike stepped.output
 
-pub record IkeRefusal {C : Type 0} (meaning : Meaning) (given : Option ike.InputView) (old : State C) (s : Said) (new : State C) : Type 0 where
+pub record IkeRefusal {C : Type 0} (meaning : Meaning) (given : Option ike.InputView) (old : State C) (s : OutputView) (new : State C) : Type 0 where
   pub view : ike.InputView
   pub is : given ≡ Some view
   pub fault : IkeFault
@@ -127,22 +127,22 @@ pub record IkeRefusal {C : Type 0} (meaning : Meaning) (given : Option ike.Input
   pub output : s ≡ Refused (reason.Ike fault)
   pub same : new.machine ≡ old.machine
 
-pub record NotIke {C : Type 0} (given : Option ike.InputView) (old : State C) (s : Said) (new : State C) : Type 0 where
+pub record NotIke {C : Type 0} (given : Option ike.InputView) (old : State C) (s : OutputView) (new : State C) : Type 0 where
   pub is : given ≡ None
   pub same : new.machine ≡ old.machine
   pub said : IsOfPacket s
 
-pub data IkeWay {C : Type 0} (meaning : Meaning) (given : Option ike.InputView) (old : State C) (s : Said) (new : State C) : Type 0 where
+pub data IkeWay {C : Type 0} (meaning : Meaning) (given : Option ike.InputView) (old : State C) (s : OutputView) (new : State C) : Type 0 where
   answered : IkeStep meaning given old s new → IkeWay meaning given old s new
   refused : IkeRefusal meaning given old s new → IkeWay meaning given old s new
   elsewhere : NotIke given old s new → IkeWay meaning given old s new
 
-ike_way : {C : Type 0} (meaning : Meaning) (view : ike.InputView) (old : State C) (s : Said) (trace : Trace) (new : State C)
+ike_way : {C : Type 0} (meaning : Meaning) (view : ike.InputView) (old : State C) (s : OutputView) (trace : Trace) (new : State C)
     → StepsIke meaning old.entries view old.machine old.table s trace new.machine new.table → IkeWay meaning (Some view) old s new
 ike_way {C} meaning view old s trace new (inl is) = answered (record { view = view; is = refl; stepped = is.stepped; steps = is.steps; output = is.output })
 ike_way {C} meaning view old s trace new (inr is) = refused (record { view = view; is = refl; fault = is.fault; refuses = is.refuses; output = is.output; same = is.machine })
 
-pub does_way : {C : Type 0} (meaning : Meaning) (given : Input) (old : State C) (s : Said) (trace : Trace) (new : State C)
+pub does_way : {C : Type 0} (meaning : Meaning) (given : Input) (old : State C) (s : OutputView) (trace : Trace) (new : State C)
     → DoesInput meaning old.entries given old.machine old.table s trace new.machine new.table → IkeWay meaning (for_ike given) old s new
 does_way {C} meaning (input.Ike from octets fresh) old s trace new is = ike_way meaning (ike.Message from octets fresh) old s trace new is
 does_way {C} meaning (input.Start serial entry fresh) old s trace new is = ike_way meaning (ike.Start serial entry fresh) old s trace new is
@@ -205,7 +205,7 @@ same_held a b is = cc
 machine_same : {C : Type 0} (old new : State C) (serial : ℕ) → new.machine ≡ old.machine → association_in new serial ≡ association_in old serial
 machine_same {C} old new serial same = ap (λ (m : Machine). association_of serial m.held.associations) same
 
-way_through : {C : Type 0} (facts : Facts) (meaning : Meaning) (given : Option ike.InputView) (old : State C) (s : Said) (new : State C) (serial : ℕ) (a b : Association)
+way_through : {C : Type 0} (facts : Facts) (meaning : Meaning) (given : Option ike.InputView) (old : State C) (s : OutputView) (new : State C) (serial : ℕ) (a b : Association)
     → IsSoundMachine old.machine old.table → IkeWay meaning given old s new → association_in old serial ≡ Some a → association_in new serial ≡ Some b → Through a b
 way_through {C} facts meaning given old s new serial a b sound (answered is) before after =
     let held : IsHeldThrough serial old.machine.held new.machine.held a b = record { before = before; after = after } in
@@ -220,14 +220,14 @@ way_through {C} facts meaning given old s new serial a b sound (elsewhere is) be
 none_some : {T : Type 0} (x : T) → None ≡ Some x → ⊥
 none_some x is = cc
 
-pub way_begun : {C : Type 0} (facts : Facts) (meaning : Meaning) (given : Option ike.InputView) (old : State C) (s : Said) (new : State C) (serial : ℕ) (b : Association)
+pub way_begun : {C : Type 0} (facts : Facts) (meaning : Meaning) (given : Option ike.InputView) (old : State C) (s : OutputView) (new : State C) (serial : ℕ) (b : Association)
     → IsSoundMachine old.machine old.table → IkeWay meaning given old s new → association_in old serial ≡ None → association_in new serial ≡ Some b
     → (serial ≡ old.machine.held.next) × (b.incoming ≡ first_requests b.role)
 way_begun {C} facts meaning given old s new serial b sound (answered is) before after = facts.begun meaning old.entries is.view old.machine old.table is.stepped new.machine new.table serial b sound is.steps before after
 way_begun {C} facts meaning given old s new serial b sound (refused is) before after = absurd (none_some b (sym before ∙ sym (machine_same old new serial is.same) ∙ after))
 way_begun {C} facts meaning given old s new serial b sound (elsewhere is) before after = absurd (none_some b (sym before ∙ sym (machine_same old new serial is.same) ∙ after))
 
-way_rises : {C : Type 0} (facts : Facts) (meaning : Meaning) (given : Option ike.InputView) (old : State C) (s : Said) (new : State C) → IkeWay meaning given old s new → old.machine.held.next ≤ new.machine.held.next
+way_rises : {C : Type 0} (facts : Facts) (meaning : Meaning) (given : Option ike.InputView) (old : State C) (s : OutputView) (new : State C) → IkeWay meaning given old s new → old.machine.held.next ≤ new.machine.held.next
 way_rises {C} facts meaning given old s new (answered is) = facts.rises meaning old.entries is.view old.machine old.table is.stepped new.machine new.table is.steps
 way_rises {C} facts meaning given old s new (refused is) = omega (arith, ap (λ (m : Machine). m.held.next) is.same)
 way_rises {C} facts meaning given old s new (elsewhere is) = omega (arith, ap (λ (m : Machine). m.held.next) is.same)

@@ -22,7 +22,7 @@ use Rattle.traffic.specs.Sending.{IsDecided, Protects, Sends}
 use Rattle.traffic.specs.declared.fault.PacketFault.{PacketFault}
 use Rattle.traffic.specs.declared.fault.PacketFault.TheVariants.{UnknownAssociation, Esp, Inner, OutsideSelectors}
 use Rattle.gateway.specs.Faults.{is_after_judging_packet}
-use Rattle.gateway.specs.Outputs.{Said, Clear, Dropped, Refused, said_by_ike, said_of_outcome}
+use Rattle.gateway.specs.Outputs.{OutputView, Clear, Dropped, Refused, view_of_ike, view_of_outcome}
 use Rattle.gateway.specs.States.{State}
 use Rattle.gateway.specs.Steps.{AdmitsPacket, DoesInput, GoesSealed, SendsPacket, Steps, StepsIke}
 use Rattle.gateway.specs.declared.fault.Reason.{Reason}
@@ -31,7 +31,7 @@ use Rattle.gateway.specs.declared.input.Input.{Input}
 use Rattle.gateway.specs.declared.input.Input.TheVariants as input
 
 -- the outcome of a packet that went in the clear
-clear_outcome : (outcome : traffic.Outcome) (octets : Octets) → Clear octets ≡ said_of_outcome outcome → outcome ≡ traffic.Clear octets
+clear_outcome : (outcome : traffic.Outcome) (octets : Octets) → Clear octets ≡ view_of_outcome outcome → outcome ≡ traffic.Clear octets
 clear_outcome (traffic.Up child number packet) octets e = absurd (cc e)
 clear_outcome (traffic.Dummy child number) octets e = absurd (cc e)
 clear_outcome (traffic.Sealed child number packet) octets e = absurd (cc e)
@@ -45,7 +45,7 @@ pub record IsDropped (outcome : traffic.Outcome) (why : Reason) : Type 0 where
   pub outcome_is : outcome ≡ traffic.Dropped fault
   pub why_is : why ≡ reason.Packet fault
 
-dropped_outcome : (outcome : traffic.Outcome) (why : Reason) → Dropped why ≡ said_of_outcome outcome → IsDropped outcome why
+dropped_outcome : (outcome : traffic.Outcome) (why : Reason) → Dropped why ≡ view_of_outcome outcome → IsDropped outcome why
 dropped_outcome (traffic.Up child number packet) why e = absurd (cc e)
 dropped_outcome (traffic.Dummy child number) why e = absurd (cc e)
 dropped_outcome (traffic.Sealed child number packet) why e = absurd (cc e)
@@ -53,7 +53,7 @@ dropped_outcome (traffic.Clear packet) why e = absurd (cc e)
 dropped_outcome traffic.Discarded why e = absurd (cc e)
 dropped_outcome (traffic.Dropped fault) why e = record { fault = fault; outcome_is = refl; why_is = cc e }
 
-not_refused : (outcome : traffic.Outcome) (why : Reason) → Refused why ≡ said_of_outcome outcome → ⊥
+not_refused : (outcome : traffic.Outcome) (why : Reason) → Refused why ≡ view_of_outcome outcome → ⊥
 not_refused (traffic.Up child number packet) why e = cc e
 not_refused (traffic.Dummy child number) why e = cc e
 not_refused (traffic.Sealed child number packet) why e = cc e
@@ -61,7 +61,7 @@ not_refused (traffic.Clear packet) why e = cc e
 not_refused traffic.Discarded why e = cc e
 not_refused (traffic.Dropped fault) why e = cc e
 
-not_refused_by_ike : (output : IkeOutput) (why : Reason) → Refused why ≡ said_by_ike output → ⊥
+not_refused_by_ike : (output : IkeOutput) (why : Reason) → Refused why ≡ view_of_ike output → ⊥
 not_refused_by_ike (made.Reply octets closed) why e = cc e
 not_refused_by_ike (made.Repeat octets) why e = cc e
 not_refused_by_ike (made.Request serial octets) why e = cc e
@@ -142,7 +142,7 @@ refused_keeps {C} meaning given why old new s =
     let k = kept_by_refusal meaning old.entries given old.machine old.table why s.trace new.machine new.table s.traces.does in
     (but_the_table old new s.traces.kept k.machine, k.pairs)
 
-pub steps_keep : {C : Type 0} (meaning : Meaning) (given : Input) (said : Said) (old new : State C)
+pub steps_keep : {C : Type 0} (meaning : Meaning) (given : Input) (said : OutputView) (old new : State C)
     → Steps meaning given old said new → (new.entries ≡ old.entries) × (new.caller ≡ old.caller)
 steps_keep {C} meaning given said old new s =
     (ap (λ (g : State C). g.entries) s.traces.kept, ap (λ (g : State C). g.caller) s.traces.kept)
@@ -202,13 +202,13 @@ pub dropped_outward : {C : Type 0} (meaning : Meaning) (packet : Octets) (why : 
 dropped_outward {C} meaning packet why old new s =
     all_kept old new s.traces.kept s.traces.does.0.machine (dropped_keeps old.entries old.table packet why new.table s.traces.does.1)
 
-pub inward_keeps : {C : Type 0} (meaning : Meaning) (packet : Octets) (said : Said) (old new : State C) → Steps meaning (input.Inward packet) old said new → new ≡ old
+pub inward_keeps : {C : Type 0} (meaning : Meaning) (packet : Octets) (said : OutputView) (old new : State C) → Steps meaning (input.Inward packet) old said new → new ≡ old
 inward_keeps {C} meaning packet said old new s = all_kept old new s.traces.kept s.traces.does.0.machine s.traces.does.2
 
 -- a packet that is to be protected
 pub protected_goes_sealed : {C : Type 0} → ((old new : Database) (policy : List Entry) (packet : Octets) (flow : Flow) (outcome : traffic.Outcome)
     → IsDecided policy direction.Outward packet flow Protect → Sends old policy packet outcome new → Protects old flow packet outcome new)
-    → (meaning : Meaning) (packet : Octets) (flow : Flow) (said : Said) (old new : State C) → IsDecided old.entries direction.Outward packet flow Protect
+    → (meaning : Meaning) (packet : Octets) (flow : Flow) (said : OutputView) (old new : State C) → IsDecided old.entries direction.Outward packet flow Protect
     → Steps meaning (input.Outward packet) old said new → GoesSealed flow packet old said new
 protected_goes_sealed {C} law meaning packet flow said old new decided is =
     elim is.traces.does.1 [

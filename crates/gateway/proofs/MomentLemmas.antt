@@ -15,7 +15,7 @@ use Rattle.ike.specs.declared.output.IkeOutput.TheVariants as made
 use Rattle.ike.specs.declared.output.Stepped.{Stepped}
 use Rattle.gateway.specs.Histories.{IsTrail, Passage}
 use Rattle.gateway.specs.Moments.{is_moment, tells_moment, Brings, BringsNone, MomentsComeInTime}
-use Rattle.gateway.specs.Outputs.{said_by_ike, wants_memory, Clear, Counted, Discarded, Done, Dropped, Dummy, Refused, Repeat, Reply, Request, Said, Sealed, Ticked, Up}
+use Rattle.gateway.specs.Outputs.{view_of_ike, wants_memory, Clear, Counted, Discarded, Done, Dropped, Dummy, Refused, Repeat, Reply, Request, OutputView, Sealed, Ticked, Up}
 use Rattle.gateway.specs.Requests.{for_ike}
 use Rattle.gateway.specs.States.{State}
 use Rattle.gateway.specs.declared.input.Input.{Input}
@@ -54,7 +54,7 @@ no_tick : (given : Input) (view : ike.InputView) → is_moment given ≡ false �
 unfolding ticks_in
 no_tick given view none is = sym (ap ticks_in is) ∙ ticks_by given ∙ none
 
-told_by : (o : IkeOutput) → tells_moment (said_by_ike o) ≡ moments.tells_moment o
+told_by : (o : IkeOutput) → tells_moment (view_of_ike o) ≡ moments.tells_moment o
 told_by (made.Reply octets closed) = refl
 told_by (made.Repeat octets) = refl
 told_by (made.Request serial octets) = refl
@@ -63,7 +63,7 @@ told_by (made.Ticked ticked) = refl
 told_by made.Done = refl
 told_by (made.Dropped fault) = refl
 
-told_of_packet : (s : Said) → IsOfPacket s → tells_moment s ≡ false
+told_of_packet : (s : OutputView) → IsOfPacket s → tells_moment s ≡ false
 told_of_packet (Reply octets closed) is = refl
 told_of_packet (Repeat octets) is = refl
 told_of_packet (Request serial octets) is = refl
@@ -95,7 +95,7 @@ module _ {C : Type 0} (facts : MomentFacts) (meaning_of : C → Meaning) where
       let steps : ike.Steps (meaning_of p.before.caller) p.before.entries (ike.Tick moment) p.before.machine p.before.table s.stepped p.after.machine p.after.table =
       subst (λ (v : ike.InputView). ike.Steps (meaning_of p.before.caller) p.before.entries v p.before.machine p.before.table s.stepped p.after.machine p.after.table) view s.steps in
       let comes = facts.comes (meaning_of p.before.caller) p.before.entries moment p.before.machine p.before.table s.stepped p.after.machine p.after.table steps in
-      record { ticked = comes.ticked; said = s.output ∙ ap said_by_ike comes.said; brings = comes.brings; moment = comes.moment }
+      record { ticked = comes.ticked; said = s.output ∙ ap view_of_ike comes.said; brings = comes.brings; moment = comes.moment }
   come_to moment p given had (refused r) =
       let view : r.view ≡ ike.Tick moment = same_view r.view (ike.Tick moment) (sym r.is ∙ given) in
       let refuses : ike.Refuses (meaning_of p.before.caller) p.before.entries (ike.Tick moment) p.before.machine p.before.table r.fault =

@@ -26,7 +26,7 @@ use Rattle.ike.specs.declared.output.Trace.{Trace}
 use Rattle.lockstep.specs.Ends.{request_of, response_of, sent_in, Entry, GoesOutAgain}
 use Rattle.lockstep.specs.Ends as ends
 use Rattle.lockstep.specs.Histories.{AreGenuine, HasRequest, HasResponse}
-use Rattle.gateway.specs.Outputs.{said_by_ike, Said, Refused, Repeat, Reply, Request, Ticked}
+use Rattle.gateway.specs.Outputs.{view_of_ike, OutputView, Refused, Repeat, Reply, Request, Ticked}
 use Rattle.gateway.specs.Requests.{for_ike}
 use Rattle.gateway.specs.States.{State}
 use Rattle.gateway.specs.Steps.{DoesInput, StepsIke}
@@ -90,13 +90,13 @@ moves_genuine others meaning view old serial (Remove ∷ moves) came all = (tt, 
 -- ---- what a step says
 
 -- a message of IKE, but for requests that go out again
-abbrev pub said_octets : Said → Option Octets
+abbrev pub said_octets : OutputView → Option Octets
 said_octets (Reply octets closed) = Some octets
 said_octets (Repeat octets) = Some octets
 said_octets (Request serial octets) = Some octets
 said_octets _ = None
 
-octets_same : (o : IkeOutput) → said_octets (said_by_ike o) ≡ octets_in o
+octets_same : (o : IkeOutput) → said_octets (view_of_ike o) ≡ octets_in o
 octets_same (output.Reply octets closed) = refl
 octets_same (output.Repeat octets) = refl
 octets_same (output.Request serial octets) = refl
@@ -106,7 +106,7 @@ octets_same output.Done = refl
 octets_same (output.Dropped why) = refl
 
 -- the message goes out by this step, and its trace names it
-pub record GoesOut (s : Said) (trace : Trace) (serial : ℕ) (entry : Entry) : Type 0 where
+pub record GoesOut (s : OutputView) (trace : Trace) (serial : ℕ) (entry : Entry) : Type 0 where
   pub octets : said_octets s ≡ Some entry.octets
   pub marked : trace.sent ≡ Some (record { ike = serial; response = entry.response; number = entry.number })
 
@@ -119,7 +119,7 @@ ComesHere meaning None old serial response number = ⊥
 ComesHere meaning (Some view) old serial response number = ComesFor meaning view old serial response number
 
 -- the moves of one association by a step of a gateway
-pub record EndMoves (meaning : Meaning) (given : Option ike.InputView) (old : Held) (s : Said) (trace : Trace) (new : Held) (serial : ℕ) : Type 0 where
+pub record EndMoves (meaning : Meaning) (given : Option ike.InputView) (old : Held) (s : OutputView) (trace : Trace) (new : Held) (serial : ℕ) : Type 0 where
   pub moves : List Move
   pub few : length moves ≤ 2
   pub lead : Lead moves (ledger_at old serial) (ledger_at new serial)
@@ -137,10 +137,10 @@ module _ (meaning : Meaning) (view : ike.InputView) (old : Held) (stepped : Step
   told_of : (move : Move) → Contains is.moves move → Tells view stepped serial move
   told_of move there = All-contains (Tells view stepped serial) is.moves move (All-from_recursion (Tells view stepped serial) is.moves is.told) there
 
-  said_is : (octets : Octets) → octets_in stepped.output ≡ Some octets → said_octets (said_by_ike stepped.output) ≡ Some octets
+  said_is : (octets : Octets) → octets_in stepped.output ≡ Some octets → said_octets (view_of_ike stepped.output) ≡ Some octets
   said_is octets out = octets_same stepped.output ∙ out
 
-  goes_out_by : (entry : Entry) → SentBy is.moves entry → GoesOut (said_by_ike stepped.output) stepped.trace serial entry
+  goes_out_by : (entry : Entry) → SentBy is.moves entry → GoesOut (view_of_ike stepped.output) stepped.trace serial entry
   goes_out_by entry (inl issued) =
       let told = told_of (Issue entry.number entry.octets) issued.1 in
       record {
@@ -165,7 +165,7 @@ module _ (meaning : Meaning) (view : ike.InputView) (old : Held) (stepped : Step
   sent_or_again m octets (inr (response, inr repeats)) = inr (
       subst (λ (b : Bool). GoesOutAgain (ledger_at old serial) (record { response = b; number = m.number; octets = octets })) (sym response) repeats.kept)
 
-  ike_moves : EndMoves meaning (Some view) old (said_by_ike stepped.output) stepped.trace new serial
+  ike_moves : EndMoves meaning (Some view) old (view_of_ike stepped.output) stepped.trace new serial
   ike_moves = record {
     moves = is.moves;
     few = is.few;
@@ -181,7 +181,7 @@ module _ (meaning : Meaning) (view : ike.InputView) (old : Held) (stepped : Step
 
 -- ---- by any other step
 
-still_moves : (meaning : Meaning) (given : Option ike.InputView) (old : Held) (s : Said) (trace : Trace) (new : Held) (serial : ℕ) → new ≡ old → trace ≡ no_trace
+still_moves : (meaning : Meaning) (given : Option ike.InputView) (old : Held) (s : OutputView) (trace : Trace) (new : Held) (serial : ℕ) → new ≡ old → trace ≡ no_trace
     → ((requests : List Resent) (closed : List ℕ) → s ≡ Ticked requests closed → ⊥) → EndMoves meaning given old s trace new serial
 still_moves meaning given old s trace new serial same named never = record {
   moves = [];
@@ -207,27 +207,27 @@ pub record TurnLaws : Type 0 where
 refused_never : (why : Reason) (requests : List Resent) (closed : List ℕ) → Refused why ≡ Ticked requests closed → ⊥
 refused_never why requests closed is = cc
 
-ike_step_moves : TurnLaws → (meaning : Meaning) (entries : List policy.Entry) (view : ike.InputView) (old : Machine) (table : Database) (s : Said) (trace : Trace) (new : Machine) (new_table : Database) (serial : ℕ)
+ike_step_moves : TurnLaws → (meaning : Meaning) (entries : List policy.Entry) (view : ike.InputView) (old : Machine) (table : Database) (s : OutputView) (trace : Trace) (new : Machine) (new_table : Database) (serial : ℕ)
     → IsSoundMachine old table → StepsIke meaning entries view old table s trace new new_table → EndMoves meaning (Some view) old.held s trace new.held serial
 ike_step_moves laws meaning entries view old table s trace new new_table serial sound (inl a) =
-    subst (λ (x : Said). EndMoves meaning (Some view) old.held x trace new.held serial) (sym a.output)
-    (subst (λ (t : Trace). EndMoves meaning (Some view) old.held (said_by_ike a.stepped.output) t new.held serial) (sym a.traced)
+    subst (λ (x : OutputView). EndMoves meaning (Some view) old.held x trace new.held serial) (sym a.output)
+    (subst (λ (t : Trace). EndMoves meaning (Some view) old.held (view_of_ike a.stepped.output) t new.held serial) (sym a.traced)
     (ike_moves meaning view old.held a.stepped new.held serial (laws.moves meaning entries view old table a.stepped new new_table serial sound a.steps)))
 ike_step_moves laws meaning entries view old table s trace new new_table serial sound (inr r) =
     still_moves meaning (Some view) old.held s trace new.held serial (ap (λ (m : Machine). m.held) r.machine) r.traced (λ requests closed said. refused_never (reason.Ike r.fault) requests closed (sym r.output ∙ said))
 
-never_ticked : {C : Type 0} (meaning : Meaning) (given : Option ike.InputView) (old : State C) (s : Said) (new : State C) (requests : List Resent) (closed : List ℕ) → given ≡ None → IkeWay meaning given old s new
+never_ticked : {C : Type 0} (meaning : Meaning) (given : Option ike.InputView) (old : State C) (s : OutputView) (new : State C) (requests : List Resent) (closed : List ℕ) → given ≡ None → IkeWay meaning given old s new
     → s ≡ Ticked requests closed → ⊥
 never_ticked {C} meaning given old s new requests closed none (answered a) said = none_some a.view (sym none ∙ a.is)
 never_ticked {C} meaning given old s new requests closed none (refused r) said = none_some r.view (sym none ∙ r.is)
-never_ticked {C} meaning given old s new requests closed none (elsewhere e) said = subst (λ (x : Said). IsOfPacket x) said e.said
+never_ticked {C} meaning given old s new requests closed none (elsewhere e) said = subst (λ (x : OutputView). IsOfPacket x) said e.said
 
-packet_moves : {C : Type 0} (meaning : Meaning) (given : Input) (old new : State C) (s : Said) (trace : Trace) (serial : ℕ) → for_ike given ≡ None → new.machine ≡ old.machine → trace ≡ no_trace
+packet_moves : {C : Type 0} (meaning : Meaning) (given : Input) (old new : State C) (s : OutputView) (trace : Trace) (serial : ℕ) → for_ike given ≡ None → new.machine ≡ old.machine → trace ≡ no_trace
     → IkeWay meaning (for_ike given) old s new → EndMoves meaning (for_ike given) old.machine.held s trace new.machine.held serial
 packet_moves {C} meaning given old new s trace serial none same named way =
     still_moves meaning (for_ike given) old.machine.held s trace new.machine.held serial (ap (λ (m : Machine). m.held) same) named (λ requests closed said. never_ticked meaning (for_ike given) old s new requests closed none way said)
 
-pub input_moves : {C : Type 0} → TurnLaws → (meaning : Meaning) (given : Input) (old new : State C) (s : Said) (trace : Trace) (serial : ℕ)
+pub input_moves : {C : Type 0} → TurnLaws → (meaning : Meaning) (given : Input) (old new : State C) (s : OutputView) (trace : Trace) (serial : ℕ)
     → IsSoundMachine old.machine old.table → DoesInput meaning old.entries given old.machine old.table s trace new.machine new.table
     → EndMoves meaning (for_ike given) old.machine.held s trace new.machine.held serial
 input_moves {C} laws meaning (input.Ike from octets fresh) old new s trace serial sound is =
@@ -257,7 +257,7 @@ same_keyed {C} old new serial keys a same was there =
     ap (λ (o : Option Association). option_and_then (λ x. keys_in x.phase) o) (sym there) ∙ ap (λ (m : Machine). keys_of_serial serial m.held.associations) same ∙ was
 
 -- keys stay, whatever comes
-pub way_keys : {C : Type 0} → TurnLaws → (meaning : Meaning) (given : Option ike.InputView) (old : State C) (s : Said) (new : State C) (serial : ℕ) (keys : KeyRecord) (a : Association)
+pub way_keys : {C : Type 0} → TurnLaws → (meaning : Meaning) (given : Option ike.InputView) (old : State C) (s : OutputView) (new : State C) (serial : ℕ) (keys : KeyRecord) (a : Association)
     → IsSoundTable old.table → IsSoundMachine old.machine old.table → IkeWay meaning given old s new → keys_of_serial serial old.machine.held.associations ≡ Some keys
     → association_of serial new.machine.held.associations ≡ Some a → keys_in a.phase ≡ Some keys
 way_keys {C} laws meaning given old s new serial keys a st sm (answered w) was there = laws.keys meaning old.entries w.view old.machine old.table w.stepped new.machine new.table serial keys a st sm w.steps was there

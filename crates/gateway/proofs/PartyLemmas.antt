@@ -15,7 +15,7 @@ use Rattle.ike.specs.Moves.{ledger_at}
 use Rattle.ike.specs.declared.output.Mark as ike
 use Rattle.lockstep.specs.Ends.{Entry}
 use Rattle.lockstep.specs.Parties.{keys_come, Coming, Marked}
-use Rattle.gateway.specs.Outputs.{Said, Repeat, Reply, Request, Sealed}
+use Rattle.gateway.specs.Outputs.{OutputView, Repeat, Reply, Request, Sealed}
 use Rattle.gateway.specs.States.{State}
 use Rattle.gateway.specs.WorldParties.{made_at, made_of, marked_by, only_at, sent_at, sent_of}
 use Rattle.gateway.specs.Worlds.{again_as, datagram_of, keyed_by, keyed_with, other_end, requests_in, sent_by, sent_once}
@@ -131,7 +131,7 @@ others_again end machine (r ∷ requests) =
     ap (λ (xs : List Marked). xs ++ sent_at (other_end end) (map (again_as end machine) requests)) (only_other end (marked_by (again_as end machine r).mark r.octets))
     ∙ others_again end machine requests
 
-others_once : {C : Type 0} (end : End) (s : Said) (sent : Option ike.Mark) (gateway : State C) → sent_at (other_end end) (sent_once end s sent gateway) ≡ []
+others_once : {C : Type 0} (end : End) (s : OutputView) (sent : Option ike.Mark) (gateway : State C) → sent_at (other_end end) (sent_once end s sent gateway) ≡ []
 others_once {C} end (Reply octets closed) sent gateway = others_datagram end _ octets
 others_once {C} end (Repeat octets) sent gateway = others_datagram end _ octets
 others_once {C} end (Request serial octets) sent gateway = others_datagram end _ octets
@@ -141,7 +141,7 @@ others_once {C} end _ sent gateway = refl
 pub sent_appended : (end : End) (ds es : List Datagram) → sent_at end (ds ++ es) ≡ sent_at end ds ++ sent_at end es
 sent_appended end ds es = flat_map-append (sent_of end) ds es
 
-pub others_sent : {C : Type 0} (end : End) (s : Said) (sent : Option ike.Mark) (gateway : State C) → sent_at (other_end end) (sent_by end s sent gateway) ≡ []
+pub others_sent : {C : Type 0} (end : End) (s : OutputView) (sent : Option ike.Mark) (gateway : State C) → sent_at (other_end end) (sent_by end s sent gateway) ≡ []
 others_sent {C} end s sent gateway =
     sent_appended (other_end end) (sent_once end s sent gateway) (map (again_as end gateway.machine) (requests_in s))
     ∙ ap (λ (xs : List Marked). xs ++ sent_at (other_end end) (map (again_as end gateway.machine) (requests_in s))) (others_once end s sent gateway)

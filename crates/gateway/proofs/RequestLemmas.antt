@@ -29,7 +29,7 @@ use Rattle.ike.specs.declared.output.IkeOutput.{IkeOutput}
 use Rattle.ike.specs.declared.output.IkeOutput.TheVariants as made
 use Rattle.ike.specs.declared.output.Stepped.{Stepped}
 use Rattle.gateway.specs.Histories.{IsPassage, IsTrail, Passage}
-use Rattle.gateway.specs.Outputs.{said_by_ike, wants_memory, Clear, Counted, Discarded, Done, Dropped, Dummy, IsQuiet, Refused, Repeat, Reply, Request, Said, Sealed, Ticked, Up}
+use Rattle.gateway.specs.Outputs.{view_of_ike, wants_memory, Clear, Counted, Discarded, Done, Dropped, Dummy, IsQuiet, Refused, Repeat, Reply, Request, OutputView, Sealed, Ticked, Up}
 use Rattle.gateway.specs.Requests.{for_ike, AnswersBy, IsDatagram, IsFirstReply, IsInitial, IsNew, IsOverAt, IsReplied, KeepsHalfOpen, MakesHalfOpen, OnlySays, Opens, RepeatsAreAnswered, RepeatsInitial, RepeatsRequest, RequestsTakeEffect, TakesEffect, TakesOne, TookEffect}
 use Rattle.gateway.specs.States.{association_in, State}
 use Rattle.gateway.specs.Steps.{Steps}
@@ -104,7 +104,7 @@ new_opens meaning (ike.Order what fresh) a number is = absurd is
 new_opens meaning (ike.Secret secret) a number is = absurd is
 new_opens meaning (ike.Tick moment) a number is = absurd is
 
-memory_only : (s : Said) (why : IkeFault) → s ≡ Refused (reason.Ike why) → wants_memory s ≡ false → faults.is_want_of_memory why ≡ true → ⊥
+memory_only : (s : OutputView) (why : IkeFault) → s ≡ Refused (reason.Ike why) → wants_memory s ≡ false → faults.is_want_of_memory why ≡ true → ⊥
 memory_only s why is no_want want = yes_no (faults.is_want_of_memory why) want (sym (ap wants_memory is) ∙ no_want)
 
 same_held : (a b : Association) → Some a ≡ Some b → a ≡ b
@@ -113,7 +113,7 @@ same_held a b is = cc
 same_view : (view other : ike.InputView) → Some view ≡ Some other → view ≡ other
 same_view view other is = cc
 
-no_want : (o : IkeOutput) → wants_memory (said_by_ike o) ≡ false
+no_want : (o : IkeOutput) → wants_memory (view_of_ike o) ≡ false
 no_want (made.Reply octets closed) = refl
 no_want (made.Repeat octets) = refl
 no_want (made.Request serial octets) = refl
@@ -122,7 +122,7 @@ no_want (made.Ticked ticked) = refl
 no_want made.Done = refl
 no_want (made.Dropped fault) = refl
 
-quiet_said : (o : IkeOutput) → quiet.IsQuiet o → IsQuiet (said_by_ike o)
+quiet_said : (o : IkeOutput) → quiet.IsQuiet o → IsQuiet (view_of_ike o)
 quiet_said (made.Reply octets closed) is = absurd is
 quiet_said (made.Repeat octets) is = tt
 quiet_said (made.Request serial octets) is = absurd is
@@ -131,7 +131,7 @@ quiet_said (made.Ticked ticked) is = absurd is
 quiet_said made.Done is = absurd is
 quiet_said (made.Dropped fault) is = tt
 
-reply_made : (o : IkeOutput) (reply : Octets) (closed : Option ℕ) → said_by_ike o ≡ Reply reply closed → o ≡ made.Reply reply closed
+reply_made : (o : IkeOutput) (reply : Octets) (closed : Option ℕ) → view_of_ike o ≡ Reply reply closed → o ≡ made.Reply reply closed
 reply_made (made.Reply octets other) reply closed is = cc
 reply_made (made.Repeat octets) reply closed is = absurd cc
 reply_made (made.Request serial octets) reply closed is = absurd cc
@@ -140,7 +140,7 @@ reply_made (made.Ticked ticked) reply closed is = absurd cc
 reply_made made.Done reply closed is = absurd cc
 reply_made (made.Dropped fault) reply closed is = absurd cc
 
-repeat_made : (o : IkeOutput) (reply : Octets) → said_by_ike o ≡ Repeat reply → o ≡ made.Repeat reply
+repeat_made : (o : IkeOutput) (reply : Octets) → view_of_ike o ≡ Repeat reply → o ≡ made.Repeat reply
 repeat_made (made.Reply octets other) reply is = absurd cc
 repeat_made (made.Repeat octets) reply is = cc
 repeat_made (made.Request serial octets) reply is = absurd cc
@@ -186,7 +186,7 @@ module _ {C : Type 0} (facts : RequestFacts) (meaning_of : C → Meaning) (p : P
       record {
         new_one = subst (λ (g : Option ike.InputView). IsNew meaning g a number) (sym w.is) by.0;
         reply = by.1.reply;
-        answered_by = record { closed = by.1.closed; said = w.output ∙ ap said_by_ike by.1.said };
+        answered_by = record { closed = by.1.closed; said = w.output ∙ ap view_of_ike by.1.said };
         kept = by.1.kept;
       }
   brings_by serial a b number (refused w) held comes = absurd (unmoved serial a b number w.same held comes)
@@ -214,9 +214,9 @@ module _ {C : Type 0} (facts : RequestFacts) (meaning_of : C → Meaning) (p : P
   pub takes : (serial : ℕ) (a : Association) (number : ℕ) → wants_memory p.said ≡ false → association_in p.before serial ≡ Some a → IsNew meaning (for_ike p.given) a number → TakesEffect serial number p
   takes serial a number memory stands new_one = takes_by serial a number way memory stands new_one
 
-  only_says : (o : IkeOutput) (stepped : Stepped) → p.said ≡ said_by_ike stepped.output → asked.OnlySays o p.before.machine p.before.table stepped p.after.machine p.after.table → OnlySays (said_by_ike o) p
+  only_says : (o : IkeOutput) (stepped : Stepped) → p.said ≡ view_of_ike stepped.output → asked.OnlySays o p.before.machine p.before.table stepped p.after.machine p.after.table → OnlySays (view_of_ike o) p
   only_says o stepped output only = record {
-    said = output ∙ ap said_by_ike only.said;
+    said = output ∙ ap view_of_ike only.said;
     unchanged = is.steps.traces.kept ∙ (λ i. record (p.before) { machine = only.machine i; table = only.pairs i });
   }
 
@@ -273,7 +273,7 @@ module _ {C : Type 0} (facts : RequestFacts) (meaning_of : C → Meaning) (p : P
   admits_by : (serial : ℕ) (b : Association) (opened : HalfOpen) → Ways → association_in p.before serial ≡ None → association_in p.after serial ≡ Some b → b.phase ≡ phase.HalfOpen opened → Admitted opened
   admits_by serial b opened (answered w) none there half =
       let by = facts.admitted meaning p.before.entries w.view p.before.machine p.before.table w.stepped p.after.machine p.after.table serial b opened is.sound.machine w.steps none there half in
-      record { request = subst (λ (g : Option ike.InputView). IsDatagram g opened.request) (sym w.is) by.request; said = w.output ∙ ap said_by_ike by.said }
+      record { request = subst (λ (g : Option ike.InputView). IsDatagram g opened.request) (sym w.is) by.request; said = w.output ∙ ap view_of_ike by.said }
   admits_by serial b opened (refused w) none there half = absurd (none_some b (sym none ∙ sym (ap (λ (m : Machine). association_of serial m.held.associations) w.same) ∙ there))
   admits_by serial b opened (elsewhere w) none there half = absurd (none_some b (sym none ∙ sym (ap (λ (m : Machine). association_of serial m.held.associations) w.same) ∙ there))
 
@@ -296,7 +296,7 @@ module _ {C : Type 0} (facts : RequestFacts) (meaning_of : C → Meaning) (p : P
       elim (facts.otherwise meaning p.before.entries w.view p.before.machine p.before.table w.stepped p.after.machine p.after.table serial a number is.sound.machine w.steps stands one) [
         | inl still_one ↦
             let same = facts.still meaning p.before.entries w.view p.before.machine p.before.table w.stepped p.after.machine p.after.table w.steps still_one in (
-              subst (λ (x : Said). IsQuiet x) (sym w.output) (quiet_said w.stepped.output still_one),
+              subst (λ (x : OutputView). IsQuiet x) (sym w.output) (quiet_said w.stepped.output still_one),
               is.steps.traces.kept ∙ (λ i. record (p.before) { machine = same.0 i; table = same.1 i }),
             )
         | inr new_one ↦ absurd (old_one (subst (λ (g : Option ike.InputView). IsNew meaning g a number) (sym w.is) new_one))
@@ -317,7 +317,7 @@ module _ {C : Type 0} (facts : RequestFacts) (meaning_of : C → Meaning) (p : P
         | inr initial ↦ inr (subst (λ (g : Option ike.InputView). IsInitial g) (sym w.is) initial)
       ]
   replies_by reply closed (refused w) said_so = absurd (refused_reply (reason.Ike w.fault) reply closed (sym w.output ∙ said_so))
-  replies_by reply closed (elsewhere w) said_so = absurd (subst (λ (x : Said). IsOfPacket x) said_so w.said)
+  replies_by reply closed (elsewhere w) said_so = absurd (subst (λ (x : OutputView). IsOfPacket x) said_so w.said)
 
   pub replies : (reply : Octets) (closed : Option ℕ) → p.said ≡ Reply reply closed → TakesOne p ⊎ IsInitial (for_ike p.given)
   replies reply closed said_so = replies_by reply closed way said_so
@@ -341,7 +341,7 @@ module _ {C : Type 0} (facts : RequestFacts) (meaning_of : C → Meaning) (p : P
         })
       ]
   only_by reply (refused w) said_so = absurd (refused_repeat (reason.Ike w.fault) reply (sym w.output ∙ said_so))
-  only_by reply (elsewhere w) said_so = absurd (subst (λ (x : Said). IsOfPacket x) said_so w.said)
+  only_by reply (elsewhere w) said_so = absurd (subst (λ (x : OutputView). IsOfPacket x) said_so w.said)
 
   pub only : (reply : Octets) → p.said ≡ Repeat reply → RepeatsRequest meaning_of reply p ⊎ RepeatsInitial reply p
   only reply said_so = only_by reply way said_so
@@ -388,7 +388,7 @@ same_opened one two is = cc
 abbrev pub RefusalLaw : Type 0 → Type 0
 RefusalLaw C = (meaning : Meaning) (given : Input) (why : Reason) (old new : State C) → Steps meaning given old (Refused why) new → (new ≡ record old { table = new.table }) × IsAsBefore old.table new.table
 
-refused_said : (s : Said) → wants_memory s ≡ true → (why : Reason) × (s ≡ Refused why)
+refused_said : (s : OutputView) → wants_memory s ≡ true → (why : Reason) × (s ≡ Refused why)
 refused_said (Refused why) want = (why, refl)
 refused_said (Reply octets closed) want = absurd cc
 refused_said (Repeat octets) want = absurd cc
@@ -604,7 +604,7 @@ module _ {C : Type 0} (facts : RequestFacts) (changes_nothing : RefusalLaw C) (m
   undelivered place p there want =
       let is = (at_k place p there).passage in
       let why = refused_said p.said want in
-      changes_nothing (meaning_of p.before.caller) p.given why.0 p.before p.after (subst (λ (x : Said). Steps (meaning_of p.before.caller) p.given p.before x p.after) why.1 is.steps)
+      changes_nothing (meaning_of p.before.caller) p.given why.0 p.before p.after (subst (λ (x : OutputView). Steps (meaning_of p.before.caller) p.given p.before x p.after) why.1 is.steps)
 
   pub requests_kept : RequestsTakeEffect meaning_of ps
   requests_kept = record {

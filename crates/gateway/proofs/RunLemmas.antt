@@ -4,7 +4,7 @@ use Rattle.std.specs.Prelude.{flat_map}
 use Rattle.std.proofs.lemmas.List.{map-append, take_more}
 use Rattle.effects.specs.Taking.{Meaning}
 use Rattle.gateway.specs.Histories.{IsHistory, IsTrail, Passage}
-use Rattle.gateway.specs.Outputs.{said}
+use Rattle.gateway.specs.Outputs.{output_view}
 use Rattle.gateway.specs.Runs.{CallsAs, Runs, StepsAs}
 use Rattle.gateway.specs.States.{State}
 use Rattle.gateway.specs.declared.input.Input.{Input}
@@ -55,6 +55,6 @@ pub histories_joined : {C : Type 0} (meaning_of : C → Meaning) (is js : List I
     → IsHistory meaning_of is os old mid earlier → IsHistory meaning_of js ps mid new later → IsHistory meaning_of (is ++ js) (os ++ ps) old new (earlier ++ later)
 histories_joined {C} meaning_of is js os ps old mid new earlier later first second = record {
   takes = both_mapped (λ (p : Passage C). p.given) earlier later is js first.takes second.takes;
-  says = both_mapped (λ (p : Passage C). p.said) earlier later (map said os) (map said ps) first.says second.says ∙ sym (map-append said os ps);
+  says = both_mapped (λ (p : Passage C). p.said) earlier later (map output_view os) (map output_view ps) first.says second.says ∙ sym (map-append output_view os ps);
   trail = trails_joined meaning_of earlier later old mid new first.trail second.trail;
 }

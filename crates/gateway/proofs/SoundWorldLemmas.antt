@@ -18,7 +18,7 @@ use Rattle.lockstep.specs.Ends.{Entry}
 use Rattle.lockstep.specs.Parties.{times, under, AreHeldUnder, AreSoundParties, Holds, IsGenuineTurn, IsNewParty, IsSoundParty, Marked, Parties, Party, TakesTurn, Turn}
 use Rattle.lockstep.specs.Soundness.{IsInitial}
 use Rattle.lockstep.specs.Promises.{AreInStep, AreIssuedAndInEffect, AreWithinWindows}
-use Rattle.gateway.specs.Outputs.{said, Said}
+use Rattle.gateway.specs.Outputs.{output_view, OutputView}
 use Rattle.gateway.specs.Runs.{Runs}
 use Rattle.gateway.specs.States.{State}
 use Rattle.gateway.specs.WorldHistories.{Happening, IsWorldHistory, IsWorldTrail}
@@ -109,13 +109,13 @@ made_stays {C} e trace gateway old =
     ∙ ap (λ (ks : List KeyRecord). made_at (other_end e) old.keyed ++ ks) (others_made e trace.keyed gateway.machine)
     ∙ append-nil (made_at (other_end e) old.keyed)
 
-sent_stays : {C : Type 0} (e : End) (s : Said) (trace : Trace) (gateway : State C) (old : Stored) → sent_at (other_end e) (old.sent ++ sent_by e s trace.sent gateway) ≡ sent_at (other_end e) old.sent
+sent_stays : {C : Type 0} (e : End) (s : OutputView) (trace : Trace) (gateway : State C) (old : Stored) → sent_at (other_end e) (old.sent ++ sent_by e s trace.sent gateway) ≡ sent_at (other_end e) old.sent
 sent_stays {C} e s trace gateway old =
     sent_appended (other_end e) old.sent (sent_by e s trace.sent gateway)
     ∙ ap (λ (ms : List Marked). sent_at (other_end e) old.sent ++ ms) (others_sent e s trace.sent gateway)
     ∙ append-nil (sent_at (other_end e) old.sent)
 
-party_stays : {C : Type 0} (e : End) (s : Said) (trace : Trace) (gateway : State C) (old : WorldState C)
+party_stays : {C : Type 0} (e : End) (s : OutputView) (trace : Trace) (gateway : State C) (old : WorldState C)
     → party_at (other_end e) (with_gateway e gateway (storing e s trace gateway old.stored) old) ≡ party_at (other_end e) old
 party_stays {C} A s trace gateway old = λ i. record { ledgers = ledger_at old.b.machine.held; made = made_stays A trace gateway old.stored i; sent = sent_stays A s trace gateway old.stored i }
 party_stays {C} B s trace gateway old = λ i. record { ledgers = ledger_at old.a.machine.held; made = made_stays B trace gateway old.stored i; sent = sent_stays B s trace gateway old.stored i }
@@ -299,10 +299,10 @@ pub record WorldTold {C : Type 0} (meaning_of : C → Meaning) (es : List Event)
 world_first : {C : Type 0} (meaning_of : C → Meaning) (e : Event) (es : List Event) (o : Output) (os : List Output) (old between new : WorldState C)
     → HappensAs meaning_of e old o between → WorldTold meaning_of es os between new → WorldTold meaning_of (e ∷ es) (o ∷ os) old new
 world_first {C} meaning_of e es o os old between new step rest = record {
-  happenings = record { before = old; event = e; said = said o; after = between } ∷ rest.happenings;
+  happenings = record { before = old; event = e; said = output_view o; after = between } ∷ rest.happenings;
   history = record {
     takes = ap (λ (xs : List Event). e ∷ xs) rest.history.takes;
-    says = ap (λ (xs : List Said). said o ∷ xs) rest.history.says;
+    says = ap (λ (xs : List OutputView). output_view o ∷ xs) rest.history.says;
     trail = (refl, step, rest.history.trail);
   };
 }

@@ -22,7 +22,7 @@ use Rattle.ike.specs.declared.output.MadeChild.{MadeChild}
 use Rattle.ike.specs.declared.output.Mark.{Mark}
 use Rattle.ike.specs.declared.output.Stepped.{Stepped}
 use Rattle.ike.specs.declared.output.Trace.{Trace}
-use Rattle.gateway.specs.Outputs.{said_by_ike, Refused, Said, Ticked}
+use Rattle.gateway.specs.Outputs.{view_of_ike, Refused, OutputView, Ticked}
 use Rattle.gateway.specs.Requests.{for_ike}
 use Rattle.gateway.specs.States.{State}
 use Rattle.gateway.specs.Steps.{DoesInput, StepsIke, Traces}
@@ -68,14 +68,14 @@ stepped_tells before table stepped held new_table is = record {
   pair = λ made e. some_pair (pair_at new_table.pairs made.serial) (is.child made e).pair (is.child made e).there;
 }
 
-ike_tells : TraceLaw → (meaning : Meaning) (entries : List Entry) (given : ike.InputView) (old : Machine) (table : Database) (s : Said) (trace : Trace) (new : Machine) (new_table : Database)
+ike_tells : TraceLaw → (meaning : Meaning) (entries : List Entry) (given : ike.InputView) (old : Machine) (table : Database) (s : OutputView) (trace : Trace) (new : Machine) (new_table : Database)
     → IsSoundTable table → IsSoundMachine old table → StepsIke meaning entries given old table s trace new new_table → TellsHeld trace new.held new_table
 ike_tells law meaning entries given old table s trace new new_table st sm (inl a) =
     subst (λ (t : Trace). TellsHeld t new.held new_table) (sym a.traced)
     (stepped_tells old.held table a.stepped new.held new_table (law.traced meaning entries given old table a.stepped new new_table st sm a.steps))
 ike_tells law meaning entries given old table s trace new new_table st sm (inr r) = nothing_told trace new.held new_table r.traced
 
-input_tells : TraceLaw → (meaning : Meaning) (entries : List Entry) (given : Input) (old : Machine) (table : Database) (s : Said) (trace : Trace) (new : Machine) (new_table : Database)
+input_tells : TraceLaw → (meaning : Meaning) (entries : List Entry) (given : Input) (old : Machine) (table : Database) (s : OutputView) (trace : Trace) (new : Machine) (new_table : Database)
     → IsSoundTable table → IsSoundMachine old table → DoesInput meaning entries given old table s trace new new_table → TellsHeld trace new.held new_table
 input_tells law meaning entries (input.Ike from octets fresh) old table s trace new new_table st sm is = ike_tells law meaning entries (ike.Message from octets fresh) old table s trace new new_table st sm is
 input_tells law meaning entries (input.Start serial entry fresh) old table s trace new new_table st sm is = ike_tells law meaning entries (ike.Start serial entry fresh) old table s trace new new_table st sm is
@@ -88,14 +88,14 @@ input_tells law meaning entries (input.Esp octets) old table s trace new new_tab
 input_tells law meaning entries (input.Outward packet) old table s trace new new_table st sm is = nothing_told trace new.held new_table is.0.traced
 input_tells law meaning entries (input.Inward packet) old table s trace new new_table st sm is = nothing_told trace new.held new_table is.0.traced
 
-pub step_tells : {C : Type 0} → TraceLaw → (meaning : Meaning) (given : Input) (s : Said) (trace : Trace) (old new : State C)
+pub step_tells : {C : Type 0} → TraceLaw → (meaning : Meaning) (given : Input) (s : OutputView) (trace : Trace) (old new : State C)
     → IsSoundTable old.table → IsSoundMachine old.machine old.table → Traces meaning given old s trace new → TellsHeld trace new.machine.held new.table
 step_tells {C} law meaning given s trace old new st sm is = input_tells law meaning old.entries given old.machine old.table s trace new.machine new.table st sm is.does
 
 pub keys_found : (held : Held) (serial : ℕ) → (h : HoldsKeys held serial) → keys_of_serial serial held.associations ≡ Some h.keys
 keys_found held serial h = ap (λ (o : Option Association). option_and_then (λ a. keys_in a.phase) o) h.there ∙ h.are
 
-pub message_stored : {C : Type 0} → TraceLaw → (meaning : Meaning) (given : Input) (s : Said) (trace : Trace) (mark : Mark) (old new : State C)
+pub message_stored : {C : Type 0} → TraceLaw → (meaning : Meaning) (given : Input) (s : OutputView) (trace : Trace) (mark : Mark) (old new : State C)
     → IsSoundTable old.table → IsSoundMachine old.machine old.table → Traces meaning given old s trace new → trace.sent ≡ Some mark → IsMarked mark (ike_mark new.machine trace.sent)
 message_stored {C} law meaning given s trace mark old new st sm is e =
     let held = (step_tells law meaning given s trace old new st sm is).sent mark e in
@@ -107,7 +107,7 @@ message_stored {C} law meaning given s trace mark old new st sm is e =
 keyed_some : (end : End) (o : Option KeyRecord) (keys : KeyRecord) → o ≡ Some keys → IsSome (keyed_with end o)
 keyed_some end o keys is = subst (λ (x : Option KeyRecord). IsSome (keyed_with end x)) (sym is) refl
 
-pub keyed_stored : {C : Type 0} → TraceLaw → (meaning : Meaning) (given : Input) (s : Said) (trace : Trace) (end : End) (serial : ℕ) (old new : State C)
+pub keyed_stored : {C : Type 0} → TraceLaw → (meaning : Meaning) (given : Input) (s : OutputView) (trace : Trace) (end : End) (serial : ℕ) (old new : State C)
     → IsSoundTable old.table → IsSoundMachine old.machine old.table → Traces meaning given old s trace new → trace.keyed ≡ Some serial → IsSome (keyed_by end trace.keyed new.machine)
 keyed_stored {C} law meaning given s trace end serial old new st sm is e =
     let held = (step_tells law meaning given s trace old new st sm is).keyed serial e in
@@ -118,7 +118,7 @@ child_some end made None k pair is there = absurd (none_told None k refl is)
 child_some end made (Some keys) k None is there = absurd cc
 child_some end made (Some keys) k (Some pair) is there = refl
 
-pub child_stored : {C : Type 0} → TraceLaw → (meaning : Meaning) (given : Input) (s : Said) (trace : Trace) (end : End) (made : MadeChild) (old new : State C)
+pub child_stored : {C : Type 0} → TraceLaw → (meaning : Meaning) (given : Input) (s : OutputView) (trace : Trace) (end : End) (made : MadeChild) (old new : State C)
     → IsSoundTable old.table → IsSoundMachine old.machine old.table → Traces meaning given old s trace new → trace.child ≡ Some made → IsSome (child_by end trace.child new)
 child_stored {C} law meaning given s trace end made old new st sm is e =
     let tells = step_tells law meaning given s trace old new st sm is in
@@ -138,7 +138,7 @@ pub record SaysTicked (o : IkeOutput) (requests : List Resent) : Type 0 where
   pub is : o ≡ made.Ticked ticked
   pub requests_are : ticked.requests ≡ requests
 
-pub ticked_by : (o : IkeOutput) (requests : List Resent) (closed : List ℕ) → said_by_ike o ≡ Ticked requests closed → SaysTicked o requests
+pub ticked_by : (o : IkeOutput) (requests : List Resent) (closed : List ℕ) → view_of_ike o ≡ Ticked requests closed → SaysTicked o requests
 ticked_by (made.Reply octets ended) requests closed is = absurd cc
 ticked_by (made.Repeat octets) requests closed is = absurd cc
 ticked_by (made.Request serial octets) requests closed is = absurd cc
@@ -150,18 +150,18 @@ ticked_by (made.Dropped fault) requests closed is = absurd cc
 refused_ticks : (why : Reason) (requests : List Resent) (closed : List ℕ) → Refused why ≡ Ticked requests closed → ⊥
 refused_ticks why requests closed is = cc
 
-pub again_held : {C : Type 0} → AgainLaw → (meaning : Meaning) (given : Option ike.InputView) (s : Said) (requests : List Resent) (closed : List ℕ) (r : Resent) (old new : State C)
+pub again_held : {C : Type 0} → AgainLaw → (meaning : Meaning) (given : Option ike.InputView) (s : OutputView) (requests : List Resent) (closed : List ℕ) (r : Resent) (old new : State C)
     → IsSoundTable old.table → IsSoundMachine old.machine old.table → IkeWay meaning given old s new → s ≡ Ticked requests closed → Contains requests r → r.encrypted ≡ true → HoldsKeys new.machine.held r.ike
 again_held {C} law meaning given s requests closed r old new st sm (answered a) said there sealed =
     let t = ticked_by a.stepped.output requests closed (sym a.output ∙ said) in
     law meaning old.entries a.view old.machine old.table a.stepped new.machine new.table t.ticked r st sm a.steps t.is (subst (λ (xs : List Resent). Contains xs r) (sym t.requests_are) there) sealed
 again_held {C} law meaning given s requests closed r old new st sm (refused a) said there sealed = absurd (refused_ticks (reason.Ike a.fault) requests closed (sym a.output ∙ said))
-again_held {C} law meaning given s requests closed r old new st sm (elsewhere e) said there sealed = absurd (subst (λ (x : Said). IsOfPacket x) said e.said)
+again_held {C} law meaning given s requests closed r old new st sm (elsewhere e) said there sealed = absurd (subst (λ (x : OutputView). IsOfPacket x) said e.said)
 
 marked_again : (r : Resent) → r.encrypted ≡ true → mark_again r ≡ Some (record { ike = r.ike; response = false; number = r.number })
 marked_again r sealed = ap (λ (b : Bool). if b then Some (record { ike = r.ike; response = false; number = r.number }) else None) sealed
 
-pub again_stored : {C : Type 0} → AgainLaw → (meaning : Meaning) (given : Input) (s : Said) (trace : Trace) (requests : List Resent) (closed : List ℕ) (r : Resent) (old new : State C)
+pub again_stored : {C : Type 0} → AgainLaw → (meaning : Meaning) (given : Input) (s : OutputView) (trace : Trace) (requests : List Resent) (closed : List ℕ) (r : Resent) (old new : State C)
     → IsSoundTable old.table → IsSoundMachine old.machine old.table → Traces meaning given old s trace new → s ≡ Ticked requests closed → Contains requests r → r.encrypted ≡ true
     → IsMarked (record { ike = r.ike; response = false; number = r.number }) (ike_mark new.machine (mark_again r))
 again_stored {C} law meaning given s trace requests closed r old new st sm is said there sealed =

@@ -23,7 +23,7 @@ use Rattle.ike.specs.declared.output.Mark as marks
 use Rattle.ike.specs.declared.output.Trace.{Trace}
 use Rattle.lockstep.specs.Ends.{request_of, sent_in, Entry, GoesOutAgain}
 use Rattle.lockstep.specs.Parties.{Holds, IsGenuineTurn, IsSentNow, Party, TakesTurn, Turn}
-use Rattle.gateway.specs.Outputs.{Said, Repeat, Reply, Request, Sealed, Ticked}
+use Rattle.gateway.specs.Outputs.{OutputView, Repeat, Reply, Request, Sealed, Ticked}
 use Rattle.gateway.specs.Requests.{for_ike, IsDatagram}
 use Rattle.gateway.specs.States.{State}
 use Rattle.gateway.specs.Steps.{Traces}
@@ -64,7 +64,7 @@ is_under machine None keys response number is = absurd cc
 is_under machine (Some m) keys response number is = under_by machine m (keys_of_serial m.ike machine.held.associations) keys response number refl is
 
 -- the message of a step
-record IsSaid (s : Said) (sent : Option marks.Mark) (machine : Machine) (keys : KeyRecord) (entry : Entry) : Type 0 where
+record IsSaid (s : OutputView) (sent : Option marks.Mark) (machine : Machine) (keys : KeyRecord) (entry : Entry) : Type 0 where
   octets : said_octets s ≡ Some entry.octets
   under : ike_mark machine sent ≡ mark.Ike keys entry.response entry.number
 
@@ -74,7 +74,7 @@ same_datagram end by octets keys entry there =
     let same = single (datagram_of end by octets) (as_stored end keys entry) there in
     (ap (λ (d : Datagram). d.octets) same, ap (λ (d : Datagram). d.mark) same)
 
-said_so : (end : End) (s : Said) (sent : Option marks.Mark) (machine : Machine) (octets : Octets) (keys : KeyRecord) (entry : Entry) → said_octets s ≡ Some octets
+said_so : (end : End) (s : OutputView) (sent : Option marks.Mark) (machine : Machine) (octets : Octets) (keys : KeyRecord) (entry : Entry) → said_octets s ≡ Some octets
     → Contains (datagram_of end (ike_mark machine sent) octets ∷ []) (as_stored end keys entry) → IsSaid s sent machine keys entry
 said_so end s sent machine octets keys entry out there =
     let same = same_datagram end (ike_mark machine sent) octets keys entry there in
@@ -84,7 +84,7 @@ esp_never : (number : ℕ) (o : Option Pair) (keys : KeyRecord) (response : Bool
 esp_never number None keys response n is = cc
 esp_never number (Some pair) keys response n is = cc
 
-once_is : {C : Type 0} (end : End) (s : Said) (sent : Option marks.Mark) (gateway : State C) (keys : KeyRecord) (entry : Entry) → Contains (sent_once end s sent gateway) (as_stored end keys entry)
+once_is : {C : Type 0} (end : End) (s : OutputView) (sent : Option marks.Mark) (gateway : State C) (keys : KeyRecord) (entry : Entry) → Contains (sent_once end s sent gateway) (as_stored end keys entry)
     → IsSaid s sent gateway.machine keys entry
 once_is {C} end (Reply octets closed) sent gateway keys entry there = said_so end (Reply octets closed) sent gateway.machine octets keys entry refl there
 once_is {C} end (Repeat octets) sent gateway keys entry there = said_so end (Repeat octets) sent gateway.machine octets keys entry refl there
@@ -93,7 +93,7 @@ once_is {C} end (Sealed child number octets) sent gateway keys entry there =
     absurd (esp_never number (pair_at gateway.table.pairs child) keys entry.response entry.number (same_datagram end (esp_mark gateway.table child number) octets keys entry there).1)
 once_is {C} end _ sent gateway keys entry there = absurd (none_there (as_stored end keys entry) there)
 
-is_once : {C : Type 0} (end : End) (s : Said) (sent : Option marks.Mark) (gateway : State C) (octets : Octets) → said_octets s ≡ Some octets
+is_once : {C : Type 0} (end : End) (s : OutputView) (sent : Option marks.Mark) (gateway : State C) (octets : Octets) → said_octets s ≡ Some octets
     → Contains (sent_once end s sent gateway) (datagram_of end (ike_mark gateway.machine sent) octets)
 is_once {C} end (Reply o closed) sent gateway octets is = subst (λ (x : Octets). Contains (datagram_of end (ike_mark gateway.machine sent) o ∷ []) (datagram_of end (ike_mark gateway.machine sent) x)) (some_is o octets is) (at_head _ [])
 is_once {C} end (Repeat o) sent gateway octets is = subst (λ (x : Octets). Contains (datagram_of end (ike_mark gateway.machine sent) o ∷ []) (datagram_of end (ike_mark gateway.machine sent) x)) (some_is o octets is) (at_head _ [])
@@ -101,7 +101,7 @@ is_once {C} end (Request serial o) sent gateway octets is = subst (λ (x : Octet
 is_once {C} end _ sent gateway octets is = absurd (none_some octets is)
 
 -- a request that goes out again under keys
-record IsAgain (s : Said) (machine : Machine) (keys : KeyRecord) (entry : Entry) : Type 0 where
+record IsAgain (s : OutputView) (machine : Machine) (keys : KeyRecord) (entry : Entry) : Type 0 where
   requests : List Resent
   closed : List ℕ
   request : Resent
@@ -138,7 +138,7 @@ again_is_in end machine requests closed keys entry there =
       is = λ i. record { response = response i; number = number i; octets = octets i };
     }
 
-again_is : (end : End) (machine : Machine) (s : Said) (keys : KeyRecord) (entry : Entry) → Contains (map (again_as end machine) (requests_in s)) (as_stored end keys entry) → IsAgain s machine keys entry
+again_is : (end : End) (machine : Machine) (s : OutputView) (keys : KeyRecord) (entry : Entry) → Contains (map (again_as end machine) (requests_in s)) (as_stored end keys entry) → IsAgain s machine keys entry
 again_is end machine (Ticked requests closed) keys entry there = again_is_in end machine requests closed keys entry there
 again_is end machine _ keys entry there = absurd (none_there (as_stored end keys entry) there)
 
@@ -193,7 +193,7 @@ has_taken : (others : List Entry) (response : Bool) (number : ℕ) (octets : Oct
 has_taken others true number octets there = record { octets = octets; there = there }
 has_taken others false number octets there = record { octets = octets; there = there }
 
-module _ {C : Type 0} (laws : TurnLaws) (meaning : Meaning) (given : Input) (end : End) (old new : State C) (s : Said) (trace : Trace) (stored : Stored)
+module _ {C : Type 0} (laws : TurnLaws) (meaning : Meaning) (given : Input) (end : End) (old new : State C) (s : OutputView) (trace : Trace) (stored : Stored)
     (table : IsSoundTable old.table) (machine : IsSoundMachine old.machine old.table) (is : Traces meaning given old s trace new) where
   way : IkeWay meaning (for_ike given) old s new
   way = does_way meaning given old s trace new is.does

@@ -3,7 +3,7 @@ use Rattle.std.proofs.Common.{◌≡◌, ◌∷◌, [], List, map, refl, sym, ap
 use Rattle.effects.specs.Taking.{Meaning}
 use Rattle.ike.specs.declared.output.Trace.{Trace}
 use Rattle.gateway.specs.Histories.{IsHistory, IsTrail, Passage}
-use Rattle.gateway.specs.Outputs.{said, Said}
+use Rattle.gateway.specs.Outputs.{output_view, OutputView}
 use Rattle.gateway.specs.States.{IsSoundState, State}
 use Rattle.gateway.specs.Steps.{Traces}
 use Rattle.gateway.specs.WorldHistories.{passage_at, passages_at, Happening, IsWorldHistory, IsWorldTrail}
@@ -22,7 +22,7 @@ mapped_front {X} {Y} f A B x xs = refl
 mapped_front {X} {Y} f B A x xs = refl
 
 -- an event in front of a trail: a step of this end, or none
-front_trail : {C : Type 0} (meaning_of : C → Meaning) (end place : End) (input : Input) (s : Said) (before after : WorldState C) (gateway : State C) (trace : Trace) (stored : Stored) (ps : List (Passage C)) (new : State C)
+front_trail : {C : Type 0} (meaning_of : C → Meaning) (end place : End) (input : Input) (s : OutputView) (before after : WorldState C) (gateway : State C) (trace : Trace) (stored : Stored) (ps : List (Passage C)) (new : State C)
     → IsSoundState (gateway_at place before) → Traces (meaning_of (gateway_at place before).caller) input (gateway_at place before) s trace gateway → after ≡ with_gateway place gateway stored before
     → IsTrail meaning_of (gateway_at end after) ps new
     → IsTrail meaning_of (gateway_at end before) (if_at end place (record { before = gateway_at end before; given = input; said = s; after = gateway_at end after }) ps) new
@@ -48,22 +48,22 @@ takes_at {C} end [] = refl
 takes_at {C} end (h ∷ hs) =
     mapped_front (λ (p : Passage C). p.given) end h.event.end (passage_at end h) (passages_at end hs) ∙ ap (λ (is : List Input). if_at end h.event.end h.event.input is) (takes_at end hs)
 
-says_at : {C : Type 0} (end : End) (hs : List (Happening C)) (os : List Output) → map (λ (h : Happening C). h.said) hs ≡ map said os
-    → map (λ (p : Passage C). p.said) (passages_at end hs) ≡ map said (outputs_at end (map (λ (h : Happening C). h.event) hs) os)
+says_at : {C : Type 0} (end : End) (hs : List (Happening C)) (os : List Output) → map (λ (h : Happening C). h.said) hs ≡ map output_view os
+    → map (λ (p : Passage C). p.said) (passages_at end hs) ≡ map output_view (outputs_at end (map (λ (h : Happening C). h.event) hs) os)
 says_at {C} end [] os is = refl
 says_at {C} end (h ∷ hs) [] is = absurd cc
 says_at {C} end (h ∷ hs) (o ∷ os) is =
-    let first : h.said ≡ said o = cc in
-    let others : map (λ (g : Happening C). g.said) hs ≡ map said os = cc in
+    let first : h.said ≡ output_view o = cc in
+    let others : map (λ (g : Happening C). g.said) hs ≡ map output_view os = cc in
     let rest = says_at end hs os others in
     mapped_front (λ (p : Passage C). p.said) end h.event.end (passage_at end h) (passages_at end hs)
     ∙ (λ i. if_at end h.event.end (first i) (rest i))
-    ∙ sym (mapped_front said end h.event.end o (outputs_at end (map (λ (g : Happening C). g.event) hs) os))
+    ∙ sym (mapped_front output_view end h.event.end o (outputs_at end (map (λ (g : Happening C). g.event) hs) os))
 
 pub history_at : {C : Type 0} (meaning_of : C → Meaning) (end : End) (es : List Event) (os : List Output) (old new : WorldState C) (hs : List (Happening C)) → IsWorldHistory meaning_of es os old new hs
     → IsHistory meaning_of (inputs_at end es) (outputs_at end es os) (gateway_at end old) (gateway_at end new) (passages_at end hs)
 history_at {C} meaning_of end es os old new hs history = record {
   takes = takes_at end hs ∙ ap (λ (xs : List Event). inputs_at end xs) history.takes;
-  says = says_at end hs os history.says ∙ ap (λ (xs : List Event). map said (outputs_at end xs os)) history.takes;
+  says = says_at end hs os history.says ∙ ap (λ (xs : List Event). map output_view (outputs_at end xs os)) history.takes;
   trail = trail_at meaning_of end hs old new history.trail;
 }

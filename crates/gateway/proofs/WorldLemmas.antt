@@ -3,7 +3,7 @@ use Rattle.std.proofs.Common.{◌≡◌, ◌++◌, ◌∷◌, [], ℕ, List, tak
 use Rattle.std.proofs.lemmas.List.{append-nil}
 use Rattle.effects.specs.Taking.{Meaning}
 use Rattle.ike.specs.declared.output.Trace.{Trace}
-use Rattle.gateway.specs.Outputs.{said, Said}
+use Rattle.gateway.specs.Outputs.{output_view, OutputView}
 use Rattle.gateway.specs.Promises.{KeepsPromises}
 use Rattle.gateway.specs.Runs.{Runs, StepsAs}
 use Rattle.gateway.specs.States.{IsSoundState, State}
@@ -21,7 +21,7 @@ use Rattle.gateway.proofs.WorldHistoryLemmas.{history_at}
 
 -- an event in front of a run: a step of this end, or none
 in_front : {C : Type 0} (meaning_of : C → Meaning) (end place : End) (input : Input) (o : Output) (is : List Input) (os : List Output) (old between : WorldState C) (new gateway : State C) (trace : Trace) (stored : Stored)
-    → IsSoundState (gateway_at place old) → Traces (meaning_of (gateway_at place old).caller) input (gateway_at place old) (said o) trace gateway
+    → IsSoundState (gateway_at place old) → Traces (meaning_of (gateway_at place old).caller) input (gateway_at place old) (output_view o) trace gateway
     → between ≡ with_gateway place gateway stored old
     → Runs (StepsAs meaning_of) is os (gateway_at end between) new
     → Runs (StepsAs meaning_of) (if_at end place input is) (if_at end place o os) (gateway_at end old) new
@@ -72,14 +72,14 @@ pub stays_stored : {C : Type 0} (meaning_of : C → Meaning) (es : List Event) (
     → Runs (HappensAs meaning_of) es os old new → IsLater old.stored new.stored
 stays_stored {C} meaning_of [] [] old new run = later_same old.stored new.stored (ap (λ (w : WorldState C). w.stored) run)
 stays_stored {C} meaning_of (e ∷ es) (o ∷ os) old new run =
-    let stored = ap (λ (w : WorldState C). w.stored) run.1.content ∙ stored_at e.end run.1.gateway (storing e.end (said o) run.1.trace run.1.gateway old.stored) old in
+    let stored = ap (λ (w : WorldState C). w.stored) run.1.content ∙ stored_at e.end run.1.gateway (storing e.end (output_view o) run.1.trace run.1.gateway old.stored) old in
     later_more old.stored run.0.stored new.stored _ (ap (λ (s : Stored). s.sent) stored) (ap (λ (s : Stored). s.keyed) stored) (ap (λ (s : Stored). s.children) stored)
     (stays_stored meaning_of es os run.0 new run.2)
 stays_stored {C} meaning_of [] (o ∷ os) old new run = absurd run
 stays_stored {C} meaning_of (e ∷ es) [] old new run = absurd run
 
 -- a step of the gateway of A, after room was made, is what happens at A
-pub taken_at_a : {C : Type 0} (meaning_of : C → Meaning) (event : Event) (old : WorldState C) (a b : State C) (before ready : Stored) (s : Said) (gateway : State C) (after : Stored)
+pub taken_at_a : {C : Type 0} (meaning_of : C → Meaning) (event : Event) (old : WorldState C) (a b : State C) (before ready : Stored) (s : OutputView) (gateway : State C) (after : Stored)
     → event.end ≡ A → IsSoundState a → record { a = a; b = b; stored = before } ≡ old → ready ≡ before → TakesAt (meaning_of a.caller) A event.input a ready s gateway after
     → TakesEvent meaning_of event old s (record { a = gateway; b = b; stored = after })
 taken_at_a {C} meaning_of event old a b before ready s gateway after at_a sound was same t =
@@ -96,7 +96,7 @@ taken_at_a {C} meaning_of event old a b before ready s gateway after at_a sound 
     }
 
 -- and so it is at B
-pub taken_at_b : {C : Type 0} (meaning_of : C → Meaning) (event : Event) (old : WorldState C) (a b : State C) (before ready : Stored) (s : Said) (gateway : State C) (after : Stored)
+pub taken_at_b : {C : Type 0} (meaning_of : C → Meaning) (event : Event) (old : WorldState C) (a b : State C) (before ready : Stored) (s : OutputView) (gateway : State C) (after : Stored)
     → event.end ≡ B → IsSoundState b → record { a = a; b = b; stored = before } ≡ old → ready ≡ before → TakesAt (meaning_of b.caller) B event.input b ready s gateway after
     → TakesEvent meaning_of event old s (record { a = a; b = gateway; stored = after })
 taken_at_b {C} meaning_of event old a b before ready s gateway after at_b sound was same t =

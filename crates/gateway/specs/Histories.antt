@@ -1,7 +1,7 @@
 -- A run as the list of its steps.
 use Rattle.std.specs.Prelude.{◌≡◌, List, [], ◌∷◌, map}
 use Rattle.effects.specs.Taking.{Meaning}
-use Rattle.gateway.specs.Outputs.{said, Said}
+use Rattle.gateway.specs.Outputs.{output_view, OutputView}
 use Rattle.gateway.specs.States.{IsSoundState, State}
 use Rattle.gateway.specs.Steps.{Steps}
 use Rattle.gateway.specs.declared.input.Input.{Input}
@@ -11,7 +11,7 @@ use Rattle.gateway.specs.declared.output.Output.{Output}
 pub record Passage (C : Type 0) : Type 0 where
   pub before : State C
   pub given : Input
-  pub said : Said
+  pub said : OutputView
   pub after : State C
 
 pub record IsPassage {C : Type 0} (meaning_of : C → Meaning) (p : Passage C) : Type 0 where
@@ -26,5 +26,5 @@ IsTrail {C} meaning_of old (p ∷ ps) new = (p.before ≡ old) × IsPassage mean
 -- all steps of a run, in order
 pub record IsHistory {C : Type 0} (meaning_of : C → Meaning) (inputs : List Input) (outputs : List Output) (old new : State C) (passages : List (Passage C)) : Type 0 where
   pub takes : map (λ p. p.given) passages ≡ inputs
-  pub says : map (λ p. p.said) passages ≡ map said outputs
+  pub says : map (λ p. p.said) passages ≡ map output_view outputs
   pub trail : IsTrail meaning_of old passages new

@@ -5,7 +5,7 @@ use Rattle.ike.specs.declared.output.Stepped.{Stepped}
 use Rattle.moments.specs.declared.ticking.Ticked.{Ticked}
 use Rattle.gateway.specs.Histories.{Passage}
 use Rattle.gateway.specs.Outputs as output
-use Rattle.gateway.specs.Outputs.{said_by_ike, wants_memory, Said}
+use Rattle.gateway.specs.Outputs.{view_of_ike, wants_memory, OutputView}
 use Rattle.gateway.specs.declared.input.Input.{Input}
 use Rattle.gateway.specs.declared.input.Input.TheVariants as input
 
@@ -13,7 +13,7 @@ abbrev pub is_moment : Input → Bool
 is_moment (input.Tick moment) = true
 is_moment _ = false
 
-abbrev pub tells_moment : Said → Bool
+abbrev pub tells_moment : OutputView → Bool
 tells_moment (output.Ticked requests closed) = true
 tells_moment _ = false
 
@@ -27,7 +27,7 @@ pub record Brings {C : Type 0} (now : ℕ) (p : Passage C) : Type 0 where
 -- the step is one of the machine at which the time stands still
 pub record StandsStill {C : Type 0} (p : Passage C) : Type 0 where
   pub stepped : Stepped
-  pub said : p.said ≡ said_by_ike stepped.output
+  pub said : p.said ≡ view_of_ike stepped.output
   pub stays : StaysAt p.before.machine stepped p.after.machine
 
 -- This step brings nothing of the kind, and the time stands still; so do the timers of what waits and of what is held for a time, or the

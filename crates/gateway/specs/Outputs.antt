@@ -17,60 +17,60 @@ use Rattle.gateway.specs.declared.output.Output.{Output}
 use Rattle.gateway.specs.declared.output.Output.TheVariants as output
 
 -- IKE associations and children are told by their serials
-pub data Said : Type 0 where
+pub data OutputView : Type 0 where
   -- an answer of IKE, and the association that it closed
-  Reply : Octets → Option ℕ → Said
-  Repeat : Octets → Said
-  Request : (ike : ℕ) → Octets → Said
+  Reply : Octets → Option ℕ → OutputView
+  Repeat : Octets → OutputView
+  Request : (ike : ℕ) → Octets → OutputView
   -- a response of this association was counted; the child that it made, and the association that it closed
-  Counted : (ike : ℕ) → Option ℕ → Option ℕ → Said
+  Counted : (ike : ℕ) → Option ℕ → Option ℕ → OutputView
   -- the requests that go out again, and the associations that were closed
-  Ticked : List Resent → List ℕ → Said
-  Done : Said
-  Up : (child number : ℕ) → Octets → Said
-  Dummy : (child number : ℕ) → Said
-  Sealed : (child number : ℕ) → Octets → Said
-  Clear : Octets → Said
-  Discarded : Said
-  Dropped : Reason → Said
-  Refused : Reason → Said
+  Ticked : List Resent → List ℕ → OutputView
+  Done : OutputView
+  Up : (child number : ℕ) → Octets → OutputView
+  Dummy : (child number : ℕ) → OutputView
+  Sealed : (child number : ℕ) → Octets → OutputView
+  Clear : Octets → OutputView
+  Discarded : OutputView
+  Dropped : Reason → OutputView
+  Refused : Reason → OutputView
 
-abbrev pub said : Output → Said
-said (output.Reply octets closed) = Reply octets closed
-said (output.Repeat octets) = Repeat octets
-said (output.Request serial octets) = Request serial octets
-said (output.Counted serial child closed) = Counted serial child closed
-said (output.Ticked requests closed) = Ticked requests closed
-said output.Done = Done
-said (output.Up child number packet) = Up child number packet.now
-said (output.Dummy child number) = Dummy child number
-said (output.Sealed child number octets) = Sealed child number octets
-said (output.Clear packet) = Clear packet.now
-said output.Discarded = Discarded
-said (output.Dropped why) = Dropped why
-said (output.Refused why) = Refused why
+abbrev pub output_view : Output → OutputView
+output_view (output.Reply octets closed) = Reply octets closed
+output_view (output.Repeat octets) = Repeat octets
+output_view (output.Request serial octets) = Request serial octets
+output_view (output.Counted serial child closed) = Counted serial child closed
+output_view (output.Ticked requests closed) = Ticked requests closed
+output_view output.Done = Done
+output_view (output.Up child number packet) = Up child number packet.now
+output_view (output.Dummy child number) = Dummy child number
+output_view (output.Sealed child number octets) = Sealed child number octets
+output_view (output.Clear packet) = Clear packet.now
+output_view output.Discarded = Discarded
+output_view (output.Dropped why) = Dropped why
+output_view (output.Refused why) = Refused why
 
 -- what the machine of IKE answers
-abbrev pub said_by_ike : IkeOutput → Said
-said_by_ike (ike.Reply octets closed) = Reply octets closed
-said_by_ike (ike.Repeat octets) = Repeat octets
-said_by_ike (ike.Request serial octets) = Request serial octets
-said_by_ike (ike.Counted serial child closed) = Counted serial child closed
-said_by_ike (ike.Ticked ticked) = Ticked ticked.requests ticked.closed
-said_by_ike ike.Done = Done
-said_by_ike (ike.Dropped fault) = Dropped (reason.Ike fault)
+abbrev pub view_of_ike : IkeOutput → OutputView
+view_of_ike (ike.Reply octets closed) = Reply octets closed
+view_of_ike (ike.Repeat octets) = Repeat octets
+view_of_ike (ike.Request serial octets) = Request serial octets
+view_of_ike (ike.Counted serial child closed) = Counted serial child closed
+view_of_ike (ike.Ticked ticked) = Ticked ticked.requests ticked.closed
+view_of_ike ike.Done = Done
+view_of_ike (ike.Dropped fault) = Dropped (reason.Ike fault)
 
 -- what becomes of a packet
-abbrev pub said_of_outcome : traffic.Outcome → Said
-said_of_outcome (traffic.Up child number packet) = Up child number packet
-said_of_outcome (traffic.Dummy child number) = Dummy child number
-said_of_outcome (traffic.Sealed child number octets) = Sealed child number octets
-said_of_outcome (traffic.Clear packet) = Clear packet
-said_of_outcome traffic.Discarded = Discarded
-said_of_outcome (traffic.Dropped fault) = Dropped (reason.Packet fault)
+abbrev pub view_of_outcome : traffic.Outcome → OutputView
+view_of_outcome (traffic.Up child number packet) = Up child number packet
+view_of_outcome (traffic.Dummy child number) = Dummy child number
+view_of_outcome (traffic.Sealed child number octets) = Sealed child number octets
+view_of_outcome (traffic.Clear packet) = Clear packet
+view_of_outcome traffic.Discarded = Discarded
+view_of_outcome (traffic.Dropped fault) = Dropped (reason.Packet fault)
 
 -- what comes of a datagram of IKE that is passed over, or that took effect before
-abbrev pub IsQuiet : Said → Type 0
+abbrev pub IsQuiet : OutputView → Type 0
 IsQuiet (Dropped why) = Unit {0}
 IsQuiet (Repeat octets) = Unit {0}
 IsQuiet _ = ⊥
@@ -80,7 +80,7 @@ abbrev pub DATAGRAM_LIMIT : ℕ
 DATAGRAM_LIMIT = 16664
 
 -- what is sent is no longer
-abbrev pub FitsDatagram : Said → Type 0
+abbrev pub FitsDatagram : OutputView → Type 0
 FitsDatagram (Reply octets closed) = length octets ≤ DATAGRAM_LIMIT
 FitsDatagram (Repeat octets) = length octets ≤ DATAGRAM_LIMIT
 FitsDatagram (Request serial octets) = length octets ≤ DATAGRAM_LIMIT
@@ -96,12 +96,12 @@ FitsDatagram (Dropped why) = Unit {0}
 FitsDatagram (Refused why) = Unit {0}
 
 -- no more requests go out again
-abbrev pub FewAgain : Said → ℕ → Type 0
+abbrev pub FewAgain : OutputView → ℕ → Type 0
 FewAgain (Ticked requests closed) most = length requests ≤ most
 FewAgain _ most = Unit {0}
 
 -- an input was refused for want of memory
-abbrev pub wants_memory : Said → Bool
+abbrev pub wants_memory : OutputView → Bool
 wants_memory (Refused why) = is_want_of_memory why
 wants_memory _ = false
 

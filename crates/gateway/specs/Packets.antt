@@ -16,13 +16,13 @@ use Rattle.deliveries.specs.Numbers.{IsJudgedAs}
 use Rattle.deliveries.specs.Passages as tables
 use Rattle.deliveries.specs.Promises.{IsAnswerDue, PacketsAreJudged}
 use Rattle.gateway.specs.Histories.{Passage}
-use Rattle.gateway.specs.Outputs.{said_of_outcome, wants_memory, Clear, Discarded, Dropped, Dummy, Said, Sealed, Up}
+use Rattle.gateway.specs.Outputs.{view_of_outcome, wants_memory, Clear, Discarded, Dropped, Dummy, OutputView, Sealed, Up}
 use Rattle.gateway.specs.declared.fault.Reason.TheVariants as reason
 use Rattle.gateway.specs.declared.input.Input.{Input}
 use Rattle.gateway.specs.declared.input.Input.TheVariants as input
 
--- what became of a packet, of which this is said: the other way round from `said_of_outcome`. Nothing else is said of a packet that came.
-abbrev pub outcome_of_said : Said → Option traffic.Outcome
+-- what became of a packet, of which this is said: the other way round from `view_of_outcome`. Nothing else is said of a packet that came.
+abbrev pub outcome_of_said : OutputView → Option traffic.Outcome
 outcome_of_said (Up child number packet) = Some (traffic.Up child number packet)
 outcome_of_said (Dummy child number) = Some (traffic.Dummy child number)
 outcome_of_said (Sealed child number octets) = Some (traffic.Sealed child number octets)
@@ -32,7 +32,7 @@ outcome_of_said (Dropped (reason.Packet fault)) = Some (traffic.Dropped fault)
 outcome_of_said _ = None
 
 -- the ESP packet that came and what became of it, where the input is one
-abbrev pub reception_of : Input → Said → Option tables.Reception
+abbrev pub reception_of : Input → OutputView → Option tables.Reception
 reception_of (input.Esp octets) s = option_map (λ outcome. record { packet = octets; outcome = outcome }) (outcome_of_said s)
 reception_of _ s = None
 
@@ -47,7 +47,7 @@ table_passages passages = map table_passage passages
 -- memory, and the machine of IKE, the policy and the caller stay as they are.
 pub record TakesPacket {C : Type 0} (octets : Octets) (p : Passage C) : Type 0 where
   pub outcome : traffic.Outcome
-  pub said : p.said ≡ said_of_outcome outcome
+  pub said : p.said ≡ view_of_outcome outcome
   pub received : reception_of p.given p.said ≡ Some (record { packet = octets; outcome = outcome })
   pub memory : wants_memory p.said ≡ false
   pub kept : p.after ≡ record p.before { table = p.after.table }
@@ -66,9 +66,9 @@ pub record JudgesOne {C : Type 0} (child number : ℕ) (p : Passage C) : Type 0 
 
 -- What is said is what is due to a packet of these octets that was judged so: the packet goes up that it carried, if the pair's selectors
 -- hold it; it was a dummy; or it is dropped for its padding, or for what it carried.
-pub record SaysDue (child number : ℕ) (pair : Pair) (octets : Octets) (s : Said) : Type 0 where
+pub record SaysDue (child number : ℕ) (pair : Pair) (octets : Octets) (s : OutputView) : Type 0 where
   pub outcome : traffic.Outcome
-  pub said : s ≡ said_of_outcome outcome
+  pub said : s ≡ view_of_outcome outcome
   pub due : IsAnswerDue child number pair octets outcome
 
 -- it is said that the packet is dropped, for a fault that is found before it is judged, and nothing changes

@@ -18,7 +18,7 @@ use Rattle.ike.specs.Steps as ike
 use Rattle.ike.specs.declared.asking.Demand.TheVariants as demand
 use Rattle.ike.specs.declared.fault.IkeFault.TheVariants.{Message}
 use Rattle.gateway.specs.Histories.{Passage}
-use Rattle.gateway.specs.Outputs.{wants_memory, Dropped, IsQuiet, Repeat, Reply, Said}
+use Rattle.gateway.specs.Outputs.{wants_memory, Dropped, IsQuiet, Repeat, Reply, OutputView}
 use Rattle.gateway.specs.States.{association_in}
 use Rattle.gateway.specs.declared.fault.Reason.TheVariants.{Ike}
 use Rattle.gateway.specs.declared.input.Input.{Input}
@@ -65,7 +65,7 @@ pub record AnswersBy {C : Type 0} (p : Passage C) (reply : Octets) : Type 0 wher
   pub said : p.said ≡ Reply reply closed
 
 -- this comes of a step, and nothing changes
-pub record OnlySays {C : Type 0} (s : Said) (p : Passage C) : Type 0 where
+pub record OnlySays {C : Type 0} (s : OutputView) (p : Passage C) : Type 0 where
   pub said : p.said ≡ s
   pub unchanged : p.after ≡ p.before
 

@@ -1,7 +1,7 @@
 -- A list of inputs, and their outputs in order: of a gateway, or of events at two ends.
 use Rattle.std.specs.Prelude.{◌≡◌, ◌<◌, ◌++◌, ℕ, List, [], ◌∷◌, length, take}
 use Rattle.effects.specs.Taking.{Meaning}
-use Rattle.gateway.specs.Outputs.{said}
+use Rattle.gateway.specs.Outputs.{output_view}
 use Rattle.gateway.specs.Promises.{KeepsPromises}
 use Rattle.gateway.specs.States.{IsSoundState, State}
 use Rattle.gateway.specs.Steps.{Steps}
@@ -20,7 +20,7 @@ Runs {I} {O} {S} step (i ∷ is) [] old new = ⊥
 -- a step of a gateway as its caller means it; before it, what holds of every gateway holds of this one
 pub record StepsAs {C : Type 0} (meaning_of : C → Meaning) (i : Input) (old : State C) (o : Output) (new : State C) : Type 0 where
   pub sound : IsSoundState old
-  pub steps : Steps (meaning_of old.caller) i old (said o) new
+  pub steps : Steps (meaning_of old.caller) i old (output_view o) new
 
 -- A call with a list of inputs is a run over it. Calls in a row, each from where the one before ended, are runs by this step, over the
 -- list of their lists.

@@ -16,21 +16,21 @@ use Rattle.traffic.specs.Admitting.{Admits}
 use Rattle.traffic.specs.Outcomes.{Outcome}
 use Rattle.traffic.specs.Receiving.{Receives}
 use Rattle.traffic.specs.Sending.{IsToBeSealed, Protects, Sends}
-use Rattle.gateway.specs.Outputs.{Said, Refused, said_by_ike, said_of_outcome}
+use Rattle.gateway.specs.Outputs.{OutputView, Refused, view_of_ike, view_of_outcome}
 use Rattle.gateway.specs.States.{State}
 use Rattle.gateway.specs.declared.fault.Reason.TheVariants as reason
 use Rattle.gateway.specs.declared.input.Input.{Input}
 use Rattle.gateway.specs.declared.input.Input.TheVariants as input
 
 -- the machine of IKE takes a step
-pub record AnswersIke (meaning : Meaning) (entries : List Entry) (given : ike.InputView) (old : Machine) (table : Database) (said : Said) (trace : Trace) (new : Machine) (new_table : Database) : Type 0 where
+pub record AnswersIke (meaning : Meaning) (entries : List Entry) (given : ike.InputView) (old : Machine) (table : Database) (said : OutputView) (trace : Trace) (new : Machine) (new_table : Database) : Type 0 where
   pub stepped : Stepped
   pub steps : ike.Steps meaning entries given old table stepped new new_table
-  pub output : said ≡ said_by_ike stepped.output
+  pub output : said ≡ view_of_ike stepped.output
   pub traced : trace ≡ stepped.trace
 
 -- or it refuses to: only the table's room may have grown
-pub record RefusesIke (meaning : Meaning) (entries : List Entry) (given : ike.InputView) (old : Machine) (table : Database) (said : Said) (trace : Trace) (new : Machine) (new_table : Database) : Type 0 where
+pub record RefusesIke (meaning : Meaning) (entries : List Entry) (given : ike.InputView) (old : Machine) (table : Database) (said : OutputView) (trace : Trace) (new : Machine) (new_table : Database) : Type 0 where
   pub fault : IkeFault
   pub refuses : ike.Refuses meaning entries given old table fault
   pub output : said ≡ Refused (reason.Ike fault)
@@ -38,37 +38,37 @@ pub record RefusesIke (meaning : Meaning) (entries : List Entry) (given : ike.In
   pub machine : new ≡ old
   pub pairs : IsAsBefore table new_table
 
-abbrev pub StepsIke : Meaning → List Entry → ike.InputView → Machine → Database → Said → Trace → Machine → Database → Type 0
+abbrev pub StepsIke : Meaning → List Entry → ike.InputView → Machine → Database → OutputView → Trace → Machine → Database → Type 0
 StepsIke meaning entries given old table said trace new new_table =
     AnswersIke meaning entries given old table said trace new new_table
     ⊎ RefusesIke meaning entries given old table said trace new new_table
 
 -- an ESP packet came
-pub record ReceivesPacket (old : Database) (packet : Octets) (said : Said) (new : Database) : Type 0 where
+pub record ReceivesPacket (old : Database) (packet : Octets) (said : OutputView) (new : Database) : Type 0 where
   pub outcome : Outcome
   pub receives : Receives old packet outcome new
-  pub output : said ≡ said_of_outcome outcome
+  pub output : said ≡ view_of_outcome outcome
 
 -- a packet is on its way out, and there was memory
-pub record SendsWithMemory (entries : List Entry) (old : Database) (packet : Octets) (said : Said) (new : Database) : Type 0 where
+pub record SendsWithMemory (entries : List Entry) (old : Database) (packet : Octets) (said : OutputView) (new : Database) : Type 0 where
   pub outcome : Outcome
   pub sends : Sends old entries packet outcome new
-  pub output : said ≡ said_of_outcome outcome
+  pub output : said ≡ view_of_outcome outcome
 
 -- or there was none for its ESP packet
-pub record LacksMemory (entries : List Entry) (old : Database) (packet : Octets) (said : Said) (new : Database) : Type 0 where
+pub record LacksMemory (entries : List Entry) (old : Database) (packet : Octets) (said : OutputView) (new : Database) : Type 0 where
   pub sealable : IsToBeSealed old entries packet
   pub output : said ≡ Refused reason.Memory
   pub unchanged : new ≡ old
 
-abbrev pub SendsPacket : List Entry → Database → Octets → Said → Database → Type 0
+abbrev pub SendsPacket : List Entry → Database → Octets → OutputView → Database → Type 0
 SendsPacket entries old packet said new = SendsWithMemory entries old packet said new ⊎ LacksMemory entries old packet said new
 
 -- a packet came in unprotected
-pub record AdmitsPacket (entries : List Entry) (packet : Octets) (said : Said) : Type 0 where
+pub record AdmitsPacket (entries : List Entry) (packet : Octets) (said : OutputView) : Type 0 where
   pub outcome : Outcome
   pub admits : Admits entries packet outcome
-  pub output : said ≡ said_of_outcome outcome
+  pub output : said ≡ view_of_outcome outcome
 
 -- no message of IKE was sent, and nothing of IKE made or changed
 pub record LeavesIke (old : Machine) (trace : Trace) (new : Machine) : Type 0 where
@@ -76,7 +76,7 @@ pub record LeavesIke (old : Machine) (trace : Trace) (new : Machine) : Type 0 wh
   pub traced : trace ≡ no_trace
 
 -- what an input does to the machine of IKE and to the table
-abbrev pub DoesInput : Meaning → List Entry → Input → Machine → Database → Said → Trace → Machine → Database → Type 0
+abbrev pub DoesInput : Meaning → List Entry → Input → Machine → Database → OutputView → Trace → Machine → Database → Type 0
 DoesInput meaning entries (input.Ike from octets fresh) old table said trace new new_table =
     StepsIke meaning entries (ike.Message from octets fresh) old table said trace new new_table
 DoesInput meaning entries (input.Start serial entry fresh) old table said trace new new_table =
@@ -99,16 +99,16 @@ DoesInput meaning entries (input.Inward packet) old table said trace new new_tab
     LeavesIke old trace new × AdmitsPacket entries packet said × (new_table ≡ table)
 
 -- One step, with what it sent and made of IKE. The policy and the caller stay as they are.
-pub record Traces {C : Type 0} (meaning : Meaning) (given : Input) (old : State C) (said : Said) (trace : Trace) (new : State C) : Type 0 where
+pub record Traces {C : Type 0} (meaning : Meaning) (given : Input) (old : State C) (said : OutputView) (trace : Trace) (new : State C) : Type 0 where
   pub kept : new ≡ record old { machine = new.machine; table = new.table }
   pub does : DoesInput meaning old.entries given old.machine old.table said trace new.machine new.table
 
 -- one step
-pub record Steps {C : Type 0} (meaning : Meaning) (given : Input) (old : State C) (said : Said) (new : State C) : Type 0 where
+pub record Steps {C : Type 0} (meaning : Meaning) (given : Input) (old : State C) (said : OutputView) (new : State C) : Type 0 where
   pub trace : Trace
   pub traces : Traces meaning given old said trace new
 
 -- a packet that is to be protected goes so, or it is refused for want of memory
-abbrev pub GoesSealed : {C : Type 0} → Flow → Octets → State C → Said → State C → Type 0
+abbrev pub GoesSealed : {C : Type 0} → Flow → Octets → State C → OutputView → State C → Type 0
 GoesSealed {C} flow packet old said new =
-    ((outcome : Outcome) × (Protects old.table flow packet outcome new.table) × (said ≡ said_of_outcome outcome)) ⊎ (said ≡ Refused reason.Memory)
+    ((outcome : Outcome) × (Protects old.table flow packet outcome new.table) × (said ≡ view_of_outcome outcome)) ⊎ (said ≡ Refused reason.Memory)

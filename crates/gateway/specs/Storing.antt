@@ -7,7 +7,7 @@ use Rattle.moments.specs.Due.{outstanding_count}
 use Rattle.moments.specs.declared.resent.Resent.{Resent}
 use Rattle.ike.specs.Machines.{Machine}
 use Rattle.ike.specs.declared.output.Trace.{Trace}
-use Rattle.gateway.specs.Outputs.{DATAGRAM_LIMIT, Said}
+use Rattle.gateway.specs.Outputs.{DATAGRAM_LIMIT, OutputView}
 use Rattle.gateway.specs.States.{State}
 use Rattle.gateway.specs.Steps.{Traces}
 use Rattle.gateway.specs.Worlds.{storing, Stored}
@@ -49,7 +49,7 @@ again_by (input.Tick moment) machine = outstanding_count machine.held.associatio
 again_by _ machine = 0
 
 -- a step of the gateway of an end, and what is stored of it
-pub record TakesAt {C : Type 0} (meaning : Meaning) (end : End) (input : Input) (old : State C) (stored : Stored) (said : Said) (new : State C) (stored_after : Stored) : Type 0 where
+pub record TakesAt {C : Type 0} (meaning : Meaning) (end : End) (input : Input) (old : State C) (stored : Stored) (said : OutputView) (new : State C) (stored_after : Stored) : Type 0 where
   pub trace : Trace
   pub traces : Traces meaning input old said trace new
   pub stores : stored_after ≡ storing end said trace new stored

@@ -2,7 +2,7 @@
 use Rattle.std.specs.Prelude.{◌≡◌, List, [], ◌∷◌, map}
 use Rattle.effects.specs.Taking.{Meaning}
 use Rattle.gateway.specs.Histories.{Passage}
-use Rattle.gateway.specs.Outputs.{said, Said}
+use Rattle.gateway.specs.Outputs.{output_view, OutputView}
 use Rattle.gateway.specs.Worlds.{gateway_at, if_at, TakesEvent, WorldState}
 use Rattle.gateway.specs.declared.output.Output.{Output}
 use Rattle.gateway.specs.declared.world.stored.End.{End}
@@ -12,7 +12,7 @@ use Rattle.gateway.specs.declared.world.stored.Event.{Event}
 pub record Happening (C : Type 0) : Type 0 where
   pub before : WorldState C
   pub event : Event
-  pub said : Said
+  pub said : OutputView
   pub after : WorldState C
 
 -- events in a row, each from where the one before ended
@@ -23,7 +23,7 @@ IsWorldTrail {C} meaning_of old (h ∷ hs) new = (h.before ≡ old) × TakesEven
 -- all steps of a run of a world, in order
 pub record IsWorldHistory {C : Type 0} (meaning_of : C → Meaning) (events : List Event) (outputs : List Output) (old new : WorldState C) (happenings : List (Happening C)) : Type 0 where
   pub takes : map (λ h. h.event) happenings ≡ events
-  pub says : map (λ h. h.said) happenings ≡ map said outputs
+  pub says : map (λ h. h.said) happenings ≡ map output_view outputs
   pub trail : IsWorldTrail meaning_of old happenings new
 
 -- a step as the gateway of this end sees it

@@ -2,7 +2,7 @@
 use Rattle.std.specs.Prelude.{◌≡◌, ◌<◌, ◌++◌, ℕ, List, [], ◌∷◌, length, take}
 use Rattle.effects.specs.Taking.{Meaning}
 use Rattle.gateway.specs.Histories.{IsHistory}
-use Rattle.gateway.specs.Outputs.{said}
+use Rattle.gateway.specs.Outputs.{output_view}
 use Rattle.gateway.specs.Promises.{KeepsPromises}
 use Rattle.gateway.specs.Runs.{Runs, StepsAs}
 use Rattle.gateway.specs.WorldHistories.{passages_at, Happening, IsWorldHistory}
@@ -17,7 +17,7 @@ use Rattle.gateway.specs.declared.world.stored.Event.{Event}
 
 -- an event as the callers of both ends mean it
 abbrev pub HappensAs : {C : Type 0} → (C → Meaning) → Event → WorldState C → Output → WorldState C → Type 0
-HappensAs {C} meaning_of e old o new = TakesEvent meaning_of e old (said o) new
+HappensAs {C} meaning_of e old o new = TakesEvent meaning_of e old (output_view o) new
 
 -- A call with a list of events is a run over it. Calls in a row, each from where the one before ended, are runs by this step, over the list
 -- of their lists.

@@ -13,7 +13,7 @@ use Rattle.ike.specs.Machines.{keys_of_serial, Machine}
 use Rattle.ike.specs.declared.output.MadeChild.{MadeChild}
 use Rattle.ike.specs.declared.output.Mark as ike
 use Rattle.ike.specs.declared.output.Trace.{Trace}
-use Rattle.gateway.specs.Outputs.{Said, Counted, Clear, Discarded, Done, Dropped, Dummy, Refused, Repeat, Reply, Request, Sealed, Ticked, Up}
+use Rattle.gateway.specs.Outputs.{OutputView, Counted, Clear, Discarded, Done, Dropped, Dummy, Refused, Repeat, Reply, Request, Sealed, Ticked, Up}
 use Rattle.gateway.specs.States.{IsSoundState, State}
 use Rattle.gateway.specs.Steps.{Traces}
 use Rattle.gateway.specs.declared.world.log.Log.{Log}
@@ -108,12 +108,12 @@ mark_again r = if r.encrypted then Some (record { ike = r.ike; response = false;
 abbrev pub again_as : End → Machine → Resent → Datagram
 again_as end machine r = datagram_of end (ike_mark machine (mark_again r)) r.octets
 
-abbrev pub requests_in : Said → List Resent
+abbrev pub requests_in : OutputView → List Resent
 requests_in (Ticked requests closed) = requests
 requests_in _ = []
 
 -- the datagram that a step sent, if it was no request that goes out again
-abbrev pub sent_once : {C : Type 0} → End → Said → Option ike.Mark → State C → List Datagram
+abbrev pub sent_once : {C : Type 0} → End → OutputView → Option ike.Mark → State C → List Datagram
 sent_once end (Reply octets closed) sent gateway = datagram_of end (ike_mark gateway.machine sent) octets ∷ []
 sent_once end (Repeat octets) sent gateway = datagram_of end (ike_mark gateway.machine sent) octets ∷ []
 sent_once end (Request serial octets) sent gateway = datagram_of end (ike_mark gateway.machine sent) octets ∷ []
@@ -129,7 +129,7 @@ sent_once end (Dropped why) sent gateway = []
 sent_once end (Refused why) sent gateway = []
 
 -- the datagrams that a step sent
-abbrev pub sent_by : {C : Type 0} → End → Said → Option ike.Mark → State C → List Datagram
+abbrev pub sent_by : {C : Type 0} → End → OutputView → Option ike.Mark → State C → List Datagram
 sent_by end said sent gateway = sent_once end said sent gateway ++ map (again_as end gateway.machine) (requests_in said)
 
 abbrev pub keyed_with : End → Option KeyRecord → Option Keyed
@@ -163,7 +163,7 @@ child_by end (Some made) gateway =
     child_with end made (keys_of_serial made.ike gateway.machine.held.associations) (pair_at gateway.table.pairs made.serial)
 
 -- what is stored after a step of an end, of which this is the gateway after
-abbrev pub storing : {C : Type 0} → End → Said → Trace → State C → Stored → Stored
+abbrev pub storing : {C : Type 0} → End → OutputView → Trace → State C → Stored → Stored
 storing end said trace gateway old = record {
   sent = old.sent ++ sent_by end said trace.sent gateway;
   keyed = old.keyed ++ option_to_list (keyed_by end trace.keyed gateway.machine);
@@ -171,7 +171,7 @@ storing end said trace gateway old = record {
 }
 
 -- One end, of which holds what holds of every gateway, takes a step: what it sent and made is stored, and the other end is as it was.
-pub record TakesEvent {C : Type 0} (meaning_of : C → Meaning) (event : Event) (old : WorldState C) (said : Said) (new : WorldState C) : Type 0 where
+pub record TakesEvent {C : Type 0} (meaning_of : C → Meaning) (event : Event) (old : WorldState C) (said : OutputView) (new : WorldState C) : Type 0 where
   pub sound : IsSoundState (gateway_at event.end old)
   pub trace : Trace
   pub gateway : State C

@@ -22,7 +22,7 @@ ghost use Rattle.ike.specs.declared.output.Trace.{Trace};
 ghost use Rattle.gateway.specs.Contents.{state_content};
 ghost use Rattle.gateway.specs.Faults.{is_after_judging_packet};
 ghost use Rattle.ike.specs.Soundness.{IsSoundMachine};
-ghost use Rattle.gateway.specs.Outputs.{Clear, Dropped, FewAgain, FitsChild, FitsDatagram, IsQuiet, Refused, Said, Ticked, wants_memory, said};
+ghost use Rattle.gateway.specs.Outputs.{Clear, Dropped, FewAgain, FitsChild, FitsDatagram, IsQuiet, Refused, OutputView, Ticked, wants_memory, output_view};
 ghost use Rattle.gateway.specs.Promises.{KeepsPromises};
 ghost use Rattle.gateway.specs.Histories.{IsHistory, Passage};
 ghost use Rattle.gateway.specs.Runs.{CallsAs, Runs, StepsAs};
@@ -73,7 +73,7 @@ pub fn the_protected_never_goes_in_the_clear<C>()
     ensures outward { (meaning : Meaning) (packet octets : Octets) (flow : Flow) (action : Action) (old new : State C)
         → IsDecided old.entries direction.Outward packet flow action
         → Steps meaning (input.Outward packet) old (Clear octets) new → (action ≡ Bypass) × (octets ≡ packet) }
-    ensures protected { (meaning : Meaning) (packet : Octets) (flow : Flow) (said : Said) (old new : State C)
+    ensures protected { (meaning : Meaning) (packet : Octets) (flow : Flow) (said : OutputView) (old new : State C)
         → IsDecided old.entries direction.Outward packet flow Protect
         → Steps meaning (input.Outward packet) old said new → GoesSealed flow packet old said new }
     ensures inward { (meaning : Meaning) (packet octets : Octets) (flow : Flow) (action : Action) (old new : State C)
@@ -85,7 +85,7 @@ pub fn the_protected_never_goes_in_the_clear<C>()
 
 /// The policy and the caller stay as they are, and what is refused changes nothing but the table's room.
 pub fn refusals_change_nothing<C>()
-    ensures kept { (meaning : Meaning) (given : Input) (said : Said) (old new : State C)
+    ensures kept { (meaning : Meaning) (given : Input) (said : OutputView) (old new : State C)
         → Steps meaning given old said new → (new.entries ≡ old.entries) × (new.caller ≡ old.caller) }
     ensures refused { (meaning : Meaning) (given : Input) (reason : Reason) (old new : State C)
         → Steps meaning given old (Refused reason) new
@@ -94,7 +94,7 @@ pub fn refusals_change_nothing<C>()
 
 /// A datagram of IKE that is dropped, or is a request that took effect before, changes nothing.
 pub fn what_is_quiet_changes_nothing<C>()
-    ensures { (meaning : Meaning) (from octets : Octets) (fresh : Fresh) (said : Said) (old new : State C)
+    ensures { (meaning : Meaning) (from octets : Octets) (fresh : Fresh) (said : OutputView) (old new : State C)
         → Steps meaning (input.Ike from octets fresh) old said new → IsQuiet said → new ≡ old }
 {
     ike::laws::what_is_quiet_changes_nothing();
@@ -110,7 +110,7 @@ pub fn a_dropped_packet_takes_one_number_at_most<C>()
         → Steps meaning (input.Esp octets) old (Dropped reason) new → is_after_judging_packet reason ≡ false → new ≡ old }
     ensures outward { (meaning : Meaning) (packet : Octets) (reason : Reason) (old new : State C)
         → Steps meaning (input.Outward packet) old (Dropped reason) new → new ≡ old }
-    ensures inward { (meaning : Meaning) (packet : Octets) (said : Said) (old new : State C)
+    ensures inward { (meaning : Meaning) (packet : Octets) (said : OutputView) (old new : State C)
         → Steps meaning (input.Inward packet) old said new → new ≡ old }
 {
     a_packet_takes_one_number();
@@ -118,7 +118,7 @@ pub fn a_dropped_packet_takes_one_number_at_most<C>()
 
 /// What goes out has at most 16,664 octets: a message of IKE at most 3000, an ESP packet at most what the other end opens.
 pub fn what_is_sent_fits<C>()
-    ensures { (meaning : Meaning) (given : Input) (said : Said) (trace : Trace) (old new : State C)
+    ensures { (meaning : Meaning) (given : Input) (said : OutputView) (trace : Trace) (old new : State C)
         → IsSoundMachine old.machine old.table → Traces meaning given old said trace new → FitsDatagram said }
 {
     what_is_sent_is_short();
@@ -127,7 +127,7 @@ pub fn what_is_sent_fits<C>()
 
 /// Requests go out again with a moment alone, and no more than wait for an answer.
 pub fn few_go_out_again<C>()
-    ensures { (meaning : Meaning) (given : Input) (said : Said) (trace : Trace) (old new : State C)
+    ensures { (meaning : Meaning) (given : Input) (said : OutputView) (trace : Trace) (old new : State C)
         → Traces meaning given old said trace new → FewAgain said (again_by given old.machine) }
 {
     ike::laws::few_go_out_again();
@@ -135,7 +135,7 @@ pub fn few_go_out_again<C>()
 
 /// A child that a step makes has at most 16 selectors on either side (RFC 7296, section 3.13; a limit of this implementation).
 pub fn what_is_made_fits<C>()
-    ensures { (meaning : Meaning) (given : Input) (said : Said) (trace : Trace) (old new : State C) → IsSoundTable old.table
+    ensures { (meaning : Meaning) (given : Input) (said : OutputView) (trace : Trace) (old new : State C) → IsSoundTable old.table
         → IsSoundMachine old.machine old.table → Traces meaning given old said trace new → FitsChild trace.child new.table.pairs }
 {
     children_have_few_selectors();
@@ -144,16 +144,16 @@ pub fn what_is_made_fits<C>()
 /// What a step's trace tells is stored: a message under SK with a key record, as the response or request that it is, and the key record
 /// and the child that were made. So is a request that goes out again with a moment, but for one of IKE_SA_INIT.
 pub fn what_is_told_is_stored<C>()
-    ensures message { (meaning : Meaning) (given : Input) (said : Said) (trace : Trace) (mark : ike.Mark) (old new : State C)
+    ensures message { (meaning : Meaning) (given : Input) (said : OutputView) (trace : Trace) (mark : ike.Mark) (old new : State C)
         → IsSoundTable old.table → IsSoundMachine old.machine old.table → Traces meaning given old said trace new
         → trace.sent ≡ Some mark → IsMarked mark (ike_mark new.machine trace.sent) }
-    ensures keyed { (meaning : Meaning) (given : Input) (said : Said) (trace : Trace) (end : End) (ike : ℕ) (old new : State C)
+    ensures keyed { (meaning : Meaning) (given : Input) (said : OutputView) (trace : Trace) (end : End) (ike : ℕ) (old new : State C)
         → IsSoundTable old.table → IsSoundMachine old.machine old.table → Traces meaning given old said trace new
         → trace.keyed ≡ Some ike → IsSome (keyed_by end trace.keyed new.machine) }
-    ensures child { (meaning : Meaning) (given : Input) (said : Said) (trace : Trace) (end : End) (made : MadeChild)
+    ensures child { (meaning : Meaning) (given : Input) (said : OutputView) (trace : Trace) (end : End) (made : MadeChild)
         (old new : State C) → IsSoundTable old.table → IsSoundMachine old.machine old.table
         → Traces meaning given old said trace new → trace.child ≡ Some made → IsSome (child_by end trace.child new) }
-    ensures again { (meaning : Meaning) (given : Input) (said : Said) (trace : Trace) (requests : List Resent) (closed : List ℕ)
+    ensures again { (meaning : Meaning) (given : Input) (said : OutputView) (trace : Trace) (requests : List Resent) (closed : List ℕ)
         (request : Resent) (old new : State C) → IsSoundTable old.table → IsSoundMachine old.machine old.table
         → Traces meaning given old said trace new → said ≡ Ticked requests closed → Contains requests request
         → request.encrypted ≡ true
@@ -310,23 +310,23 @@ pub fn the_premises_of_two_ends_are_met<C>()
 /// datagram is of octets and that a cipher tells lengths, as its law says; of the gateway that the keys of its IKE associations are
 /// whole, as they stay.
 pub fn steps_are_determined<C>()
-    ensures traces { (meaning : Meaning) (given : Input) (old other a b : State C) (one two : Said) (trace another : Trace)
+    ensures traces { (meaning : Meaning) (given : Input) (old other a b : State C) (one two : OutputView) (trace another : Trace)
         → IsGiven meaning given → HoldWholeKeys old.machine.held → state_content old ≡ state_content other
         → wants_memory one ≡ false → wants_memory two ≡ false
         → Traces meaning given old one trace a → Traces meaning given other two another b
         → (one ≡ two) × (trace ≡ another) × (state_content a ≡ state_content b) }
-    ensures steps { (meaning : Meaning) (given : Input) (old other a b : State C) (one two : Said)
+    ensures steps { (meaning : Meaning) (given : Input) (old other a b : State C) (one two : OutputView)
         → IsGiven meaning given → HoldWholeKeys old.machine.held → state_content old ≡ state_content other
         → wants_memory one ≡ false → wants_memory two ≡ false
         → Steps meaning given old one a → Steps meaning given other two b
         → (one ≡ two) × (state_content a ≡ state_content b) }
     ensures runs { (meaning_of : C → Meaning) (inputs : List Input) (ones twos : List Output) (old other a b : State C)
-        → AllByRecursion (IsGiven (meaning_of old.caller)) inputs → AllByRecursion (λ output. wants_memory (said output) ≡ false) ones
-        → AllByRecursion (λ output. wants_memory (said output) ≡ false) twos → HoldWholeKeys old.machine.held
+        → AllByRecursion (IsGiven (meaning_of old.caller)) inputs → AllByRecursion (λ output. wants_memory (output_view output) ≡ false) ones
+        → AllByRecursion (λ output. wants_memory (output_view output) ≡ false) twos → HoldWholeKeys old.machine.held
         → state_content old ≡ state_content other → Runs (StepsAs meaning_of) inputs ones old a
         → Runs (StepsAs meaning_of) inputs twos other b
-        → (map said ones ≡ map said twos) × (state_content a ≡ state_content b) }
-    ensures whole { (meaning : Meaning) (given : Input) (old new : State C) (said : Said) → HoldWholeKeys old.machine.held
+        → (map output_view ones ≡ map output_view twos) × (state_content a ≡ state_content b) }
+    ensures whole { (meaning : Meaning) (given : Input) (old new : State C) (said : OutputView) → HoldWholeKeys old.machine.held
         → Steps meaning given old said new → HoldWholeKeys new.machine.held }
 {
     ike::laws::keys_stay_whole();

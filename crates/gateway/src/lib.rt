@@ -12,7 +12,7 @@
 //! use base::{Items, Range};
 //! use caller::ScriptCaller; // hides nothing: for real peers it is peers::PeerCaller
 //! use gateway::{Gateway, Input, Output};
-//! use initial::{Config, End};
+//! use initial::{Config, EndConfig};
 //! use policy::{Action, Entry, Policy};
 //! use suite::Fresh;
 //!
@@ -20,7 +20,7 @@
 //!     kind: 2,
 //!     data: Items::from_slice(rt.alloc(), b"a.example")?,
 //! };
-//! let own = End {
+//! let own = EndConfig {
 //!     identity,
 //!     address: [192, 0, 2, 1],
 //! };
@@ -28,7 +28,7 @@
 //!     kind: 2,
 //!     data: Items::from_slice(rt.alloc(), b"b.example")?,
 //! };
-//! let peer = End {
+//! let peer = EndConfig {
 //!     identity,
 //!     address: [192, 0, 2, 2],
 //! };

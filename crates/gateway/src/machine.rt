@@ -6,7 +6,7 @@ ghost use Rattle.initial.specs.Configs.{IsConfig};
 ghost use Rattle.ike.specs.Machines.{keys_of_serial};
 ghost use Rattle.ike.specs.Moments.{IsTimely};
 ghost use Rattle.ike.specs.Soundness.{AreReservationsHeld, IsSoundMachine};
-ghost use Rattle.gateway.specs.Outputs.{said};
+ghost use Rattle.gateway.specs.Outputs.{output_view};
 ghost use Rattle.gateway.specs.States.{new_gateway};
 ghost use Rattle.gateway.specs.Steps.{Steps, Traces};
 
@@ -130,7 +130,7 @@ impl<C: Sealer + Agreement + Proof> Gateway<C> {
               proof_of = C.proof_of self.old.caller;
               accepts = C.accepts self.old.caller;
             })
-            input.now self.old (said result) self.new }
+            input.now self.old (output_view result) self.new }
     {
         self.traced_step(alloc, input).output
     }
@@ -150,7 +150,7 @@ impl<C: Sealer + Agreement + Proof> Gateway<C> {
               proof_of = C.proof_of self.old.caller;
               accepts = C.accepts self.old.caller;
             })
-            input.now self.old (said result.output) result.trace self.new }
+            input.now self.old (output_view result.output) result.trace self.new }
     {
         take(
             alloc,

@@ -1,7 +1,7 @@
 //! What comes of an input.
 ghost use Rattle.std.specs.Prelude.{◌≡◌};
 ghost use Rattle.ike.specs.Outputs.{no_trace};
-ghost use Rattle.gateway.specs.Outputs.{said, said_by_ike, said_of_outcome};
+ghost use Rattle.gateway.specs.Outputs.{output_view, view_of_ike, view_of_outcome};
 ghost use Rattle.traffic.specs.Outcomes.{outcome_of_admission, outcome_of_arrival, outcome_of_departure};
 
 use crate::Reason;
@@ -89,7 +89,7 @@ pub struct Traced<'a> {
 impl<'a> Traced<'a> {
     // An output without a trace.
     pub(crate) fn plain(output: Output<'a>) -> Traced<'a>
-        ensures output { said result.output ≡ said output.entry }
+        ensures output { output_view result.output ≡ output_view output.entry }
         ensures trace { result.trace ≡ no_trace }
     {
         Traced {
@@ -99,7 +99,7 @@ impl<'a> Traced<'a> {
     }
 
     pub(crate) fn by_ike(stepped: Stepped) -> Traced<'a>
-        ensures output { said result.output ≡ said_by_ike stepped.output }
+        ensures output { output_view result.output ≡ view_of_ike stepped.output }
         ensures trace { result.trace ≡ stepped.trace }
     {
         Traced {
@@ -111,7 +111,7 @@ impl<'a> Traced<'a> {
 
 impl<'a> Output<'a> {
     fn by_ike(output: IkeOutput) -> Output<'a>
-        ensures { said result ≡ said_by_ike output }
+        ensures { output_view result ≡ view_of_ike output }
     {
         match output {
             IkeOutput::Reply { octets, closed } => Output::Reply { octets, closed },
@@ -127,7 +127,7 @@ impl<'a> Output<'a> {
     }
 
     pub(crate) fn of_arrival(arrival: Arrival<'a>) -> Output<'a>
-        ensures { said result ≡ said_of_outcome (outcome_of_arrival arrival.entry) }
+        ensures { output_view result ≡ view_of_outcome (outcome_of_arrival arrival.entry) }
     {
         match arrival {
             Arrival::Up {
@@ -147,7 +147,7 @@ impl<'a> Output<'a> {
     }
 
     pub(crate) fn of_departure(departure: Departure<'a>) -> Output<'a>
-        ensures { said result ≡ said_of_outcome (outcome_of_departure departure.entry) }
+        ensures { output_view result ≡ view_of_outcome (outcome_of_departure departure.entry) }
     {
         match departure {
             Departure::Sealed {
@@ -168,7 +168,7 @@ impl<'a> Output<'a> {
     }
 
     pub(crate) fn of_admission(admission: Admission<'a>) -> Output<'a>
-        ensures { said result ≡ said_of_outcome (outcome_of_admission admission.entry) }
+        ensures { output_view result ≡ view_of_outcome (outcome_of_admission admission.entry) }
     {
         match admission {
             Admission::Clear(packet) => Output::Clear { packet },

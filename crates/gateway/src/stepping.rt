@@ -5,7 +5,7 @@ ghost use Rattle.flows.specs.Staying.{NoneComes};
 ghost use Rattle.ike.specs.Moments.{IsTimely};
 ghost use Rattle.ike.specs.Soundness.{AreReservationsHeld, IsSoundMachine};
 ghost use Rattle.ike.specs.Steps.{input_view};
-ghost use Rattle.gateway.specs.Outputs.{said};
+ghost use Rattle.gateway.specs.Outputs.{output_view};
 ghost use Rattle.gateway.specs.Steps.{AdmitsPacket, DoesInput, ReceivesPacket, SendsPacket, StepsIke};
 
 use crate::{Input, Output, Reason, Traced};
@@ -49,7 +49,7 @@ pub(crate) fn take<'a, C: Sealer + Agreement + Proof>(
           proof_of = C.proof_of caller.now;
           accepts = C.accepts caller.now;
         })
-        policy.now input.now ike.old table.old (said result.output) result.trace ike.new table.new }
+        policy.now input.now ike.old table.old (output_view result.output) result.trace ike.new table.new }
     ensures sound { IsSoundMachine ike.new table.new }
     ensures timely { IsTimely ike.new }
     ensures reservations { AreReservationsHeld ike.new.held table.new }
@@ -154,7 +154,7 @@ fn step_ike<'a, C: Sealer + Agreement + Proof>(
           proof_of = C.proof_of caller.now;
           accepts = C.accepts caller.now;
         })
-        policy.now (input_view input.now) ike.old table.old (said result.output) result.trace ike.new table.new }
+        policy.now (input_view input.now) ike.old table.old (output_view result.output) result.trace ike.new table.new }
     ensures sound { IsSoundMachine ike.new table.new }
     ensures timely { IsTimely ike.new }
     ensures reservations { AreReservationsHeld ike.new.held table.new }
@@ -198,7 +198,7 @@ fn step_machine<'a, C: Sealer + Agreement + Proof>(
           proof_of = C.proof_of caller.now;
           accepts = C.accepts caller.now;
         })
-        policy.now (input_view input.now) ike.old table.old (said result.output) result.trace ike.new table.new }
+        policy.now (input_view input.now) ike.old table.old (output_view result.output) result.trace ike.new table.new }
     ensures sound { IsSoundMachine ike.new table.new }
     ensures timely { IsTimely ike.new }
     ensures reservations { AreReservationsHeld ike.new.held table.new }
@@ -217,7 +217,7 @@ fn step_machine<'a, C: Sealer + Agreement + Proof>(
 }
 
 fn receive_packet<'a>(table: &mut Table, packet: &'a [u8]) -> Output<'a>
-    ensures received { ReceivesPacket table.old packet.now (said result) table.new }
+    ensures received { ReceivesPacket table.old packet.now (output_view result) table.new }
     ensures reserved { table.new.reserved ≡ table.old.reserved }
     ensures pairs { NoneComes table.old.pairs table.new.pairs }
 {
@@ -233,7 +233,7 @@ fn send_packet<'a>(
     packet: &'a [u8],
 ) -> Output<'a>
     requires { AllRight policy.now table.old.pairs flows.old }
-    ensures sent { SendsPacket policy.now table.old packet.now (said result) table.new }
+    ensures sent { SendsPacket policy.now table.old packet.now (output_view result) table.new }
     ensures reserved { table.new.reserved ≡ table.old.reserved }
     ensures right { AllRight policy.now table.new.pairs flows.new }
 {
@@ -246,7 +246,7 @@ fn send_packet<'a>(
 }
 
 fn admit_packet<'a>(policy: &Policy, packet: &'a [u8]) -> Output<'a>
-    ensures { AdmitsPacket policy.now packet.now (said result) }
+    ensures { AdmitsPacket policy.now packet.now (output_view result) }
 {
     Output::of_admission(admit(policy, packet))
 }

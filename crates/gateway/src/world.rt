@@ -1,6 +1,6 @@
 //! Two gateways, and what passed between them.
 ghost use Rattle.std.specs.Prelude.{◌≡◌, MatchOption, None, Some, IfErr, IfOk};
-ghost use Rattle.gateway.specs.Outputs.{said};
+ghost use Rattle.gateway.specs.Outputs.{output_view};
 ghost use Rattle.suite.specs.declared.key_record.KeyRecord.{KeyRecord};
 ghost use Rattle.gateway.specs.WorldParties.{IsSoundUnder};
 ghost use Rattle.gateway.specs.Worlds.{datagram_at, gateway_at, new_world, HoldsNothing, TakesEvent};
@@ -122,7 +122,7 @@ impl<C: Sealer + Agreement + Proof> World<C> {
               proof_of = C.proof_of caller;
               accepts = C.accepts caller;
             })
-            event.now self.old (said output) self.new) }
+            event.now self.old (output_view output) self.new) }
         ensures refused { IfErr result (λ _. self.new ≡ self.old) }
     {
         let again = most_again(&event.input, self.gateway(event.end));

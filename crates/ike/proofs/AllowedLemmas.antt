@@ -197,7 +197,7 @@ made_allowed meaning setup serial old was octets m (effect.Refused f) keys pair 
 made_allowed meaning setup serial old was octets m (effect.Repeated reply) keys pair asks held made is_extended = absurd made
 made_allowed meaning setup serial old was octets m (effect.Replied answered) keys pair asks held made is_extended = made.1.is.extension is_extended
 made_allowed meaning setup serial old was octets m (effect.Again next) keys pair asks held made is_extended = absurd made
-made_allowed meaning setup serial old was octets m (effect.Identified next) keys pair asks held made is_extended = absurd made
+made_allowed meaning setup serial old was octets m (effect.AsksAuth next) keys pair asks held made is_extended = absurd made
 made_allowed meaning setup serial old was octets m (effect.Counted ended) keys pair asks held (inl made) is_extended =
     (asks serial was held).first made.sent.child (ap first_asked made.was) (made.is.keeps.extension is_extended)
 made_allowed meaning setup serial old was octets m (effect.Counted ended) keys pair asks held (inr made) is_extended =

@@ -58,7 +58,7 @@ effect_clear old new serial number (effect.Refused f) unkeyed = λ sent none out
 effect_clear old new serial number (effect.Repeated octets) unkeyed = λ sent none out. absurd (some_mark _ none)
 effect_clear old new serial number (effect.Replied answered) unkeyed = λ sent none out. absurd (some_mark _ none)
 effect_clear old new serial number (effect.Again next) unkeyed = λ sent none out. unkeyed next refl
-effect_clear old new serial number (effect.Identified next) unkeyed = λ sent none out. absurd (some_mark _ none)
+effect_clear old new serial number (effect.AsksAuth next) unkeyed = λ sent none out. absurd (some_mark _ none)
 effect_clear old new serial number (effect.Counted ended) unkeyed = λ sent none out. absurd (no_octets sent out)
 
 took_clear : (laws : ClearLaws) (meaning : Meaning) (setup : Setup) (octets : Octets) (old : Held) (table : Database) (stepped : Stepped) (new : Held) (new_table : Database)

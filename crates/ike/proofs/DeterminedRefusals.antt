@@ -17,7 +17,7 @@ use Rattle.ike.specs.Faults.{is_want_of_memory}
 use Rattle.ike.specs.Machines.{is_bad_spi, setup_at, Held, Machine, SERIAL_END}
 use Rattle.ike.specs.Receiving.{is_answered, is_initial_request, is_sound_initial, CanMake, CannotMake, DoesJudgement, IsJudged, RefusesDatagram, RefusesInitial, TakesDatagram, TakesNew, TakesRead, TakesRequestAt, TakesSound}
 use Rattle.policy.specs.Decisions.{local_side, remote_side}
-use Rattle.ike.specs.Starting.{new_order_fault, order_fault_of, protecting_entry, BeginsBy, GivesNoSpi, RefusesBeginning, RefusesFurtherBy, RefusesStart, Starts}
+use Rattle.ike.specs.Starting.{new_association_fault, beginning_fault_of, protecting_entry, BeginsBy, GivesNoSpi, RefusesBeginning, RefusesFurtherBy, RefusesStart, Starts}
 use Rattle.ike.specs.Steps as steps
 use Rattle.ike.specs.Steps.{InputView, Start, Secret, Refuses, RefusesSecret, Steps}
 use Rattle.ike.specs.declared.fault.IkeFault.{IkeFault}
@@ -166,15 +166,15 @@ new_fault held next bad =
     else if bad then Some fault.BadFresh
     else None
 
-same_new_fault : (old other : Held) (spi : ℕ) → held_content old ≡ held_content other → new_order_fault old spi ≡ new_order_fault other spi
+same_new_fault : (old other : Held) (spi : ℕ) → held_content old ≡ held_content other → new_association_fault old spi ≡ new_association_fault other spi
 same_new_fault old other spi same =
     ap (λ (n : ℕ). new_fault n old.next (is_bad_spi spi old.associations)) (same_length old.associations other.associations (same_list old other same))
     ∙ ap (λ (n : ℕ). new_fault (length other.associations) n (is_bad_spi spi old.associations)) (same_next old other same)
     ∙ ap (new_fault (length other.associations) other.next) (same_bad old.associations other.associations (same_list old other same) spi)
 
-same_order_fault : (o : Option Entry) (old other : Held) (spi : ℕ) → held_content old ≡ held_content other → order_fault_of o old spi ≡ order_fault_of o other spi
-same_order_fault None old other spi same = refl
-same_order_fault (Some entry) old other spi same = same_new_fault old other spi same
+same_beginning_fault : (o : Option Entry) (old other : Held) (spi : ℕ) → held_content old ≡ held_content other → beginning_fault_of o old spi ≡ beginning_fault_of o other spi
+same_beginning_fault None old other spi same = refl
+same_beginning_fault (Some entry) old other spi same = same_new_fault old other spi same
 
 -- why the table gives no SPI
 abbrev Withholds : Database → IkeFault → Type 0
@@ -219,7 +219,7 @@ begun_or_refused : Laws → (meaning : Meaning) (setup : Setup) (place : ℕ) (o
     → held_content old ≡ held_content other → table_content table ≡ table_content another
     → BeginsBy meaning setup place old table stepped new new_table → RefusesBeginning setup.entries setup.fresh place other another reason → is_want_of_memory reason ≡ true
 begun_or_refused laws meaning setup place old other table another stepped new new_table reason same alike starts refuses =
-    let fault_same = same_order_fault (protecting_entry setup.entries place) old other setup.fresh.spi same in
+    let fault_same = same_beginning_fault (protecting_entry setup.entries place) old other setup.fresh.spi same in
     let between : table_content starts.between ≡ table_content another = laws.tables.prepared table starts.between starts.room ∙ alike in
     elim refuses [
       | inl is ↦ absurd (cc (starts.allowed.none, fault_same, is))
@@ -239,7 +239,7 @@ one_beginning_refusal : (entries : List Entry) (fresh : Fresh) (place : ℕ) (ol
     → held_content old ≡ held_content other → table_content table ≡ table_content another → is_want_of_memory one ≡ false → is_want_of_memory two ≡ false
     → RefusesBeginning entries fresh place old table one → RefusesBeginning entries fresh place other another two → one ≡ two
 one_beginning_refusal entries fresh place old other table another one two same alike not_one not_two refuses also =
-    let fault_same = same_order_fault (protecting_entry entries place) old other fresh.spi same in
+    let fault_same = same_beginning_fault (protecting_entry entries place) old other fresh.spi same in
     elim refuses [
       | inl is ↦ elim also [
         | inl too ↦ same_reason one two (sym is ∙ fault_same ∙ too)

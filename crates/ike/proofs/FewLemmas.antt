@@ -42,7 +42,7 @@ few_by meaning setup old octets m (effect.Refused fault) keys pair is = absurd i
 few_by meaning setup old octets m (effect.Repeated said) keys pair is = absurd is
 few_by meaning setup old octets m (effect.Replied answered) keys pair is = is.1.is.few
 few_by meaning setup old octets m (effect.Again next) keys pair is = absurd is
-few_by meaning setup old octets m (effect.Identified next) keys pair is = absurd is
+few_by meaning setup old octets m (effect.AsksAuth next) keys pair is = absurd is
 few_by meaning setup old octets m (effect.Counted ended) keys pair (inl is) = is.is.few
 few_by meaning setup old octets m (effect.Counted ended) keys pair (inr is) = is.is.few
 

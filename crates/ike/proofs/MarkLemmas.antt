@@ -10,7 +10,7 @@ use Rattle.sadb.specs.declared.pair.State.TheVariants.{Deleting}
 use Rattle.informational.specs.Ordering.{MarksFor}
 use Rattle.informational.specs.declared.ordering.Order.{Order}
 use Rattle.informational.specs.declared.ordering.Order.TheVariants as order
-use Rattle.ike.specs.Pairs.{IsMarked}
+use Rattle.ike.specs.Pairs.{BecameDeleting}
 
 same_pair : (one other : Pair) → Some one ≡ Some other → one ≡ other
 same_pair one other same = cc
@@ -28,7 +28,7 @@ pub marked_reserved : (o : Order) (table new : Database) (spi : ℕ) → MarksFo
 marked_reserved o table new spi is reserved = subst (λ (d : Database). IsReserved d spi) (sym (marked_but o table new is)) reserved
 
 one_marked : (table : Database) (child serial : ℕ) (was pair : Pair) (new : Database) → pair_at table.pairs child ≡ Some was → new ≡ record table { pairs = map.insert table.pairs child (record was { state = Deleting }) }
-    → pair_at new.pairs serial ≡ Some pair → (pair_at table.pairs serial ≡ Some pair) ⊎ IsMarked table serial pair
+    → pair_at new.pairs serial ≡ Some pair → (pair_at table.pairs serial ≡ Some pair) ⊎ BecameDeleting table serial pair
 one_marked table child serial was pair new there content is =
     let v : Pair = record was { state = Deleting } in
     let now : map.get (map.insert table.pairs child v) serial ≡ Some pair = subst (λ (m : PairMap). pair_at m serial ≡ Some pair) (ap (λ (d : Database). d.pairs) content) is in
@@ -40,7 +40,7 @@ one_marked table child serial was pair new there content is =
     ]
 
 -- each pair was there, or is marked now
-pub marked_pairs : (o : Order) (table new : Database) (serial : ℕ) (pair : Pair) → MarksFor o table new → pair_at new.pairs serial ≡ Some pair → (pair_at table.pairs serial ≡ Some pair) ⊎ IsMarked table serial pair
+pub marked_pairs : (o : Order) (table new : Database) (serial : ℕ) (pair : Pair) → MarksFor o table new → pair_at new.pairs serial ≡ Some pair → (pair_at table.pairs serial ≡ Some pair) ⊎ BecameDeleting table serial pair
 marked_pairs order.Probe table new serial pair is there = inl (subst (λ (d : Database). pair_at d.pairs serial ≡ Some pair) is there)
 marked_pairs (order.DeleteChild child spi) table new serial pair is there = one_marked table child serial is.pair pair new is.changed.there is.changed.content there
 marked_pairs order.DeleteAssociation table new serial pair is there = inl (subst (λ (d : Database). pair_at d.pairs serial ≡ Some pair) is there)

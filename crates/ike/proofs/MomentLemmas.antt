@@ -165,7 +165,7 @@ effect_tells serial number (effect.Refused fault) = refl
 effect_tells serial number (effect.Repeated reply) = refl
 effect_tells serial number (effect.Replied answered) = refl
 effect_tells serial number (effect.Again next) = refl
-effect_tells serial number (effect.Identified next) = refl
+effect_tells serial number (effect.AsksAuth next) = refl
 effect_tells serial number (effect.Counted ended) = refl
 
 rest_tells : (old : Held) (o : IkeOutput) → GoesOut old o → tells_moment o ≡ false

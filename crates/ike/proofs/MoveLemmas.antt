@@ -65,7 +65,7 @@ pub record MoveLaws : Type 0 where
   pub admits : (cipher : Cipher) (group : ℕ) (public_value : Octets → Octets) (shared_secret : Octets → Octets → Option Octets) (fresh : Fresh) (moment serial : ℕ) (offer : OfferView) (spi_i : ℕ) (request : Octets) (admitted : Admitted)
       → Admits cipher group public_value shared_secret fresh moment serial offer spi_i request admitted → (keys : KeyRecord) × Lead (Make keys ∷ []) None (ledger admitted.association)
   pub initial : (meaning : Meaning) (setup : Setup) (old : Association) (table : Database) (octets : Octets) (m : Message) (next : Octets) (new : Association) (new_table : Database)
-      → IsSoundlyHeld old → TakesMessage meaning setup old table octets m (effect.Identified next) new new_table → (m.header.exchange ≡ IKE_SA_INIT) × (m.header.flags.response ≡ true)
+      → IsSoundlyHeld old → TakesMessage meaning setup old table octets m (effect.AsksAuth next) new new_table → (m.header.exchange ≡ IKE_SA_INIT) × (m.header.flags.response ≡ true)
   pub sending : (now : ℕ) (old new : Association) → SendsAgain now old new → Lead [] (ledger old) (ledger new)
   pub closing : (now : ℕ) (old new : Association) (keys : KeyRecord) → IsSoundlyHeld old → keys_in old.phase ≡ Some keys → moments.IsClosedAt now old new → Lead (Close ∷ []) (ledger old) (ledger new)
   pub removal : (now : ℕ) (old : Association) (keys : KeyRecord) → IsSoundlyHeld old → keys_in old.phase ≡ Some keys → is_over now old.phase ≡ true → Lead (Remove ∷ []) (ledger old) None
@@ -74,7 +74,7 @@ pub record MoveLaws : Type 0 where
       → OpensWhatItSeals meaning.body_of meaning.plain_of setup.fresh.seal → HoldsWholeKeys old.phase → TakesMessage meaning setup old table octets m (effect.Replied answered) new new_table
       → OpensAsMessage meaning.plain_of old old.role true m.header.id answered.octets
   pub identity : (meaning : Meaning) (setup : Setup) (old : Association) (table : Database) (octets : Octets) (m : Message) (next : Octets) (new : Association) (new_table : Database)
-      → OpensWhatItSeals meaning.body_of meaning.plain_of setup.fresh.seal → HoldsWholeKeys new.phase → TakesMessage meaning setup old table octets m (effect.Identified next) new new_table
+      → OpensWhatItSeals meaning.body_of meaning.plain_of setup.fresh.seal → HoldsWholeKeys new.phase → TakesMessage meaning setup old table octets m (effect.AsksAuth next) new new_table
       → OpensAsMessage meaning.plain_of new new.role false 1 next
   pub asked : (body_of : Keys → Octets → Octets → Octets → Octets) (plain_of : Opening) (setup : Setup) (old : Association) (octets : Octets) (new : Association)
       → OpensWhatItSeals body_of plain_of setup.fresh.seal → HoldsWholeKeys old.phase → SendsRequest body_of setup old octets new
@@ -158,7 +158,7 @@ told_effect : (input : InputView) (serial number : ℕ) (keys : Option KeyRecord
 told_effect input serial number keys (effect.Refused fault) moves = tt
 told_effect input serial number keys (effect.Repeated octets) moves = tt
 told_effect input serial number keys (effect.Again octets) moves = tt
-told_effect input serial number keys (effect.Identified octets) moves = told_made input (stepped_of serial number (effect.Identified octets)) serial keys octets moves refl refl refl
+told_effect input serial number keys (effect.AsksAuth octets) moves = told_made input (stepped_of serial number (effect.AsksAuth octets)) serial keys octets moves refl refl refl
 told_effect input serial number keys (effect.Replied answered) moves =
     told_ended input (stepped_of serial number (effect.Replied answered)) serial (TakeEffect number answered.octets) answered.closed (_, refl, refl)
     (λ closed. subst (λ (b : Bool). Tells input (stepped_of serial number (effect.Replied (record answered { closed = b }))) serial Close) (sym closed) refl)
@@ -184,7 +184,7 @@ came_effect : (laws : MoveLaws) (meaning : Meaning) (setup : Setup) (from octets
 came_effect laws meaning setup from octets old table new_table serial a b m (effect.Refused fault) spelled meant held before takes = tt
 came_effect laws meaning setup from octets old table new_table serial a b m (effect.Repeated reply) spelled meant held before takes = tt
 came_effect laws meaning setup from octets old table new_table serial a b m (effect.Again next) spelled meant held before takes = tt
-came_effect laws meaning setup from octets old table new_table serial a b m (effect.Identified next) spelled meant held before takes =
+came_effect laws meaning setup from octets old table new_table serial a b m (effect.AsksAuth next) spelled meant held before takes =
     let initial = laws.initial meaning setup a table octets m next b new_table held takes in
     came_made meaning (steps.Message from octets setup.fresh) old serial (keys_in b.phase) next
     (subst (λ (o : Option Association). KeysCome (steps.Message from octets setup.fresh) o) (sym before)
@@ -213,11 +213,11 @@ opened_effect : (laws : MoveLaws) (meaning : Meaning) (setup : Setup) (octets : 
 opened_effect laws meaning setup octets old new table new_table serial a b m (effect.Refused fault) opens whole before after takes = tt
 opened_effect laws meaning setup octets old new table new_table serial a b m (effect.Repeated reply) opens whole before after takes = tt
 opened_effect laws meaning setup octets old new table new_table serial a b m (effect.Again next) opens whole before after takes = tt
-opened_effect laws meaning setup octets old new table new_table serial a b m (effect.Identified next) opens whole before after takes =
+opened_effect laws meaning setup octets old new table new_table serial a b m (effect.AsksAuth next) opens whole before after takes =
     opened_made meaning old new serial (keys_in b.phase) next (record {
       association = b;
       there = after;
-      opens = laws.identity meaning setup a table octets m next b new_table opens (laws.whole meaning setup a table octets m (effect.Identified next) b new_table whole takes) takes;
+      opens = laws.identity meaning setup a table octets m next b new_table opens (laws.whole meaning setup a table octets m (effect.AsksAuth next) b new_table whole takes) takes;
     })
 opened_effect laws meaning setup octets old new table new_table serial a b m (effect.Replied answered) opens whole before after takes =
     opened_ended meaning old new serial (TakeEffect m.header.id answered.octets) answered.closed
@@ -284,7 +284,7 @@ effect_of laws meaning setup octets a table m e b new_table takes =
     record {
       kept = λ reply is. laws.kept meaning setup a table octets m reply b new_table (subst (λ (x : Effect). TakesMessage meaning setup a table octets m x b new_table) is takes);
       keyed = λ next is.
-          let has = laws.keyed meaning setup a table octets m (effect.Identified next) b new_table (subst (λ (x : Effect). TakesMessage meaning setup a table octets m x b new_table) is takes) in
+          let has = laws.keyed meaning setup a table octets m (effect.AsksAuth next) b new_table (subst (λ (x : Effect). TakesMessage meaning setup a table octets m x b new_table) is takes) in
           (has.keys, has.are);
     }
 

@@ -111,7 +111,7 @@ effect_offers ike number (effect.Refused f) reply now = none_some now.ike now.ke
 effect_offers ike number (effect.Repeated octets) reply now = none_some now.ike now.keyed
 effect_offers ike number (effect.Replied answered) reply now = none_some now.ike now.keyed
 effect_offers ike number (effect.Again octets) reply now = none_some now.ike now.keyed
-effect_offers ike number (effect.Identified octets) reply now = let said : output.Request ike octets ≡ output.Reply reply now.closed = now.said in cc
+effect_offers ike number (effect.AsksAuth octets) reply now = let said : output.Request ike octets ≡ output.Reply reply now.closed = now.said in cc
 effect_offers ike number (effect.Counted ended) reply now = none_some now.ike now.keyed
 
 found_offers : (r : Result ℕ MessageFault) (meaning : Meaning) (setup : Setup) (octets : Octets) (m : Message) (old : Held) (table : Database) (stepped : Stepped) (new : Held) (new_table : Database) (reply : Octets)
@@ -156,7 +156,7 @@ replies_by ike number (effect.Repeated octets) mark reply closed said sent = abs
 replies_by ike number (effect.Replied answered) mark reply closed said sent =
     record { answered = answered; is = refl; octets = same_reply answered.octets reply _ closed said; its = mark_ike _ mark sent }
 replies_by ike number (effect.Again octets) mark reply closed said sent = absurd cc
-replies_by ike number (effect.Identified octets) mark reply closed said sent = absurd cc
+replies_by ike number (effect.AsksAuth octets) mark reply closed said sent = absurd cc
 replies_by ike number (effect.Counted ended) mark reply closed said sent = absurd cc
 
 none_mark : (mark : Mark) → None ≡ Some mark → ⊥
@@ -244,7 +244,7 @@ effect_notice ike number (effect.Refused f) reply now = dropped_reply _ reply no
 effect_notice ike number (effect.Repeated octets) reply now = repeat_reply octets reply now.closed now.said
 effect_notice ike number (effect.Replied answered) reply now = some_none _ now.sent
 effect_notice ike number (effect.Again octets) reply now = let said : output.Request ike octets ≡ output.Reply reply now.closed = now.said in cc
-effect_notice ike number (effect.Identified octets) reply now = let said : output.Request ike octets ≡ output.Reply reply now.closed = now.said in cc
+effect_notice ike number (effect.AsksAuth octets) reply now = let said : output.Request ike octets ≡ output.Reply reply now.closed = now.said in cc
 effect_notice ike number (effect.Counted ended) reply now = counted_reply ike ended.child (closed_serial ike ended.closed) reply now.closed now.said
 
 found_notice : (r : Result ℕ MessageFault) (meaning : Meaning) (setup : Setup) (octets : Octets) (m : Message) (old : Held) (table : Database) (stepped : Stepped) (new : Held) (new_table : Database) (reply : Octets)

@@ -21,8 +21,8 @@ use Rattle.association.specs.declared.phase.Request.{Request}
 use Rattle.initial.specs.Configs.{Setup}
 use Rattle.informational.specs.Orders.{IsEstablished, RefusesOrder}
 use Rattle.informational.specs.Asking.{Asks}
-use Rattle.informational.specs.declared.fault.OrderFault.{OrderFault}
-use Rattle.informational.specs.declared.fault.OrderFault.TheVariants as order
+use Rattle.informational.specs.declared.fault.InformationalFault.{InformationalFault}
+use Rattle.informational.specs.declared.fault.InformationalFault.TheVariants as order
 use Rattle.informational.specs.declared.ordering.Order.{Order}
 use Rattle.informational.specs.declared.ordering.Order.TheVariants as asked
 use Rattle.create_child.specs.Asking.{AsksForFurther, MayAsk, RefusesFurther}
@@ -31,7 +31,7 @@ use Rattle.create_child.specs.declared.fault.AskFault.TheVariants as ask
 use Rattle.ike.specs.Contents.{held_content}
 use Rattle.ike.specs.Faults.{is_want_of_memory}
 use Rattle.ike.specs.Machines.{association_of, has_serial, Held}
-use Rattle.ike.specs.Asking.{fault_of_ask, fault_of_order, AsksFor, AsksFurther, AsksThat, RefusesAsking, RefusesAskingAt, RefusesChild, RefusesChildBy, RefusesFurtherAt}
+use Rattle.ike.specs.Asking.{fault_of_ask, fault_of_informational, AsksFor, AsksFurther, AsksThat, RefusesAsking, RefusesAskingAt, RefusesChild, RefusesChildBy, RefusesFurtherAt}
 use Rattle.ike.specs.Starting.{RefusesFurtherBy}
 use Rattle.ike.specs.declared.asking.Demand.{Demand}
 use Rattle.ike.specs.declared.asking.Demand.TheVariants as demand
@@ -91,14 +91,14 @@ same_outgoing a b same = ap (λ (z : Association). z.outgoing) same
 -- ---- one reason
 
 -- what an order meets that is not for want of memory
-abbrev pub Hinders : Association → OrderFault → Type 0
-Hinders a o = RefusesOrder a o × (is_want_of_memory (fault_of_order o) ≡ false)
+abbrev pub Hinders : Association → InformationalFault → Type 0
+Hinders a o = RefusesOrder a o × (is_want_of_memory (fault_of_informational o) ≡ false)
 
 memory_only : (b : Bool) → b ≡ true → b ≡ false → ⊥
 memory_only true one other = cc
 memory_only false one other = cc
 
-one_order : (a b : Association) → association_content a ≡ association_content b → (one two : OrderFault) → Hinders a one → Hinders b two → fault_of_order one ≡ fault_of_order two
+one_order : (a b : Association) → association_content a ≡ association_content b → (one two : InformationalFault) → Hinders a one → Hinders b two → fault_of_informational one ≡ fault_of_informational two
 one_order a b same order.WrongPhase order.WrongPhase is also = refl
 one_order a b same order.WrongPhase order.Busy is also = absurd (is.0 (established_as b a (sym same) also.0.0))
 one_order a b same order.WrongPhase order.NumbersSpent is also = absurd (is.0 (established_as b a (sym same) also.0.0))
@@ -145,7 +145,7 @@ further_may : (body_of : Keys → Octets → Octets → Octets → Octets) (setu
 further_may body_of setup local remote a table octets changed new_table is =
     record { established = record { keys = is.keys; is = is.established }; not_deleting = is.not_deleting; allowed = may_before a.outgoing is.issued.ready is.issued.prepared is.issued.issued.allowed }
 
-not_refused : (a b : Association) → association_content a ≡ association_content b → MayAsk a → (o : OrderFault) → RefusesOrder b o → is_want_of_memory (fault_of_order o) ≡ true
+not_refused : (a b : Association) → association_content a ≡ association_content b → MayAsk a → (o : InformationalFault) → RefusesOrder b o → is_want_of_memory (fault_of_informational o) ≡ true
 not_refused a b same may order.WrongPhase refuses = absurd (refuses (established_as a b same may.established))
 not_refused a b same may order.Busy refuses = absurd (full_as b.outgoing a.outgoing (sym (same_outgoing a b same)) refuses.1 may.not_deleting may.allowed.not_busy)
 not_refused a b same may order.NumbersSpent refuses = absurd (may.allowed.not_spent (spent_as b.outgoing a.outgoing (sym (same_outgoing a b same)) refuses.3))
@@ -194,8 +194,8 @@ further_or_refused body_of setup serial local remote old other table another ste
     (further_may body_of setup local remote a.association table a.octets a.changed new_table is.further) is.further.not_full is.further.not_spent refuses
 
 -- what may be asked is not refused, but for the table or for want of memory
-may_clash : (a b : Association) → association_content a ≡ association_content b → MayAsk a → (o : OrderFault) → RefusesOrder b o → is_want_of_memory (fault_of_order o) ≡ false → ⊥
-may_clash a b same may o refuses other = memory_only (is_want_of_memory (fault_of_order o)) (not_refused a b same may o refuses) other
+may_clash : (a b : Association) → association_content a ≡ association_content b → MayAsk a → (o : InformationalFault) → RefusesOrder b o → is_want_of_memory (fault_of_informational o) ≡ false → ⊥
+may_clash a b same may o refuses other = memory_only (is_want_of_memory (fault_of_informational o)) (not_refused a b same may o refuses) other
 
 one_ask : (a b : Association) (table another : Database) → association_content a ≡ association_content b → table_content table ≡ table_content another → (one two : AskFault)
     → is_want_of_memory (fault_of_ask one) ≡ false → is_want_of_memory (fault_of_ask two) ≡ false → RefusesFurther a table one → RefusesFurther b another two → fault_of_ask one ≡ fault_of_ask two

@@ -64,7 +64,7 @@ quiet_by serial number (effect.Refused f) is = tt
 quiet_by serial number (effect.Repeated reply) is = tt
 quiet_by serial number (effect.Replied answered) is = absurd is
 quiet_by serial number (effect.Again next) is = absurd is
-quiet_by serial number (effect.Identified next) is = absurd is
+quiet_by serial number (effect.AsksAuth next) is = absurd is
 quiet_by serial number (effect.Counted ended) is = absurd is
 
 pub step_otherwise : MoreLaws → (meaning : Meaning) (entries : List Entry) (input : InputView) (old : Machine) (table : Database) (stepped : Stepped) (new : Machine) (new_table : Database)
@@ -114,7 +114,7 @@ replied_by serial number (effect.Refused f) reply closed is = absurd cc
 replied_by serial number (effect.Repeated said) reply closed is = absurd cc
 replied_by serial number (effect.Replied answered) reply closed is = record { answered = answered; is = refl }
 replied_by serial number (effect.Again next) reply closed is = absurd cc
-replied_by serial number (effect.Identified next) reply closed is = absurd cc
+replied_by serial number (effect.AsksAuth next) reply closed is = absurd cc
 replied_by serial number (effect.Counted ended) reply closed is = absurd cc
 
 taken_replies : (more : MoreLaws) (place : ℕ) (meaning : Meaning) (setup : Setup) (octets : Octets) (m : Message) (old : Held) (table : Database) (stepped : Stepped) (new : Held) (new_table : Database) (reply : Octets) (closed : Option ℕ)
@@ -191,7 +191,7 @@ repeated_by serial number (effect.Refused f) reply is = absurd cc
 repeated_by serial number (effect.Repeated said) reply is = ap effect.Repeated (same_repeat said reply is)
 repeated_by serial number (effect.Replied answered) reply is = absurd cc
 repeated_by serial number (effect.Again next) reply is = absurd cc
-repeated_by serial number (effect.Identified next) reply is = absurd cc
+repeated_by serial number (effect.AsksAuth next) reply is = absurd cc
 repeated_by serial number (effect.Counted ended) reply is = absurd cc
 
 taken_repeats : (more : MoreLaws) (place : ℕ) (meaning : Meaning) (setup : Setup) (from octets : Octets) (fresh : Fresh) (m : Message) (old : Held) (table : Database) (stepped : Stepped) (new : Held) (new_table : Database) (reply : Octets)

@@ -52,7 +52,7 @@ quiet_effect facts meaning setup octets m (effect.Refused fault) a changed ike t
 quiet_effect facts meaning setup octets m (effect.Repeated reply) a changed ike table new_table quiet takes = facts.repeated meaning setup a table octets m reply changed new_table takes
 quiet_effect facts meaning setup octets m (effect.Replied answered) a changed ike table new_table quiet takes = absurd quiet
 quiet_effect facts meaning setup octets m (effect.Again next) a changed ike table new_table quiet takes = absurd quiet
-quiet_effect facts meaning setup octets m (effect.Identified next) a changed ike table new_table quiet takes = absurd quiet
+quiet_effect facts meaning setup octets m (effect.AsksAuth next) a changed ike table new_table quiet takes = absurd quiet
 quiet_effect facts meaning setup octets m (effect.Counted ended) a changed ike table new_table quiet takes = absurd quiet
 
 quiet_at : (facts : Quietness) (place : ℕ) (meaning : Meaning) (setup : Setup) (octets : Octets) (m : Message) (old : Held) (table : Database) (stepped : Stepped) (new : Held) (new_table : Database)

@@ -60,7 +60,7 @@ use Rattle.ike.specs.declared.asking.Demand.{Demand}
 use Rattle.ike.specs.declared.asking.Demand.TheVariants as demand
 use Rattle.ike.specs.Soundness.{AreSound, At, IsSound, IsSoundMachine}
 use Rattle.ike.specs.Ticking.{TakesHeld}
-use Rattle.ike.specs.Starting.{child_by, new_order_fault, order_fault_of, protecting_entry, BeginsBy, FurthersBy}
+use Rattle.ike.specs.Starting.{child_by, new_association_fault, beginning_fault_of, protecting_entry, BeginsBy, FurthersBy}
 use Rattle.ike.specs.Steps.{InputView, Refuses, Steps}
 use Rattle.ike.specs.Steps as steps
 use Rattle.ike.specs.declared.fault.IkeFault.{IkeFault}
@@ -351,7 +351,7 @@ after_fault : (b : Bool) (f : IkeFault) (rest : Option IkeFault) → (if b then 
 after_fault true f rest is = absurd cc
 after_fault false f rest is = is
 
-free_of : (old : Held) (spi : ℕ) → new_order_fault old spi ≡ None → IsFree old spi
+free_of : (old : Held) (spi : ℕ) → new_association_fault old spi ≡ None → IsFree old spi
 free_of old spi none =
     let after_few = after_fault (nat_le ASSOCIATION_LIMIT (length old.associations)) _ _ none in
     let after_spent = after_fault (old.next == SERIAL_END) _ _ after_few in
@@ -363,7 +363,7 @@ free_of old spi none =
       usable = no_fault (is_bad_spi spi old.associations) _ _ after_spent;
     }
 
-order_free : (entry : Option Entry) (old : Held) (spi : ℕ) → order_fault_of entry old spi ≡ None → IsFree old spi
+order_free : (entry : Option Entry) (old : Held) (spi : ℕ) → beginning_fault_of entry old spi ≡ None → IsFree old spi
 order_free None old spi none = absurd cc
 order_free (Some entry) old spi none = free_of old spi none
 

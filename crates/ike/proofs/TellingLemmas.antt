@@ -139,7 +139,7 @@ effect_silent ike number (effect.Replied answered) serial apart =
       child = λ made named here. other_child ike number serial false answered.child made apart named here;
     }
 effect_silent ike number (effect.Again octets) serial apart = request_silent ike octets serial
-effect_silent ike number (effect.Identified octets) serial apart =
+effect_silent ike number (effect.AsksAuth octets) serial apart =
     record {
       sent = λ mark is here. other_sent ike 1 serial false mark apart is here;
       again = λ ticked is. cc;
@@ -196,7 +196,7 @@ counted_child serial number closed (Some child) made named =
     made_so (and_closes (Count number) closed) one made (same_child one made named) (inl (refl, first_of (Count number) closed))
 
 identified_says : (old : Option Association) (serial number : ℕ) (next : Octets) (keys : Option KeyRecord) (k : KeyRecord) → keys ≡ Some k
-    → SaysNoMore old (stepped_of serial number (effect.Identified next)) serial (makes_and_issues keys next)
+    → SaysNoMore old (stepped_of serial number (effect.AsksAuth next)) serial (makes_and_issues keys next)
 identified_says old serial number next None k are = absurd (none_marked k are)
 identified_says old serial number next (Some keys) k are =
     record {
@@ -212,7 +212,7 @@ identified_says old serial number next (Some keys) k are =
 -- what is known of an effect: a reply that goes out again is kept, and who tells its identity has keys
 pub record IsEffectOf (old : Option Ledger) (number : ℕ) (keys : Option KeyRecord) (e : Effect) : Type 0 where
   pub kept : (reply : Octets) → e ≡ effect.Repeated reply → KeepsReply old number reply
-  pub keyed : (next : Octets) → e ≡ effect.Identified next → (k : KeyRecord) × (keys ≡ Some k)
+  pub keyed : (next : Octets) → e ≡ effect.AsksAuth next → (k : KeyRecord) × (keys ≡ Some k)
 
 pub effect_says : (old : Option Association) (serial number : ℕ) (keys : Option KeyRecord) (e : Effect) → IsEffectOf (option_and_then ledger old) number keys e → SaysNoMore old (stepped_of serial number e) serial (moves_of number keys e)
 effect_says old serial number keys (effect.Refused f) is =
@@ -241,7 +241,7 @@ effect_says old serial number keys (effect.Replied answered) is =
       child = λ made named here. replied_child serial number answered.octets answered.closed answered.child made named;
     }
 effect_says old serial number keys (effect.Again octets) is = silent_tells old (plain_step (output.Request serial octets)) serial [] (request_silent serial octets serial)
-effect_says old serial number keys (effect.Identified next) is = let has = is.keyed next refl in identified_says old serial number next keys has.0 has.1
+effect_says old serial number keys (effect.AsksAuth next) is = let has = is.keyed next refl in identified_says old serial number next keys has.0 has.1
 effect_says old serial number keys (effect.Counted ended) is =
     let move = Count number in
     record {

@@ -41,7 +41,7 @@ use Rattle.initial.specs.declared.beginning.Admitted.{Admitted}
 use Rattle.initial.specs.declared.beginning.Beginning.{Beginning}
 use Rattle.effects.specs.declared.taking.Effect.{Effect}
 use Rattle.effects.specs.declared.taking.Effect.TheVariants as effect
-use Rattle.ike.specs.Pairs.{IsMarked}
+use Rattle.ike.specs.Pairs.{BecameDeleting}
 use Rattle.ike.proofs.MarkLemmas.{marked_pairs}
 use Rattle.ike.specs.Children.{AsksFirstChild, AsksNow, MakesChildOf, WaitedBefore}
 use Rattle.ike.specs.Machines.{association_of, keys_of_serial, setup_at, Held, Machine}
@@ -109,7 +109,7 @@ effect_octets ike number (effect.Refused f) = refl
 effect_octets ike number (effect.Repeated octets) = refl
 effect_octets ike number (effect.Replied answered) = refl
 effect_octets ike number (effect.Again octets) = refl
-effect_octets ike number (effect.Identified octets) = refl
+effect_octets ike number (effect.AsksAuth octets) = refl
 effect_octets ike number (effect.Counted ended) = refl
 
 way_short : (facts : ShortFacts) (meaning : Meaning) (setup : Setup) (octets : Octets) (old : Held) (table : Database) (stepped : Stepped) (new : Held) (new_table : Database)
@@ -173,7 +173,7 @@ effect_output ike number (effect.Refused f) ticked e = cc
 effect_output ike number (effect.Repeated octets) ticked e = cc
 effect_output ike number (effect.Replied answered) ticked e = cc
 effect_output ike number (effect.Again octets) ticked e = cc
-effect_output ike number (effect.Identified octets) ticked e = cc
+effect_output ike number (effect.AsksAuth octets) ticked e = cc
 effect_output ike number (effect.Counted ended) ticked e = cc
 
 reply_ticked : (octets : Octets) (closed : Option ℕ) (ticked : Ticked) → output.Reply octets closed ≡ output.Ticked ticked → ⊥
@@ -226,7 +226,7 @@ pub record TraceFacts : Type 0 where
       → IsSoundTable table → IsSoundlyHeld old → HoldsReserved old table → child_in effect ≡ Some serial → TakesMessage meaning setup old table octets m effect new new_table
       → MakesChild meaning setup old table octets m effect serial new new_table
   pub asks : (meaning : Meaning) (setup : Setup) (old : Association) (table : Database) (octets : Octets) (m : Message) (next : Octets) (new : Association) (new_table : Database)
-      → TakesMessage meaning setup old table octets m (effect.Identified next) new new_table → AsksForChild meaning setup next new
+      → TakesMessage meaning setup old table octets m (effect.AsksAuth next) new new_table → AsksForChild meaning setup next new
   pub waits : (meaning : Meaning) (setup : Setup) (old : Association) (table : Database) (octets : Octets) (m : Message) (effect : Effect) (new : Association) (new_table : Database) (sent : AuthSent)
       → new.phase ≡ phase.AuthSent sent → TakesMessage meaning setup old table octets m effect new new_table → (old.phase ≡ phase.AuthSent sent) ⊎ IsAsking effect
   pub sound : (meaning : Meaning) (entries : List Entry) (input : InputView) (old : Machine) (table : Database) (stepped : Stepped) (new : Machine) (new_table : Database)
@@ -290,7 +290,7 @@ traced_by ike number (effect.Replied answered) =
     record { octets = λ mark e. refl; sent = λ mark e. mark_named _ mark e; keyed = λ other e. absurd (none_out other e); child = λ made e. child_named ike number false answered.child made e }
 traced_by ike number (effect.Again octets) =
     record { octets = λ mark e. absurd (none_out mark e); sent = λ mark e. absurd (none_out mark e); keyed = λ other e. absurd (none_out other e); child = λ made e. absurd (none_out made e) }
-traced_by ike number (effect.Identified octets) =
+traced_by ike number (effect.AsksAuth octets) =
     record { octets = λ mark e. refl; sent = λ mark e. mark_named _ mark e; keyed = λ other e. sym (same_out ike other e); child = λ made e. absurd (none_out made e) }
 traced_by ike number (effect.Counted ended) =
     record { octets = λ mark e. absurd (none_out mark e); sent = λ mark e. absurd (none_out mark e); keyed = λ other e. absurd (none_out other e); child = λ made e. child_named ike number true ended.child made e }
@@ -305,7 +305,7 @@ names_keyed ike number (effect.Refused f) p has = record { sent = λ mark e. abs
 names_keyed ike number (effect.Repeated octets) p has = record { sent = λ mark e. has; keyed = λ other e. has }
 names_keyed ike number (effect.Replied answered) p has = record { sent = λ mark e. has; keyed = λ other e. has }
 names_keyed ike number (effect.Again octets) p has = record { sent = λ mark e. absurd (none_out mark e); keyed = λ other e. absurd (none_out other e) }
-names_keyed ike number (effect.Identified octets) p has = record { sent = λ mark e. has; keyed = λ other e. has }
+names_keyed ike number (effect.AsksAuth octets) p has = record { sent = λ mark e. has; keyed = λ other e. has }
 names_keyed ike number (effect.Counted ended) p has = record { sent = λ mark e. has; keyed = λ other e. has }
 
 holds_keys : (held : Held) (ike other : ℕ) (a : Association) → other ≡ ike → association_of ike held.associations ≡ Some a → HasKeys a.phase → HoldsKeys held other
@@ -318,7 +318,7 @@ pub record ToldFacts : Type 0 where
   pub come : (meaning : Meaning) (setup : Setup) (old : Association) (table : Database) (octets : Octets) (m : Message) (effect : Effect) (new : Association) (new_table : Database) (keys : KeyRecord)
       → keys_in new.phase ≡ Some keys → TakesMessage meaning setup old table octets m effect new new_table → (keys_in old.phase ≡ Some keys) ⊎ IsAsking effect
   pub none : (meaning : Meaning) (setup : Setup) (old : Association) (table : Database) (octets : Octets) (m : Message) (next : Octets) (new : Association) (new_table : Database)
-      → TakesMessage meaning setup old table octets m (effect.Identified next) new new_table → keys_in old.phase ≡ None
+      → TakesMessage meaning setup old table octets m (effect.AsksAuth next) new new_table → keys_in old.phase ≡ None
   pub told : (meaning : Meaning) (setup : Setup) (old : Association) (table : Database) (octets : Octets) (m : Message) (effect : Effect) (new : Association) (new_table : Database) (serial : ℕ) (pair : Pair)
       → TakesMessage meaning setup old table octets m effect new new_table → pair_at new_table.pairs serial ≡ Some pair → (pair_at table.pairs serial ≡ Some pair) ⊎ (child_in effect ≡ Some serial)
 
@@ -328,7 +328,7 @@ keyed_asks ike number (effect.Refused f) other keyed = absurd (none_out other ke
 keyed_asks ike number (effect.Repeated octets) other keyed = absurd (none_out other keyed)
 keyed_asks ike number (effect.Replied answered) other keyed = absurd (none_out other keyed)
 keyed_asks ike number (effect.Again octets) other keyed = absurd (none_out other keyed)
-keyed_asks ike number (effect.Identified octets) other keyed = record { octets = octets; is = refl }
+keyed_asks ike number (effect.AsksAuth octets) other keyed = record { octets = octets; is = refl }
 keyed_asks ike number (effect.Counted ended) other keyed = absurd (none_out other keyed)
 
 asks_keyed : (ike number : ℕ) (e : Effect) → IsAsking e → (stepped_of ike number e).trace.keyed ≡ Some ike
@@ -341,7 +341,7 @@ child_names ike number (effect.Repeated octets) serial told = absurd (none_out s
 child_names ike number (effect.Replied answered) serial told =
     record { made = record { serial = serial; ike = ike; number = number; asked = false }; named = ap (λ (o : Option ℕ). child_of ike number false o) told; same = refl }
 child_names ike number (effect.Again octets) serial told = absurd (none_out serial told)
-child_names ike number (effect.Identified octets) serial told = absurd (none_out serial told)
+child_names ike number (effect.AsksAuth octets) serial told = absurd (none_out serial told)
 child_names ike number (effect.Counted ended) serial told =
     record { made = record { serial = serial; ike = ike; number = number; asked = true }; named = ap (λ (o : Option ℕ). child_of ike number true o) told; same = refl }
 
@@ -378,7 +378,7 @@ took_come facts meaning setup octets old table stepped new new_table serial keys
 
 took_pairs : (facts : ToldFacts) (meaning : Meaning) (setup : Setup) (octets : Octets) (old : Held) (table : Database) (stepped : Stepped) (new : Held) (new_table : Database) (serial : ℕ) (pair : Pair)
     → (is : Takes meaning setup octets old table stepped new new_table) → pair_at new_table.pairs serial ≡ Some pair
-    → (pair_at table.pairs serial ≡ Some pair) ⊎ NamesChild (stepped_of is.takes.association.serial is.message.header.id is.takes.effect) serial ⊎ IsMarked table serial pair
+    → (pair_at table.pairs serial ≡ Some pair) ⊎ NamesChild (stepped_of is.takes.association.serial is.message.header.id is.takes.effect) serial ⊎ BecameDeleting table serial pair
 took_pairs facts meaning setup octets old table stepped new new_table serial pair is there =
     let t = is.takes in
     elim (facts.told meaning setup t.association table octets is.message t.effect t.changed new_table serial pair t.takes there) [
@@ -523,13 +523,13 @@ started_traced meaning setup old table stepped new new_table now is =
     (ap (λ (d : Database). d.pairs) s.done.reserved.content ∙ ap (λ (d : Database). d.pairs) s.room.content)
 
 -- a pair that was there, or is marked now
-named_or_marked : (stepped : Stepped) (table : Database) (serial : ℕ) (pair : Pair) → (pair_at table.pairs serial ≡ Some pair) ⊎ IsMarked table serial pair
-    → (pair_at table.pairs serial ≡ Some pair) ⊎ NamesChild stepped serial ⊎ IsMarked table serial pair
+named_or_marked : (stepped : Stepped) (table : Database) (serial : ℕ) (pair : Pair) → (pair_at table.pairs serial ≡ Some pair) ⊎ BecameDeleting table serial pair
+    → (pair_at table.pairs serial ≡ Some pair) ⊎ NamesChild stepped serial ⊎ BecameDeleting table serial pair
 named_or_marked stepped table serial pair (inl there) = inl there
 named_or_marked stepped table serial pair (inr marked) = inr (inr marked)
 
 one_pairs : (ike : ℕ) (table new_table : Database) (serial : ℕ) (pair : Pair) → LeavesOrdered ike table new_table ⊎ LeavesReserved table new_table → pair_at new_table.pairs serial ≡ Some pair
-    → (pair_at table.pairs serial ≡ Some pair) ⊎ IsMarked table serial pair
+    → (pair_at table.pairs serial ≡ Some pair) ⊎ BecameDeleting table serial pair
 one_pairs ike table new_table serial pair (inl is) there = marked_pairs is.order table new_table serial pair is.marked there
 one_pairs ike table new_table serial pair (inr is) there =
     inl (sym (ap (λ (d : Database). pair_at d.pairs serial) is.reserved.content ∙ ap (λ (d : Database). pair_at d.pairs serial) is.room.content) ∙ there)
@@ -667,7 +667,7 @@ step_makes facts meaning entries from octets fresh old table stepped made new ne
 -- the effect by which keys come and a request goes out
 record IsIdentity (ike other : ℕ) (e : Effect) (next : Octets) : Type 0 where
   same : other ≡ ike
-  is : e ≡ effect.Identified next
+  is : e ≡ effect.AsksAuth next
 
 same_request : (ike other : ℕ) (octets next : Octets) → output.Request ike octets ≡ output.Request other next → octets ≡ next
 same_request ike other octets next e = cc
@@ -678,8 +678,8 @@ identity_by ike number (effect.Refused f) other next said keyed = absurd (none_o
 identity_by ike number (effect.Repeated octets) other next said keyed = absurd (none_out other keyed)
 identity_by ike number (effect.Replied answered) other next said keyed = absurd (none_out other keyed)
 identity_by ike number (effect.Again octets) other next said keyed = absurd (none_out other keyed)
-identity_by ike number (effect.Identified octets) other next said keyed =
-    record { same = sym (same_out ike other keyed); is = ap (λ (o : Octets). effect.Identified o) (same_request ike other octets next said) }
+identity_by ike number (effect.AsksAuth octets) other next said keyed =
+    record { same = sym (same_out ike other keyed); is = ap (λ (o : Octets). effect.AsksAuth o) (same_request ike other octets next said) }
 identity_by ike number (effect.Counted ended) other next said keyed = absurd (none_out other keyed)
 
 took_asks : (facts : TraceFacts) (meaning : Meaning) (setup : Setup) (octets : Octets) (old : Held) (table : Database) (stepped : Stepped) (ike : ℕ) (next : Octets) (new : Held) (new_table : Database)
@@ -743,7 +743,7 @@ took_waits facts meaning setup octets old table stepped new new_table ike a sent
               waited = before;
             })
             | inr asking ↦
-                let said : stepped ≡ stepped_of t.association.serial is.message.header.id (effect.Identified asking.octets) = t.said ∙ ap (λ e. stepped_of t.association.serial is.message.header.id e) asking.is in
+                let said : stepped ≡ stepped_of t.association.serial is.message.header.id (effect.AsksAuth asking.octets) = t.said ∙ ap (λ e. stepped_of t.association.serial is.message.header.id e) asking.is in
                 inr (record {
                   next = asking.octets;
                   said = ap (λ (s : Stepped). s.output) said ∙ ap (λ n. output.Request n asking.octets) (sym same);

@@ -23,7 +23,7 @@ use Rattle.initial.specs.declared.beginning.Beginning.{Beginning}
 use Rattle.effects.specs.Sending.{SendsRequest}
 use Rattle.effects.specs.Taking.{Meaning, KeepsIdentity, TakesMessage}
 use Rattle.effects.specs.Requests.{IsSoundlyHeld}
-use Rattle.effects.specs.Waiting.{asked_by, Ends, StartsWaiting, KeepTimers, WaitUntil}
+use Rattle.effects.specs.Waiting.{asked_by, ClosesAssociation, StartsWaiting, KeepTimers, WaitUntil}
 use Rattle.effects.specs.Waiting as effects
 use Rattle.effects.specs.declared.taking.Effect.{Effect}
 use Rattle.effects.specs.declared.taking.Effect.TheVariants as effect
@@ -52,7 +52,7 @@ pub record WaitLaws : Type 0 where
   pub until : (meaning : Meaning) (setup : Setup) (old : Association) (table : Database) (octets : Octets) (m : Message) (e : Effect) (new : Association) (new_table : Database)
       → IsSoundlyHeld old → TakesMessage meaning setup old table octets m e new new_table → WaitUntil m.header.id e old.outgoing new.outgoing
   pub closed : (meaning : Meaning) (setup : Setup) (old : Association) (table : Database) (octets : Octets) (m : Message) (e : Effect) (new : Association) (new_table : Database) (keys : Option KeyRecord) (at : ℕ)
-      → TakesMessage meaning setup old table octets m e new new_table → new.phase ≡ phase.Closed keys at → (old.phase ≡ phase.Closed keys at) ⊎ ((at ≡ setup.moment) × Ends e)
+      → TakesMessage meaning setup old table octets m e new new_table → new.phase ≡ phase.Closed keys at → (old.phase ≡ phase.Closed keys at) ⊎ ((at ≡ setup.moment) × ClosesAssociation e)
   pub opened : (meaning : Meaning) (setup : Setup) (old : Association) (table : Database) (octets : Octets) (m : Message) (e : Effect) (new : Association) (new_table : Database) (opened : HalfOpen)
       → TakesMessage meaning setup old table octets m e new new_table → new.phase ≡ phase.HalfOpen opened → old.phase ≡ phase.HalfOpen opened
   pub begun : (cipher : Cipher) (group : ℕ) (public_value : Octets → Octets) (fresh : Fresh) (moment serial : ℕ) (beginning : Beginning) (child : AskedChildView) (number : ℕ) (request : Request)
@@ -117,7 +117,7 @@ said_by_effect serial number (effect.Refused f) octets is = cc
 said_by_effect serial number (effect.Repeated reply) octets is = cc
 said_by_effect serial number (effect.Replied answered) octets is = cc
 said_by_effect serial number (effect.Again next) octets is = ap (λ (o : Octets). output.Request serial o) (same_octets next octets is)
-said_by_effect serial number (effect.Identified next) octets is = ap (λ (o : Octets). output.Request serial o) (same_octets next octets is)
+said_by_effect serial number (effect.AsksAuth next) octets is = ap (λ (o : Octets). output.Request serial o) (same_octets next octets is)
 said_by_effect serial number (effect.Counted ended) octets is = cc
 
 -- what stops by an effect stops by what is said of it
@@ -126,7 +126,7 @@ stops_said serial id number (effect.Refused f) stops = absurd stops
 stops_said serial id number (effect.Repeated reply) stops = absurd stops
 stops_said serial id number (effect.Replied answered) stops = subst (λ (b : Bool). StopsWaiting id (output.Reply answered.octets (closed_serial serial b)) serial number) (sym stops) refl
 stops_said serial id number (effect.Again next) stops = (refl, stops)
-stops_said serial id number (effect.Identified next) stops = (refl, stops)
+stops_said serial id number (effect.AsksAuth next) stops = (refl, stops)
 stops_said serial id number (effect.Counted ended) stops = (
   refl,
   elim stops [
@@ -135,12 +135,12 @@ stops_said serial id number (effect.Counted ended) stops = (
   ],
 )
 
-ends_said : (serial id : ℕ) (e : Effect) → Ends e → TellsClosed serial (stepped_of serial id e).output
+ends_said : (serial id : ℕ) (e : Effect) → ClosesAssociation e → TellsClosed serial (stepped_of serial id e).output
 ends_said serial id (effect.Refused f) ends = absurd ends
 ends_said serial id (effect.Repeated reply) ends = absurd ends
 ends_said serial id (effect.Replied answered) ends = subst (λ (b : Bool). TellsClosed serial (output.Reply answered.octets (closed_serial serial b))) (sym ends) refl
 ends_said serial id (effect.Again next) ends = absurd ends
-ends_said serial id (effect.Identified next) ends = absurd ends
+ends_said serial id (effect.AsksAuth next) ends = absurd ends
 ends_said serial id (effect.Counted ended) ends = subst (λ (b : Bool). TellsClosed serial (output.Counted serial ended.child (closed_serial serial b))) (sym ends) refl
 
 init_closed : (sent : InitSent) (keys : Option KeyRecord) (at : ℕ) → phase.InitSent sent ≡ phase.Closed keys at → ⊥

@@ -6,7 +6,7 @@ use Rattle.std.proofs.lemmas.Option.{slice_get_read}
 use Rattle.base.specs.Octets.{Octets}
 use Rattle.wire.specs.declared.message.Message.{Message}
 use Rattle.association.specs.Receiving.{Opening}
-use Rattle.children.specs.declared.fault.ChildFault.{ChildFault}
+use Rattle.children.specs.declared.fault.MemoryFault.{MemoryFault}
 use Rattle.association.specs.declared.phase.Association.{Association}
 use Rattle.sadb.specs.Database.{Database, IsTableRefusal}
 use Rattle.sadb.specs.declared.fault.TableFault.{TableFault}
@@ -24,7 +24,7 @@ read_there next items old place a same within value =
     subst (λ (h : Held). slice_get h.associations place ≡ Some a) same
     (slice_get_read items (length items) place a refl (subst (λ (h : Held). place < length h.associations) (sym same) within) value)
 
-pub wants_there : (plain_of : Opening) (old : Held) (table : Database) (place : ℕ) (octets : Octets) (m : Message) (a : Association) (f : ChildFault) → slice_get old.associations place ≡ Some a
+pub wants_there : (plain_of : Opening) (old : Held) (table : Database) (place : ℕ) (octets : Octets) (m : Message) (a : Association) (f : MemoryFault) → slice_get old.associations place ≡ Some a
     → CanWant plain_of a table octets m f → WantsFound plain_of (Ok place) octets m old table f
 wants_there plain_of old table place octets m a f there (inl is) = inl is
 wants_there plain_of old table place octets m a f there (inr (makes, takes)) = inr (record { association = a; there = there; makes = makes; takes = takes })

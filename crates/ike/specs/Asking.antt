@@ -9,7 +9,7 @@ use Rattle.sadb.specs.Database.{pair_at, Database}
 use Rattle.sadb.specs.declared.pair.Pair.{Pair}
 use Rattle.sadb.specs.declared.pair.State.{State}
 use Rattle.sadb.specs.declared.pair.State.TheVariants.{Live, Deleting}
-use Rattle.children.specs.declared.fault.ChildFault.TheVariants as child
+use Rattle.children.specs.declared.fault.MemoryFault.TheVariants as child
 use Rattle.association.specs.declared.fault.MessageFault.TheVariants.{UnknownAssociation, WrongPhase}
 use Rattle.association.specs.declared.phase.Association.{Association}
 use Rattle.initial.specs.Configs.{Setup}
@@ -17,8 +17,8 @@ use Rattle.informational.specs.Asking.{Asks}
 use Rattle.informational.specs.Ordering.{MarksFor}
 use Rattle.informational.specs.Orders.{RefusesOrder}
 use Rattle.informational.specs.declared.asking.Issued.{Issued}
-use Rattle.informational.specs.declared.fault.OrderFault.{OrderFault}
-use Rattle.informational.specs.declared.fault.OrderFault.TheVariants as order
+use Rattle.informational.specs.declared.fault.InformationalFault.{InformationalFault}
+use Rattle.informational.specs.declared.fault.InformationalFault.TheVariants as order
 use Rattle.informational.specs.declared.ordering.Order.{Order}
 use Rattle.informational.specs.declared.ordering.Order.TheVariants as asked
 use Rattle.create_child.specs.Asking.{AsksForFurther, RefusesFurther}
@@ -78,7 +78,7 @@ pub record AsksThere (body_of : Keys → Octets → Octets → Octets → Octets
   pub content : new ≡ record old { associations = slice_set old.associations place changed }
   pub marked : MarksFor order table new_table
 
-pub record RefusesThere (place : ℕ) (old : Held) (o : OrderFault) : Type 0 where
+pub record RefusesThere (place : ℕ) (old : Held) (o : InformationalFault) : Type 0 where
   pub association : Association
   pub there : slice_get old.associations place ≡ Some association
   pub refuses : RefusesOrder association o
@@ -111,16 +111,16 @@ abbrev pub RefusesFurtherAt : Option Association → Database → IkeFault → T
 RefusesFurtherAt None table reason = reason ≡ fault.Message UnknownAssociation
 RefusesFurtherAt (Some a) table reason = (f : AskFault) × (RefusesFurther a table f) × (reason ≡ fault_of_ask f)
 
-abbrev pub fault_of_order : OrderFault → IkeFault
-fault_of_order order.WrongPhase = fault.Message WrongPhase
-fault_of_order order.Busy = fault.Busy
-fault_of_order order.NumbersSpent = fault.NumbersSpent
-fault_of_order order.Memory = fault.Memory child.Message
+abbrev pub fault_of_informational : InformationalFault → IkeFault
+fault_of_informational order.WrongPhase = fault.Message WrongPhase
+fault_of_informational order.Busy = fault.Busy
+fault_of_informational order.NumbersSpent = fault.NumbersSpent
+fault_of_informational order.Memory = fault.Memory child.Message
 
 -- there is no such association, or it refuses the order
 abbrev pub RefusesAskingAt : Option Association → IkeFault → Type 0
 RefusesAskingAt None reason = reason ≡ fault.Message UnknownAssociation
-RefusesAskingAt (Some a) reason = (o : OrderFault) × (RefusesOrder a o) × (reason ≡ fault_of_order o)
+RefusesAskingAt (Some a) reason = (o : InformationalFault) × (RefusesOrder a o) × (reason ≡ fault_of_informational o)
 
 -- by the state of the child's pair: what is being deleted is not deleted again
 abbrev pub RefusesChildBy : State → Option Association → IkeFault → Type 0

@@ -2,8 +2,8 @@
 use Rattle.std.specs.Prelude.{ℕ, Bool, true, false}
 use Rattle.wire.specs.Fault.{fault_number}
 use Rattle.association.specs.Faults.{code_of_message_fault}
-use Rattle.children.specs.Faults.{code_of_child_fault}
-use Rattle.children.specs.declared.fault.ChildFault.TheVariants as child
+use Rattle.children.specs.Faults.{code_of_memory_fault}
+use Rattle.children.specs.declared.fault.MemoryFault.TheVariants as child
 use Rattle.sadb.specs.declared.fault.TableFault.{TableFault}
 use Rattle.sadb.specs.declared.fault.TableFault.TheVariants as table
 use Rattle.ike.specs.declared.fault.IkeFault.{IkeFault}
@@ -20,7 +20,7 @@ code_of_ike_fault fault.HalfOpenFull = 34
 code_of_ike_fault fault.Busy = 35
 code_of_ike_fault fault.NumbersSpent = 36
 code_of_ike_fault fault.BadFresh = 37
-code_of_ike_fault (fault.Memory f) = code_of_child_fault f
+code_of_ike_fault (fault.Memory f) = code_of_memory_fault f
 
 -- why the table gives no SPI
 abbrev pub fault_of_table : TableFault → IkeFault

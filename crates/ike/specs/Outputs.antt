@@ -58,7 +58,7 @@ stepped_of ike number (effect.Replied answered) = record {
   trace = record { sent = reply_mark ike number; keyed = None; child = child_of ike number false answered.child };
 }
 stepped_of ike number (effect.Again octets) = plain_step (Request ike octets)
-stepped_of ike number (effect.Identified octets) = record {
+stepped_of ike number (effect.AsksAuth octets) = record {
   output = Request ike octets;
   trace = record { sent = request_mark ike 1; keyed = Some ike; child = None };
 }

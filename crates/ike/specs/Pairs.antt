@@ -22,7 +22,7 @@ pub record MarksOne (old : Database) (ike : ℕ) (new : Database) : Type 0 where
   pub marked : Marks old serial new
 
 -- the pair with this serial was there, and is marked as Deleting
-pub record IsMarked (old : Database) (serial : ℕ) (pair : Pair) : Type 0 where
+pub record BecameDeleting (old : Database) (serial : ℕ) (pair : Pair) : Type 0 where
   pub was : Pair
   pub stood : pair_at old.pairs serial ≡ Some was
   pub is : pair ≡ record was { state = Deleting }

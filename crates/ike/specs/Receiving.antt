@@ -16,8 +16,8 @@ use Rattle.sa_init.specs.Cookies.{CookieSecrets}
 use Rattle.sa_init.specs.Judging.{Accepted, Answered, Full, Incomplete, IsJudgement, JudgementView, OfferView}
 use Rattle.sa_init.specs.Messages.{notice_message}
 use Rattle.sa_init.specs.declared.judging.Sender.{Sender}
-use Rattle.children.specs.declared.fault.ChildFault.{ChildFault}
-use Rattle.children.specs.declared.fault.ChildFault.TheVariants as child
+use Rattle.children.specs.declared.fault.MemoryFault.{MemoryFault}
+use Rattle.children.specs.declared.fault.MemoryFault.TheVariants as child
 use Rattle.association.specs.Finding.{found}
 use Rattle.association.specs.Receiving.{Opening}
 use Rattle.association.specs.declared.fault.MessageFault.{MessageFault}
@@ -206,19 +206,19 @@ abbrev pub CanWantMemory : Octets → Type 0
 CanWantMemory octets = (f : WireFault) → IsFaultOf octets f → fault_offset f ≢ None
 
 -- a child may be made of the message at the association at this place, and that takes this
-pub record MakesChildAt (plain_of : Opening) (place : ℕ) (octets : Octets) (m : Message) (old : Held) (table : Database) (f : ChildFault) : Type 0 where
+pub record MakesChildAt (plain_of : Opening) (place : ℕ) (octets : Octets) (m : Message) (old : Held) (table : Database) (f : MemoryFault) : Type 0 where
   pub association : Association
   pub there : slice_get old.associations place ≡ Some association
   pub makes : CanMakeChild plain_of association octets m
   pub takes : CanTakeOf m.header.flags.response table f
 
 -- for what a message can want memory, by what is found for it
-abbrev pub WantsFound : Opening → Result ℕ MessageFault → Octets → Message → Held → Database → ChildFault → Type 0
+abbrev pub WantsFound : Opening → Result ℕ MessageFault → Octets → Message → Held → Database → MemoryFault → Type 0
 WantsFound plain_of (Ok place) octets m old table f = (f ≡ child.Message) ⊎ MakesChildAt plain_of place octets m old table f
 WantsFound plain_of (Err fault) octets m old table f = ⊥
 
 -- the octets are a message of which an association may make a child, and that takes this
-pub record WantsForChild (plain_of : Opening) (octets : Octets) (old : Held) (table : Database) (f : ChildFault) : Type 0 where
+pub record WantsForChild (plain_of : Opening) (octets : Octets) (old : Held) (table : Database) (f : MemoryFault) : Type 0 where
   pub message : Message
   pub spelled : Spells message octets
   pub not_initial : is_initial_request message.header ≡ false

@@ -7,7 +7,7 @@ use Rattle.policy.specs.declared.entry.Entry.{Entry}
 use Rattle.suite.specs.declared.fresh.Fresh.{Fresh}
 use Rattle.sadb.specs.Database.{Database, IsAsBefore, IsFull, IsSpent, Reserves}
 use Rattle.sa_init.specs.Judging.{ASSOCIATION_LIMIT}
-use Rattle.children.specs.declared.fault.ChildFault.TheVariants as child
+use Rattle.children.specs.declared.fault.MemoryFault.TheVariants as child
 use Rattle.association.specs.AskedChildren.{AskedChildView}
 use Rattle.initial.specs.Beginning.{begun, Begins}
 use Rattle.initial.specs.Configs.{Setup}
@@ -35,19 +35,19 @@ abbrev pub protecting_entry : List Entry → ℕ → Option Entry
 protecting_entry entries place = protecting (slice_get entries place)
 
 -- why no association is begun, before the table is asked
-abbrev pub new_order_fault : Held → ℕ → Option IkeFault
-new_order_fault old spi =
+abbrev pub new_association_fault : Held → ℕ → Option IkeFault
+new_association_fault old spi =
     if nat_le ASSOCIATION_LIMIT (length old.associations) then Some fault.Crowded
     else if old.next == SERIAL_END then Some fault.NumbersSpent
     else if is_bad_spi spi old.associations then Some fault.BadFresh
     else None
 
-abbrev pub order_fault_of : Option Entry → Held → ℕ → Option IkeFault
-order_fault_of None old spi = Some fault.Unprotected
-order_fault_of (Some entry) old spi = new_order_fault old spi
+abbrev pub beginning_fault_of : Option Entry → Held → ℕ → Option IkeFault
+beginning_fault_of None old spi = Some fault.Unprotected
+beginning_fault_of (Some entry) old spi = new_association_fault old spi
 
-abbrev pub order_fault : List Entry → ℕ → Fresh → Held → Option IkeFault
-order_fault entries place fresh old = order_fault_of (protecting_entry entries place) old fresh.spi
+abbrev pub beginning_fault : List Entry → ℕ → Fresh → Held → Option IkeFault
+beginning_fault entries place fresh old = beginning_fault_of (protecting_entry entries place) old fresh.spi
 
 -- the child that is asked for by an entry: the whole of both its sides
 abbrev pub child_by : Entry → ℕ → Bool → AskedChildView
@@ -55,7 +55,7 @@ child_by entry spi extended = record { spi = spi; local = local_side entry; remo
 
 -- an association may be begun, of this serial, by this entry
 pub record IsAllowed (entries : List Entry) (place : ℕ) (fresh : Fresh) (old : Held) (serial : ℕ) (entry : Entry) : Type 0 where
-  pub none : order_fault entries place fresh old ≡ None
+  pub none : beginning_fault entries place fresh old ≡ None
   pub protects : protecting_entry entries place ≡ Some entry
   pub next : serial ≡ old.next
   pub left : old.next < SERIAL_END
@@ -99,8 +99,8 @@ GivesNoSpi table reason = ⊥
 -- why no association is begun: as said; or since the table gives no SPI, or for want of memory
 abbrev pub RefusesBeginning : List Entry → Fresh → ℕ → Held → Database → IkeFault → Type 0
 RefusesBeginning entries fresh place old table reason =
-    (order_fault entries place fresh old ≡ Some reason)
-    ⊎ ((order_fault entries place fresh old ≡ None) × GivesNoSpi table reason)
+    (beginning_fault entries place fresh old ≡ Some reason)
+    ⊎ ((beginning_fault entries place fresh old ≡ None) × GivesNoSpi table reason)
 
 -- why no further child is asked for: no entry protects, or as the association with this serial refuses it
 abbrev pub RefusesFurtherBy : Option Entry → ℕ → Held → Database → IkeFault → Type 0

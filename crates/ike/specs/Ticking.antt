@@ -1,7 +1,7 @@
 -- What a moment brings (RFC 7296 sections 2.1 and 2.4).
 use Rattle.std.specs.Prelude.{◌≡◌, ℕ, max}
 use Rattle.sadb.specs.Database.{Database}
-use Rattle.children.specs.declared.fault.ChildFault.TheVariants as child
+use Rattle.children.specs.declared.fault.MemoryFault.TheVariants as child
 use Rattle.moments.specs.Ticking.{Ticks}
 use Rattle.moments.specs.declared.ticking.Ticked.{Ticked}
 use Rattle.ike.specs.Machines.{Held, Machine}

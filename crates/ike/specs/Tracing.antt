@@ -10,7 +10,7 @@ use Rattle.effects.specs.Pairs.{IsUnused}
 use Rattle.effects.specs.Keeping.{kept_reply}
 use Rattle.ike.specs.Machines.{association_of, keys_of_serial, Held}
 use Rattle.ike.specs.Outputs.{octets_in}
-use Rattle.ike.specs.Pairs.{IsMarked}
+use Rattle.ike.specs.Pairs.{BecameDeleting}
 use Rattle.ike.specs.declared.output.IkeOutput.{IkeOutput}
 use Rattle.ike.specs.declared.output.IkeOutput.TheVariants.{Reply, Repeat, Request}
 use Rattle.ike.specs.declared.output.MadeChild.{MadeChild}
@@ -52,7 +52,7 @@ pub record IsTraced (old : Held) (table : Database) (stepped : Stepped) (new : H
   pub keyed : (ike : ℕ) → stepped.trace.keyed ≡ Some ike → GetsKeys old new ike
   pub child : (made : MadeChild) → stepped.trace.child ≡ Some made → HoldsChild table made new new_table
   pub keys : (serial : ℕ) (keys : KeyRecord) → keys_of_serial serial new.associations ≡ Some keys → (keys_of_serial serial old.associations ≡ Some keys) ⊎ (stepped.trace.keyed ≡ Some serial)
-  pub pairs : (serial : ℕ) (pair : Pair) → pair_at new_table.pairs serial ≡ Some pair → (pair_at table.pairs serial ≡ Some pair) ⊎ NamesChild stepped serial ⊎ IsMarked table serial pair
+  pub pairs : (serial : ℕ) (pair : Pair) → pair_at new_table.pairs serial ≡ Some pair → (pair_at table.pairs serial ≡ Some pair) ⊎ NamesChild stepped serial ⊎ BecameDeleting table serial pair
 
 -- a half-open association keeps this reply
 pub record KeepsFirstReply (held : Held) (octets : Octets) : Type 0 where

@@ -15,8 +15,8 @@ use association::{Association, MessageFault};
 use base::{Items, Selector};
 use create_child::AskFault;
 use effects::laws::orders_send_requests;
-use informational::{Issued, Order, OrderFault};
-use initial::Step;
+use informational::{InformationalFault, Issued, Order};
+use initial::Setup;
 use sadb::{State, Table};
 use std::alloc::Global;
 use suite::Sealer;
@@ -35,22 +35,22 @@ pub enum Demand {
 /// Asks the peer what is ordered.
 pub(crate) fn ask<C: Sealer>(
     alloc: Global,
-    step: &Step<'_, C>,
+    setup: &Setup<'_, C>,
     held: &mut Held,
     table: &mut Table,
     what: Demand,
 ) -> Result<Stepped, IkeFault>
     ensures asked { IfOk result (λ stepped.
-        AsksFor C.body_of (setup_of step.now) what held.old table.old stepped held.new table.new) }
+        AsksFor C.body_of (setup_of setup.now) what held.old table.old stepped held.new table.new) }
     ensures refused { IfErr result (λ reason. RefusesAsking what held.old table.old reason
         × (held.new ≡ held.old) × (table.new ≡ table.old)) }
 {
     match what {
-        Demand::Probe { ike } => ask_by(alloc, step, held, table, ike, Order::Probe),
-        Demand::DeleteChild { child } => delete_child(alloc, step, held, table, child),
+        Demand::Probe { ike } => ask_by(alloc, setup, held, table, ike, Order::Probe),
+        Demand::DeleteChild { child } => delete_child(alloc, setup, held, table, child),
         Demand::DeleteIke { ike } => ask_by(
             alloc,
-            step,
+            setup,
             held,
             table,
             ike,
@@ -62,13 +62,13 @@ pub(crate) fn ask<C: Sealer>(
 // Asks the peer to delete a child.
 fn delete_child<C: Sealer>(
     alloc: Global,
-    step: &Step<'_, C>,
+    setup: &Setup<'_, C>,
     held: &mut Held,
     table: &mut Table,
     child: u32,
 ) -> Result<Stepped, IkeFault>
     ensures asked { IfOk result (λ stepped.
-        AsksFor C.body_of (setup_of step.now) (Demand.DeleteChild child) held.old table.old stepped held.new table.new) }
+        AsksFor C.body_of (setup_of setup.now) (Demand.DeleteChild child) held.old table.old stepped held.new table.new) }
     ensures refused { IfErr result (λ reason. RefusesAsking (Demand.DeleteChild child) held.old table.old reason
         × (held.new ≡ held.old) × (table.new ≡ table.old)) }
 {
@@ -80,7 +80,7 @@ fn delete_child<C: Sealer>(
     match pair.state {
         State::Live => {
             let order = Order::DeleteChild { child, spi };
-            ask_by(alloc, step, held, table, ike, order)
+            ask_by(alloc, setup, held, table, ike, order)
         }
         State::Deleting => Err(IkeFault::Message(MessageFault::WrongPhase)),
     }
@@ -89,7 +89,7 @@ fn delete_child<C: Sealer>(
 // Asks the peer of the association with this serial what is ordered.
 fn ask_by<C: Sealer>(
     alloc: Global,
-    step: &Step<'_, C>,
+    setup: &Setup<'_, C>,
     held: &mut Held,
     table: &mut Table,
     ike: u32,
@@ -97,7 +97,7 @@ fn ask_by<C: Sealer>(
 ) -> Result<Stepped, IkeFault>
     requires live { IsOfLive order table.old.pairs }
     ensures asked { IfOk result (λ stepped.
-        AsksThat C.body_of (setup_of step.now) ike order held.old table.old stepped held.new table.new) }
+        AsksThat C.body_of (setup_of setup.now) ike order held.old table.old stepped held.new table.new) }
     ensures refused { IfErr result (λ reason. RefusesAskingAt (association_of ike held.old.associations) reason
         × (held.new ≡ held.old) × (table.new ≡ table.old)) }
 {
@@ -105,34 +105,34 @@ fn ask_by<C: Sealer>(
     let Some(place) = place_of(ike, held.associations()) else {
         return Err(IkeFault::Message(MessageFault::UnknownAssociation));
     };
-    let Issued { number, octets } = ask_at(alloc, step, held, table, place, order)?;
+    let Issued { number, octets } = ask_at(alloc, setup, held, table, place, order)?;
     Ok(asking(ike, number, octets))
 }
 
 fn ask_at<C: Sealer>(
     alloc: Global,
-    step: &Step<'_, C>,
+    setup: &Setup<'_, C>,
     held: &mut Held,
     table: &mut Table,
     place: usize,
     order: Order,
-) -> Result<Issued, OrderFault>
+) -> Result<Issued, InformationalFault>
     requires within { place < length held.old.associations }
     requires live { IsOfLive order table.old.pairs }
     ensures asked { IfOk result (λ issued.
-        AsksThere C.body_of (setup_of step.now) place order held.old table.old issued held.new table.new) }
+        AsksThere C.body_of (setup_of setup.now) place order held.old table.old issued held.new table.new) }
     ensures refused { IfErr result (λ fault.
         RefusesThere place held.old fault × (held.new ≡ held.old) × (table.new ≡ table.old)) }
 {
     let association = &mut held.associations[place];
-    let issued = informational::ask(alloc, step, association, table, order)?;
+    let issued = informational::ask(alloc, setup, association, table, order)?;
     Ok(issued)
 }
 
 /// Asks the peer of the association with this serial for a further child, with these selectors of this end's side and of the peer's.
 pub(crate) fn ask_further<C: Sealer>(
     alloc: Global,
-    step: &Step<'_, C>,
+    setup: &Setup<'_, C>,
     held: &mut Held,
     table: &mut Table,
     ike: u32,
@@ -141,7 +141,7 @@ pub(crate) fn ask_further<C: Sealer>(
 ) -> Result<Stepped, IkeFault>
     requires local { IsSendableSelector local.now }
     requires remote { IsSendableSelector remote.now }
-    ensures asked { IfOk result (λ stepped. AsksFurther C.body_of (setup_of step.now) ike local.now remote.now
+    ensures asked { IfOk result (λ stepped. AsksFurther C.body_of (setup_of setup.now) ike local.now remote.now
         held.old table.old stepped held.new table.new) }
     ensures refused { IfErr result (λ reason. RefusesFurtherAt (association_of ike held.old.associations) table.old reason
         × (held.new ≡ held.old) × IsAsBefore table.old table.new) }
@@ -150,13 +150,15 @@ pub(crate) fn ask_further<C: Sealer>(
     let Some(place) = place_of(ike, held.associations()) else {
         return Err(IkeFault::Message(MessageFault::UnknownAssociation));
     };
-    let Issued { number, octets } = ask_further_at(alloc, step, held, table, place, local, remote)?;
+    let Issued { number, octets } = ask_further_at(
+        alloc, setup, held, table, place, local, remote,
+    )?;
     Ok(asking(ike, number, octets))
 }
 
 fn ask_further_at<C: Sealer>(
     alloc: Global,
-    step: &Step<'_, C>,
+    setup: &Setup<'_, C>,
     held: &mut Held,
     table: &mut Table,
     place: usize,
@@ -166,13 +168,13 @@ fn ask_further_at<C: Sealer>(
     requires within { place < length held.old.associations }
     requires local { IsSendableSelector local.now }
     requires remote { IsSendableSelector remote.now }
-    ensures asked { IfOk result (λ issued. AsksFurtherThere C.body_of (setup_of step.now) place local.now remote.now
+    ensures asked { IfOk result (λ issued. AsksFurtherThere C.body_of (setup_of setup.now) place local.now remote.now
         held.old table.old issued held.new table.new) }
     ensures refused { IfErr result (λ fault. RefusesFurtherThere place held.old table.old fault
         × (held.new ≡ held.old) × IsAsBefore table.old table.new) }
 {
     let association = &mut held.associations[place];
-    let issued = create_child::ask(alloc, step, association, table, local, remote)?;
+    let issued = create_child::ask(alloc, setup, association, table, local, remote)?;
     Ok(issued)
 }
 

@@ -3,9 +3,9 @@ ghost use Rattle.std.specs.Prelude.{◌≡◌};
 ghost use Rattle.ike.specs.Faults.{code_of_ike_fault};
 
 use association::MessageFault;
-use children::ChildFault;
+use children::MemoryFault;
 use create_child::AskFault;
-use informational::OrderFault;
+use informational::InformationalFault;
 use sadb::TableFault;
 use std::alloc::AllocError;
 use thiserror::Error;
@@ -33,7 +33,7 @@ pub enum IkeFault {
     #[error("E26: the inbound SPIs are spent")]
     SpisSpent,
     /// 32 associations are half open, or 128 are held; limits of this implementation.
-    #[error("E34: too many associations are half open")]
+    #[error("E34: too many associations are half open or held")]
     HalfOpenFull,
     /// The association has as many requests waiting for an answer as the peer takes at once (RFC 7296, section 2.3), or one to delete
     /// it.
@@ -47,7 +47,7 @@ pub enum IkeFault {
     BadFresh,
     /// There was no memory.
     #[error("{0}")]
-    Memory(ChildFault),
+    Memory(MemoryFault),
 }
 
 impl IkeFault {
@@ -70,26 +70,26 @@ impl IkeFault {
     }
 }
 
-impl From<ChildFault> for IkeFault {
+impl From<MemoryFault> for IkeFault {
     ghost use Rattle.std.specs.Prelude.{◌≡◌};
     ghost use Rattle.ike.specs.declared.fault.IkeFault.TheVariants.{Memory};
 
     ghost from_gives = { λ f e. e ≡ Memory f };
 
-    fn from(fault: ChildFault) -> IkeFault {
+    fn from(fault: MemoryFault) -> IkeFault {
         IkeFault::Memory(fault)
     }
 }
 
 impl From<AllocError> for IkeFault {
     ghost use Rattle.std.specs.Prelude.{◌≡◌};
-    ghost use Rattle.children.specs.declared.fault.ChildFault.TheVariants.{Message};
+    ghost use Rattle.children.specs.declared.fault.MemoryFault.TheVariants.{Message};
     ghost use Rattle.ike.specs.declared.fault.IkeFault.TheVariants.{Memory};
 
     ghost from_gives = { λ _ e. e ≡ Memory Message };
 
     fn from(_refused: AllocError) -> IkeFault {
-        IkeFault::Memory(ChildFault::Message)
+        IkeFault::Memory(MemoryFault::Message)
     }
 }
 
@@ -103,7 +103,7 @@ impl From<TableFault> for IkeFault {
         match fault {
             TableFault::Full => IkeFault::TableFull,
             TableFault::Spent => IkeFault::SpisSpent,
-            TableFault::Memory => IkeFault::Memory(ChildFault::Table),
+            TableFault::Memory => IkeFault::Memory(MemoryFault::Table),
         }
     }
 }
@@ -121,24 +121,24 @@ impl From<AskFault> for IkeFault {
             AskFault::NumbersSpent => IkeFault::NumbersSpent,
             AskFault::TableFull => IkeFault::TableFull,
             AskFault::SpisSpent => IkeFault::SpisSpent,
-            AskFault::TableMemory => IkeFault::Memory(ChildFault::Table),
-            AskFault::Memory => IkeFault::Memory(ChildFault::Message),
+            AskFault::TableMemory => IkeFault::Memory(MemoryFault::Table),
+            AskFault::Memory => IkeFault::Memory(MemoryFault::Message),
         }
     }
 }
 
-impl From<OrderFault> for IkeFault {
+impl From<InformationalFault> for IkeFault {
     ghost use Rattle.std.specs.Prelude.{◌≡◌};
-    ghost use Rattle.ike.specs.Asking.{fault_of_order};
+    ghost use Rattle.ike.specs.Asking.{fault_of_informational};
 
-    ghost from_gives = { λ f e. e ≡ fault_of_order f };
+    ghost from_gives = { λ f e. e ≡ fault_of_informational f };
 
-    fn from(fault: OrderFault) -> IkeFault {
+    fn from(fault: InformationalFault) -> IkeFault {
         match fault {
-            OrderFault::WrongPhase => IkeFault::Message(MessageFault::WrongPhase),
-            OrderFault::Busy => IkeFault::Busy,
-            OrderFault::NumbersSpent => IkeFault::NumbersSpent,
-            OrderFault::Memory => IkeFault::Memory(ChildFault::Message),
+            InformationalFault::WrongPhase => IkeFault::Message(MessageFault::WrongPhase),
+            InformationalFault::Busy => IkeFault::Busy,
+            InformationalFault::NumbersSpent => IkeFault::NumbersSpent,
+            InformationalFault::Memory => IkeFault::Memory(MemoryFault::Message),
         }
     }
 }

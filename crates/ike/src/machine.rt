@@ -17,7 +17,7 @@ use crate::starting::start;
 use crate::ticking::take_moment;
 use crate::{IkeFault, IkeInput, IkeOutput, Stepped};
 use association::Association;
-use initial::{Config, Step};
+use initial::{Config, Setup};
 use policy::Policy;
 use sa_init::{Cookies, SecretsSpent};
 use sadb::Table;
@@ -183,7 +183,7 @@ impl Ike {
                 octets,
                 fresh,
             } => {
-                let step = Step {
+                let setup = Setup {
                     caller,
                     config: &self.config,
                     policy,
@@ -192,7 +192,7 @@ impl Ike {
                 };
                 take_datagram(
                     alloc,
-                    &step,
+                    &setup,
                     &self.cookies,
                     &mut self.held,
                     table,
@@ -201,24 +201,24 @@ impl Ike {
                 )
             }
             IkeInput::Start { ike, entry, fresh } => {
-                let step = Step {
+                let setup = Setup {
                     caller,
                     config: &self.config,
                     policy,
                     fresh,
                     moment: self.moment,
                 };
-                start(alloc, &step, &mut self.held, table, *ike, *entry)
+                start(alloc, &setup, &mut self.held, table, *ike, *entry)
             }
             IkeInput::Order { what, fresh } => {
-                let step = Step {
+                let setup = Setup {
                     caller,
                     config: &self.config,
                     policy,
                     fresh,
                     moment: self.moment,
                 };
-                ask(alloc, &step, &mut self.held, table, *what)
+                ask(alloc, &setup, &mut self.held, table, *what)
             }
             IkeInput::Secret(secret) => change_secret(&mut self.cookies, secret),
             IkeInput::Tick(moment) => {

@@ -136,7 +136,7 @@ impl Stepped {
                 },
             },
             Effect::Again(octets) => Stepped::plain(IkeOutput::Request { ike, octets }),
-            Effect::Identified(octets) => Stepped {
+            Effect::AsksAuth(octets) => Stepped {
                 output: IkeOutput::Request { ike, octets },
                 trace: Trace {
                     sent: Some(Mark {

@@ -16,10 +16,10 @@ use crate::held::{Held, answered_place, half_open_count, is_bad_spi};
 use crate::{IkeFault, IkeOutput, Stepped, Trace};
 use association::{Association, MessageFault, Phase, find};
 use base::Items;
-use children::ChildFault;
+use children::MemoryFault;
 use effects::take_message;
 use exchange::Notice;
-use initial::{Admitted, Step, admit};
+use initial::{Admitted, Setup, admit};
 use sa_init::laws::accepted_offers_fit;
 use sa_init::{Cookies, Judgement, Offer, Sender, judge, refuse};
 use sadb::Table;
@@ -32,14 +32,14 @@ use wire::{Header, Message, WireFault, decode_message};
 /// Takes a datagram from an IPv4 address.
 pub(crate) fn take_datagram<C: Sealer + Agreement + Proof>(
     alloc: Global,
-    step: &Step<'_, C>,
+    setup: &Setup<'_, C>,
     cookies: &Cookies,
     held: &mut Held,
     table: &mut Table,
     from: &[u8; 4],
     octets: &[u8],
 ) -> Result<Stepped, IkeFault>
-    requires config { IsConfig step.now.config.now }
+    requires config { IsConfig setup.now.config.now }
     requires sound { AreSound held.old table.old }
     ensures taken { IfOk result (λ stepped. TakesDatagram
         (record {
@@ -49,11 +49,11 @@ pub(crate) fn take_datagram<C: Sealer + Agreement + Proof>(
           group = C.group_number;
           public_value = C.public_value;
           shared_secret = C.shared_secret;
-          own_method = C.own_method step.now.caller.now;
-          proof_of = C.proof_of step.now.caller.now;
-          accepts = C.accepts step.now.caller.now;
+          own_method = C.own_method setup.now.caller.now;
+          proof_of = C.proof_of setup.now.caller.now;
+          accepts = C.accepts setup.now.caller.now;
         })
-        (setup_of step.now) cookies.now from.now octets.now held.old table.old stepped held.new table.new) }
+        (setup_of setup.now) cookies.now from.now octets.now held.old table.old stepped held.new table.new) }
     ensures refused { IfErr result (λ reason. RefusesDatagram
         (record {
           cipher = C.cipher;
@@ -62,17 +62,17 @@ pub(crate) fn take_datagram<C: Sealer + Agreement + Proof>(
           group = C.group_number;
           public_value = C.public_value;
           shared_secret = C.shared_secret;
-          own_method = C.own_method step.now.caller.now;
-          proof_of = C.proof_of step.now.caller.now;
-          accepts = C.accepts step.now.caller.now;
+          own_method = C.own_method setup.now.caller.now;
+          proof_of = C.proof_of setup.now.caller.now;
+          accepts = C.accepts setup.now.caller.now;
         })
-        (setup_of step.now) cookies.now from.now octets.now held.old table.old reason
+        (setup_of setup.now) cookies.now from.now octets.now held.old table.old reason
         × (held.new ≡ held.old) × IsAsBefore table.old table.new) }
 {
     what_is_spelled_has_no_fault();
     match decode_message(alloc, octets) {
-        Ok(message) => take_read(alloc, step, cookies, held, table, from, octets, &message),
-        Err(WireFault::Memory) => Err(IkeFault::Memory(ChildFault::Message)),
+        Ok(message) => take_read(alloc, setup, cookies, held, table, from, octets, &message),
+        Err(WireFault::Memory) => Err(IkeFault::Memory(MemoryFault::Message)),
         Err(fault) => Ok(Stepped::dropped(IkeFault::Unread(fault))),
     }
 }
@@ -80,7 +80,7 @@ pub(crate) fn take_datagram<C: Sealer + Agreement + Proof>(
 // What the datagram spells.
 fn take_read<C: Sealer + Agreement + Proof>(
     alloc: Global,
-    step: &Step<'_, C>,
+    setup: &Setup<'_, C>,
     cookies: &Cookies,
     held: &mut Held,
     table: &mut Table,
@@ -88,7 +88,7 @@ fn take_read<C: Sealer + Agreement + Proof>(
     octets: &[u8],
     message: &Message,
 ) -> Result<Stepped, IkeFault>
-    requires config { IsConfig step.now.config.now }
+    requires config { IsConfig setup.now.config.now }
     requires sound { AreSound held.old table.old }
     requires spelled { Spells message.now octets.now }
     requires sound_header { CanWantMemory octets.now }
@@ -100,11 +100,11 @@ fn take_read<C: Sealer + Agreement + Proof>(
           group = C.group_number;
           public_value = C.public_value;
           shared_secret = C.shared_secret;
-          own_method = C.own_method step.now.caller.now;
-          proof_of = C.proof_of step.now.caller.now;
-          accepts = C.accepts step.now.caller.now;
+          own_method = C.own_method setup.now.caller.now;
+          proof_of = C.proof_of setup.now.caller.now;
+          accepts = C.accepts setup.now.caller.now;
         })
-        (setup_of step.now) cookies.now from.now octets.now message.now held.old table.old stepped held.new table.new) }
+        (setup_of setup.now) cookies.now from.now octets.now message.now held.old table.old stepped held.new table.new) }
     ensures refused { IfErr result (λ reason. RefusesDatagram
         (record {
           cipher = C.cipher;
@@ -113,17 +113,17 @@ fn take_read<C: Sealer + Agreement + Proof>(
           group = C.group_number;
           public_value = C.public_value;
           shared_secret = C.shared_secret;
-          own_method = C.own_method step.now.caller.now;
-          proof_of = C.proof_of step.now.caller.now;
-          accepts = C.accepts step.now.caller.now;
+          own_method = C.own_method setup.now.caller.now;
+          proof_of = C.proof_of setup.now.caller.now;
+          accepts = C.accepts setup.now.caller.now;
         })
-        (setup_of step.now) cookies.now from.now octets.now held.old table.old reason
+        (setup_of setup.now) cookies.now from.now octets.now held.old table.old reason
         × (held.new ≡ held.old) × IsAsBefore table.old table.new) }
 {
     if is_initial_request(&message.header) {
-        take_initial(alloc, step, cookies, held, from, octets, message)
+        take_initial(alloc, setup, cookies, held, from, octets, message)
     } else {
-        Ok(take_found(alloc, step, held, table, octets, message)?)
+        Ok(take_found(alloc, setup, held, table, octets, message)?)
     }
 }
 
@@ -142,13 +142,13 @@ fn is_sound_initial(header: &Header) -> bool
 // The message is for an association that is held, or for none.
 fn take_found<C: Sealer + Agreement + Proof>(
     alloc: Global,
-    step: &Step<'_, C>,
+    setup: &Setup<'_, C>,
     held: &mut Held,
     table: &mut Table,
     octets: &[u8],
     message: &Message,
-) -> Result<Stepped, ChildFault>
-    requires config { IsConfig step.now.config.now }
+) -> Result<Stepped, MemoryFault>
+    requires config { IsConfig setup.now.config.now }
     requires sound { AreSound held.old table.old }
     requires spelled { Spells message.now octets.now }
     ensures taken { IfOk result (λ stepped. TakesFound (found message.now.header held.old.associations)
@@ -159,30 +159,30 @@ fn take_found<C: Sealer + Agreement + Proof>(
           group = C.group_number;
           public_value = C.public_value;
           shared_secret = C.shared_secret;
-          own_method = C.own_method step.now.caller.now;
-          proof_of = C.proof_of step.now.caller.now;
-          accepts = C.accepts step.now.caller.now;
+          own_method = C.own_method setup.now.caller.now;
+          proof_of = C.proof_of setup.now.caller.now;
+          accepts = C.accepts setup.now.caller.now;
         })
-        (setup_of step.now) octets.now message.now held.old table.old stepped held.new table.new) }
+        (setup_of setup.now) octets.now message.now held.old table.old stepped held.new table.new) }
     ensures refused { IfErr result (λ _. (held.new ≡ held.old) × IsAsBefore table.old table.new) }
     ensures wanted { IfErr result (WantsFound C.plain_of (found message.now.header held.old.associations) octets.now message.now held.old table.old) }
 {
     match find(held.associations(), &message.header) {
-        Ok(place) => take_at(alloc, step, held, place, table, octets, message),
+        Ok(place) => take_at(alloc, setup, held, place, table, octets, message),
         Err(fault) => Ok(Stepped::dropped(IkeFault::Message(fault))),
     }
 }
 
 fn take_at<C: Sealer + Agreement + Proof>(
     alloc: Global,
-    step: &Step<'_, C>,
+    setup: &Setup<'_, C>,
     held: &mut Held,
     place: usize,
     table: &mut Table,
     octets: &[u8],
     message: &Message,
-) -> Result<Stepped, ChildFault>
-    requires config { IsConfig step.now.config.now }
+) -> Result<Stepped, MemoryFault>
+    requires config { IsConfig setup.now.config.now }
     requires there { place < length held.old.associations }
     requires sound { AreSound held.old table.old }
     requires spelled { Spells message.now octets.now }
@@ -194,24 +194,24 @@ fn take_at<C: Sealer + Agreement + Proof>(
           group = C.group_number;
           public_value = C.public_value;
           shared_secret = C.shared_secret;
-          own_method = C.own_method step.now.caller.now;
-          proof_of = C.proof_of step.now.caller.now;
-          accepts = C.accepts step.now.caller.now;
+          own_method = C.own_method setup.now.caller.now;
+          proof_of = C.proof_of setup.now.caller.now;
+          accepts = C.accepts setup.now.caller.now;
         })
-        (setup_of step.now) octets.now message.now held.old table.old stepped held.new table.new) }
+        (setup_of setup.now) octets.now message.now held.old table.old stepped held.new table.new) }
     ensures refused { IfErr result (λ _. (held.new ≡ held.old) × IsAsBefore table.old table.new) }
     ensures wanted { IfErr result (WantsFound C.plain_of (Ok place) octets.now message.now held.old table.old) }
 {
     let association = &mut held.associations[place];
     let ike = association.serial;
-    let effect = take_message(alloc, step, association, table, octets, message)?;
+    let effect = take_message(alloc, setup, association, table, octets, message)?;
     Ok(Stepped::of_effect(ike, message.header.id, effect))
 }
 
 // The request of IKE_SA_INIT is taken: by the association that it made, or as a new one.
 fn take_initial<C: Sealer + Agreement + Proof>(
     alloc: Global,
-    step: &Step<'_, C>,
+    setup: &Setup<'_, C>,
     cookies: &Cookies,
     held: &mut Held,
     from: &[u8; 4],
@@ -229,11 +229,11 @@ fn take_initial<C: Sealer + Agreement + Proof>(
           group = C.group_number;
           public_value = C.public_value;
           shared_secret = C.shared_secret;
-          own_method = C.own_method step.now.caller.now;
-          proof_of = C.proof_of step.now.caller.now;
-          accepts = C.accepts step.now.caller.now;
+          own_method = C.own_method setup.now.caller.now;
+          proof_of = C.proof_of setup.now.caller.now;
+          accepts = C.accepts setup.now.caller.now;
         })
-        (setup_of step.now) cookies.now from.now octets.now message.now held.old stepped held.new) }
+        (setup_of setup.now) cookies.now from.now octets.now message.now held.old stepped held.new) }
     ensures refused { IfErr result (λ reason. ((table : Database) → RefusesDatagram
         (record {
           cipher = C.cipher;
@@ -242,18 +242,18 @@ fn take_initial<C: Sealer + Agreement + Proof>(
           group = C.group_number;
           public_value = C.public_value;
           shared_secret = C.shared_secret;
-          own_method = C.own_method step.now.caller.now;
-          proof_of = C.proof_of step.now.caller.now;
-          accepts = C.accepts step.now.caller.now;
+          own_method = C.own_method setup.now.caller.now;
+          proof_of = C.proof_of setup.now.caller.now;
+          accepts = C.accepts setup.now.caller.now;
         })
-        (setup_of step.now) cookies.now from.now octets.now held.old table reason) × (held.new ≡ held.old)) }
+        (setup_of setup.now) cookies.now from.now octets.now held.old table reason) × (held.new ≡ held.old)) }
 {
     if !is_sound_initial(&message.header) {
         return Ok(Stepped::dropped(IkeFault::Message(MessageFault::WrongPhase)));
     }
     match answered_place(held.associations(), octets) {
         Some(place) => Ok(repeat(alloc, octets, held.associations(), place)?),
-        None => take_new(alloc, step, cookies, held, from, octets, message),
+        None => take_new(alloc, setup, cookies, held, from, octets, message),
     }
 }
 
@@ -279,7 +279,7 @@ fn repeat(
 // A request that made no association that is half open.
 fn take_new<C: Sealer + Agreement + Proof>(
     alloc: Global,
-    step: &Step<'_, C>,
+    setup: &Setup<'_, C>,
     cookies: &Cookies,
     held: &mut Held,
     from: &[u8; 4],
@@ -295,11 +295,11 @@ fn take_new<C: Sealer + Agreement + Proof>(
           group = C.group_number;
           public_value = C.public_value;
           shared_secret = C.shared_secret;
-          own_method = C.own_method step.now.caller.now;
-          proof_of = C.proof_of step.now.caller.now;
-          accepts = C.accepts step.now.caller.now;
+          own_method = C.own_method setup.now.caller.now;
+          proof_of = C.proof_of setup.now.caller.now;
+          accepts = C.accepts setup.now.caller.now;
         })
-        (setup_of step.now) cookies.now from.now octets.now message.now held.old stepped held.new) }
+        (setup_of setup.now) cookies.now from.now octets.now message.now held.old stepped held.new) }
     ensures refused { IfErr result (λ reason. RefusesNew
         (record {
           cipher = C.cipher;
@@ -308,19 +308,19 @@ fn take_new<C: Sealer + Agreement + Proof>(
           group = C.group_number;
           public_value = C.public_value;
           shared_secret = C.shared_secret;
-          own_method = C.own_method step.now.caller.now;
-          proof_of = C.proof_of step.now.caller.now;
-          accepts = C.accepts step.now.caller.now;
+          own_method = C.own_method setup.now.caller.now;
+          proof_of = C.proof_of setup.now.caller.now;
+          accepts = C.accepts setup.now.caller.now;
         })
-        (setup_of step.now) cookies.now from.now message.now held.old reason × (held.new ≡ held.old)) }
+        (setup_of setup.now) cookies.now from.now message.now held.old reason × (held.new ≡ held.old)) }
 {
     accepted_offers_fit();
     let spi_i = message.header.spi_i;
-    match judge_new(step.caller, cookies, held.associations(), from, message) {
+    match judge_new(setup.caller, cookies, held.associations(), from, message) {
         Judgement::Answered(notice) => Ok(decline(alloc, spi_i, &notice)?),
         Judgement::Incomplete => Ok(Stepped::dropped(IkeFault::Message(MessageFault::WrongPhase))),
         Judgement::Full => Ok(Stepped::dropped(IkeFault::HalfOpenFull)),
-        Judgement::Accepted(offer) => Ok(take_offer(alloc, step, held, &offer, spi_i, octets)?),
+        Judgement::Accepted(offer) => Ok(take_offer(alloc, setup, held, &offer, spi_i, octets)?),
     }
 }
 
@@ -363,7 +363,7 @@ fn decline(alloc: Global, spi_i: u64, notice: &Notice) -> Result<Stepped, AllocE
 // An offer that is accepted makes an association, unless its public value is refused.
 fn take_offer<C: Sealer + Agreement + Proof>(
     alloc: Global,
-    step: &Step<'_, C>,
+    setup: &Setup<'_, C>,
     held: &mut Held,
     offer: &Offer<'_>,
     spi_i: u64,
@@ -378,20 +378,20 @@ fn take_offer<C: Sealer + Agreement + Proof>(
           group = C.group_number;
           public_value = C.public_value;
           shared_secret = C.shared_secret;
-          own_method = C.own_method step.now.caller.now;
-          proof_of = C.proof_of step.now.caller.now;
-          accepts = C.accepts step.now.caller.now;
+          own_method = C.own_method setup.now.caller.now;
+          proof_of = C.proof_of setup.now.caller.now;
+          accepts = C.accepts setup.now.caller.now;
         })
-        (setup_of step.now) (offer_view offer.now) spi_i octets.now held.old stepped held.new) }
-    ensures refused { IfErr result (λ reason. CannotMake held.old step.now.fresh.now.spi reason × (held.new ≡ held.old)) }
+        (setup_of setup.now) (offer_view offer.now) spi_i octets.now held.old stepped held.new) }
+    ensures refused { IfErr result (λ reason. CannotMake held.old setup.now.fresh.now.spi reason × (held.new ≡ held.old)) }
 {
     let Some(serial) = held.next_serial() else {
         return Err(IkeFault::NumbersSpent);
     };
-    if is_bad_spi(step.fresh.spi, held.associations()) {
+    if is_bad_spi(setup.fresh.spi, held.associations()) {
         return Err(IkeFault::BadFresh);
     }
-    match admit(alloc, step, serial, offer, spi_i, octets)? {
+    match admit(alloc, setup, serial, offer, spi_i, octets)? {
         Some(admitted) => Ok(hold_admitted(held, serial, admitted)?),
         None => Ok(Stepped::dropped(IkeFault::Message(MessageFault::WrongPhase))),
     }

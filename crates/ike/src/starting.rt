@@ -6,14 +6,14 @@ ghost use Rattle.policy.specs.Narrowing.{IsSendableSelector};
 ghost use Rattle.sadb.specs.Database.{IsAsBefore, IsFull, IsReady, IsReserved, IsSpent, Reserves};
 ghost use Rattle.initial.specs.Configs.{setup_of};
 ghost use Rattle.ike.specs.Machines.{SERIAL_END};
-ghost use Rattle.ike.specs.Starting.{if_protects, new_order_fault, order_fault, protecting_entry, BeginsBy, BeginsNext, FurthersBy, GivesNoSpi, IsAllowed, RefusesBeginning, RefusesFurtherBy, RefusesStart, Starts};
+ghost use Rattle.ike.specs.Starting.{if_protects, new_association_fault, beginning_fault, protecting_entry, BeginsBy, BeginsNext, FurthersBy, GivesNoSpi, IsAllowed, RefusesBeginning, RefusesFurtherBy, RefusesStart, Starts};
 
 use crate::asking::ask_further;
 use crate::held::{Held, is_bad_spi};
 use crate::{IkeFault, IkeOutput, Stepped};
 use association::AskedChild;
 use base::Selector;
-use initial::{Beginning, Step, begin};
+use initial::{Beginning, Setup, begin};
 use policy::{Action, Entry};
 use sa_init::ASSOCIATION_LIMIT;
 use sadb::{Spi, Table};
@@ -23,7 +23,7 @@ use suite::{Agreement, Proof, Sealer};
 /// Asks for the child of an entry of the policy, by its number: with a new association, or under the one with this serial.
 pub(crate) fn start<C: Sealer + Agreement + Proof>(
     alloc: Global,
-    step: &Step<'_, C>,
+    setup: &Setup<'_, C>,
     held: &mut Held,
     table: &mut Table,
     ike: Option<u32>,
@@ -37,24 +37,24 @@ pub(crate) fn start<C: Sealer + Agreement + Proof>(
           group = C.group_number;
           public_value = C.public_value;
           shared_secret = C.shared_secret;
-          own_method = C.own_method step.now.caller.now;
-          proof_of = C.proof_of step.now.caller.now;
-          accepts = C.accepts step.now.caller.now;
+          own_method = C.own_method setup.now.caller.now;
+          proof_of = C.proof_of setup.now.caller.now;
+          accepts = C.accepts setup.now.caller.now;
         })
-        (setup_of step.now) ike place held.old table.old stepped held.new table.new) }
-    ensures refused { IfErr result (λ reason. RefusesStart step.now.policy.now step.now.fresh.now ike place held.old table.old reason
+        (setup_of setup.now) ike place held.old table.old stepped held.new table.new) }
+    ensures refused { IfErr result (λ reason. RefusesStart setup.now.policy.now setup.now.fresh.now ike place held.old table.old reason
         × (held.new ≡ held.old) × IsAsBefore table.old table.new) }
 {
     match ike {
-        None => begin_by(alloc, step, held, table, place),
-        Some(ike) => further_by(alloc, step, held, table, ike, place),
+        None => begin_by(alloc, setup, held, table, place),
+        Some(ike) => further_by(alloc, setup, held, table, ike, place),
     }
 }
 
 // Begins an association whose first child is that of an entry.
 fn begin_by<C: Sealer + Agreement + Proof>(
     alloc: Global,
-    step: &Step<'_, C>,
+    setup: &Setup<'_, C>,
     held: &mut Held,
     table: &mut Table,
     place: u32,
@@ -67,23 +67,23 @@ fn begin_by<C: Sealer + Agreement + Proof>(
           group = C.group_number;
           public_value = C.public_value;
           shared_secret = C.shared_secret;
-          own_method = C.own_method step.now.caller.now;
-          proof_of = C.proof_of step.now.caller.now;
-          accepts = C.accepts step.now.caller.now;
+          own_method = C.own_method setup.now.caller.now;
+          proof_of = C.proof_of setup.now.caller.now;
+          accepts = C.accepts setup.now.caller.now;
         })
-        (setup_of step.now) place held.old table.old stepped held.new table.new) }
-    ensures refused { IfErr result (λ reason. RefusesBeginning step.now.policy.now step.now.fresh.now place held.old table.old reason
+        (setup_of setup.now) place held.old table.old stepped held.new table.new) }
+    ensures refused { IfErr result (λ reason. RefusesBeginning setup.now.policy.now setup.now.fresh.now place held.old table.old reason
         × (held.new ≡ held.old) × IsAsBefore table.old table.new) }
 {
-    let allowed = check_order(step, held, place)?;
+    let allowed = check_beginning(setup, held, place)?;
     prepare(table)?;
-    let beginning = begin(alloc, step)?;
+    let beginning = begin(alloc, setup)?;
     Ok(begin_next(
         alloc,
         held,
         table,
         &allowed,
-        step.config.extended,
+        setup.config.extended,
         beginning,
     )?)
 }
@@ -91,7 +91,7 @@ fn begin_by<C: Sealer + Agreement + Proof>(
 // Asks for the child of an entry under the association with this serial.
 fn further_by<C: Sealer + Agreement + Proof>(
     alloc: Global,
-    step: &Step<'_, C>,
+    setup: &Setup<'_, C>,
     held: &mut Held,
     table: &mut Table,
     ike: u32,
@@ -105,17 +105,17 @@ fn further_by<C: Sealer + Agreement + Proof>(
           group = C.group_number;
           public_value = C.public_value;
           shared_secret = C.shared_secret;
-          own_method = C.own_method step.now.caller.now;
-          proof_of = C.proof_of step.now.caller.now;
-          accepts = C.accepts step.now.caller.now;
+          own_method = C.own_method setup.now.caller.now;
+          proof_of = C.proof_of setup.now.caller.now;
+          accepts = C.accepts setup.now.caller.now;
         })
-        (setup_of step.now) ike place held.old table.old stepped held.new table.new) }
-    ensures refused { IfErr result (λ reason. RefusesFurtherBy (protecting_entry step.now.policy.now place) ike held.old table.old reason
+        (setup_of setup.now) ike place held.old table.old stepped held.new table.new) }
+    ensures refused { IfErr result (λ reason. RefusesFurtherBy (protecting_entry setup.now.policy.now place) ike held.old table.old reason
         × (held.new ≡ held.old) × IsAsBefore table.old table.new) }
 {
-    let entry = sound_entry(step, place)?;
+    let entry = sound_entry(setup, place)?;
     let (local, remote) = sides(&entry);
-    ask_further(alloc, step, held, table, ike, &local, &remote)
+    ask_further(alloc, setup, held, table, ike, &local, &remote)
 }
 
 /// What may be begun: an association of this serial, by this entry.
@@ -125,23 +125,23 @@ struct Allowed {
     entry: Entry,
 }
 
-fn check_order<C>(step: &Step<'_, C>, held: &Held, place: u32) -> Result<Allowed, IkeFault>
-    ensures allowed { IfOk result (λ a. IsAllowed step.now.policy.now place step.now.fresh.now held.now a.serial a.entry) }
+fn check_beginning<C>(setup: &Setup<'_, C>, held: &Held, place: u32) -> Result<Allowed, IkeFault>
+    ensures allowed { IfOk result (λ a. IsAllowed setup.now.policy.now place setup.now.fresh.now held.now a.serial a.entry) }
     ensures sound { IfOk result (λ a. IsSoundEntry a.entry) }
-    ensures refused { IfErr result (λ reason. order_fault step.now.policy.now place step.now.fresh.now held.now ≡ Some reason) }
+    ensures refused { IfErr result (λ reason. beginning_fault setup.now.policy.now place setup.now.fresh.now held.now ≡ Some reason) }
 {
-    let entry = sound_entry(step, place)?;
-    let serial = new_serial(held, step.fresh.spi)?;
+    let entry = sound_entry(setup, place)?;
+    let serial = new_serial(held, setup.fresh.spi)?;
     Ok(Allowed { serial, entry })
 }
 
 // The entry of this number that protects, which is as entries of a policy are.
-fn sound_entry<C>(step: &Step<'_, C>, place: u32) -> Result<Entry, IkeFault>
-    ensures entry { IfOk result (λ entry. protecting_entry step.now.policy.now place ≡ Some entry) }
+fn sound_entry<C>(setup: &Setup<'_, C>, place: u32) -> Result<Entry, IkeFault>
+    ensures entry { IfOk result (λ entry. protecting_entry setup.now.policy.now place ≡ Some entry) }
     ensures sound { IfOk result IsSoundEntry }
-    ensures refused { IfErr result (λ reason. (reason ≡ IkeFault.Unprotected) × (protecting_entry step.now.policy.now place ≡ None)) }
+    ensures refused { IfErr result (λ reason. (reason ≡ IkeFault.Unprotected) × (protecting_entry setup.now.policy.now place ≡ None)) }
 {
-    match protecting_entry(step.policy.entries(), place) {
+    match protecting_entry(setup.policy.entries(), place) {
         Some(entry) => Ok(entry),
         None => Err(IkeFault::Unprotected),
     }
@@ -168,8 +168,8 @@ fn if_protects(entry: &Entry) -> Option<Entry>
 
 // The serial of an association that is begun with this SPI.
 fn new_serial(held: &Held, spi: u64) -> Result<u32, IkeFault>
-    ensures serial { IfOk result (λ serial. (new_order_fault held.now spi ≡ None) × (serial ≡ held.now.next) × (held.now.next < SERIAL_END)) }
-    ensures refused { IfErr result (λ reason. new_order_fault held.now spi ≡ Some reason) }
+    ensures serial { IfOk result (λ serial. (new_association_fault held.now spi ≡ None) × (serial ≡ held.now.next) × (held.now.next < SERIAL_END)) }
+    ensures refused { IfErr result (λ reason. new_association_fault held.now spi ≡ Some reason) }
 {
     if held.associations().len() >= ASSOCIATION_LIMIT {
         return Err(IkeFault::Crowded);

@@ -19,7 +19,7 @@ use deletions::laws::what_is_decided_can_be_removed;
 use deletions::{Verdict, answer_payloads, decide, remove_named};
 use exchange::laws::short_messages_can_be_sent;
 use exchange::{Plain, sent_header};
-use initial::{Answered, Step, sealed};
+use initial::{Answered, Setup, sealed};
 use sadb::Table;
 use std::alloc::{AllocError, Global};
 use suite::{KeyRecord, Sealer};
@@ -38,7 +38,7 @@ use wire::numbers::INFORMATIONAL;
 /// the table. An error is for want of memory alone, and changes nothing.
 pub fn answer<C: Sealer>(
     alloc: Global,
-    step: &Step<'_, C>,
+    setup: &Setup<'_, C>,
     association: &mut Association,
     table: &mut Table,
     number: u32,
@@ -47,7 +47,7 @@ pub fn answer<C: Sealer>(
     requires established { IsEstablished association.old.phase }
     requires fresh { IsFreshRequest association.old.incoming number }
     requires reserved { HoldsReserved association.old table.old }
-    ensures answered { IfOk result (λ answered. AnswersInformational C.body_of (setup_of step.now)
+    ensures answered { IfOk result (λ answered. AnswersInformational C.body_of (setup_of setup.now)
         association.old table.old number plain.now answered association.new table.new) }
     ensures refused { IfErr result (λ _. (association.new ≡ association.old) × (table.new ≡ table.old)) }
 {
@@ -56,13 +56,13 @@ pub fn answer<C: Sealer>(
     };
     spis_stay_held();
     let verdict = decide(alloc, plain, association.serial, table)?;
-    let octets = make_reply(alloc, step, association, table, keys, number, &verdict)?;
+    let octets = make_reply(alloc, setup, association, table, keys, number, &verdict)?;
     let kept = Items::from_slice(alloc, octets.as_slice())?;
     association.incoming.prepare()?;
     // From here on nothing can be refused.
     association.incoming.take(number, kept);
     let closed = verdict.is_closing();
-    conclude(association, table, &verdict, step.moment);
+    conclude(association, table, &verdict, setup.moment);
     Ok(Answered {
         octets,
         child: None,
@@ -72,7 +72,7 @@ pub fn answer<C: Sealer>(
 
 fn make_reply<C: Sealer>(
     alloc: Global,
-    step: &Step<'_, C>,
+    setup: &Setup<'_, C>,
     association: &Association,
     table: &Table,
     keys: &KeyRecord,
@@ -80,7 +80,7 @@ fn make_reply<C: Sealer>(
     verdict: &Verdict,
 ) -> Result<Items<u8>, AllocError>
     requires { IsSoundVerdict table.now.pairs association.now.serial verdict.now }
-    ensures { IfOk result (IsSealed C.body_of (keys_of association.now.role keys.now) step.now.fresh.now.seal
+    ensures { IfOk result (IsSealed C.body_of (keys_of association.now.role keys.now) setup.now.fresh.now.seal
         (reply_message association.now INFORMATIONAL number (payloads_of_verdict verdict.now))) }
 {
     short_messages_can_be_sent();
@@ -97,7 +97,7 @@ fn make_reply<C: Sealer>(
         ),
         payloads,
     };
-    sealed(alloc, step.caller, role, keys, &message, &step.fresh.seal)
+    sealed(alloc, setup.caller, role, keys, &message, &setup.fresh.seal)
 }
 
 // The association is closed, or the pairs go that a request names.

@@ -11,12 +11,12 @@ ghost use Rattle.initial.specs.Configs.{setup_of};
 ghost use Rattle.initial.specs.Issuing.{new_request, IssuesNext};
 
 use crate::ordering::payloads_of;
-use crate::{Order, OrderFault};
+use crate::{InformationalFault, Order};
 use association::{Association, Phase, Purpose};
 use base::Items;
 use exchange::laws::short_messages_can_be_sent;
 use exchange::sent_header;
-use initial::{Step, new_request, sealed};
+use initial::{Setup, new_request, sealed};
 use requests::RequestFault;
 use sadb::Table;
 use std::alloc::{AllocError, Global};
@@ -36,28 +36,28 @@ pub struct Issued {
 /// Makes a request of INFORMATIONAL (RFC 7296, sections 1.4, 1.4.1 and 2.4), which waits for its answer from then on. The pair of a child
 /// that is to be deleted is Deleting from then on, and goes with the answer.
 ///
-/// Refused, in this order: [`OrderFault::WrongPhase`] where the association is not established, [`OrderFault::Busy`] where a request to
-/// delete it waits for its answer or the peer takes no more requests at once, [`OrderFault::NumbersSpent`] where no number is left,
-/// [`OrderFault::Memory`]. What is refused changes nothing.
+/// Refused, in this order: [`InformationalFault::WrongPhase`] where the association is not established, [`InformationalFault::Busy`] where a request to
+/// delete it waits for its answer or the peer takes no more requests at once, [`InformationalFault::NumbersSpent`] where no number is left,
+/// [`InformationalFault::Memory`]. What is refused changes nothing.
 ///
 /// The caller asks to delete a child only where its pair is there, and Live.
 pub fn ask<C: Sealer>(
     alloc: Global,
-    step: &Step<'_, C>,
+    setup: &Setup<'_, C>,
     association: &mut Association,
     table: &mut Table,
     order: Order,
-) -> Result<Issued, OrderFault>
+) -> Result<Issued, InformationalFault>
     requires live { IsOfLive order table.old.pairs }
     ensures asked { IfOk result (λ issued.
-        Asks C.body_of (setup_of step.now) order association.old issued.octets association.new) }
+        Asks C.body_of (setup_of setup.now) order association.old issued.octets association.new) }
     ensures number { IfOk result (λ issued. issued.number ≡ association.old.outgoing.next) }
     ensures marked { IfOk result (λ _. MarksFor order table.old table.new) }
     ensures refused { IfErr result (λ fault.
         RefusesOrder association.old fault × (association.new ≡ association.old) × (table.new ≡ table.old)) }
 {
     let Phase::Established(keys) = &association.phase else {
-        return Err(OrderFault::WrongPhase);
+        return Err(InformationalFault::WrongPhase);
     };
     short_messages_can_be_sent();
     let number = may_issue(association)?;
@@ -74,15 +74,15 @@ pub fn ask<C: Sealer>(
         ),
         payloads,
     };
-    let octets = sealed(alloc, step.caller, role, keys, &message, &step.fresh.seal)?;
+    let octets = sealed(alloc, setup.caller, role, keys, &message, &setup.fresh.seal)?;
     let kept = Items::from_slice(alloc, octets.as_slice())?;
-    issue(association, kept, order.purpose(), step.moment)?;
+    issue(association, kept, order.purpose(), setup.moment)?;
     mark(table, order);
     Ok(Issued { number, octets })
 }
 
 // The number that the next request is to have.
-fn may_issue(association: &Association) -> Result<u32, OrderFault>
+fn may_issue(association: &Association) -> Result<u32, InformationalFault>
     requires { IsEstablished association.now.phase }
     ensures number { IfOk result (λ number. number ≡ association.now.outgoing.next) }
     ensures allowed { IfOk result (λ _. MayIssue association.now.outgoing) }
@@ -90,12 +90,12 @@ fn may_issue(association: &Association) -> Result<u32, OrderFault>
     ensures refused { IfErr result (RefusesOrder association.now) }
 {
     if association.is_deleting() {
-        return Err(OrderFault::Busy);
+        return Err(InformationalFault::Busy);
     }
     match association.outgoing.may_issue() {
         Ok(number) => Ok(number),
-        Err(RequestFault::Busy) => Err(OrderFault::Busy),
-        Err(RequestFault::NumbersSpent) => Err(OrderFault::NumbersSpent),
+        Err(RequestFault::Busy) => Err(InformationalFault::Busy),
+        Err(RequestFault::NumbersSpent) => Err(InformationalFault::NumbersSpent),
         // It takes no memory.
         Err(RequestFault::Memory) => unreachable!(),
     }

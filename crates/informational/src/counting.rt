@@ -11,7 +11,7 @@ use association::laws::spis_stay_held;
 use association::{Association, Purpose};
 use deletions::remove_named;
 use exchange::{Plain, has_invalid_syntax};
-use initial::{Ended, Step, read_chain};
+use initial::{Ended, Setup, read_chain};
 use sadb::Table;
 use std::alloc::{AllocError, Global};
 
@@ -23,7 +23,7 @@ use std::alloc::{AllocError, Global};
 /// that the association holds are reserved in the table. An error is for want of memory alone, and changes nothing.
 pub fn count<C>(
     alloc: Global,
-    step: &Step<'_, C>,
+    setup: &Setup<'_, C>,
     association: &mut Association,
     table: &mut Table,
     number: u32,
@@ -33,7 +33,7 @@ pub fn count<C>(
     requires outstanding { IsOutstanding association.old.outgoing number }
     requires no_child { AsksForNoFurtherChild association.old.outgoing number }
     requires reserved { HoldsReserved association.old table.old }
-    ensures counted { IfOk result (λ ended. CountsInformational (setup_of step.now)
+    ensures counted { IfOk result (λ ended. CountsInformational (setup_of setup.now)
         association.old table.old number plain.now ended association.new table.new) }
     ensures refused { IfErr result (λ _. (association.new ≡ association.old) × (table.new ≡ table.old)) }
 {
@@ -42,7 +42,7 @@ pub fn count<C>(
     // From here on nothing can be refused.
     let request = association.outgoing.count(number);
     let closed = rejected || request.purpose.asks_to_end();
-    conclude(association, table, closed, &request.purpose, step.moment);
+    conclude(association, table, closed, &request.purpose, setup.moment);
     Ok(Ended {
         child: None,
         closed,

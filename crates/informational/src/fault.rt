@@ -1,13 +1,13 @@
 //! Why an order on an association is refused.
 ghost use Rattle.std.specs.Prelude.{◌≡◌};
-ghost use Rattle.informational.specs.Faults.{code_of_order_fault};
+ghost use Rattle.informational.specs.Faults.{code_of_informational_fault};
 
 use std::alloc::AllocError;
 use thiserror::Error;
 
 /// Why an order on an association is refused, with nothing changed.
 #[derive(Clone, Copy, Debug, PartialEq, Eq, Error)]
-pub enum OrderFault {
+pub enum InformationalFault {
     /// The association is not established.
     #[error("E32: the association is in another phase")]
     WrongPhase,
@@ -22,27 +22,27 @@ pub enum OrderFault {
     Memory,
 }
 
-impl OrderFault {
+impl InformationalFault {
     /// The refusal's number, as programs print it behind `E`.
     pub fn code(self) -> u8
-        ensures { result ≡ code_of_order_fault self }
+        ensures { result ≡ code_of_informational_fault self }
     {
         match self {
-            OrderFault::WrongPhase => 32,
-            OrderFault::Busy => 35,
-            OrderFault::NumbersSpent => 36,
-            OrderFault::Memory => 10,
+            InformationalFault::WrongPhase => 32,
+            InformationalFault::Busy => 35,
+            InformationalFault::NumbersSpent => 36,
+            InformationalFault::Memory => 10,
         }
     }
 }
 
-impl From<AllocError> for OrderFault {
+impl From<AllocError> for InformationalFault {
     ghost use Rattle.std.specs.Prelude.{◌≡◌};
-    ghost use Rattle.informational.specs.declared.fault.OrderFault.TheVariants.{Memory};
+    ghost use Rattle.informational.specs.declared.fault.InformationalFault.TheVariants.{Memory};
 
     ghost from_gives = { λ _ e. e ≡ Memory };
 
-    fn from(_refused: AllocError) -> OrderFault {
-        OrderFault::Memory
+    fn from(_refused: AllocError) -> InformationalFault {
+        InformationalFault::Memory
     }
 }

@@ -21,5 +21,5 @@ mod ordering;
 pub use answering::answer;
 pub use asking::{Issued, ask};
 pub use counting::count;
-pub use fault::OrderFault;
+pub use fault::InformationalFault;
 pub use ordering::Order;

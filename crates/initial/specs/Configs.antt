@@ -9,7 +9,7 @@ use Rattle.auth.specs.Proofs.{IsIdentity}
 use Rattle.auth.specs.Windows.{IsWindow}
 use Rattle.children.specs.declared.setting.Setting.{Setting}
 use Rattle.initial.specs.declared.config.Config.{Config}
-use Rattle.initial.specs.declared.step.Step.{Step}
+use Rattle.initial.specs.declared.setup.Setup.{Setup as Surroundings}
 
 -- the identities fit payloads, the blocks are those of a replay window, and the window is one of 1 to 16
 pub record IsConfig (config : Config) : Type 0 where
@@ -25,8 +25,8 @@ pub record Setup : Type 0 where
   pub fresh : Fresh
   pub moment : ℕ
 
-abbrev pub setup_of : {C : Type 0} → Step C → Setup
-setup_of step = record { config = step.config.now; entries = step.policy.now; fresh = step.fresh.now; moment = step.moment }
+abbrev pub setup_of : {C : Type 0} → Surroundings C → Setup
+setup_of given = record { config = given.config.now; entries = given.policy.now; fresh = given.fresh.now; moment = given.moment }
 
 -- what the first child of an association is made on
 abbrev pub first_setting : Config → ℕ → KeyRecord → Setting

@@ -79,7 +79,7 @@ pub record TellsIdentity (asker : Asker) (setup : Setup) (old : Association) (se
 abbrev pub Continues : Asker → Setup → Association → InitSent → ℕ → Message → Octets → Response → Continued → Association → Type 0
 Continues asker setup old sent number m octets (response.Cookie cookie) (continued.Again again) new =
     BringsCookie asker setup.moment old sent number cookie.now again new
-Continues asker setup old sent number m octets (response.Keys keys) (continued.Identity next) new =
+Continues asker setup old sent number m octets (response.Keys keys) (continued.AsksAuth next) new =
     TellsIdentity asker setup old sent number m octets keys next new
 Continues asker setup old sent number m octets response.Unfit continued.Unfit new = new ≡ old
 Continues asker setup old sent number m octets response continued new = ⊥

@@ -14,7 +14,7 @@ ghost use Rattle.initial.specs.Configs.{setup_of, IsConfig};
 ghost use Rattle.initial.specs.Deciding.{own_proving, FitsDecision, FitsResponse};
 ghost use Rattle.wire.specs.Numbers.{IKE_AUTH};
 
-use crate::Step;
+use crate::Setup;
 use crate::concluding::{Outcome, conclude};
 use crate::deciding::{Decision, decide};
 use crate::sealing::sealed;
@@ -23,7 +23,7 @@ use association::{Association, HalfOpen, Phase};
 use auth::laws::what_is_sent_fits;
 use auth::{ChildAnswer, Proving, answer};
 use base::Items;
-use children::{ChildFault, Response};
+use children::{MemoryFault, Response};
 use exchange::laws::{notices_fit, short_messages_can_be_sent};
 use exchange::{Plain, Role, sent_header};
 use sadb::{Pair, Table};
@@ -55,24 +55,24 @@ pub struct Answered {
 /// but for the table's room.
 pub fn answer_auth<C: Sealer + Proof>(
     alloc: Global,
-    step: &Step<'_, C>,
+    setup: &Setup<'_, C>,
     association: &mut Association,
     table: &mut Table,
     number: u32,
     plain: &Plain,
-) -> Result<Answered, ChildFault>
-    requires config { IsConfig step.now.config.now }
+) -> Result<Answered, MemoryFault>
+    requires config { IsConfig setup.now.config.now }
     requires waiting { IsHalfOpen association.old.phase }
     requires fresh { IsFreshRequest association.old.incoming number }
     requires reserved { HoldsReserved association.old table.old }
     ensures answered { IfOk result (λ answered. AnswersAuth
         (record {
           body_of = C.body_of;
-          own_method = C.own_method step.now.caller.now;
-          proof_of = C.proof_of step.now.caller.now;
-          accepts = C.accepts step.now.caller.now;
+          own_method = C.own_method setup.now.caller.now;
+          proof_of = C.proof_of setup.now.caller.now;
+          accepts = C.accepts setup.now.caller.now;
         })
-        (setup_of step.now) association.old table.old number plain.now
+        (setup_of setup.now) association.old table.old number plain.now
         answered association.new table.new) }
     ensures refused { IfErr result (λ _. (association.new ≡ association.old) × IsAsBefore table.old table.new) }
     ensures wanted { IfErr result (CanBeWanted table.old) }
@@ -81,14 +81,14 @@ pub fn answer_auth<C: Sealer + Proof>(
         unreachable!();
     };
     spis_stay_held();
-    let decision = decide(alloc, step, table, association.serial, half_open, plain)?;
-    let reply = make_reply(alloc, step, association, half_open, number, decision)?;
+    let decision = decide(alloc, setup, table, association.serial, half_open, plain)?;
+    let reply = make_reply(alloc, setup, association, half_open, number, decision)?;
     let kept = Items::from_slice(alloc, reply.octets.as_slice())?;
     association.incoming.prepare()?;
     // From here on nothing can be refused.
     association.incoming.take(number, kept);
     let closed = reply.outcome.is_closing();
-    let child = conclude(step, association, table, reply.outcome);
+    let child = conclude(setup, association, table, reply.outcome);
     Ok(Answered {
         octets: reply.octets,
         child,
@@ -105,22 +105,22 @@ struct Reply {
 
 fn make_reply<C: Sealer + Proof>(
     alloc: Global,
-    step: &Step<'_, C>,
+    setup: &Setup<'_, C>,
     association: &Association,
     half_open: &HalfOpen,
     number: u32,
     decision: Decision,
 ) -> Result<Reply, AllocError>
-    requires config { IsConfig step.now.config.now }
+    requires config { IsConfig setup.now.config.now }
     requires fits { FitsDecision decision }
     ensures sealed { IfOk result (λ reply. IsSealed C.body_of (keys_of association.now.role half_open.now.keys)
-        step.now.fresh.now.seal (reply_message association.now IKE_AUTH number (reply_payloads
-        (C.own_method step.now.caller.now) (C.proof_of step.now.caller.now)
-        (setup_of step.now) half_open.now decision)) reply.octets) }
+        setup.now.fresh.now.seal (reply_message association.now IKE_AUTH number (reply_payloads
+        (C.own_method setup.now.caller.now) (C.proof_of setup.now.caller.now)
+        (setup_of setup.now) half_open.now decision)) reply.octets) }
     ensures outcome { IfOk result (λ reply. reply.outcome ≡ outcome_of decision) }
 {
     short_messages_can_be_sent();
-    let Content { payloads, outcome } = make_content(alloc, step, half_open, decision)?;
+    let Content { payloads, outcome } = make_content(alloc, setup, half_open, decision)?;
     let role = association.role;
     let message = Message {
         header: sent_header(
@@ -135,11 +135,11 @@ fn make_reply<C: Sealer + Proof>(
     };
     let octets = sealed(
         alloc,
-        step.caller,
+        setup.caller,
         role,
         &half_open.keys,
         &message,
-        &step.fresh.seal,
+        &setup.fresh.seal,
     )?;
     Ok(Reply { octets, outcome })
 }
@@ -153,15 +153,15 @@ struct Content {
 
 fn make_content<C: Proof>(
     alloc: Global,
-    step: &Step<'_, C>,
+    setup: &Setup<'_, C>,
     half_open: &HalfOpen,
     decision: Decision,
 ) -> Result<Content, AllocError>
-    requires config { IsConfig step.now.config.now }
+    requires config { IsConfig setup.now.config.now }
     requires fits { FitsDecision decision }
     ensures payloads { IfOk result (λ content. content.payloads ≡ reply_payloads
-        (C.own_method step.now.caller.now) (C.proof_of step.now.caller.now)
-        (setup_of step.now) half_open.now decision) }
+        (C.own_method setup.now.caller.now) (C.proof_of setup.now.caller.now)
+        (setup_of setup.now) half_open.now decision) }
     ensures outcome { IfOk result (λ content. content.outcome ≡ outcome_of decision) }
     ensures fits { IfOk result (λ content. FitWithin 2840 content.payloads) }
 {
@@ -178,7 +178,7 @@ fn make_content<C: Proof>(
         Decision::Accepted { response, window } => {
             let (child, pair) = parts_of(response);
             Ok(Content {
-                payloads: accepting(alloc, step, half_open, child)?,
+                payloads: accepting(alloc, setup, half_open, child)?,
                 outcome: Outcome::Establishes { pair, window },
             })
         }
@@ -188,26 +188,26 @@ fn make_content<C: Proof>(
 // The payloads of a reply to a peer that proved its identity.
 fn accepting<C: Proof>(
     alloc: Global,
-    step: &Step<'_, C>,
+    setup: &Setup<'_, C>,
     half_open: &HalfOpen,
     child: ChildAnswer,
 ) -> Result<Items<Payload>, AllocError>
-    requires config { IsConfig step.now.config.now }
+    requires config { IsConfig setup.now.config.now }
     requires fits { FitWithin 1400 (answering_payloads child) }
     ensures payloads { IfOk result (λ payloads. payloads ≡ auth_answer
-        (C.own_method step.now.caller.now) (C.proof_of step.now.caller.now)
-        step.now.config.now.own.identity (own_proving half_open.now) child step.now.config.now.window) }
+        (C.own_method setup.now.caller.now) (C.proof_of setup.now.caller.now)
+        setup.now.config.now.own.identity (own_proving half_open.now) child setup.now.config.now.window) }
     ensures fits { IfOk result (FitWithin 2840) }
 {
     what_is_sent_fits();
     let proving = Proving::of(Role::Responder, &half_open.keys, half_open.reply.as_slice());
     answer(
         alloc,
-        step.caller,
-        &step.config.own.identity,
+        setup.caller,
+        &setup.config.own.identity,
         &proving,
         child,
-        step.config.window,
+        setup.config.window,
     )
 }
 

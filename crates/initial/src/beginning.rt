@@ -4,7 +4,7 @@ ghost use Rattle.sa_init.specs.Fitting.{FitsOffer};
 ghost use Rattle.sa_init.specs.Judging.{offer_view};
 ghost use Rattle.initial.specs.Beginning.{begun, half_open, Admits, Begins};
 
-use crate::Step;
+use crate::Setup;
 use crate::issuing::{issued, new_request};
 use association::{AskedChild, Association, HalfOpen, InitSent, Phase, Purpose, Request};
 use base::Items;
@@ -32,14 +32,14 @@ pub struct Beginning {
 /// SPI is not zero and no SPI of this end in use is the caller's to see to. An error is for want of memory alone.
 pub fn begin<C: Sealer + Agreement>(
     alloc: Global,
-    step: &Step<'_, C>,
+    setup: &Setup<'_, C>,
 ) -> Result<Beginning, AllocError>
-    ensures { IfOk result (Begins C.cipher C.group_number C.public_value step.now.fresh.now step.now.moment) }
+    ensures { IfOk result (Begins C.cipher C.group_number C.public_value setup.now.fresh.now setup.now.moment) }
 {
-    let fresh = step.fresh;
+    let fresh = setup.fresh;
     let octets = request(
         alloc,
-        step.caller,
+        setup.caller,
         fresh.spi,
         None,
         &fresh.secret,
@@ -48,7 +48,7 @@ pub fn begin<C: Sealer + Agreement>(
     let kept = Items::from_slice(alloc, octets.as_slice())?;
     let outgoing = issued(
         Outgoing::new(alloc),
-        new_request(kept, Purpose::Begin, step.moment),
+        new_request(kept, Purpose::Begin, setup.moment),
     )?;
     Ok(Beginning {
         octets,
@@ -110,7 +110,7 @@ pub struct Admitted {
 /// initiator's public value. An error is for want of memory alone.
 pub fn admit<C: Sealer + Agreement>(
     alloc: Global,
-    step: &Step<'_, C>,
+    setup: &Setup<'_, C>,
     serial: u32,
     offer: &Offer<'_>,
     spi_i: u64,
@@ -118,11 +118,11 @@ pub fn admit<C: Sealer + Agreement>(
 ) -> Result<Option<Admitted>, AllocError>
     requires { FitsOffer (offer_view offer.now) }
     ensures { IfOk result (λ admitted. MatchOption admitted
-        (C.shared_secret step.now.fresh.now.secret offer.now.public.now ≡ None)
-        (Admits C.cipher C.group_number C.public_value C.shared_secret step.now.fresh.now step.now.moment serial
+        (C.shared_secret setup.now.fresh.now.secret offer.now.public.now ≡ None)
+        (Admits C.cipher C.group_number C.public_value C.shared_secret setup.now.fresh.now setup.now.moment serial
         (offer_view offer.now) spi_i request.now)) }
 {
-    let Some(agreed) = answer(alloc, step.caller, offer, spi_i, step.fresh)? else {
+    let Some(agreed) = answer(alloc, setup.caller, offer, spi_i, setup.fresh)? else {
         return Ok(None);
     };
     let Agreed { record, octets } = agreed;
@@ -130,13 +130,13 @@ pub fn admit<C: Sealer + Agreement>(
         keys: record,
         request: Items::from_slice(alloc, request)?,
         reply: Items::from_slice(alloc, octets.as_slice())?,
-        made: step.moment,
+        made: setup.moment,
     };
     let association = Association {
         serial,
         role: Role::Responder,
         spi_i,
-        spi_r: step.fresh.spi,
+        spi_r: setup.fresh.spi,
         incoming: Incoming::after_initial(alloc),
         outgoing: Outgoing::new(alloc),
         phase: Phase::HalfOpen(half_open),

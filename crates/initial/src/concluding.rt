@@ -5,7 +5,7 @@ ghost use Rattle.association.specs.Phases.{established_spi};
 ghost use Rattle.initial.specs.Concluding.{established, is_closing, widened, AddsChild, CanAdd, CanConclude, ConcludesBy, EstablishesBy};
 ghost use Rattle.initial.specs.Configs.{setup_of};
 
-use crate::Step;
+use crate::Setup;
 use association::Association;
 use children::install;
 use sadb::{Pair, Spi, Table};
@@ -38,25 +38,25 @@ impl Outcome {
 
 /// Brings an association and the table to an outcome. The serial of the child is answered, if there is one. Takes no memory.
 pub fn conclude<C>(
-    step: &Step<'_, C>,
+    setup: &Setup<'_, C>,
     association: &mut Association,
     table: &mut Table,
     outcome: Outcome,
 ) -> Option<u32>
-    requires window { IsWindow step.now.config.now.window }
+    requires window { IsWindow setup.now.config.now.window }
     requires ready { CanConclude association.old table.old outcome }
-    ensures { ConcludesBy (setup_of step.now) association.old table.old outcome result association.new table.new }
+    ensures { ConcludesBy (setup_of setup.now) association.old table.old outcome result association.new table.new }
 {
     match outcome {
         Outcome::Closes => {
-            association.close(table, step.moment);
+            association.close(table, setup.moment);
             None
         }
         Outcome::Establishes { pair, window } => establish(
             association,
             table,
             pair,
-            step.config.window,
+            setup.config.window,
             window,
         ),
     }

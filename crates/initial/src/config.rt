@@ -3,9 +3,9 @@
 use auth::Identity;
 use std::fmt;
 
-/// One of the two ends.
+/// How one of the two ends is known.
 #[derive(Drop)]
-pub struct End {
+pub struct EndConfig {
     /// Who it is (RFC 7296, section 3.5).
     pub identity: Identity,
     /// Its IPv4 address, as its four octets stand in a packet. Nothing here reads it.
@@ -16,9 +16,9 @@ pub struct End {
 #[derive(Drop)]
 pub struct Config {
     /// This end.
-    pub own: End,
+    pub own: EndConfig,
     /// The one peer.
-    pub peer: End,
+    pub peer: EndConfig,
     /// Whether it allows extended sequence numbers (RFC 4303, section 2.2.1).
     pub extended: bool,
     /// The blocks of the replay windows of its children, a count that [`replay::is_block_count`] allows.

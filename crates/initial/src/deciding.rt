@@ -10,13 +10,13 @@ ghost use Rattle.initial.specs.Deciding.{AcceptsAuth, CanBeAnswered, Decides, Fi
 ghost use Rattle.children.specs.Responding.{IsChildResponse, LeavesRoom};
 ghost use Rattle.initial.specs.Configs.{first_setting};
 
-use crate::Step;
+use crate::Setup;
 use association::HalfOpen;
 use auth::laws::windows_are_read_again;
 use auth::{Judgement, Proving, judge};
 use base::Items;
 use children::laws::payloads_fit;
-use children::{ChildFault, Response, Setting, respond};
+use children::{MemoryFault, Response, Setting, respond};
 use exchange::laws::what_counts_fits;
 use exchange::{ChildOffer, Notice, Plain, Role};
 use sadb::Table;
@@ -42,14 +42,14 @@ pub enum Decision {
 /// What is decided about a request of IKE_AUTH (RFC 7296, section 1.2). Of the table its room alone changes.
 pub fn decide<C: Proof>(
     alloc: Global,
-    step: &Step<'_, C>,
+    setup: &Setup<'_, C>,
     table: &mut Table,
     ike: u32,
     half_open: &HalfOpen,
     plain: &Plain,
-) -> Result<Decision, ChildFault>
-    requires { IsConfig step.now.config.now }
-    ensures decided { IfOk result (Decides (C.accepts step.now.caller.now) (setup_of step.now)
+) -> Result<Decision, MemoryFault>
+    requires { IsConfig setup.now.config.now }
+    ensures decided { IfOk result (Decides (C.accepts setup.now.caller.now) (setup_of setup.now)
         ike half_open.now table.old plain.now) }
     ensures table { IsAsBefore table.old table.new }
     ensures wanted { IfErr result (CanBeWanted table.old) }
@@ -59,7 +59,7 @@ pub fn decide<C: Proof>(
     what_is_read_fits();
     match read_chain(alloc, plain)? {
         None => Ok(Decision::Refused(Notice::InvalidSyntax)),
-        Some(payloads) => decide_on(alloc, step, table, ike, half_open, payloads.as_slice()),
+        Some(payloads) => decide_on(alloc, setup, table, ike, half_open, payloads.as_slice()),
     }
 }
 
@@ -77,15 +77,15 @@ pub fn read_chain(alloc: Global, plain: &Plain) -> Result<Option<Items<Payload>>
 // What is decided about these payloads.
 fn decide_on<C: Proof>(
     alloc: Global,
-    step: &Step<'_, C>,
+    setup: &Setup<'_, C>,
     table: &mut Table,
     ike: u32,
     half_open: &HalfOpen,
     payloads: &[Payload],
-) -> Result<Decision, ChildFault>
-    requires config { IsConfig step.now.config.now }
+) -> Result<Decision, MemoryFault>
+    requires config { IsConfig setup.now.config.now }
     requires fits { AllByRecursion FitsFields payloads.now }
-    ensures decided { IfOk result (IsDecision (C.accepts step.now.caller.now) (setup_of step.now)
+    ensures decided { IfOk result (IsDecision (C.accepts setup.now.caller.now) (setup_of setup.now)
         ike half_open.now table.old (Some payloads.now)) }
     ensures table { IsAsBefore table.old table.new }
     ensures wanted { IfErr result (CanBeWanted table.old) }
@@ -101,8 +101,8 @@ fn decide_on<C: Proof>(
     );
     match judge(
         alloc,
-        step.caller,
-        &step.config.peer.identity,
+        setup.caller,
+        &setup.config.peer.identity,
         &proving,
         payloads,
     )? {
@@ -111,7 +111,7 @@ fn decide_on<C: Proof>(
             Ok(Decision::Refused(notice))
         }
         Judgement::Accepted(asked) => Ok(Decision::Accepted {
-            response: respond_to(alloc, step, table, ike, &half_open.keys, &asked.offer)?,
+            response: respond_to(alloc, setup, table, ike, &half_open.keys, &asked.offer)?,
             window: asked.window,
         }),
     }
@@ -120,16 +120,16 @@ fn decide_on<C: Proof>(
 // What answers the first child of an association.
 fn respond_to<C>(
     alloc: Global,
-    step: &Step<'_, C>,
+    setup: &Setup<'_, C>,
     table: &mut Table,
     ike: u32,
     keys: &KeyRecord,
     offer: &ChildOffer<'_>,
-) -> Result<Response, ChildFault>
-    requires config { IsConfig step.now.config.now }
+) -> Result<Response, MemoryFault>
+    requires config { IsConfig setup.now.config.now }
     requires fits { CanBeAnswered (offered offer.now) }
-    ensures response { IfOk result (IsChildResponse (first_setting step.now.config.now ike keys.now)
-        step.now.config.now.extended step.now.policy.now table.old (offered offer.now)) }
+    ensures response { IfOk result (IsChildResponse (first_setting setup.now.config.now ike keys.now)
+        setup.now.config.now.extended setup.now.policy.now table.old (offered offer.now)) }
     ensures table { IsAsBefore table.old table.new }
     ensures wanted { IfErr result (CanBeWanted table.old) }
     ensures room { IfOk result (λ response. LeavesRoom response table.new) }
@@ -139,14 +139,14 @@ fn respond_to<C>(
     let setting = Setting {
         ike,
         keys: keys.first_child_keys(),
-        blocks: step.config.blocks,
+        blocks: setup.config.blocks,
     };
     let response = respond(
         alloc,
         offer,
-        step.config.extended,
+        setup.config.extended,
         &setting,
-        step.policy,
+        setup.policy,
         table,
     )?;
     if let Response::Refused(notice) = &response {

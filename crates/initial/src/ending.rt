@@ -2,19 +2,19 @@
 ghost use Rattle.std.specs.Prelude.{◌≡◌, ◌≢◌, Some, IfOk, IfErr};
 ghost use Rattle.requests.specs.Outgoing.{IsOutstanding};
 ghost use Rattle.association.specs.Closing.{HoldsReserved};
-ghost use Rattle.children.specs.declared.fault.ChildFault.TheVariants as child;
+ghost use Rattle.children.specs.declared.fault.MemoryFault.TheVariants as child;
 ghost use Rattle.initial.specs.Configs.{setup_of, IsConfig};
 ghost use Rattle.initial.specs.Concluding.{is_closing, CanConclude};
 ghost use Rattle.initial.specs.Ending.{AsksForNoFurtherChild, EndsAuth, FitsVerdict, IsAuthSent, IsVerdict, Judges};
 
-use crate::Step;
+use crate::Setup;
 use crate::concluding::{Outcome, conclude};
 use crate::deciding::read_chain;
 use association::laws::spis_stay_held;
 use association::{Association, AuthSent, Phase};
 use auth::laws::windows_are_read_again;
 use auth::{Proving, is_accepted, peer_window};
-use children::{ChildFault, Setting, accept};
+use children::{MemoryFault, Setting, accept};
 use exchange::{Plain, Role};
 use sadb::Table;
 use std::alloc::Global;
@@ -41,18 +41,18 @@ pub struct Ended {
 /// the table stands since its SPI was reserved. It changes nothing.
 pub fn end_auth<C: Proof>(
     alloc: Global,
-    step: &Step<'_, C>,
+    setup: &Setup<'_, C>,
     association: &mut Association,
     table: &mut Table,
     number: u32,
     plain: &Plain,
-) -> Result<Ended, ChildFault>
-    requires config { IsConfig step.now.config.now }
+) -> Result<Ended, MemoryFault>
+    requires config { IsConfig setup.now.config.now }
     requires waiting { IsAuthSent association.old.phase }
     requires outstanding { IsOutstanding association.old.outgoing number }
     requires no_child { AsksForNoFurtherChild association.old.outgoing number }
     requires reserved { HoldsReserved association.old table.old }
-    ensures ended { IfOk result (λ ended. EndsAuth (C.accepts step.now.caller.now) (setup_of step.now)
+    ensures ended { IfOk result (λ ended. EndsAuth (C.accepts setup.now.caller.now) (setup_of setup.now)
         association.old table.old number plain.now ended association.new table.new) }
     ensures refused { IfErr result (λ _. (association.new ≡ association.old) × (table.new ≡ table.old)) }
     ensures wanted { IfErr result (λ fault. fault ≢ child.Table) }
@@ -61,41 +61,41 @@ pub fn end_auth<C: Proof>(
         unreachable!();
     };
     spis_stay_held();
-    let verdict = judge_response(alloc, step, association.serial, sent, plain)?;
+    let verdict = judge_response(alloc, setup, association.serial, sent, plain)?;
     // From here on nothing can be refused.
     let _ = association.outgoing.count(number);
     let closed = verdict.is_closing();
-    let child = conclude(step, association, table, verdict);
+    let child = conclude(setup, association, table, verdict);
     Ok(Ended { child, closed })
 }
 
 fn judge_response<C: Proof>(
     alloc: Global,
-    step: &Step<'_, C>,
+    setup: &Setup<'_, C>,
     ike: u32,
     sent: &AuthSent,
     plain: &Plain,
-) -> Result<Outcome, ChildFault>
-    requires { IsConfig step.now.config.now }
-    ensures judged { IfOk result (Judges (C.accepts step.now.caller.now) (setup_of step.now) ike sent.now plain.now) }
+) -> Result<Outcome, MemoryFault>
+    requires { IsConfig setup.now.config.now }
+    ensures judged { IfOk result (Judges (C.accepts setup.now.caller.now) (setup_of setup.now) ike sent.now plain.now) }
     ensures fits { IfOk result (FitsVerdict sent.now) }
     ensures wanted { IfErr result (λ fault. fault ≢ child.Table) }
 {
     match read_chain(alloc, plain)? {
         None => Ok(Outcome::Closes),
-        Some(payloads) => judge_payloads(alloc, step, ike, sent, payloads.as_slice()),
+        Some(payloads) => judge_payloads(alloc, setup, ike, sent, payloads.as_slice()),
     }
 }
 
 fn judge_payloads<C: Proof>(
     alloc: Global,
-    step: &Step<'_, C>,
+    setup: &Setup<'_, C>,
     ike: u32,
     sent: &AuthSent,
     payloads: &[Payload],
-) -> Result<Outcome, ChildFault>
-    requires { IsConfig step.now.config.now }
-    ensures judged { IfOk result (IsVerdict (C.accepts step.now.caller.now) (setup_of step.now) ike sent.now
+) -> Result<Outcome, MemoryFault>
+    requires { IsConfig setup.now.config.now }
+    ensures judged { IfOk result (IsVerdict (C.accepts setup.now.caller.now) (setup_of setup.now) ike sent.now
         (Some payloads.now)) }
     ensures fits { IfOk result (FitsVerdict sent.now) }
     ensures wanted { IfErr result (λ fault. fault ≢ child.Table) }
@@ -104,8 +104,8 @@ fn judge_payloads<C: Proof>(
     let proving = Proving::of(Role::Responder, &sent.keys, sent.first.as_slice());
     if !is_accepted(
         alloc,
-        step.caller,
-        &step.config.peer.identity,
+        setup.caller,
+        &setup.config.peer.identity,
         &proving,
         payloads,
     )? {
@@ -114,7 +114,7 @@ fn judge_payloads<C: Proof>(
     let setting = Setting {
         ike,
         keys: sent.keys.first_child_keys(),
-        blocks: step.config.blocks,
+        blocks: setup.config.blocks,
     };
     Ok(Outcome::Establishes {
         pair: accept(alloc, payloads, &sent.child.asked(), &setting)?,

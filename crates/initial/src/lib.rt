@@ -13,7 +13,7 @@
 //! send(request);
 //!
 //! match read_response(alloc, &step, &mut association, 0, &datagram, &message)? {
-//!     Continued::Again(next) | Continued::Identity(next) => send(next),
+//!     Continued::Again(next) | Continued::AsksAuth(next) => send(next),
 //!     Continued::Unfit => ..,
 //! }
 //! ```
@@ -28,14 +28,14 @@ mod ending;
 mod issuing;
 mod reading;
 mod sealing;
-mod step;
+mod setup;
 
 pub use answering::{Answered, answer_auth};
 pub use beginning::{Admitted, Beginning, admit, begin};
-pub use config::{Config, End};
+pub use config::{Config, EndConfig};
 pub use deciding::read_chain;
 pub use ending::{Ended, end_auth};
 pub use issuing::{issued, new_request};
 pub use reading::{Continued, read_response};
 pub use sealing::sealed;
-pub use step::Step;
+pub use setup::Setup;

@@ -16,7 +16,7 @@ ghost use Rattle.auth.specs.Requests.{auth_request};
 ghost use Rattle.children.specs.Asking.{child_request};
 ghost use Rattle.exchange.specs.declared.headers.Role.TheVariants.{Initiator};
 
-use crate::Step;
+use crate::Setup;
 use crate::issuing::{issued, new_request};
 use crate::sealing::sealed;
 use association::{AskedChild, Association, AuthSent, InitSent, Phase, Purpose};
@@ -41,7 +41,7 @@ pub enum Continued {
     /// IKE_SA_INIT goes out again with a cookie.
     Again(Items<u8>),
     /// The association has its keys, and IKE_AUTH goes out.
-    Identity(Items<u8>),
+    AsksAuth(Items<u8>),
     /// E32: the response doesn't fit, and nothing is changed.
     Unfit,
 }
@@ -55,13 +55,13 @@ pub enum Continued {
 /// was decoded from. An error is for want of memory alone, and changes nothing.
 pub fn read_response<C: Sealer + Agreement + Proof>(
     alloc: Global,
-    step: &Step<'_, C>,
+    setup: &Setup<'_, C>,
     association: &mut Association,
     number: u32,
     octets: &[u8],
     message: &Message,
 ) -> Result<Continued, AllocError>
-    requires config { IsConfig step.now.config.now }
+    requires config { IsConfig setup.now.config.now }
     requires spelled { Spells message.now octets.now }
     requires waiting { IsInitSent association.old.phase }
     requires outstanding { IsOutstanding association.old.outgoing number }
@@ -72,10 +72,10 @@ pub fn read_response<C: Sealer + Agreement + Proof>(
           group = C.group_number;
           public_value = C.public_value;
           shared_secret = C.shared_secret;
-          own_method = C.own_method step.now.caller.now;
-          proof_of = C.proof_of step.now.caller.now;
+          own_method = C.own_method setup.now.caller.now;
+          proof_of = C.proof_of setup.now.caller.now;
         })
-        (setup_of step.now) association.old number octets.now message.now continued association.new) }
+        (setup_of setup.now) association.old number octets.now message.now continued association.new) }
     ensures refused { IfErr result (λ _. association.new ≡ association.old) }
 {
     cookies_are_short();
@@ -83,11 +83,11 @@ pub fn read_response<C: Sealer + Agreement + Proof>(
         unreachable!();
     };
     let waiting = waiting(association.spi_i, sent);
-    match read(alloc, step.caller, message, &waiting) {
+    match read(alloc, setup.caller, message, &waiting) {
         Ok(Response::Cookie(cookie)) => {
-            let again = request_again(alloc, step, association.spi_i, sent, cookie)?;
+            let again = request_again(alloc, setup, association.spi_i, sent, cookie)?;
             // From here on nothing can be refused.
-            let request = new_request(again.kept, Purpose::Begin, step.moment);
+            let request = new_request(again.kept, Purpose::Begin, setup.moment);
             let _ = association.outgoing.replace(number, request);
             carry(association, again.cookie);
             Ok(Continued::Again(again.octets))
@@ -96,7 +96,7 @@ pub fn read_response<C: Sealer + Agreement + Proof>(
             let first = association.outgoing.get(number).unwrap();
             let next = identity_request(
                 alloc,
-                step,
+                setup,
                 association,
                 sent,
                 message.header.spi_r,
@@ -107,13 +107,13 @@ pub fn read_response<C: Sealer + Agreement + Proof>(
             let response = Items::from_slice(alloc, octets)?;
             let outgoing = issued(
                 Outgoing::after_initial(alloc),
-                new_request(kept, Purpose::Identify, step.moment),
+                new_request(kept, Purpose::Identify, setup.moment),
             )?;
             // From here on nothing can be refused.
             association.spi_r = message.header.spi_r;
             association.outgoing = outgoing;
             tell(association, keys, response);
-            Ok(Continued::Identity(next))
+            Ok(Continued::AsksAuth(next))
         }
         Ok(Response::Unfit) => Ok(Continued::Unfit),
         Err(fault) => Err(fault),
@@ -130,7 +130,7 @@ struct Again {
 
 fn request_again<C: Sealer + Agreement>(
     alloc: Global,
-    step: &Step<'_, C>,
+    setup: &Setup<'_, C>,
     spi_i: u64,
     sent: &InitSent,
     cookie: &[u8],
@@ -143,7 +143,7 @@ fn request_again<C: Sealer + Agreement>(
 {
     let octets = sa_init::request(
         alloc,
-        step.caller,
+        setup.caller,
         spi_i,
         Some(cookie),
         &sent.secret,
@@ -169,39 +169,39 @@ fn carry(association: &mut Association, cookie: Items<u8>)
 
 fn identity_request<C: Sealer + Proof>(
     alloc: Global,
-    step: &Step<'_, C>,
+    setup: &Setup<'_, C>,
     association: &Association,
     sent: &InitSent,
     spi_r: u64,
     keys: &KeyRecord,
     first: &[u8],
 ) -> Result<Items<u8>, AllocError>
-    requires { IsConfig step.now.config.now }
-    ensures { IfOk result (IsSealed C.body_of (keys_of association.now.role keys.now) step.now.fresh.now.seal
-        (identity_message (C.own_method step.now.caller.now) (C.proof_of step.now.caller.now) (setup_of step.now)
+    requires { IsConfig setup.now.config.now }
+    ensures { IfOk result (IsSealed C.body_of (keys_of association.now.role keys.now) setup.now.fresh.now.seal
+        (identity_message (C.own_method setup.now.caller.now) (C.proof_of setup.now.caller.now) (setup_of setup.now)
         association.now sent.now spi_r keys.now first.now)) }
 {
     short_messages_can_be_sent();
-    let payloads = identity_payloads(alloc, step, &sent.child, keys, first)?;
+    let payloads = identity_payloads(alloc, setup, &sent.child, keys, first)?;
     let role = association.role;
     let message = Message {
         header: sent_header(association.spi_i, spi_r, IKE_AUTH, role, false, 1),
         payloads,
     };
-    sealed(alloc, step.caller, role, keys, &message, &step.fresh.seal)
+    sealed(alloc, setup.caller, role, keys, &message, &setup.fresh.seal)
 }
 
 fn identity_payloads<C: Proof>(
     alloc: Global,
-    step: &Step<'_, C>,
+    setup: &Setup<'_, C>,
     child: &AskedChild,
     keys: &KeyRecord,
     first: &[u8],
 ) -> Result<Items<Payload>, AllocError>
-    requires { IsConfig step.now.config.now }
+    requires { IsConfig setup.now.config.now }
     ensures payloads { IfOk result (λ payloads. payloads ≡ auth_request
-        (C.own_method step.now.caller.now) (C.proof_of step.now.caller.now) step.now.config.now.own.identity
-        (proving_of Initiator keys.now first.now) (child_request (asked_of child.now)) step.now.config.now.window) }
+        (C.own_method setup.now.caller.now) (C.proof_of setup.now.caller.now) setup.now.config.now.own.identity
+        (proving_of Initiator keys.now first.now) (child_request (asked_of child.now)) setup.now.config.now.window) }
     ensures fits { IfOk result (FitWithin 2840) }
 {
     payloads_fit();
@@ -210,11 +210,11 @@ fn identity_payloads<C: Proof>(
     let proving = Proving::of(Role::Initiator, keys, first);
     request(
         alloc,
-        step.caller,
-        &step.config.own.identity,
+        setup.caller,
+        &setup.config.own.identity,
         &proving,
         ask(alloc, &asked)?,
-        step.config.window,
+        setup.config.window,
     )
 }
 

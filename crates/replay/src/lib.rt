@@ -21,6 +21,7 @@
 
 mod block;
 mod fault;
+pub mod laws;
 mod plain;
 mod recovery;
 mod window;
@@ -28,5 +29,5 @@ mod window;
 pub use block::BlockWindow;
 pub use fault::ReplayFault;
 pub use plain::PlainWindow;
-pub use recovery::{recover, recovers_one_number};
+pub use recovery::recover;
 pub use window::{Judgement, Window, is_block_count};

@@ -26,8 +26,3 @@ pub fn recover(top: u64, window: u64, low: u32) -> Option<u64>
         edge_high.checked_add(LOW_HALF + 1 + low)
     }
 }
-
-/// No more than one number has a low half in the range that [`recover`] chooses from, so what it answers is the only one.
-pub fn recovers_one_number()
-    ensures { (top window low n m : ℕ) → IsRecovered top window low n → IsRecovered top window low m → n ≡ m }
-{}

@@ -29,11 +29,11 @@ fn identity(alloc: Global, name: &[u8; 9]) -> Result<Identity, AllocError>
     Ok(Identity { kind: 2, data })
 }
 
-fn end_of(alloc: Global, end: End) -> Result<initial::End, AllocError>
+fn end_of(alloc: Global, end: End) -> Result<initial::EndConfig, AllocError>
     ensures { IfOk result (λ end. IsIdentity end.identity) }
 {
     let identity = identity(alloc, &own_name(end))?;
-    Ok(initial::End {
+    Ok(initial::EndConfig {
         identity,
         address: [192, 0, 2, 1],
     })

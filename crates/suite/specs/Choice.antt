@@ -5,49 +5,45 @@ use Rattle.wire.specs.declared.proposal.Proposal.{Proposal}
 use Rattle.wire.specs.declared.proposal.Transform.{Transform}
 use Rattle.wire.specs.declared.proposal.Attribute.{Attribute}
 use Rattle.wire.specs.declared.proposal.Attribute.TheVariants.{Short}
+use Rattle.suite.specs.Transforms.{AUTH_HMAC_SHA2_256_128, ENCR, ENCR_NULL, ESN, ESP, EXTENSION, FIRST_SPI, GROUP, IKE, INTEG, KEY_LENGTH, NO_EXTENSION, PRF, PRF_HMAC_SHA2_256}
 use Rattle.suite.specs.declared.choice.Wanted.{Wanted}
 use Rattle.suite.specs.declared.choice.Wanted.TheVariants.{Ike, Esp}
 use Rattle.suite.specs.declared.choice.Chosen.{Chosen}
 
--- the attribute Key Length (section 3.3.5), which tells a number of bits, where there is to be one
+-- the attribute of a key's length, where there is to be one
 abbrev pub key_length_attribute : Option ℕ → List Attribute
 key_length_attribute None = []
-key_length_attribute (Some bits) = Short 14 bits ∷ []
+key_length_attribute (Some bits) = Short KEY_LENGTH bits ∷ []
 
 abbrev pub without_attributes : ℕ → ℕ → Transform
 without_attributes kind id = record { kind = kind; id = id; attributes = [] }
 
--- Extended Sequence Numbers (section 3.3.2): ID 1 with them, ID 0 without
 abbrev pub sequence_numbers : Bool → Transform
-sequence_numbers true = without_attributes 5 1
-sequence_numbers false = without_attributes 5 0
+sequence_numbers true = without_attributes ESN EXTENSION
+sequence_numbers false = without_attributes ESN NO_EXTENSION
 
--- The transforms that are acceptable, in all their parts (section 3.3.2). Types: encryption 1, pseudorandom function 2,
--- integrity 3, Diffie-Hellman group 4, sequence numbers 5. PRF_HMAC_SHA2_256 is 5, AUTH_HMAC_SHA2_256_128 is 12 (RFC 4868), ENCR_NULL
--- is 11 (RFC 2410).
+-- the transforms that are acceptable, in all their parts (section 3.3.2)
 abbrev pub acceptable_transforms : Wanted → List Transform
 acceptable_transforms (Ike encr key_length group) =
-    record { kind = 1; id = encr; attributes = key_length_attribute key_length }
-    ∷ without_attributes 2 5 ∷ without_attributes 3 12 ∷ without_attributes 4 group ∷ []
+    record { kind = ENCR; id = encr; attributes = key_length_attribute key_length }
+    ∷ without_attributes PRF PRF_HMAC_SHA2_256 ∷ without_attributes INTEG AUTH_HMAC_SHA2_256_128 ∷ without_attributes GROUP group ∷ []
 acceptable_transforms (Esp extended) =
-    without_attributes 1 11 ∷ without_attributes 3 12 ∷ sequence_numbers false
+    without_attributes ENCR ENCR_NULL ∷ without_attributes INTEG AUTH_HMAC_SHA2_256_128 ∷ sequence_numbers false
     ∷ (if extended then sequence_numbers true ∷ [] else [])
 
 -- the types of transforms that a proposal has, each of them and no other
 abbrev pub kinds : Wanted → List ℕ
-kinds (Ike encr key_length group) = 1 ∷ 2 ∷ 3 ∷ 4 ∷ []
-kinds (Esp extended) = 1 ∷ 3 ∷ 5 ∷ []
+kinds (Ike encr key_length group) = ENCR ∷ PRF ∷ INTEG ∷ GROUP ∷ []
+kinds (Esp extended) = ENCR ∷ INTEG ∷ ESN ∷ []
 
--- section 3.3.1: IKE is 1, ESP is 3
 abbrev pub wanted_protocol : Wanted → ℕ
-wanted_protocol (Ike encr key_length group) = 1
-wanted_protocol (Esp extended) = 3
+wanted_protocol (Ike encr key_length group) = IKE
+wanted_protocol (Esp extended) = ESP
 
--- A first exchange names no SPI (section 3.3.1). ESP's has 4 octets and is not one of those up to 255, which are reserved
--- (RFC 4303, section 2.1).
+-- A first exchange names no SPI (section 3.3.1). ESP's has 4 octets, and is none of those that are reserved.
 abbrev pub HasSpi : Wanted → List ℕ → Type 0
 HasSpi (Ike encr key_length group) spi = spi ≡ []
-HasSpi (Esp extended) spi = (length spi ≡ 4) × (256 ≤ big_number 4 spi)
+HasSpi (Esp extended) spi = (length spi ≡ 4) × (FIRST_SPI ≤ big_number 4 spi)
 
 abbrev pub IsAcceptableTransform : Wanted → ℕ → Transform → Type 0
 IsAcceptableTransform wanted kind transform = (transform.kind ≡ kind) × Contains (acceptable_transforms wanted) transform
@@ -69,7 +65,7 @@ pub record IsFirstAcceptable (wanted : Wanted) (kind : ℕ) (transforms : List T
 -- Of all types but one a single transform is acceptable. Of sequence numbers two may be, and the first decides.
 abbrev pub ChoosesNumbers : Wanted → List Transform → Bool → Type 0
 ChoosesNumbers (Ike encr key_length group) transforms extended = extended ≡ false
-ChoosesNumbers (Esp allowed) transforms extended = IsFirstAcceptable (Esp allowed) 5 transforms (sequence_numbers extended)
+ChoosesNumbers (Esp allowed) transforms extended = IsFirstAcceptable (Esp allowed) ESN transforms (sequence_numbers extended)
 
 -- the first acceptable proposal is chosen, and its number is kept (section 3.3.1)
 pub record IsChosenProposal (wanted : Wanted) (proposals : List Proposal) (chosen : Chosen) : Type 0 where

@@ -1,6 +1,7 @@
 pub mod Nonces
 pub mod Keys
 pub mod SignedOctets
+pub mod Transforms
 pub mod Choice
 pub mod Sealing
 pub mod Callers

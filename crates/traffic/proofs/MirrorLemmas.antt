@@ -20,7 +20,7 @@ use Rattle.policy.specs.declared.flow.Flow.{Flow}
 use Rattle.sadb.specs.Database.{Database, IsInbound, IsSoundTable, OpensAt, SealsAt, pair_at}
 use Rattle.sadb.specs.Mirrors.{Mirrors}
 use Rattle.sadb.specs.declared.pair.Pair.{Pair}
-use Rattle.traffic.specs.Mirroring.{IsDue}
+use Rattle.traffic.specs.Due.{IsDueAtPair}
 use Rattle.traffic.specs.NextHeaders.{next_header_of}
 use Rattle.traffic.specs.Outcomes.{Outcome, Up, Sealed}
 use Rattle.traffic.specs.Receiving.{IsAddressedTo, Receives, spi_of}
@@ -95,7 +95,7 @@ module _ (facts : FlowFacts) (far : Database) (mirror : Pair) (octets : Octets) 
 module _ (facts : FlowFacts) (near near_new : Database) (policy : List Entry) (packet : Octets) (child number : ℕ) (octets : Octets)
     (pair mirror : Pair) (far far_new : Database) (outcome : Outcome) where
   pub mirrored : pair_at near.pairs child ≡ Some pair → Sends near policy packet (Sealed child number octets) near_new → Mirrors pair mirror
-      → IsSoundTable far → IsDue far mirror octets number → Receives far octets outcome far_new → outcome ≡ Up mirror.serial number packet
+      → IsSoundTable far → IsDueAtPair far mirror octets number → Receives far octets outcome far_new → outcome ≡ Up mirror.serial number packet
   mirrored there sends mirrors sound due receives =
       let sealed : SealsAt near child (next_header_of (family_of sends.flow.source)) packet [] number near_new octets = sends.protects.sealed in
       let same : sealed.pair ≡ pair = same_pair sealed.pair pair (sym sealed.changed.there ∙ there) in

@@ -5,4 +5,4 @@ pub mod Verdicts
 pub mod Receiving
 pub mod Sending
 pub mod Admitting
-pub mod Mirroring
+pub mod Due

@@ -14,7 +14,7 @@ ghost use Rattle.sadb.specs.Mirrors.{Mirrors};
 ghost use Rattle.sadb.specs.declared.pair.Pair.{Pair};
 ghost use Rattle.traffic.specs.Admitting.{Admits};
 ghost use Rattle.traffic.specs.Faults.{is_after_judging};
-ghost use Rattle.traffic.specs.Mirroring.{IsDue};
+ghost use Rattle.traffic.specs.Due.{IsDueAtPair};
 ghost use Rattle.traffic.specs.Outcomes.{Outcome, Up, Dummy, Sealed, Clear, Dropped};
 ghost use Rattle.traffic.specs.Receiving.{Receives, TakesNumberAt, TakesOneNumber};
 ghost use Rattle.traffic.specs.Sending.{IsDecided, Protects, Sends};
@@ -104,7 +104,7 @@ pub fn what_one_end_seals_the_other_hands_up()
     ensures { (near near_new far far_new : Database) (policy : List Entry) (packet octets : Octets) (child number : ℕ)
         (pair mirror : Pair) (outcome : Outcome) → pair_at near.pairs child ≡ Some pair
         → Sends near policy packet (Sealed child number octets) near_new → Mirrors pair mirror
-        → IsSoundTable far → IsDue far mirror octets number → Receives far octets outcome far_new
+        → IsSoundTable far → IsDueAtPair far mirror octets number → Receives far octets outcome far_new
         → outcome ≡ Up mirror.serial number packet }
 {
     flows_are_determined();

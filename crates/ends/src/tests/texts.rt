@@ -129,7 +129,7 @@ fn faults_of_ike(rt: HostRuntime) -> Result<(), Fail> {
         (
             IkeFault::HalfOpenFull,
             34,
-            "E34: too many associations are half open",
+            "E34: too many associations are half open or held",
         ),
         (
             IkeFault::Busy,
@@ -170,7 +170,7 @@ fn faults_of_what_came(rt: HostRuntime) -> Result<(), Fail> {
         (
             MessageFault::WrongPhase,
             32,
-            "E32: the association is in another phase",
+            "E32: the association is in another phase, or this message is not due to it",
         ),
         (
             MessageFault::WrongRole,

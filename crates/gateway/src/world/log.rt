@@ -3,7 +3,7 @@ ghost use Rattle.std.specs.Prelude.{◌≡◌, ◌+◌, ◌++◌, ◌≤◌, ◌
 ghost use Rattle.std.specs.Option.{option_to_list};
 ghost use Rattle.std.specs.Vec.{vec_capacity};
 ghost use Rattle.wire.specs.Numbers.{MESSAGE_LIMIT, SELECTOR_LIMIT};
-ghost use Rattle.gateway.specs.Outputs.{said, DATAGRAM_LIMIT, FitsChild, FitsDatagram};
+ghost use Rattle.gateway.specs.Outputs.{output_view, DATAGRAM_LIMIT, FitsChild, FitsDatagram};
 ghost use Rattle.gateway.specs.Storing.{again_by, AreSpare, HasRoom, IsShortResent, IsSpare, IsSpareMessage, TakesAt};
 ghost use Rattle.gateway.specs.Worlds.{again_as, child_by, esp_mark, ike_mark, keyed_by, mark_again, nothing_stored, requests_in, sent_once, simplex_of, stored_by};
 
@@ -108,7 +108,7 @@ pub fn take<'a, C: Sealer + Agreement + Proof>(
           proof_of = C.proof_of gateway.old.caller;
           accepts = C.accepts gateway.old.caller;
         })
-        end input.now gateway.old (stored_by log.old) (said result) gateway.new (stored_by log.new) }
+        end input.now gateway.old (stored_by log.old) (output_view result) gateway.new (stored_by log.new) }
 {
     gateway.invariants_hold();
     what_is_sent_fits::<C>();
@@ -146,7 +146,7 @@ pub fn most_again<C>(input: &Input, gateway: &Gateway<C>) -> usize
 
 // The requests that went out again.
 fn requests_in<'b>(output: &'b Output<'_>) -> &'b [Resent]
-    ensures { result.now ≡ requests_in (said output.now) }
+    ensures { result.now ≡ requests_in (output_view output.now) }
 {
     match output {
         Output::Ticked { requests, .. } => requests.as_slice(),
@@ -277,9 +277,9 @@ fn datagram<C>(
     output: &Output<'_>,
     spare: Vec<u8>,
 ) -> Option<Datagram>
-    requires fits { FitsDatagram (said output.now) }
+    requires fits { FitsDatagram (output_view output.now) }
     requires spare { (spare.items ≡ []) × (DATAGRAM_LIMIT ≤ vec_capacity spare) }
-    ensures { option_to_list result ≡ sent_once end (said output.now) sent gateway.now }
+    ensures { option_to_list result ≡ sent_once end (output_view output.now) sent gateway.now }
 {
     let (mark, octets) = match output {
         Output::Reply { octets, .. } | Output::Repeat { octets } | Output::Request { octets, .. } =>

@@ -29,7 +29,7 @@ fn the_page_of_gateway(rt: HostRuntime) -> Result<(), Fail> {
     use base::{Items, Range};
     use caller::ScriptCaller; // hides nothing: for real peers it is peers::PeerCaller
     use gateway::{Gateway, Input, Output};
-    use initial::{Config, End};
+    use initial::{Config, EndConfig};
     use policy::{Action, Entry, Policy};
     use suite::Fresh;
 
@@ -37,7 +37,7 @@ fn the_page_of_gateway(rt: HostRuntime) -> Result<(), Fail> {
         kind: 2,
         data: Items::from_slice(rt.alloc(), b"a.example")?,
     };
-    let own = End {
+    let own = EndConfig {
         identity,
         address: [192, 0, 2, 1],
     };
@@ -45,7 +45,7 @@ fn the_page_of_gateway(rt: HostRuntime) -> Result<(), Fail> {
         kind: 2,
         data: Items::from_slice(rt.alloc(), b"b.example")?,
     };
-    let peer = End {
+    let peer = EndConfig {
         identity,
         address: [192, 0, 2, 2],
     };

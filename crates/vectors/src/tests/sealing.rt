@@ -4,8 +4,8 @@ ghost use Rattle.wire.specs.declared.fault.WireFault.{WireFault};
 
 use base::Items;
 use caller::ScriptCaller;
-use exchange::laws::short_messages_can_be_sent;
-use exchange::{Notice, Plain, open_message, seal_message, sealed_messages_open};
+use exchange::laws::{sealed_messages_open, short_messages_can_be_sent};
+use exchange::{Notice, Plain, open_message, seal_message};
 use std::alloc::Global;
 use std::test::Fail;
 use suite::Keys;

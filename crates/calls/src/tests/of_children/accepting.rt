@@ -4,14 +4,14 @@ use super::fixture::{
 };
 use crate::tests::asserts::{holds, same};
 use base::{Items, Selector};
-use children::{ChildFault, accept};
+use children::{MemoryFault, accept};
 use sadb::Pair;
 use std::alloc::Global;
 use std::test::Fail;
 use wire::Payload;
 
 /// The pair by an answer, where extended numbers were offered or not.
-fn pair_by(alloc: Global, answer: &[Payload], extended: bool) -> Result<Option<Pair>, ChildFault> {
+fn pair_by(alloc: Global, answer: &[Payload], extended: bool) -> Result<Option<Pair>, MemoryFault> {
     accept(alloc, answer, &asked(OWN, extended), &setting())
 }
 

@@ -1,5 +1,6 @@
 use crate::tests::asserts::same_at;
-use replay::{recover, recovers_one_number};
+use replay::laws::recovers_one_number;
+use replay::recover;
 use std::process::Abort;
 
 #[test]

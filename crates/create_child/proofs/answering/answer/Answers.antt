@@ -23,8 +23,8 @@ pub returns-clause-answered : goal.returns-clause-answered
 returns-clause-answered g c =
     let a : Association = c.args.association.now in
     let decision = c.in_ok-decision.decision in
-    let moment = c.args.step.now.moment in
-    let nonce : Octets = c.args.step.now.fresh.now.nonce in
+    let moment = c.args.setup.now.moment in
+    let nonce : Octets = c.args.setup.now.fresh.now.nonce in
     record {
       keys = c.in-Established.keys;
       established = c.in-Established.is;
@@ -32,7 +32,7 @@ returns-clause-answered g c =
       told = c.is_deleting-deleting.ensures;
       decision = decision;
       decided = c.in_ok-decision.ensures.decided;
-      sealed = subst (λ (x : ChildAnswer). IsSealed g.C.Sealer.body_of (keys_of a.role c.in-Established.keys) c.args.step.now.fresh.now.seal (reply_message a CREATE_CHILD_SA c.args.number (further_answer x nonce)) c.in_ok-octets.octets)
+      sealed = subst (λ (x : ChildAnswer). IsSealed g.C.Sealer.body_of (keys_of a.role c.in-Established.keys) c.args.setup.now.fresh.now.seal (reply_message a CREATE_CHILD_SA c.args.number (further_answer x nonce)) c.in_ok-octets.octets)
           c.into_parts-answer.ensures.answer c.in_ok-octets.ensures;
       incoming = c.take.new.self;
       ready = c.prepare.new.self;

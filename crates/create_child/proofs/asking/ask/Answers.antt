@@ -18,7 +18,7 @@ use Rattle.create_child.proofs.asking.ask.Goals as goal
 pub returns-clause-asked : goal.returns-clause-asked
 returns-clause-asked g c =
     let a : Association = c.args.association.now in
-    let setup : Setup = setup_of c.args.step.now in
+    let setup : Setup = setup_of c.args.setup.now in
     let local : Selector = c.args.local.now in
     let remote : Selector = c.args.remote.now in
     let issued = c.in_ok-issue.ensures.issued in

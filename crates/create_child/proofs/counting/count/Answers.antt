@@ -35,6 +35,6 @@ returns-clause-counted g c =
       conclusion = c.in_ok-conclusion.conclusion;
       concluded = c.in_ok-conclusion.ensures.concluded.due;
       closed = c.is_closing-closed.ensures;
-      ends = subst (λ (s : ℕ). EndsFurther c.in_ok-conclusion.conclusion s (with_outgoing a c.count-request.new.self) c.args.table.now c.args.step.now.moment c.conclude-child.result c.conclude-child.new.association c.conclude-child.new.table)
+      ends = subst (λ (s : ℕ). EndsFurther c.in_ok-conclusion.conclusion s (with_outgoing a c.count-request.new.self) c.args.table.now c.args.setup.now.moment c.conclude-child.result c.conclude-child.new.association c.conclude-child.new.table)
           spi c.conclude-child.ensures;
     }

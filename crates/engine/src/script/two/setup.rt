@@ -12,7 +12,7 @@ use auth::Identity;
 use base::Items;
 use caller::ScriptCaller;
 use gateway::Gateway;
-use initial::{Config, End};
+use initial::{Config, EndConfig};
 use policy::{Entry, Policy};
 use std::alloc::{AllocError, Global};
 
@@ -133,11 +133,11 @@ impl Terms {
 }
 
 /// An end as its configuration, and its peer's, has it.
-fn end(alloc: Global, side: Side) -> Result<End, AllocError>
+fn end(alloc: Global, side: Side) -> Result<EndConfig, AllocError>
     ensures { IfOk result (λ end. IsIdentity end.identity) }
 {
     let identity = identity(alloc, &name(side))?;
-    Ok(End {
+    Ok(EndConfig {
         identity,
         address: address(side),
     })

@@ -16,7 +16,7 @@ ask_by-requires g c = record { live = record { pair = c.in-Some.pair.now; there 
 pub returns-in-Live-clause-asked : goal.returns-in-Live-clause-asked
 returns-in-Live-clause-asked g c =
     let body_of = g.C.Sealer.body_of in
-    let setup = setup_of c.args.step.now in
+    let setup = setup_of c.args.setup.now in
     let table : Database = c.args.table.now in
     let pair : Pair = c.in-Some.pair.now in
     ok_and c.ask_by.result (λ (s : Stepped). AsksThat body_of setup pair.ike (asked.DeleteChild c.args.child c.spi-spi.result) c.args.held.now table s c.ask_by.new.held c.ask_by.new.table)

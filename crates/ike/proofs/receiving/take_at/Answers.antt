@@ -1,5 +1,5 @@
 use Rattle.std.proofs.Common.{ap, slice_set, subst, sym, Ok}
-use Rattle.children.specs.declared.fault.ChildFault.{ChildFault}
+use Rattle.children.specs.declared.fault.MemoryFault.{MemoryFault}
 use Rattle.ike.specs.Machines.{Held}
 use Rattle.ike.specs.Receiving.{WantsFound}
 use Rattle.ike.proofs.AskingLemmas.{err_and}
@@ -21,7 +21,7 @@ returns-in_err-effect-clause-wanted g c =
     let a = c.index_mut-association.result.now in
     let there = read_there c.held.inside.next c.held.inside.associations.items c.args.held.now c.args.place a c.held.view_is c.requires.there c.index_mut-association.ensures.value in
     err_and c.from_residual.result _ _ c.from_residual.ensures.1 (λ e is.
-    subst (λ (f : ChildFault). WantsFound g.C.Sealer.plain_of (Ok c.args.place) c.args.octets.now c.args.message.now c.args.held.now c.args.table.now f) (sym is)
+    subst (λ (f : MemoryFault). WantsFound g.C.Sealer.plain_of (Ok c.args.place) c.args.octets.now c.args.message.now c.args.held.now c.args.table.now f) (sym is)
     (wants_there g.C.Sealer.plain_of c.args.held.now c.args.table.now c.args.place c.args.octets.now c.args.message.now a c.in_err-effect.field-0.0 there c.in_err-effect.ensures.wanted))
 
 pub returns-clause-taken : goal.returns-clause-taken

@@ -6,9 +6,9 @@ use Rattle.ike.proofs.receiving.take_offer.Goals as goal
 
 pub returns-in_ok-hold_admitted-in-Some-2-clause-taken : goal.returns-in_ok-hold_admitted-in-Some-2-clause-taken
 returns-in_ok-hold_admitted-in-Some-2-clause-taken g c =
-    let fresh = c.args.step.now.fresh.now in
+    let fresh = c.args.setup.now.fresh.now in
     let offer = offer_view c.args.offer.now in
-    let made = Admits g.C.Sealer.cipher g.C.Agreement.group_number g.C.Agreement.public_value g.C.Agreement.shared_secret fresh c.args.step.now.moment in
+    let made = Admits g.C.Sealer.cipher g.C.Agreement.group_number g.C.Agreement.public_value g.C.Agreement.shared_secret fresh c.args.setup.now.moment in
     record {
       can = record { serial = c.in-Some.ensures.1; usable = search rules };
       done = inr (record {

@@ -24,7 +24,7 @@ returns-clause-answered g c =
       established = c.in-Established.is;
       payloads = verdict.payloads;
       read = verdict.read;
-      sealed = subst (λ (v : Verdict). IsSealed g.C.Sealer.body_of (keys_of a.role c.in-Established.keys) c.args.step.now.fresh.now.seal
+      sealed = subst (λ (v : Verdict). IsSealed g.C.Sealer.body_of (keys_of a.role c.in-Established.keys) c.args.setup.now.fresh.now.seal
           (reply_message a INFORMATIONAL c.args.number (payloads_of_verdict v)) c.in_ok-octets.octets) verdict.due c.in_ok-octets.ensures;
       incoming = c.take.new.self;
       ready = c.prepare.new.self;
@@ -32,5 +32,5 @@ returns-clause-answered g c =
       taken = subst (λ reply. TakesRequest c.prepare.new.self c.args.number reply c.take.new.self) (c.in_ok-kept.ensures ∙ c.as_slice.ensures) c.take.ensures;
       child = refl;
       closed = c.is_closing-closed.ensures ∙ ap is_closing_verdict verdict.due;
-      concluded = subst (λ (v : Verdict). ClosesIf (is_closing_verdict v) (gone_by v) (with_incoming a c.take.new.self) table c.args.step.now.moment c.conclude.new.association c.conclude.new.table) verdict.due c.conclude.ensures;
+      concluded = subst (λ (v : Verdict). ClosesIf (is_closing_verdict v) (gone_by v) (with_incoming a c.take.new.self) table c.args.setup.now.moment c.conclude.new.association c.conclude.new.table) verdict.due c.conclude.ensures;
     }

@@ -15,7 +15,7 @@ pub returns-clause-asked : goal.returns-clause-asked
 returns-clause-asked g c =
     let a : Association = c.args.association.now in
     let keys = keys_of a.role c.in-Established.keys in
-    let seal : Octets = c.args.step.now.fresh.now.seal in
+    let seal : Octets = c.args.setup.now.fresh.now.seal in
     let octets : Octets = c.in_ok-octets.octets in
     let made : Message = record { header = c.sent_header.result; payloads = c.in_ok-payloads.payloads } in
     let said : Message = request_message a INFORMATIONAL c.in_ok-number.number (payloads_of_order c.args.order) in
@@ -27,8 +27,8 @@ returns-clause-asked g c =
       not_deleting = c.in_ok-number.ensures.not_deleting;
       sealed = subst (λ n. IsSealed g.C.Sealer.body_of keys seal (request_message a INFORMATIONAL n (payloads_of_order c.args.order)) octets) c.in_ok-number.ensures.number sealed;
       outgoing = c.issue.new.association.outgoing;
-      issued = subst (λ (o : Octets). IssuesNext a.outgoing (new_request o (purpose_of c.args.order) c.args.step.now.moment) c.issue.new.association.outgoing)
+      issued = subst (λ (o : Octets). IssuesNext a.outgoing (new_request o (purpose_of c.args.order) c.args.setup.now.moment) c.issue.new.association.outgoing)
           (c.in_ok-kept.ensures ∙ c.as_slice.ensures)
-          (subst (λ (p : Purpose). IssuesNext a.outgoing (new_request c.in_ok-kept.kept p c.args.step.now.moment) c.issue.new.association.outgoing) c.purpose.ensures c.in_ok-issue.ensures.issued);
+          (subst (λ (p : Purpose). IssuesNext a.outgoing (new_request c.in_ok-kept.kept p c.args.setup.now.moment) c.issue.new.association.outgoing) c.purpose.ensures c.in_ok-issue.ensures.issued);
       content = c.in_ok-issue.ensures.content;
     }

@@ -23,7 +23,7 @@ returns-clause-counted g c =
       counted = c.count-request.ensures;
       child = refl;
       closed = closed;
-      concluded = subst (λ b. ClosesIf b (gone_with c.args.table.now.pairs c.args.association.now.serial asked) a c.args.table.now c.args.step.now.moment c.conclude.new.association c.conclude.new.table)
+      concluded = subst (λ b. ClosesIf b (gone_with c.args.table.now.pairs c.args.association.now.serial asked) a c.args.table.now c.args.setup.now.moment c.conclude.new.association c.conclude.new.table)
           closed c.conclude.ensures;
     }
 

@@ -20,6 +20,6 @@ returns-clause-answered g c =
       room = c.decide.ensures.table;
       closed = c.is_closing-closed.ensures ∙ ap is_closing c.in_ok-reply.ensures.outcome;
       concluded =
-          subst (λ o. ConcludesBy (setup_of c.args.step.now) (with_incoming c.args.association.now c.take.new.self) c.decide.new.table o c.conclude-child.result c.conclude-child.new.association c.conclude-child.new.table)
+          subst (λ o. ConcludesBy (setup_of c.args.setup.now) (with_incoming c.args.association.now c.take.new.self) c.decide.new.table o c.conclude-child.result c.conclude-child.new.association c.conclude-child.new.table)
           c.in_ok-reply.ensures.outcome c.conclude-child.ensures;
     }

@@ -11,8 +11,8 @@ pub respond_to-requires-clause-fits : goal.respond_to-requires-clause-fits
 respond_to-requires-clause-fits g c =
     let payloads = c.args.payloads.now in
     let offer = c.in-Accepted.asked.offer in
-    let peer = c.args.step.now.config.now.peer.identity in
-    let accepts = g.C.Proof.accepts c.args.step.now.caller.now in
+    let peer = c.args.setup.now.config.now.peer.identity in
+    let accepts = g.C.Proof.accepts c.args.setup.now.caller.now in
     let accepted : IsAcceptedRequest accepts peer (peer_proving c.args.half_open.now) payloads (asked_view c.in-Accepted.asked) =
     subst (λ j. IsAuthJudgement accepts peer (peer_proving c.args.half_open.now) payloads (judgement_view j)) c.in-Accepted.is
     (subst (λ w. IsAuthJudgement accepts peer w payloads (judgement_view c.in_ok-notice.field-0)) (c.of-proving.ensures ∙ ap (λ f. proving_of Initiator c.args.half_open.now.keys f) c.as_slice.ensures) c.in_ok-notice.ensures.judged) in
@@ -25,8 +25,8 @@ respond_to-requires-clause-fits g c =
 pub returns-in_ok-respond_to-in-Accepted-clause-fits : goal.returns-in_ok-respond_to-in-Accepted-clause-fits
 returns-in_ok-respond_to-in-Accepted-clause-fits g c =
     let payloads = c.args.payloads.now in
-    let peer = c.args.step.now.config.now.peer.identity in
-    let accepts = g.C.Proof.accepts c.args.step.now.caller.now in
+    let peer = c.args.setup.now.config.now.peer.identity in
+    let accepts = g.C.Proof.accepts c.args.setup.now.caller.now in
     let accepted : IsAcceptedRequest accepts peer (peer_proving c.args.half_open.now) payloads (asked_view c.in-Accepted.asked) =
     subst (λ j. IsAuthJudgement accepts peer (peer_proving c.args.half_open.now) payloads (judgement_view j)) c.in-Accepted.is
     (subst (λ w. IsAuthJudgement accepts peer w payloads (judgement_view c.in_ok-notice.field-0)) (c.of-proving.ensures ∙ ap (λ f. proving_of Initiator c.args.half_open.now.keys f) c.as_slice.ensures) c.in_ok-notice.ensures.judged) in

@@ -9,12 +9,12 @@ use Rattle.initial.proofs.ending.judge_payloads.Goals as goal
 pub returns-clause-judged : goal.returns-clause-judged
 returns-clause-judged g c =
     record {
-      proved = ap (λ w. is_accepted (g.C.Proof.accepts c.args.step.now.caller.now) c.args.step.now.config.now.peer.identity w c.args.payloads.now)
+      proved = ap (λ w. is_accepted (g.C.Proof.accepts c.args.setup.now.caller.now) c.args.setup.now.config.now.peer.identity w c.args.payloads.now)
           (sym (c.of-proving.ensures ∙ ap (λ f. proving_of Responder c.args.sent.now.keys f) c.as_slice.ensures))
           ∙ sym c.in_ok-is_accepted.ensures.accepted ∙ c.if-not-branch.false;
-      child = first_child (setup_of c.args.step.now) c.args.ike c.args.sent.now c.args.payloads.now c.asked.result
-          (record { ike = c.args.ike; keys = c.first_child_keys.result; blocks = c.args.step.now.config.now.blocks }) c.in_ok-accept.field-0
-          c.asked.ensures.asked (ap (λ k. record { ike = c.args.ike; keys = k; blocks = c.args.step.now.config.now.blocks }) c.first_child_keys.ensures)
+      child = first_child (setup_of c.args.setup.now) c.args.ike c.args.sent.now c.args.payloads.now c.asked.result
+          (record { ike = c.args.ike; keys = c.first_child_keys.result; blocks = c.args.setup.now.config.now.blocks }) c.in_ok-accept.field-0
+          c.asked.ensures.asked (ap (λ k. record { ike = c.args.ike; keys = k; blocks = c.args.setup.now.config.now.blocks }) c.first_child_keys.ensures)
           c.in_ok-accept.ensures.accepted;
       told = c.peer_window.ensures;
     }

@@ -38,7 +38,7 @@ returns-in_ok-outgoing-in-Ok-Keys-clause-read g c =
     let read = subst (λ w. IsResponse g.C.Sealer.cipher g.C.Agreement.group_number g.C.Agreement.shared_secret w m c.in-Ok-Keys.field-0) c.waiting-waiting.ensures c.in-Ok-Keys.ensures in
     let next : Octets = c.in_ok-next-in-Ok-Keys.next in
     let kept : c.in_ok-kept-in-Ok-Keys.kept ≡ next = c.in_ok-kept-in-Ok-Keys.ensures ∙ c.as_slice-in-Ok-Keys.ensures in
-    let request : c.new_request.result ≡ new_request next Identify c.args.step.now.moment = c.new_request.ensures ∙ ap (λ o. new_request o Identify c.args.step.now.moment) kept in
+    let request : c.new_request.result ≡ new_request next Identify c.args.setup.now.moment = c.new_request.ensures ∙ ap (λ o. new_request o Identify c.args.setup.now.moment) kept in
     let outgoing : c.in_ok-outgoing-in-Ok-Keys.outgoing ≡ new.outgoing = sym (ap (λ (a : Association). a.outgoing) c.tell.ensures) in
     let phase : telling keys c.in_ok-response-in-Ok-Keys.response old.phase ≡ phase.AuthSent (record { keys = keys; first = c.args.octets.now; child = sent.child }) =
     ap (telling keys c.in_ok-response-in-Ok-Keys.response) c.in-InitSent.is
@@ -51,10 +51,10 @@ returns-in_ok-outgoing-in-Ok-Keys-clause-read g c =
       continues = record {
         request = c.unwrap-first.result.now;
         outstanding = sym c.get.ensures ∙ ap option_copied c.unwrap-first.ensures;
-        sealed = subst (λ f. IsSealed g.C.Sealer.body_of (keys_of old.role keys) c.args.step.now.fresh.now.seal
-            (identity_message (g.C.Proof.own_method c.args.step.now.caller.now) (g.C.Proof.proof_of c.args.step.now.caller.now) (setup_of c.args.step.now) old sent m.header.spi_r keys f) next)
+        sealed = subst (λ f. IsSealed g.C.Sealer.body_of (keys_of old.role keys) c.args.setup.now.fresh.now.seal
+            (identity_message (g.C.Proof.own_method c.args.setup.now.caller.now) (g.C.Proof.proof_of c.args.setup.now.caller.now) (setup_of c.args.setup.now) old sent m.header.spi_r keys f) next)
             c.as_slice.ensures c.in_ok-next-in-Ok-Keys.ensures;
-        issued = subst (λ o. IssuesNext number_0_answered (new_request next Identify c.args.step.now.moment) o) outgoing
+        issued = subst (λ o. IssuesNext number_0_answered (new_request next Identify c.args.setup.now.moment) o) outgoing
             (subst (λ r. IssuesNext number_0_answered r c.in_ok-outgoing-in-Ok-Keys.outgoing) request
             (subst (λ old. IssuesNext old c.new_request.result c.in_ok-outgoing-in-Ok-Keys.outgoing) c.after_initial.ensures c.in_ok-outgoing-in-Ok-Keys.ensures));
         content = c.tell.ensures ∙ (λ i. record old { spi_r = m.header.spi_r; outgoing = outgoing i; phase = phase i });

@@ -1,5 +1,5 @@
 use Rattle.exchange.proofs.SealedLemmas.{opens_again}
-use Rattle.exchange.proofs.sealed.sealed_messages_open.Goals as goal
+use Rattle.exchange.proofs.laws.sealed_messages_open.Goals as goal
 
 pub returns : goal.returns
 returns g c keys fresh m b keyed octets long clear sealed =

@@ -6,7 +6,7 @@ use suite::Fresh;
 
 /// What a step has to hand, beside the associations that it may change.
 #[derive(Drop)]
-pub struct Step<'a, C> {
+pub struct Setup<'a, C> {
     /// The caller's cipher, key agreement and proofs.
     pub caller: &'a C,
     pub config: &'a Config,
