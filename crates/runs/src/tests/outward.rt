@@ -1,7 +1,8 @@
-//! Each packet's output is the one that a gateway gives which remembers nothing.
+//! Each packet's output is, octet for octet, the one that a gateway gives which remembers nothing.
 mod ends;
 mod packets;
 mod played;
+mod wanted;
 
 use played::{Played, play};
 use std::process::Abort;

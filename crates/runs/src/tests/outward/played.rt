@@ -1,6 +1,7 @@
 //! Packets on their way out, with children made, marked and removed between them, and what is wrong of what came of them.
 use super::ends::{Ends, PROTECTING, policy};
 use super::packets::next_packet;
+use super::wanted::{Wanted, wanted_of};
 use crate::tests::random::Random;
 use base::Items;
 use flows::{Treatment, look_up};
@@ -45,17 +46,6 @@ pub fn play(alloc: Global, packets: usize) -> Result<Played, Fail> {
         game.turn(alloc, place)?;
     }
     Ok(game.into_played())
-}
-
-/// What an output says of its packet: how it was treated, and the number by which it was sealed.
-fn treated(output: &Output<'_>) -> Option<(Treatment, u64)> {
-    match output {
-        Output::Sealed { child, number, .. } => Some((Treatment::Carried(*child), *number)),
-        Output::Clear { .. } => Some((Treatment::Bypassed, 0)),
-        Output::Discarded => Some((Treatment::Discarded, 0)),
-        Output::Dropped { reason } if reason.code() == 28 => Some((Treatment::Uncarried, 0)),
-        _ => None,
-    }
 }
 
 impl Game {
@@ -104,31 +94,28 @@ impl Game {
         self.ends.deliver(alloc, &octets, End::B)
     }
 
-    /// A packet goes out, and as a look-up finds.
+    /// A packet goes out, and what comes of it is what a gateway gives that looks each flow up.
     fn send(&mut self, alloc: Global, place: usize) -> Result<(), AllocError> {
         let input = next_packet(alloc, &mut self.random)?;
-        let wanted = self.wanted(&input)?;
-        let output = self.ends.a.step(alloc, &input);
-        if let Output::Refused { .. } = output {
-            return Err(AllocError);
-        }
-        if treated(&output) != wanted && self.played.first_wrong.is_none() {
+        let Input::Outward { packet } = &input else {
+            return Ok(());
+        };
+        let wanted = self.wanted(alloc, packet.as_slice())?;
+        let is_wanted = wanted.is(&self.ends.a.step(alloc, &input), packet.as_slice());
+        if !is_wanted && self.played.first_wrong.is_none() {
             self.played.first_wrong = Some(place);
         }
         Ok(())
     }
 
-    /// How a packet is to be treated, by a look-up, and the number that is next.
-    fn wanted(&mut self, input: &Input) -> Result<Option<(Treatment, u64)>, AllocError> {
-        let Input::Outward { packet } = input else {
-            return Ok(None);
-        };
-        let Ok(flow) = inner(packet.as_slice()) else {
-            return Ok(None);
+    /// What is to come of a packet, by a look-up.
+    fn wanted(&mut self, alloc: Global, packet: &[u8]) -> Result<Wanted, AllocError> {
+        let Ok(flow) = inner(packet) else {
+            return Ok(Wanted::Nothing);
         };
         let treatment = look_up(self.ends.a.table(), &self.policy, &flow);
         let number = self.count(treatment)?;
-        Ok(Some((treatment, number)))
+        wanted_of(alloc, self.ends.a.table(), treatment, number, packet)
     }
 
     /// Counts a packet, and gives it its number.
