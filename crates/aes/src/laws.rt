@@ -7,8 +7,10 @@ ghost use Rattle.aes.specs.Substitution.{inv_sub_byte, sub_byte};
 
 /// A block that is encrypted decrypts to itself, and the other way round (FIPS 197, sections 5.1 and 5.3).
 pub fn encryption_is_undone()
-    ensures decrypts { (key block : List ℕ) → IsKey key → IsBlock block → decrypted key (encrypted key block) ≡ block }
-    ensures encrypts { (key block : List ℕ) → IsKey key → IsBlock block → encrypted key (decrypted key block) ≡ block }
+    ensures decrypts { (key block : List ℕ) → IsKey key → IsBlock block
+        → decrypted key (encrypted key block) ≡ block }
+    ensures encrypts { (key block : List ℕ) → IsKey key → IsBlock block
+        → encrypted key (decrypted key block) ≡ block }
 {}
 
 /// Both make 16 octets of 16 octets.

@@ -44,5 +44,5 @@ place_or None fault = Err fault
 place_or (Some place) fault = Ok place
 
 -- the place of the first that is meant
-abbrev pub found : Header → List Association → Result ℕ MessageFault
-found h associations = place_or (position (is_meant h) associations) (missing h associations)
+abbrev pub place_meant : Header → List Association → Result ℕ MessageFault
+place_meant h associations = place_or (position (is_meant h) associations) (missing h associations)

@@ -1,7 +1,7 @@
 //! Which association a message is for.
 ghost use Rattle.std.specs.Prelude.{◌≡◌, ◌==◌, ◌&&◌, Bool, not};
 ghost use Rattle.std.specs.List.{list_any, position};
-ghost use Rattle.association.specs.Finding.{answers_initial, found, has_pair, is_meant, is_of_other_role, is_waiting, missing, sent_by_other};
+ghost use Rattle.association.specs.Finding.{answers_initial, place_meant, has_pair, is_meant, is_of_other_role, is_waiting, missing, sent_by_other};
 
 use crate::{Association, MessageFault, Phase};
 use exchange::Role;
@@ -15,7 +15,7 @@ use wire::numbers::IKE_SA_INIT;
 /// Refused where there is none: [`MessageFault::WrongRole`] where one of the role that the sender claims has both SPIs, and
 /// [`MessageFault::UnknownAssociation`] otherwise. Takes no memory.
 pub fn find(associations: &[Association], header: &Header) -> Result<usize, MessageFault>
-    ensures { result ≡ found header.now associations.now }
+    ensures { result ≡ place_meant header.now associations.now }
 {
     match place_of(associations, header) {
         Some(place) => Ok(place),

@@ -65,7 +65,8 @@ pub fn receptions_go_by_content()
 /// What is held of an association after its end, and what the table holds then, goes by what both held before.
 pub fn endings_are_determined()
     ensures { (old other a b : Association) (old_table other_table a_table b_table : Database) (moment : ℕ)
-        → association_content old ≡ association_content other → table_content old_table ≡ table_content other_table
+        → association_content old ≡ association_content other
+        → table_content old_table ≡ table_content other_table
         → Closes old old_table moment a a_table → Closes other other_table moment b b_table
         → (association_content a ≡ association_content b) × (table_content a_table ≡ table_content b_table) }
 {
@@ -78,14 +79,17 @@ pub fn endings_are_determined()
 pub fn spis_stay_held()
     ensures taking { (a : Association) (table : Database) (incoming : PeerRequests) → HoldsReserved a table
         → HoldsReserved (record a { incoming = incoming }) table }
-    ensures counting { (a : Association) (table : Database) (number : ℕ) (request : Request) (outgoing : OwnRequests Request)
+    ensures counting { (a : Association) (table : Database) (number : ℕ) (request : Request)
+        (outgoing : OwnRequests Request)
         → CountsAnswer a.outgoing number request outgoing → HoldsReserved a table
         → HoldsReserved (record a { outgoing = outgoing }) table }
-    ensures room { (a : Association) (table new : Database) → IsAsBefore table new → HoldsReserved a table → HoldsReserved a new }
+    ensures room { (a : Association) (table new : Database) → IsAsBefore table new → HoldsReserved a table
+        → HoldsReserved a new }
     ensures fewer { (a b : Association) (table new : Database)
         → ((spi : ℕ) → spi_in b.phase ≡ Some spi → spi_in a.phase ≡ Some spi)
         → ((number spi : ℕ) → AwaitsChild b.outgoing number spi → AwaitsChild a.outgoing number spi)
-        → ((spi : ℕ) → HoldsSpi b spi → IsReserved table spi → IsReserved new spi) → HoldsReserved a table → HoldsReserved b new }
+        → ((spi : ℕ) → HoldsSpi b spi → IsReserved table spi → IsReserved new spi) → HoldsReserved a table
+        → HoldsReserved b new }
 {}
 
 /// An association waits for a child's answer only where it asked for that child: none comes to be awaited while room is made, a request
@@ -93,18 +97,22 @@ pub fn spis_stay_held()
 pub fn children_are_asked_for()
     ensures preparing { (old new : OwnRequests Request) (number spi : ℕ) → HasSameOwnRequests old new
         → AwaitsChild new number spi → AwaitsChild old number spi }
-    ensures issuing { (old new : OwnRequests Request) (request : Request) (issued number spi : ℕ) → spi_asked request.purpose ≡ None
+    ensures issuing { (old new : OwnRequests Request) (request : Request) (issued number spi : ℕ)
+        → spi_asked request.purpose ≡ None
         → IssuesRequest old request issued new → AwaitsChild new number spi → AwaitsChild old number spi }
     ensures counting { (old new : OwnRequests Request) (request : Request) (counted number spi : ℕ)
         → CountsAnswer old counted request new → AwaitsChild new number spi → AwaitsChild old number spi }
-    ensures replacing { (old new : OwnRequests Request) (was is : Request) (replaced number spi : ℕ) → spi_asked is.purpose ≡ None
+    ensures replacing { (old new : OwnRequests Request) (was is : Request) (replaced number spi : ℕ)
+        → spi_asked is.purpose ≡ None
         → ReplacesRequest old replaced was is new → AwaitsChild new number spi → AwaitsChild old number spi }
     ensures withdrawing { (old new : OwnRequests Request) (request : Request) (withdrawn number spi : ℕ)
-        → WithdrawsRequest old withdrawn request new → AwaitsChild new number spi → AwaitsChild old number spi }
+        → WithdrawsRequest old withdrawn request new → AwaitsChild new number spi
+        → AwaitsChild old number spi }
 {}
 
 /// Who is closed holds no SPI for a child.
 pub fn who_is_closed_holds_none()
-    ensures { (old : Association) (table : Database) (moment : ℕ) (new : Association) (new_table : Database) (spi : ℕ)
+    ensures { (old : Association) (table : Database) (moment : ℕ) (new : Association) (new_table : Database)
+        (spi : ℕ)
         → Closes old table moment new new_table → ¬ HoldsSpi new spi }
 {}

@@ -164,7 +164,8 @@ fn opened<S: Sealer>(
     message: &Message,
 ) -> Result<Option<Plain>, AllocError>
     requires { Spells message.now octets.now }
-    ensures opened { IfOk result (λ plain. plain ≡ opened_by S.plain_of association.now octets.now message.now.payloads) }
+    ensures opened { IfOk result
+        (λ plain. plain ≡ opened_by S.plain_of association.now octets.now message.now.payloads) }
     ensures memory { IfErr result (λ _. (lone_body message.now.payloads ≢ None)
         × (keys_in association.now.phase ≢ None)) }
 {

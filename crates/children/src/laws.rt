@@ -101,10 +101,12 @@ pub fn what_is_accepted_was_asked()
 /// and one that is accepted. Does nothing.
 pub fn pairs_have_few_selectors()
     ensures made { (setting : Setting) (extended : Bool) (entries : List Entry) (table : Database)
-        (offer : ChildPayloads) (made : Made) → length offer.ts_i ≤ SELECTOR_LIMIT → length offer.ts_r ≤ SELECTOR_LIMIT
+        (offer : ChildPayloads) (made : Made) → length offer.ts_i ≤ SELECTOR_LIMIT
+        → length offer.ts_r ≤ SELECTOR_LIMIT
         → IsMadeChild setting extended entries table offer made → HasFewSelectors made.pair }
     ensures accepted { (setting : Setting) (asked : Asked) (answer : List Payload) (pair : Pair)
-        → AllByRecursion FitsFields answer → IsAcceptedChild setting asked answer pair → HasFewSelectors pair }
+        → AllByRecursion FitsFields answer → IsAcceptedChild setting asked answer pair
+        → HasFewSelectors pair }
 {
     answers_can_be_sent();
     what_counts_fits();
@@ -143,7 +145,8 @@ pub fn children_are_determined()
         (offer : ChildPayloads) (answer : Response) → table_content table ≡ table_content other
         → IsChildResponse setting extended entries table offer answer
         → IsChildResponse setting extended entries other offer answer }
-    ensures added { (old other a b : Database) (pair : Pair) (serial number : ℕ) → table_content old ≡ table_content other
+    ensures added { (old other a b : Database) (pair : Pair) (serial number : ℕ)
+        → table_content old ≡ table_content other
         → AddsNext old pair serial a → AddsNext other pair number b
         → (serial ≡ number) × (table_content a ≡ table_content b) }
 {

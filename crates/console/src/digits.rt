@@ -42,7 +42,9 @@ fn is_blank(octet: u8) -> bool
 /// Refused, with `out` as it was: [`HexFault::NotHex`] where anything else is there or the count of digits is odd, else
 /// [`HexFault::Memory`] alone.
 pub fn read_hex(text: &[u8], out: &mut Vec<u8>) -> Result<(), HexFault>
-    ensures read { OnOk result ((octets : List ℕ) × (decode_of (digits_of text.now) ≡ Ok octets) × (out.new.items ≡ out.old.items ++ octets)) }
+    ensures read { OnOk result
+        ((octets : List ℕ) × (decode_of (digits_of text.now) ≡ Ok octets)
+        × (out.new.items ≡ out.old.items ++ octets)) }
     ensures not_hex { result ≡ Err HexFault.NotHex → IsErr (decode_of (digits_of text.now)) }
     ensures refused { OnErr result (out.new.items ≡ out.old.items) }
 {

@@ -12,7 +12,8 @@ pub struct Unwritten;
 /// Writes the text to its end, or a beginning of it where a write fails: then [`Unwritten`].
 pub fn write_whole<W: Write>(writer: &mut W, text: &[u8]) -> Result<(), Unwritten>
     ensures whole { OnOk result (Appends (W.contents writer.old) (W.contents writer.new) text.now) }
-    ensures beginning { OnErr result (AppendsBeginning (W.contents writer.old) (W.contents writer.new) text.now) }
+    ensures beginning { OnErr result
+        (AppendsBeginning (W.contents writer.old) (W.contents writer.new) text.now) }
 {
     let mut rest = text;
     for _ in 0..u64::MAX {

@@ -51,7 +51,8 @@ pub fn answer<C: Sealer>(
     requires reserved { HoldsReserved association.old table.old }
     ensures answered { IfOk result (λ answered. AnswersFurther C.body_of (setup_of setup.now)
         association.old table.old number plain.now answered association.new table.new) }
-    ensures refused { IfErr result (λ _. (association.new ≡ association.old) × IsAsBefore table.old table.new) }
+    ensures refused { IfErr result
+        (λ _. (association.new ≡ association.old) × IsAsBefore table.old table.new) }
     ensures wanted { IfErr result (CanBeWanted table.old) }
 {
     let Phase::Established(keys) = &association.phase else {
@@ -93,7 +94,8 @@ fn make_reply<C: Sealer>(
 ) -> Result<Items<u8>, AllocError>
     requires { FitsAnswer answer }
     ensures { IfOk result (IsSealed C.body_of (keys_of association.now.role keys.now) setup.now.fresh.now.seal
-        (reply_message association.now CREATE_CHILD_SA number (further_answer answer setup.now.fresh.now.nonce))) }
+        (reply_message association.now CREATE_CHILD_SA number
+        (further_answer answer setup.now.fresh.now.nonce))) }
 {
     short_messages_can_be_sent();
     let payloads = answer_payloads(alloc, answer, &setup.fresh.nonce)?;

@@ -158,7 +158,9 @@ fn issue(
     requires ready { IsReady table.old }
     requires local { IsSendableSelector asked.now.local }
     requires remote { IsSendableSelector asked.now.remote }
-    ensures issued { IfOk result (λ _. IssuesFurther asked.now nonce.now octets moment association.old table.old association.new table.new) }
+    ensures issued { IfOk result
+        (λ _. IssuesFurther asked.now nonce.now octets moment association.old table.old association.new
+        table.new) }
     ensures refused { IfErr result (λ _. (association.new ≡ association.old) × (table.new ≡ table.old)) }
 {
     match association.outgoing.prepare() {

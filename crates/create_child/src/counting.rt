@@ -68,7 +68,8 @@ fn conclusion_at<C>(
 ) -> Result<Conclusion, MemoryFault>
     requires config { IsConfig setup.now.config.now }
     requires asked { AsksAt association.now.outgoing number }
-    ensures concluded { IfOk result (ConcludesAt (setup_of setup.now) association.now keys.now number plain.now) }
+    ensures concluded { IfOk result
+        (ConcludesAt (setup_of setup.now) association.now keys.now number plain.now) }
     ensures wanted { IfErr result (λ fault. fault ≢ child.Table) }
 {
     let Some(request) = association.outgoing.get(number) else {

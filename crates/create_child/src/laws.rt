@@ -17,25 +17,35 @@ use association::laws::children_are_asked_for;
 /// An association that asks for a further child holds the next SPI of the table from then on, beside those that it held; each stays
 /// reserved, for one child alone, and so does every SPI that another association holds. Does nothing.
 pub fn a_further_spi_is_held()
-    ensures own { (body_of : Keys → Octets → Octets → Octets → Octets) (setup : Setup) (local remote : Selector) (old : Association)
+    ensures own { (body_of : Keys → Octets → Octets → Octets → Octets) (setup : Setup)
+        (local remote : Selector) (old : Association)
         (table : Database) (octets : Octets) (new : Association) (new_table : Database)
-        → AsksForFurther body_of setup local remote old table octets new new_table → HoldsSpi new (table.start + table.given) }
-    ensures held { (body_of : Keys → Octets → Octets → Octets → Octets) (setup : Setup) (local remote : Selector) (old : Association)
+        → AsksForFurther body_of setup local remote old table octets new new_table
+        → HoldsSpi new (table.start + table.given) }
+    ensures held { (body_of : Keys → Octets → Octets → Octets → Octets) (setup : Setup)
+        (local remote : Selector) (old : Association)
         (table : Database) (octets : Octets) (new : Association) (new_table : Database) (spi : ℕ)
         → AsksForFurther body_of setup local remote old table octets new new_table → HoldsSpi new spi
         → HoldsSpi old spi ⊎ (spi ≡ table.start + table.given) }
-    ensures reserved { (body_of : Keys → Octets → Octets → Octets → Octets) (setup : Setup) (local remote : Selector) (old : Association)
-        (table : Database) (octets : Octets) (new : Association) (new_table : Database) → IsSoundTable table → HoldsReserved old table
-        → AsksForFurther body_of setup local remote old table octets new new_table → HoldsReserved new new_table }
-    ensures others { (body_of : Keys → Octets → Octets → Octets → Octets) (setup : Setup) (local remote : Selector) (old : Association)
+    ensures reserved { (body_of : Keys → Octets → Octets → Octets → Octets) (setup : Setup)
+        (local remote : Selector) (old : Association)
+        (table : Database) (octets : Octets) (new : Association) (new_table : Database) → IsSoundTable table
+        → HoldsReserved old table
+        → AsksForFurther body_of setup local remote old table octets new new_table
+        → HoldsReserved new new_table }
+    ensures others { (body_of : Keys → Octets → Octets → Octets → Octets) (setup : Setup)
+        (local remote : Selector) (old : Association)
         (table : Database) (octets : Octets) (new : Association) (new_table : Database) (spi : ℕ)
-        → AsksForFurther body_of setup local remote old table octets new new_table → IsReserved table spi → IsReserved new_table spi }
+        → AsksForFurther body_of setup local remote old table octets new new_table → IsReserved table spi
+        → IsReserved new_table spi }
 {}
 
 /// As the answer to a request for a further child is counted, the association gives the child's SPI back: it holds it no more. Does nothing.
 pub fn what_is_answered_is_given_back()
-    ensures { (a : Association) (table : Database) (number : ℕ) (request : Request) (outgoing : OwnRequests Request) (spi : ℕ)
-        → HoldsReserved a table → CountsAnswer a.outgoing number request outgoing → spi_asked request.purpose ≡ Some spi
+    ensures { (a : Association) (table : Database) (number : ℕ) (request : Request)
+        (outgoing : OwnRequests Request) (spi : ℕ)
+        → HoldsReserved a table → CountsAnswer a.outgoing number request outgoing
+        → spi_asked request.purpose ≡ Some spi
         → ¬ HoldsSpi (record a { outgoing = outgoing }) spi }
 {
     children_are_asked_for();

@@ -58,7 +58,8 @@ fn deleted_for<'a>(table: &'a Table, ike: u32, spi: u32, gone: &[u32]) -> Option
 // The serial of the pair that sends under an SPI where those with some serials went before; of several, the least.
 fn sender_left(table: &Table, ike: u32, spi: u32, gone: &[u32]) -> Option<u32>
     ensures some { IfSome result (IsSenderUnder (without table.now.pairs gone.now) ike spi) }
-    ensures none { IfNone result ((serial : ℕ) → ¬ SendsUnder (without table.now.pairs gone.now) ike spi serial) }
+    ensures none { IfNone result
+        ((serial : ℕ) → ¬ SendsUnder (without table.now.pairs gone.now) ike spi serial) }
 {
     table.invariants_hold();
     let mut passed = 0;

@@ -20,7 +20,8 @@ ghost use Rattle.deliveries.specs.Worked.{IsWorkedTrail};
 /// fault that the rule finds (E14 to E18), or reaches no pair (E28, or E14 where it ends before its SPI). A child keeps its SPI, key and
 /// selectors; once gone, before the list or in it, it never comes back, and no packet is judged as its own.
 pub fn every_list_of_packets_is_judged()
-    ensures { (old new : Database) (passages : List Passage) → IsTrail old passages new → PacketsAreJudged passages }
+    ensures { (old new : Database) (passages : List Passage) → IsTrail old passages new
+        → PacketsAreJudged passages }
 {
     sadb::laws::answers_are_determined();
     traffic::laws::a_packet_takes_one_number();
@@ -37,16 +38,24 @@ pub fn numbers_are_determined()
 pub fn other_changes_leave_windows()
     ensures transitive { (a b c : Database) → LeavesWindows a b → LeavesWindows b c → LeavesWindows a c }
     ensures unchanged { (d : Database) → IsSoundTable d → LeavesWindows d d }
-    ensures bringing { (old new : Database) → IsSoundTable old → BringsUnused old new → LeavesWindows old new }
+    ensures bringing { (old new : Database) → IsSoundTable old → BringsUnused old new
+        → LeavesWindows old new }
     ensures preparing { (old new : Database) → IsSoundTable old → IsAsBefore old new → LeavesWindows old new }
-    ensures reserving { (old new : Database) (spi : ℕ) → IsSoundTable old → Reserves old spi new → LeavesWindows old new }
-    ensures releasing { (old new : Database) (spi : ℕ) → IsSoundTable old → Releases old spi new → LeavesWindows old new }
+    ensures reserving { (old new : Database) (spi : ℕ) → IsSoundTable old → Reserves old spi new
+        → LeavesWindows old new }
+    ensures releasing { (old new : Database) (spi : ℕ) → IsSoundTable old → Releases old spi new
+        → LeavesWindows old new }
     ensures installing { (old new : Database) (spi : ℕ) (pair : Pair) (serial : ℕ) → IsSoundTable old
-        → ((n : ℕ) → set.contains pair.inbound.window.taken n ≡ false) → Installs old spi pair serial new → LeavesWindows old new }
-    ensures removing { (old new : Database) (serial : ℕ) → IsSoundTable old → Removes old serial new → LeavesWindows old new }
-    ensures emptying { (old new : Database) (ike : ℕ) → IsSoundTable old → RemovesAllOf old ike new → LeavesWindows old new }
-    ensures marking { (old new : Database) (serial : ℕ) → IsSoundTable old → Marks old serial new → LeavesWindows old new }
-    ensures sealing { (old new : Database) (serial next : ℕ) (payload before : List ℕ) (number : ℕ) (after : List ℕ)
+        → ((n : ℕ) → set.contains pair.inbound.window.taken n ≡ false) → Installs old spi pair serial new
+        → LeavesWindows old new }
+    ensures removing { (old new : Database) (serial : ℕ) → IsSoundTable old → Removes old serial new
+        → LeavesWindows old new }
+    ensures emptying { (old new : Database) (ike : ℕ) → IsSoundTable old → RemovesAllOf old ike new
+        → LeavesWindows old new }
+    ensures marking { (old new : Database) (serial : ℕ) → IsSoundTable old → Marks old serial new
+        → LeavesWindows old new }
+    ensures sealing { (old new : Database) (serial next : ℕ) (payload before : List ℕ) (number : ℕ)
+        (after : List ℕ)
         → IsSoundTable old → SealsAt old serial next payload before number new after → LeavesWindows old new }
     ensures sending { (old new : Database) (policy : List Entry) (packet : Octets) (outcome : Outcome)
         → IsSoundTable old → Sends old policy packet outcome new → LeavesWindows old new }

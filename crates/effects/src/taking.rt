@@ -74,8 +74,10 @@ pub fn take_message<C: Sealer + Agreement + Proof>(
           proof_of = C.proof_of setup.now.caller.now;
           accepts = C.accepts setup.now.caller.now;
         })
-        (setup_of setup.now) association.old table.old octets.now message.now effect association.new table.new) }
-    ensures refused { IfErr result (λ _. (association.new ≡ association.old) × IsAsBefore table.old table.new) }
+        (setup_of setup.now) association.old table.old octets.now message.now effect association.new
+        table.new) }
+    ensures refused { IfErr result
+        (λ _. (association.new ≡ association.old) × IsAsBefore table.old table.new) }
     ensures wanted { IfErr result (CanWant C.plain_of association.old table.old octets.now message.now) }
 {
     receptions_say_why();
@@ -114,7 +116,8 @@ fn received<S: Sealer>(
     message: &Message,
 ) -> Result<Taken, AllocError>
     requires { Spells message.now octets.now }
-    ensures { IfOk result (λ taken. IsReceived S.plain_of association.now octets.now message.now (reception_of taken)) }
+    ensures { IfOk result
+        (λ taken. IsReceived S.plain_of association.now octets.now message.now (reception_of taken)) }
 {
     match receive(alloc, sealer, association, octets, message)? {
         Received::Refused(fault) => Ok(Taken::Refused(fault)),
@@ -189,8 +192,10 @@ fn take_request<C: Sealer + Agreement + Proof>(
           proof_of = C.proof_of setup.now.caller.now;
           accepts = C.accepts setup.now.caller.now;
         })
-        (setup_of setup.now) association.old.phase exchange association.old table.old number plain.now effect association.new table.new) }
-    ensures refused { IfErr result (λ _. (association.new ≡ association.old) × IsAsBefore table.old table.new) }
+        (setup_of setup.now) association.old.phase exchange association.old table.old number plain.now
+        effect association.new table.new) }
+    ensures refused { IfErr result
+        (λ _. (association.new ≡ association.old) × IsAsBefore table.old table.new) }
     ensures wanted { IfErr result (CanWantIn association.old.phase false exchange table.old) }
 {
     match &association.phase {
@@ -239,7 +244,8 @@ fn take_at_established<C: Sealer + Agreement + Proof>(
           accepts = C.accepts setup.now.caller.now;
         })
         (setup_of setup.now) association.old table.old number plain.now effect association.new table.new) }
-    ensures refused { IfErr result (λ _. (association.new ≡ association.old) × IsAsBefore table.old table.new) }
+    ensures refused { IfErr result
+        (λ _. (association.new ≡ association.old) × IsAsBefore table.old table.new) }
     ensures wanted { IfErr result (CanWantIn association.old.phase false exchange table.old) }
 {
     let answered = if exchange == INFORMATIONAL {
@@ -274,9 +280,11 @@ fn take_response<C: Sealer + Agreement + Proof>(
           proof_of = C.proof_of setup.now.caller.now;
           accepts = C.accepts setup.now.caller.now;
         })
-        (setup_of setup.now) association.old.phase association.old table.old message.now.header.id plain.now effect association.new table.new) }
+        (setup_of setup.now) association.old.phase association.old table.old message.now.header.id
+        plain.now effect association.new table.new) }
     ensures refused { IfErr result (λ _. (association.new ≡ association.old) × (table.new ≡ table.old)) }
-    ensures wanted { IfErr result (CanWantIn association.old.phase true message.now.header.exchange table.old) }
+    ensures wanted { IfErr result
+        (CanWantIn association.old.phase true message.now.header.exchange table.old) }
 {
     match &association.phase {
         Phase::AuthSent(_) => {
@@ -302,9 +310,11 @@ fn take_answer<C>(
     requires due { IsAwaited association.old message.now }
     requires reserved { HoldsReserved association.old table.old }
     ensures taken { IfOk result (λ effect. DoesAnswer (asked_further association.old message.now.header.id)
-        (setup_of setup.now) association.old table.old message.now.header.id plain.now effect association.new table.new) }
+        (setup_of setup.now) association.old table.old message.now.header.id plain.now effect
+        association.new table.new) }
     ensures refused { IfErr result (λ _. (association.new ≡ association.old) × (table.new ≡ table.old)) }
-    ensures wanted { IfErr result (CanWantIn association.old.phase true message.now.header.exchange table.old) }
+    ensures wanted { IfErr result
+        (CanWantIn association.old.phase true message.now.header.exchange table.old) }
 {
     let number = message.header.id;
     let ended = if asked_further(association, number) {

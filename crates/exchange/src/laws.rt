@@ -28,17 +28,22 @@ use wire::laws::{
 /// What is offered is acceptable to an end that wants the same. What answers a proposal of number 1 is an answer to the one who
 /// wanted the same, with the sequence numbers that were chosen. Does nothing.
 pub fn offers_are_answered()
-    ensures offers { (wanted : Wanted) (spi : List ℕ) → HasSpi wanted spi → IsAcceptableProposal wanted (offer_of wanted spi) }
-    ensures answers { (wanted : Wanted) (proposals : List Proposal) (chosen : Chosen) (spi : List ℕ) → HasSpi wanted spi
-        → IsChosenProposal wanted proposals chosen → chosen.number ≡ 1 → IsAcceptableAnswer wanted (answer_of wanted chosen spi) }
+    ensures offers { (wanted : Wanted) (spi : List ℕ) → HasSpi wanted spi
+        → IsAcceptableProposal wanted (offer_of wanted spi) }
+    ensures answers { (wanted : Wanted) (proposals : List Proposal) (chosen : Chosen) (spi : List ℕ)
+        → HasSpi wanted spi
+        → IsChosenProposal wanted proposals chosen → chosen.number ≡ 1
+        → IsAcceptableAnswer wanted (answer_of wanted chosen spi) }
     ensures numbers { (wanted : Wanted) (proposals : List Proposal) (chosen : Chosen) (spi : List ℕ)
-        → IsChosenProposal wanted proposals chosen → ChoosesNumbers wanted (answer_of wanted chosen spi).transforms chosen.extended }
+        → IsChosenProposal wanted proposals chosen
+        → ChoosesNumbers wanted (answer_of wanted chosen spi).transforms chosen.extended }
 {}
 
 /// A message whose payloads have what their fields allow, and have at most 2840 octets together, can be sent: sealing it is
 /// refused for memory alone. Does nothing.
 pub fn short_messages_can_be_sent()
-    ensures { (m : Message) → FitsHeaderFields m.header → AllByRecursion FitsFields m.payloads → sum_by size_of m.payloads ≤ 2840
+    ensures { (m : Message) → FitsHeaderFields m.header → AllByRecursion FitsFields m.payloads
+        → sum_by size_of m.payloads ≤ 2840
         → CanBeSealed m }
 {
     messages_that_fit_are_spelled();
@@ -48,11 +53,14 @@ pub fn short_messages_can_be_sent()
 /// two ends want differently. Does nothing.
 pub fn ends_agree()
     ensures answers { (ours theirs : Wanted) (spi answer : List ℕ) (chosen : Chosen) → HasSpi ours answer
-        → IsChosenProposal theirs (offer_of ours spi ∷ []) chosen → IsAcceptableAnswer ours (answer_of theirs chosen answer) }
+        → IsChosenProposal theirs (offer_of ours spi ∷ []) chosen
+        → IsAcceptableAnswer ours (answer_of theirs chosen answer) }
     ensures numbers { (ours theirs : Wanted) (spi answer : List ℕ) (chosen : Chosen)
-        → IsChosenProposal theirs (offer_of ours spi ∷ []) chosen → ChoosesNumbers ours (answer_of theirs chosen answer).transforms chosen.extended }
+        → IsChosenProposal theirs (offer_of ours spi ∷ []) chosen
+        → ChoosesNumbers ours (answer_of theirs chosen answer).transforms chosen.extended }
     ensures taken { (wanted : Wanted) (proposals : List Proposal) (chosen : Chosen) (spi : List ℕ)
-        → IsChosenProposal wanted proposals chosen → IsTakenFrom proposals chosen.place (answer_of wanted chosen spi) }
+        → IsChosenProposal wanted proposals chosen
+        → IsTakenFrom proposals chosen.place (answer_of wanted chosen spi) }
 {}
 
 /// Of payloads that have what their fields allow, those that count have it. Does nothing.
@@ -73,29 +81,36 @@ pub fn notices_fit()
 
 /// A cookie that is asked for has 1 to 64 octets (RFC 7296, section 2.6). Does nothing.
 pub fn cookies_are_short()
-    ensures some { (payloads : List Payload) (octets : List ℕ) → asked_cookie payloads ≡ Some octets → 1 ≤ length octets }
-    ensures few { (payloads : List Payload) (octets : List ℕ) → asked_cookie payloads ≡ Some octets → length octets ≤ 64 }
+    ensures some { (payloads : List Payload) (octets : List ℕ) → asked_cookie payloads ≡ Some octets
+        → 1 ≤ length octets }
+    ensures few { (payloads : List Payload) (octets : List ℕ) → asked_cookie payloads ≡ Some octets
+        → length octets ≤ 64 }
 {}
 
 /// A cipher tells the length of a body by that of its plain text, under keys and with 16 fresh octets. Does nothing.
 pub fn ciphers_tell_lengths<S: Sealer>(sealer: &S)
-    ensures { (keys : Keys) (fresh : List ℕ) → AreKeys keys → AreOctets fresh → length fresh ≡ 16 → TellsLength S.body_of keys fresh }
+    ensures { (keys : Keys) (fresh : List ℕ) → AreKeys keys → AreOctets fresh → length fresh ≡ 16
+        → TellsLength S.body_of keys fresh }
 {
     let _ = sealer;
 }
 
 /// A message is sealed in one way, under the same keys and with the same fresh octets, where lengths are told. Does nothing.
 pub fn sealed_messages_are_determined()
-    ensures { (body_of : Keys → List ℕ → List ℕ → List ℕ → List ℕ) (keys : Keys) (fresh : List ℕ) (m : Message) (a b : List ℕ)
-        → TellsLength body_of keys fresh → IsSealed body_of keys fresh m a → IsSealed body_of keys fresh m b → a ≡ b }
+    ensures { (body_of : Keys → List ℕ → List ℕ → List ℕ → List ℕ) (keys : Keys) (fresh : List ℕ)
+        (m : Message) (a b : List ℕ)
+        → TellsLength body_of keys fresh → IsSealed body_of keys fresh m a → IsSealed body_of keys fresh m b
+        → a ≡ b }
 {
     plain_spellings_are_determined();
 }
 
 /// What was sealed opens again, to the payloads that were sealed. Does nothing.
 pub fn sealed_messages_open<S: Sealer>(sealer: &S)
-    ensures { (keys : Keys) (fresh : List ℕ) (m : Message) (b : List ℕ) → AreKeys keys → AreOctets fresh → length fresh ≡ 16
-        → AllByRecursion IsClear m.payloads → IsSealed S.body_of keys fresh m b → OpensAgain S.plain_of keys m b }
+    ensures { (keys : Keys) (fresh : List ℕ) (m : Message) (b : List ℕ) → AreKeys keys → AreOctets fresh
+        → length fresh ≡ 16
+        → AllByRecursion IsClear m.payloads → IsSealed S.body_of keys fresh m b
+        → OpensAgain S.plain_of keys m b }
 {
     plain_spellings_are_spellings();
 }

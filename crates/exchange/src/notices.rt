@@ -97,14 +97,16 @@ pub fn returned_cookie(alloc: Global, octets: &[u8]) -> Result<Payload, AllocErr
 
 /// The cookie that a request brings, as its first payload (RFC 7296, section 2.6), `None` where that is none.
 pub fn leading_cookie(payloads: &[Payload]) -> Option<&[u8]>
-    ensures { MatchOption result (leading_cookie payloads.now ≡ None) (λ octets. leading_cookie payloads.now ≡ Some octets.now) }
+    ensures { MatchOption result (leading_cookie payloads.now ≡ None)
+        (λ octets. leading_cookie payloads.now ≡ Some octets.now) }
 {
     cookie_in(payloads.first()?)
 }
 
 /// The cookie that an answer asks for, as its only payload (RFC 7296, section 2.6), `None` where it is not just that.
 pub fn asked_cookie(payloads: &[Payload]) -> Option<&[u8]>
-    ensures { MatchOption result (asked_cookie payloads.now ≡ None) (λ octets. asked_cookie payloads.now ≡ Some octets.now) }
+    ensures { MatchOption result (asked_cookie payloads.now ≡ None)
+        (λ octets. asked_cookie payloads.now ≡ Some octets.now) }
 {
     match payloads {
         [payload] => cookie_in(payload),
@@ -126,7 +128,8 @@ pub fn has_invalid_syntax(payloads: &[Payload]) -> bool
 
 // Whatever protocol and SPI a notice names, its type and its data tell whether it is a cookie.
 fn cookie_in(payload: &Payload) -> Option<&[u8]>
-    ensures { MatchOption result (cookie_in payload.now ≡ None) (λ octets. cookie_in payload.now ≡ Some octets.now) }
+    ensures { MatchOption result (cookie_in payload.now ≡ None)
+        (λ octets. cookie_in payload.now ≡ Some octets.now) }
 {
     match payload {
         Payload::Notify {

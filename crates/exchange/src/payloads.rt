@@ -94,7 +94,8 @@ pub fn only(payloads: &[Payload], kind: u8) -> Option<&Payload>
 
 /// The proposals of the only security association payload (RFC 7296, section 3.3), `None` where there is not just one.
 pub fn only_sa(payloads: &[Payload]) -> Option<&[Proposal]>
-    ensures { MatchOption result (only_sa payloads.now ≡ None) (λ found. only_sa payloads.now ≡ Some found.now) }
+    ensures { MatchOption result (only_sa payloads.now ≡ None)
+        (λ found. only_sa payloads.now ≡ Some found.now) }
 {
     match only(payloads, SA_TYPE)? {
         Payload::Sa(proposals) => Some(proposals.as_slice()),
@@ -104,7 +105,8 @@ pub fn only_sa(payloads: &[Payload]) -> Option<&[Proposal]>
 
 /// The group and the public value of the only key exchange payload (section 3.4), `None` where there is not just one.
 pub fn only_ke(payloads: &[Payload]) -> Option<(u16, &[u8])>
-    ensures { MatchOption result (only_ke payloads.now ≡ None) (λ found. only_ke payloads.now ≡ Some (found.0, found.1.now)) }
+    ensures { MatchOption result (only_ke payloads.now ≡ None)
+        (λ found. only_ke payloads.now ≡ Some (found.0, found.1.now)) }
 {
     match only(payloads, KE_TYPE)? {
         Payload::Ke { group, data } => Some((*group, data.as_slice())),
@@ -114,7 +116,8 @@ pub fn only_ke(payloads: &[Payload]) -> Option<(u16, &[u8])>
 
 /// The type and the data of the only identity of an initiator (section 3.5), `None` where there is not just one.
 pub fn only_id_i(payloads: &[Payload]) -> Option<(u8, &[u8])>
-    ensures { MatchOption result (only_id_i payloads.now ≡ None) (λ found. only_id_i payloads.now ≡ Some (found.0, found.1.now)) }
+    ensures { MatchOption result (only_id_i payloads.now ≡ None)
+        (λ found. only_id_i payloads.now ≡ Some (found.0, found.1.now)) }
 {
     match only(payloads, ID_I_TYPE)? {
         Payload::IdI { kind, data } => Some((*kind, data.as_slice())),
@@ -124,7 +127,8 @@ pub fn only_id_i(payloads: &[Payload]) -> Option<(u8, &[u8])>
 
 /// The type and the data of the only identity of a responder (section 3.5), `None` where there is not just one.
 pub fn only_id_r(payloads: &[Payload]) -> Option<(u8, &[u8])>
-    ensures { MatchOption result (only_id_r payloads.now ≡ None) (λ found. only_id_r payloads.now ≡ Some (found.0, found.1.now)) }
+    ensures { MatchOption result (only_id_r payloads.now ≡ None)
+        (λ found. only_id_r payloads.now ≡ Some (found.0, found.1.now)) }
 {
     match only(payloads, ID_R_TYPE)? {
         Payload::IdR { kind, data } => Some((*kind, data.as_slice())),
@@ -134,7 +138,8 @@ pub fn only_id_r(payloads: &[Payload]) -> Option<(u8, &[u8])>
 
 /// The method and the data of the only authentication payload (section 3.8), `None` where there is not just one.
 pub fn only_auth(payloads: &[Payload]) -> Option<(u8, &[u8])>
-    ensures { MatchOption result (only_auth payloads.now ≡ None) (λ found. only_auth payloads.now ≡ Some (found.0, found.1.now)) }
+    ensures { MatchOption result (only_auth payloads.now ≡ None)
+        (λ found. only_auth payloads.now ≡ Some (found.0, found.1.now)) }
 {
     match only(payloads, AUTH_TYPE)? {
         Payload::Auth { method, data } => Some((*method, data.as_slice())),
@@ -144,7 +149,8 @@ pub fn only_auth(payloads: &[Payload]) -> Option<(u8, &[u8])>
 
 /// The only nonce (section 3.9), `None` where there is not just one.
 pub fn only_nonce(payloads: &[Payload]) -> Option<&[u8]>
-    ensures { MatchOption result (only_nonce payloads.now ≡ None) (λ found. only_nonce payloads.now ≡ Some found.now) }
+    ensures { MatchOption result (only_nonce payloads.now ≡ None)
+        (λ found. only_nonce payloads.now ≡ Some found.now) }
 {
     match only(payloads, NONCE_TYPE)? {
         Payload::Nonce(octets) => Some(octets.as_slice()),
@@ -154,7 +160,8 @@ pub fn only_nonce(payloads: &[Payload]) -> Option<&[u8]>
 
 /// The selectors of the only payload for the initiator's side (section 3.13), `None` where there is not just one.
 pub fn only_ts_i(payloads: &[Payload]) -> Option<&[Selector]>
-    ensures { MatchOption result (only_ts_i payloads.now ≡ None) (λ found. only_ts_i payloads.now ≡ Some found.now) }
+    ensures { MatchOption result (only_ts_i payloads.now ≡ None)
+        (λ found. only_ts_i payloads.now ≡ Some found.now) }
 {
     match only(payloads, TS_I_TYPE)? {
         Payload::TsI(selectors) => Some(selectors.as_slice()),
@@ -164,7 +171,8 @@ pub fn only_ts_i(payloads: &[Payload]) -> Option<&[Selector]>
 
 /// The selectors of the only payload for the responder's side (section 3.13), `None` where there is not just one.
 pub fn only_ts_r(payloads: &[Payload]) -> Option<&[Selector]>
-    ensures { MatchOption result (only_ts_r payloads.now ≡ None) (λ found. only_ts_r payloads.now ≡ Some found.now) }
+    ensures { MatchOption result (only_ts_r payloads.now ≡ None)
+        (λ found. only_ts_r payloads.now ≡ Some found.now) }
 {
     match only(payloads, TS_R_TYPE)? {
         Payload::TsR(selectors) => Some(selectors.as_slice()),

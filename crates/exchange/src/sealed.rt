@@ -37,7 +37,8 @@ pub fn seal_message<S: Sealer>(
     fresh: &[u8; 16],
     out: &mut Vec<u8>,
 ) -> Result<(), WireFault>
-    ensures sealed { OnOk result (Appends (IsSealed S.body_of keys.now fresh.now message.now) out.old.items out.new.items) }
+    ensures sealed { OnOk result
+        (Appends (IsSealed S.body_of keys.now fresh.now message.now) out.old.items out.new.items) }
     ensures fault { IfErr result (λ f. f ≢ WireFault.Memory → IsSealingFaultOf S.sealed_size message.now f) }
     ensures memory { CanBeSealed message.now → IfErr result (λ f. f ≡ WireFault.Memory) }
     ensures refused { OnErr result (out.new.items ≡ out.old.items) }
@@ -63,7 +64,8 @@ fn sealed_octets<S: Sealer>(
     fresh: &[u8; 16],
 ) -> Result<Vec<u8>, WireFault>
     requires { 28 ≤ length clear.now }
-    ensures made { IfOk result (λ whole. whole.items ≡ sealed_octets S.body_of S.sealed_size keys.now fresh.now clear.now) }
+    ensures made { IfOk result
+        (λ whole. whole.items ≡ sealed_octets S.body_of S.sealed_size keys.now fresh.now clear.now) }
     ensures short { IsOk result → 32 + S.sealed_size (length clear.now - 28) ≤ 3000 }
     ensures refused { IfErr result (λ f. f ≢ WireFault.Memory
         → (f ≡ WireFault.TooLong) × (3000 < 32 + S.sealed_size (length clear.now - 28))) }
@@ -108,7 +110,8 @@ pub fn open_message<S: Sealer>(
     message: &Message,
 ) -> Result<Option<Plain>, AllocError>
     requires { Spells message.now octets.now }
-    ensures opened { IfOk result (λ plain. plain ≡ plain_of_message S.plain_of keys.now octets.now message.now.payloads) }
+    ensures opened { IfOk result
+        (λ plain. plain ≡ plain_of_message S.plain_of keys.now octets.now message.now.payloads) }
     // Where nothing can be opened, no memory is taken.
     ensures idle { lone_body message.now.payloads ≡ None → result ≡ Ok None }
 {

@@ -12,7 +12,8 @@ ghost use Rattle.flows.specs.Staying.{NoneComes};
 pub fn answers_stay_right()
     ensures stay { (policy : List Entry) (old new : PairMap) (memory : List (Option Answer))
         → NoneComes old new → AllRight policy old memory → AllRight policy new memory }
-    ensures none { (policy : List Entry) (pairs : PairMap) (memory : List (Option Answer)) → HoldsNone memory → AllRight policy pairs memory }
+    ensures none { (policy : List Entry) (pairs : PairMap) (memory : List (Option Answer)) → HoldsNone memory
+        → AllRight policy pairs memory }
 {}
 
 /// No pair comes to a table that stays as it is, or by an opening, whatever came of it, or a sealing.
@@ -22,6 +23,7 @@ pub fn no_pair_comes()
         → OpensAt old serial packet number next payload new → NoneComes old.pairs new.pairs }
     ensures refusing { (old new : Database) (serial : ℕ) (packet : List ℕ) (fault : EspFault)
         → RefusesAt old serial packet fault new → NoneComes old.pairs new.pairs }
-    ensures sealing { (old new : Database) (serial next : ℕ) (payload before : List ℕ) (number : ℕ) (after : List ℕ)
+    ensures sealing { (old new : Database) (serial next : ℕ) (payload before : List ℕ) (number : ℕ)
+        (after : List ℕ)
         → SealsAt old serial next payload before number new after → NoneComes old.pairs new.pairs }
 {}

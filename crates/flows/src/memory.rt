@@ -97,7 +97,8 @@ impl FlowMemory {
 
     /// What a place holds about a flow.
     fn recall(&self, place: usize, flow: &Flow) -> Option<Treatment>
-        ensures { IfSome result (λ treatment. Holds self.now (record { flow = flow.now; treatment = treatment })) }
+        ensures { IfSome result
+            (λ treatment. Holds self.now (record { flow = flow.now; treatment = treatment })) }
     {
         let note = (*self.places.get(place)?)?;
         if note.epoch == self.epoch && is_same(&note.answer.flow, flow) {

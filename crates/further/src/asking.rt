@@ -20,7 +20,8 @@ use wire::Payload;
 pub fn ask(alloc: Global, asked: &Asked, nonce: &[u8; 32]) -> Result<Items<Payload>, AllocError>
     requires local { IsSendableSelector asked.now.local }
     requires remote { IsSendableSelector asked.now.remote }
-    ensures payloads { IfOk result (λ payloads. payloads ≡ further_payloads (child_request asked.now) nonce.now) }
+    ensures payloads { IfOk result
+        (λ payloads. payloads ≡ further_payloads (child_request asked.now) nonce.now) }
     ensures fits { IfOk result (FitWithin 2840) }
 {
     payloads_fit();

@@ -79,7 +79,8 @@ fn conclude_on(
     blocks: u32,
 ) -> Result<Conclusion, MemoryFault>
     requires { IsBlockCount blocks }
-    ensures concluded { IfOk result (IsConclusion blocks ike keys.now asked.now own_nonce.now (Some answer.now)) }
+    ensures concluded { IfOk result
+        (IsConclusion blocks ike keys.now asked.now own_nonce.now (Some answer.now)) }
     ensures keeps { IfOk result (KeepsTo asked.now) }
     ensures wanted { IfErr result (λ fault. fault ≢ Table) }
 {

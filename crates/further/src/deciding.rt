@@ -83,7 +83,8 @@ pub fn decide<C>(
     plain: &Plain,
 ) -> Result<Decision, MemoryFault>
     requires { IsConfig setup.now.config.now }
-    ensures decided { IfOk result (DecidesFurther (setup_of setup.now) ike keys.now table.old deleting plain.now) }
+    ensures decided { IfOk result
+        (DecidesFurther (setup_of setup.now) ike keys.now table.old deleting plain.now) }
     ensures table { IsAsBefore table.old table.new }
     ensures wanted { IfErr result (CanBeWanted table.old) }
     ensures early { IsFurtherRefusedAtOnce deleting plain.now → table.new ≡ table.old }
@@ -118,7 +119,8 @@ fn decide_on<C>(
 ) -> Result<Decision, MemoryFault>
     requires config { IsConfig setup.now.config.now }
     requires fits { AllByRecursion FitsFields payloads.now }
-    ensures decided { IfOk result (DecidesFurtherOn (setup_of setup.now) ike keys.now table.old deleting payloads.now) }
+    ensures decided { IfOk result
+        (DecidesFurtherOn (setup_of setup.now) ike keys.now table.old deleting payloads.now) }
     ensures table { IsAsBefore table.old table.new }
     ensures wanted { IfErr result (CanBeWanted table.old) }
     ensures early { IsRefusedFurther deleting (Some payloads.now) → table.new ≡ table.old }
@@ -146,7 +148,9 @@ fn respond_to<C>(
 ) -> Result<Decision, MemoryFault>
     requires config { IsConfig setup.now.config.now }
     requires fits { CanBeAnswered (offered request.now.offer) }
-    ensures decided { IfOk result (DecidesFurtherBy (setup_of setup.now) ike keys.now table.old (Admitted (further_request_view request.now))) }
+    ensures decided { IfOk result
+        (DecidesFurtherBy (setup_of setup.now) ike keys.now table.old
+        (Admitted (further_request_view request.now))) }
     ensures table { IsAsBefore table.old table.new }
     ensures wanted { IfErr result (CanBeWanted table.old) }
     ensures room { IfOk result (λ decision. LeavesRoomForFurther decision table.new) }

@@ -49,12 +49,17 @@ use wire::laws::{octets_spell_one_message, what_is_read_fits};
 /// does what is made of an answer. Does nothing.
 pub fn further_children_are_determined()
     ensures judged { (payloads : List Payload) (deleting : Bool) (one other : FurtherJudgement)
-        → IsFurtherJudgement payloads deleting one → IsFurtherJudgement payloads deleting other → one ≡ other }
-    ensures decided { (setup : Setup) (ike : ℕ) (keys : KeyRecord) (table other_table : Database) (deleting : Bool) (plain : Plain)
+        → IsFurtherJudgement payloads deleting one → IsFurtherJudgement payloads deleting other
+        → one ≡ other }
+    ensures decided { (setup : Setup) (ike : ℕ) (keys : KeyRecord) (table other_table : Database)
+        (deleting : Bool) (plain : Plain)
         (one other : Decision) → table_content table ≡ table_content other_table
-        → DecidesFurther setup ike keys table deleting plain one → DecidesFurther setup ike keys other_table deleting plain other → one ≡ other }
-    ensures concluded { (blocks ike : ℕ) (keys : KeyRecord) (asked : Asked) (own_nonce : Octets) (plain : Plain) (one other : Conclusion)
-        → Concludes blocks ike keys asked own_nonce plain one → Concludes blocks ike keys asked own_nonce plain other → one ≡ other }
+        → DecidesFurther setup ike keys table deleting plain one
+        → DecidesFurther setup ike keys other_table deleting plain other → one ≡ other }
+    ensures concluded { (blocks ike : ℕ) (keys : KeyRecord) (asked : Asked) (own_nonce : Octets)
+        (plain : Plain) (one other : Conclusion)
+        → Concludes blocks ike keys asked own_nonce plain one
+        → Concludes blocks ike keys asked own_nonce plain other → one ≡ other }
 {
     answers_are_determined();
     children_are_determined();
@@ -65,13 +70,16 @@ pub fn further_children_are_determined()
 /// child of the request and of the answer that it sends; the pair of an accepted answer is the exchange's initiator's, where the request was
 /// asked by its nonce. Does nothing.
 pub fn further_pairs_are_children()
-    ensures made { (setup : Setup) (ike : ℕ) (keys : KeyRecord) (table : Database) (deleting : Bool) (plain : Plain) (made : Made)
+    ensures made { (setup : Setup) (ike : ℕ) (keys : KeyRecord) (table : Database) (deleting : Bool)
+        (plain : Plain) (made : Made)
         (request : List Payload) → DecidesFurther setup ike keys table deleting plain (decision.Made made)
         → SpellsChain plain.first request plain.octets
         → IsFurtherChild Responder keys request
         (further_answer (answer_to_further (decision.Made made)) setup.fresh.nonce) made.pair }
-    ensures accepted { (blocks ike : ℕ) (keys : KeyRecord) (asked : Asked) (own_nonce : Octets) (plain : Plain) (pair : Pair)
-        (answer : List Payload) → asked.spi < 2 ^ 32 → Concludes blocks ike keys asked own_nonce plain (conclusion.Made pair)
+    ensures accepted { (blocks ike : ℕ) (keys : KeyRecord) (asked : Asked) (own_nonce : Octets)
+        (plain : Plain) (pair : Pair)
+        (answer : List Payload) → asked.spi < 2 ^ 32
+        → Concludes blocks ike keys asked own_nonce plain (conclusion.Made pair)
         → SpellsChain plain.first answer plain.octets
         → IsFurtherChild Initiator keys (further_payloads (child_request asked) own_nonce) answer pair }
 {
@@ -86,12 +94,15 @@ pub fn further_pairs_are_children()
 pub fn further_children_mirror()
     ensures children { (keys : KeyRecord) (request reply : List Payload) (proposal : Proposal) (a b : Pair)
         → only_sa request ≡ Some (proposal ∷ [])
-        → IsFurtherChild Initiator keys request reply a → IsFurtherChild Responder keys request reply b → Mirrors a b }
-    ensures ends { (asked : Asked) (own_nonce : Octets) (keys : KeyRecord) (setup : Setup) (blocks ike other_ike : ℕ) (table : Database)
+        → IsFurtherChild Initiator keys request reply a → IsFurtherChild Responder keys request reply b
+        → Mirrors a b }
+    ensures ends { (asked : Asked) (own_nonce : Octets) (keys : KeyRecord) (setup : Setup)
+        (blocks ike other_ike : ℕ) (table : Database)
         (deleting : Bool) (request answer : Plain) (made : Made) (pair : Pair) → asked.spi < 2 ^ 32
         → SpellsChain request.first (further_payloads (child_request asked) own_nonce) request.octets
         → DecidesFurther setup other_ike keys table deleting request (decision.Made made)
-        → SpellsChain answer.first (further_answer (answer_to_further (decision.Made made)) setup.fresh.nonce) answer.octets
+        → SpellsChain answer.first
+        (further_answer (answer_to_further (decision.Made made)) setup.fresh.nonce) answer.octets
         → Concludes blocks ike keys asked own_nonce answer (conclusion.Made pair) → Mirrors pair made.pair }
 {
     children_mirror();
@@ -103,22 +114,29 @@ pub fn further_children_mirror()
 /// those offered, and inside one entry that protects; numbers are extended only where that is allowed; the answer's proposal has number and
 /// protocol of one that was offered, and takes its transforms from it. What is accepted keeps to what was asked. Does nothing.
 pub fn further_children_keep_to_their_offers()
-    ensures offer { (setup : Setup) (ike : ℕ) (keys : KeyRecord) (table : Database) (deleting : Bool) (plain : Plain) (made : Made)
+    ensures offer { (setup : Setup) (ike : ℕ) (keys : KeyRecord) (table : Database) (deleting : Bool)
+        (plain : Plain) (made : Made)
         (request : List Payload) (ts_i ts_r : List Selector)
-        → DecidesFurther setup ike keys table deleting plain (decision.Made made) → SpellsChain plain.first request plain.octets
+        → DecidesFurther setup ike keys table deleting plain (decision.Made made)
+        → SpellsChain plain.first request plain.octets
         → only_ts_i request ≡ Some ts_i → only_ts_r request ≡ Some ts_r
         → AnswersOffer made.pair.remote ts_i × AnswersOffer made.pair.local ts_r }
-    ensures policy { (setup : Setup) (ike : ℕ) (keys : KeyRecord) (table : Database) (deleting : Bool) (plain : Plain) (made : Made)
+    ensures policy { (setup : Setup) (ike : ℕ) (keys : KeyRecord) (table : Database) (deleting : Bool)
+        (plain : Plain) (made : Made)
         → DecidesFurther setup ike keys table deleting plain (decision.Made made)
         → LieInsidePolicy setup.entries made.pair.remote made.pair.local }
-    ensures extension { (setup : Setup) (ike : ℕ) (keys : KeyRecord) (table : Database) (deleting : Bool) (plain : Plain) (made : Made)
+    ensures extension { (setup : Setup) (ike : ℕ) (keys : KeyRecord) (table : Database) (deleting : Bool)
+        (plain : Plain) (made : Made)
         → DecidesFurther setup ike keys table deleting plain (decision.Made made)
         → made.pair.inbound.association.extended ≡ true → setup.config.extended ≡ true }
-    ensures proposal { (setup : Setup) (ike : ℕ) (keys : KeyRecord) (table : Database) (deleting : Bool) (plain : Plain) (made : Made)
+    ensures proposal { (setup : Setup) (ike : ℕ) (keys : KeyRecord) (table : Database) (deleting : Bool)
+        (plain : Plain) (made : Made)
         (request : List Payload) (proposals : List Proposal)
-        → DecidesFurther setup ike keys table deleting plain (decision.Made made) → SpellsChain plain.first request plain.octets
+        → DecidesFurther setup ike keys table deleting plain (decision.Made made)
+        → SpellsChain plain.first request plain.octets
         → only_sa request ≡ Some proposals → TakesProposal proposals made.payloads.proposals }
-    ensures accepted { (blocks ike : ℕ) (keys : KeyRecord) (asked : Asked) (own_nonce : Octets) (plain : Plain) (pair : Pair)
+    ensures accepted { (blocks ike : ℕ) (keys : KeyRecord) (asked : Asked) (own_nonce : Octets)
+        (plain : Plain) (pair : Pair)
         → Concludes blocks ike keys asked own_nonce plain (conclusion.Made pair) → KeepsToRequest asked pair }
 {
     responses_keep_to_their_offers();
@@ -128,9 +146,12 @@ pub fn further_children_keep_to_their_offers()
 
 /// A pair has at most 16 selectors on either side, as the payloads that were read. Does nothing.
 pub fn further_pairs_have_few_selectors()
-    ensures made { (setup : Setup) (ike : ℕ) (keys : KeyRecord) (table : Database) (deleting : Bool) (plain : Plain) (made : Made)
-        → DecidesFurther setup ike keys table deleting plain (decision.Made made) → HasFewSelectors made.pair }
-    ensures accepted { (blocks ike : ℕ) (keys : KeyRecord) (asked : Asked) (own_nonce : Octets) (plain : Plain) (pair : Pair)
+    ensures made { (setup : Setup) (ike : ℕ) (keys : KeyRecord) (table : Database) (deleting : Bool)
+        (plain : Plain) (made : Made)
+        → DecidesFurther setup ike keys table deleting plain (decision.Made made)
+        → HasFewSelectors made.pair }
+    ensures accepted { (blocks ike : ℕ) (keys : KeyRecord) (asked : Asked) (own_nonce : Octets)
+        (plain : Plain) (pair : Pair)
         → Concludes blocks ike keys asked own_nonce plain (conclusion.Made pair) → HasFewSelectors pair }
 {
     pairs_have_few_selectors();
@@ -141,11 +162,13 @@ pub fn further_pairs_have_few_selectors()
 /// What an initiator asked, and a responder made a child of, is accepted by the initiator, where request and answer came as they were sent.
 /// Does nothing.
 pub fn further_answers_are_accepted()
-    ensures { (asked : Asked) (own_nonce : Octets) (keys : KeyRecord) (setup : Setup) (blocks ike other_ike : ℕ) (table : Database)
+    ensures { (asked : Asked) (own_nonce : Octets) (keys : KeyRecord) (setup : Setup)
+        (blocks ike other_ike : ℕ) (table : Database)
         (deleting : Bool) (request answer : Plain) (made : Made) (concluded : Conclusion) → asked.spi < 2 ^ 32
         → SpellsChain request.first (further_payloads (child_request asked) own_nonce) request.octets
         → DecidesFurther setup other_ike keys table deleting request (decision.Made made)
-        → SpellsChain answer.first (further_answer (answer_to_further (decision.Made made)) setup.fresh.nonce) answer.octets
+        → SpellsChain answer.first
+        (further_answer (answer_to_further (decision.Made made)) setup.fresh.nonce) answer.octets
         → Concludes blocks ike keys asked own_nonce answer concluded
         → (pair : Pair) × (concluded ≡ conclusion.Made pair) }
 {
@@ -156,13 +179,17 @@ pub fn further_answers_are_accepted()
 /// What a refusal brings about at the exchange's initiator, where it came as it was sent: both ends take the IKE association for over, or
 /// both go on without the child. Does nothing.
 pub fn further_refusals_are_told()
-    ensures closing { (notice : Notice) (nonce : Octets) (blocks ike : ℕ) (keys : KeyRecord) (asked : Asked) (own_nonce : Octets)
+    ensures closing { (notice : Notice) (nonce : Octets) (blocks ike : ℕ) (keys : KeyRecord) (asked : Asked)
+        (own_nonce : Octets)
         (answer : Plain) (concluded : Conclusion) → is_closing_decision (decision.Refused notice) ≡ true
-        → SpellsChain answer.first (further_answer (answer_to_further (decision.Refused notice)) nonce) answer.octets
+        → SpellsChain answer.first
+        (further_answer (answer_to_further (decision.Refused notice)) nonce) answer.octets
         → Concludes blocks ike keys asked own_nonce answer concluded → concluded ≡ conclusion.Closes }
-    ensures others { (notice : Notice) (nonce : Octets) (blocks ike : ℕ) (keys : KeyRecord) (asked : Asked) (own_nonce : Octets)
+    ensures others { (notice : Notice) (nonce : Octets) (blocks ike : ℕ) (keys : KeyRecord) (asked : Asked)
+        (own_nonce : Octets)
         (answer : Plain) (concluded : Conclusion) → is_closing_decision (decision.Refused notice) ≡ false
-        → SpellsChain answer.first (further_answer (answer_to_further (decision.Refused notice)) nonce) answer.octets
+        → SpellsChain answer.first
+        (further_answer (answer_to_further (decision.Refused notice)) nonce) answer.octets
         → Concludes blocks ike keys asked own_nonce answer concluded → concluded ≡ conclusion.NoChild }
 {
     octets_spell_one_message();
@@ -170,7 +197,8 @@ pub fn further_refusals_are_told()
 
 /// All that is sent of a further child has what its fields allow, and is short enough to be sealed. Does nothing.
 pub fn what_is_sent_fits()
-    ensures request { (asked : Asked) (nonce : Octets) → IsSendableSelector asked.local → IsSendableSelector asked.remote
+    ensures request { (asked : Asked) (nonce : Octets) → IsSendableSelector asked.local
+        → IsSendableSelector asked.remote
         → FitsFields (Nonce nonce) → FitWithin 2840 (further_payloads (child_request asked) nonce) }
     ensures answer { (answer : ChildAnswer) (nonce : Octets) → FitsAnswer answer
         → FitsFields (Nonce nonce) → FitWithin 2840 (further_answer answer nonce) }

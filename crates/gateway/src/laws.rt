@@ -70,13 +70,17 @@ use wire::laws::octets_spell_one_message;
 /// What is to be protected never goes in the clear, outward or inward: outward it goes sealed or, for want of an association, of a
 /// number (E28, E12) or of memory, not at all. Only what the policy bypasses goes on as it is.
 pub fn the_protected_never_goes_in_the_clear<C>()
-    ensures outward { (meaning : Meaning) (packet octets : Octets) (flow : Flow) (action : Action) (old new : State C)
+    ensures outward { (meaning : Meaning) (packet octets : Octets) (flow : Flow) (action : Action)
+        (old new : State C)
         → IsDecided old.entries direction.Outward packet flow action
-        → Steps meaning (input.Outward packet) old (Clear octets) new → (action ≡ Bypass) × (octets ≡ packet) }
-    ensures protected { (meaning : Meaning) (packet : Octets) (flow : Flow) (said : OutputView) (old new : State C)
+        → Steps meaning (input.Outward packet) old (Clear octets) new
+        → (action ≡ Bypass) × (octets ≡ packet) }
+    ensures protected { (meaning : Meaning) (packet : Octets) (flow : Flow) (said : OutputView)
+        (old new : State C)
         → IsDecided old.entries direction.Outward packet flow Protect
         → Steps meaning (input.Outward packet) old said new → GoesSealed flow packet old said new }
-    ensures inward { (meaning : Meaning) (packet octets : Octets) (flow : Flow) (action : Action) (old new : State C)
+    ensures inward { (meaning : Meaning) (packet octets : Octets) (flow : Flow) (action : Action)
+        (old new : State C)
         → IsDecided old.entries direction.Inward packet flow action
         → Steps meaning (input.Inward packet) old (Clear octets) new → (action ≡ Bypass) × (octets ≡ packet) }
 {
@@ -94,7 +98,8 @@ pub fn refusals_change_nothing<C>()
 
 /// A datagram of IKE that is dropped, or is a request that took effect before, changes nothing.
 pub fn what_is_quiet_changes_nothing<C>()
-    ensures { (meaning : Meaning) (from octets : Octets) (fresh : Fresh) (said : OutputView) (old new : State C)
+    ensures { (meaning : Meaning) (from octets : Octets) (fresh : Fresh) (said : OutputView)
+        (old new : State C)
         → Steps meaning (input.Ike from octets fresh) old said new → IsQuiet said → new ≡ old }
 {
     ike::laws::what_is_quiet_changes_nothing();
@@ -107,7 +112,8 @@ pub fn a_dropped_packet_takes_one_number_at_most<C>()
         → Steps meaning (input.Esp octets) old (Dropped reason) new → is_after_judging_packet reason ≡ true
         → (new ≡ record old { table = new.table }) × TakesOneNumber old.table octets new.table }
     ensures unjudged { (meaning : Meaning) (octets : Octets) (reason : Reason) (old new : State C)
-        → Steps meaning (input.Esp octets) old (Dropped reason) new → is_after_judging_packet reason ≡ false → new ≡ old }
+        → Steps meaning (input.Esp octets) old (Dropped reason) new → is_after_judging_packet reason ≡ false
+        → new ≡ old }
     ensures outward { (meaning : Meaning) (packet : Octets) (reason : Reason) (old new : State C)
         → Steps meaning (input.Outward packet) old (Dropped reason) new → new ≡ old }
     ensures inward { (meaning : Meaning) (packet : Octets) (said : OutputView) (old new : State C)
@@ -135,8 +141,10 @@ pub fn few_go_out_again<C>()
 
 /// A child that a step makes has at most 16 selectors on either side (RFC 7296, section 3.13; a limit of this implementation).
 pub fn what_is_made_fits<C>()
-    ensures { (meaning : Meaning) (given : Input) (said : OutputView) (trace : Trace) (old new : State C) → IsSoundTable old.table
-        → IsSoundMachine old.machine old.table → Traces meaning given old said trace new → FitsChild trace.child new.table.pairs }
+    ensures { (meaning : Meaning) (given : Input) (said : OutputView) (trace : Trace) (old new : State C)
+        → IsSoundTable old.table
+        → IsSoundMachine old.machine old.table → Traces meaning given old said trace new
+        → FitsChild trace.child new.table.pairs }
 {
     children_have_few_selectors();
 }
@@ -144,20 +152,28 @@ pub fn what_is_made_fits<C>()
 /// What a step's trace tells is stored: a message under SK with a key record, as the response or request that it is, and the key record
 /// and the child that were made. So is a request that goes out again with a moment, but for one of IKE_SA_INIT.
 pub fn what_is_told_is_stored<C>()
-    ensures message { (meaning : Meaning) (given : Input) (said : OutputView) (trace : Trace) (mark : ike.Mark) (old new : State C)
-        → IsSoundTable old.table → IsSoundMachine old.machine old.table → Traces meaning given old said trace new
+    ensures message { (meaning : Meaning) (given : Input) (said : OutputView) (trace : Trace)
+        (mark : ike.Mark) (old new : State C)
+        → IsSoundTable old.table → IsSoundMachine old.machine old.table
+        → Traces meaning given old said trace new
         → trace.sent ≡ Some mark → IsMarked mark (ike_mark new.machine trace.sent) }
-    ensures keyed { (meaning : Meaning) (given : Input) (said : OutputView) (trace : Trace) (end : End) (ike : ℕ) (old new : State C)
-        → IsSoundTable old.table → IsSoundMachine old.machine old.table → Traces meaning given old said trace new
+    ensures keyed { (meaning : Meaning) (given : Input) (said : OutputView) (trace : Trace) (end : End)
+        (ike : ℕ) (old new : State C)
+        → IsSoundTable old.table → IsSoundMachine old.machine old.table
+        → Traces meaning given old said trace new
         → trace.keyed ≡ Some ike → IsSome (keyed_by end trace.keyed new.machine) }
-    ensures child { (meaning : Meaning) (given : Input) (said : OutputView) (trace : Trace) (end : End) (made : MadeChild)
+    ensures child { (meaning : Meaning) (given : Input) (said : OutputView) (trace : Trace) (end : End)
+        (made : MadeChild)
         (old new : State C) → IsSoundTable old.table → IsSoundMachine old.machine old.table
-        → Traces meaning given old said trace new → trace.child ≡ Some made → IsSome (child_by end trace.child new) }
-    ensures again { (meaning : Meaning) (given : Input) (said : OutputView) (trace : Trace) (requests : List Resent) (closed : List ℕ)
+        → Traces meaning given old said trace new → trace.child ≡ Some made
+        → IsSome (child_by end trace.child new) }
+    ensures again { (meaning : Meaning) (given : Input) (said : OutputView) (trace : Trace)
+        (requests : List Resent) (closed : List ℕ)
         (request : Resent) (old new : State C) → IsSoundTable old.table → IsSoundMachine old.machine old.table
         → Traces meaning given old said trace new → said ≡ Ticked requests closed → Contains requests request
         → request.encrypted ≡ true
-        → IsMarked (record { ike = request.ike; response = false; number = request.number }) (ike_mark new.machine (mark_again request)) }
+        → IsMarked (record { ike = request.ike; response = false; number = request.number })
+        (ike_mark new.machine (mark_again request)) }
 {
     traces_name_what_is_held();
 }
@@ -165,12 +181,16 @@ pub fn what_is_told_is_stored<C>()
 /// Each end of a world has its own events in order, whatever happens at the other: what becomes of it is a run of its gateway alone, whose
 /// steps are those of the world at this end.
 pub fn each_end_has_its_events<C>()
-    ensures run { (meaning_of : C → Meaning) (end : End) (events : List Event) (outputs : List Output) (old new : WorldState C)
+    ensures run { (meaning_of : C → Meaning) (end : End) (events : List Event) (outputs : List Output)
+        (old new : WorldState C)
         → Runs (HappensAs meaning_of) events outputs old new
-        → Runs (StepsAs meaning_of) (inputs_at end events) (outputs_at end events outputs) (gateway_at end old) (gateway_at end new) }
-    ensures history { (meaning_of : C → Meaning) (end : End) (events : List Event) (outputs : List Output) (old new : WorldState C)
+        → Runs (StepsAs meaning_of) (inputs_at end events) (outputs_at end events outputs)
+        (gateway_at end old) (gateway_at end new) }
+    ensures history { (meaning_of : C → Meaning) (end : End) (events : List Event) (outputs : List Output)
+        (old new : WorldState C)
         (happenings : List (Happening C)) → IsWorldHistory meaning_of events outputs old new happenings
-        → IsHistory meaning_of (inputs_at end events) (outputs_at end events outputs) (gateway_at end old) (gateway_at end new)
+        → IsHistory meaning_of (inputs_at end events) (outputs_at end events outputs) (gateway_at end old)
+        (gateway_at end new)
         (passages_at end happenings) }
 {}
 
@@ -207,19 +227,26 @@ pub fn every_run_keeps_its_promises<C>()
 /// the first and then those of the second. So calls in a row are one run over all their lists, of which everything is promised that is
 /// promised of one list: what was judged or took effect at one call is judged or takes effect at no later one.
 pub fn runs_in_a_row_are_one_run<C>()
-    ensures both { (meaning_of : C → Meaning) (first second : List Input) (outputs others : List Output) (old between new : State C)
-        → Runs (StepsAs meaning_of) first outputs old between → Runs (StepsAs meaning_of) second others between new
+    ensures both { (meaning_of : C → Meaning) (first second : List Input) (outputs others : List Output)
+        (old between new : State C)
+        → Runs (StepsAs meaning_of) first outputs old between
+        → Runs (StepsAs meaning_of) second others between new
         → Runs (StepsAs meaning_of) (first ++ second) (outputs ++ others) old new }
-    ensures histories { (meaning_of : C → Meaning) (first second : List Input) (outputs others : List Output) (old between new : State C)
+    ensures histories { (meaning_of : C → Meaning) (first second : List Input) (outputs others : List Output)
+        (old between new : State C)
         (earlier later : List (Passage C)) → IsHistory meaning_of first outputs old between earlier
         → IsHistory meaning_of second others between new later
         → IsHistory meaning_of (first ++ second) (outputs ++ others) old new (earlier ++ later) }
-    ensures calls { (meaning_of : C → Meaning) (lists : List (List Input)) (outputs : List (List Output)) (old new : State C)
+    ensures calls { (meaning_of : C → Meaning) (lists : List (List Input)) (outputs : List (List Output))
+        (old new : State C)
         → Runs (CallsAs meaning_of) lists outputs old new
-        → Runs (StepsAs meaning_of) (flat_map (λ inputs. inputs) lists) (flat_map (λ list. list) outputs) old new }
-    ensures promises { (meaning_of : C → Meaning) (lists : List (List Input)) (outputs : List (List Output)) (old new : State C)
+        → Runs (StepsAs meaning_of) (flat_map (λ inputs. inputs) lists)
+        (flat_map (λ list. list) outputs) old new }
+    ensures promises { (meaning_of : C → Meaning) (lists : List (List Input)) (outputs : List (List Output))
+        (old new : State C)
         → Runs (CallsAs meaning_of) lists outputs old new
-        → KeepsPromises meaning_of (flat_map (λ inputs. inputs) lists) (flat_map (λ list. list) outputs) old new }
+        → KeepsPromises meaning_of (flat_map (λ inputs. inputs) lists)
+        (flat_map (λ list. list) outputs) old new }
 {
     every_run_keeps_its_promises::<C>();
 }
@@ -227,7 +254,8 @@ pub fn runs_in_a_row_are_one_run<C>()
 /// The premise on ESP packets is met by steps of a gateway in a row, in which a packet comes twice, with another input between, and no
 /// check value is forged: whatever the configuration, the caller and the numbers that were judged.
 pub fn the_premises_of_packets_are_met<C>()
-    ensures { (meaning_of : C → Meaning) (config : Config) (caller : C) → IsConfig config → IsWorkedRun meaning_of config caller }
+    ensures { (meaning_of : C → Meaning) (config : Config) (caller : C) → IsConfig config
+        → IsWorkedRun meaning_of config caller }
 {
     ike::laws::what_is_due_comes_in_time();
     numbers_are_determined();
@@ -244,7 +272,8 @@ pub fn the_premises_of_requests_are_met<C>()
 
 /// What is stored of a world is never forgotten: it is stored from then on, before what comes later.
 pub fn what_is_stored_stays<C>()
-    ensures { (meaning_of : C → Meaning) (events : List Event) (outputs : List Output) (old new : WorldState C)
+    ensures { (meaning_of : C → Meaning) (events : List Event) (outputs : List Output)
+        (old new : WorldState C)
         → Runs (HappensAs meaning_of) events outputs old new → IsLater old.stored new.stored }
 {}
 
@@ -254,21 +283,30 @@ pub fn what_is_stored_stays<C>()
 /// of what is stored after the list, which asks for less (`by_then`). What is asked of a later moment is so of an earlier one, and what was
 /// sent stays so (`not_twice`, `still_sent`). Of a step of IKE this uses its moves, and what its trace names.
 pub fn every_world_stays_sound<C>()
-    ensures begun { (keys : KeyRecord) (a b : State C) → HoldsNothing a → HoldsNothing b → IsSoundUnder keys (new_world a b) }
+    ensures begun { (keys : KeyRecord) (a b : State C) → HoldsNothing a → HoldsNothing b
+        → IsSoundUnder keys (new_world a b) }
     ensures trail { (meaning_of : C → Meaning) (happenings : List (Happening C)) (old new : WorldState C)
         → IsWorldTrail meaning_of old happenings new → StaysSound meaning_of happenings old new }
-    ensures run { (meaning_of : C → Meaning) (events : List Event) (outputs : List Output) (old new : WorldState C)
-        → Runs (HappensAs meaning_of) events outputs old new → KeepsWorldPromises meaning_of events outputs old new }
-    ensures calls { (meaning_of : C → Meaning) (lists : List (List Event)) (outputs : List (List Output)) (old new : WorldState C)
+    ensures run { (meaning_of : C → Meaning) (events : List Event) (outputs : List Output)
+        (old new : WorldState C)
+        → Runs (HappensAs meaning_of) events outputs old new
+        → KeepsWorldPromises meaning_of events outputs old new }
+    ensures calls { (meaning_of : C → Meaning) (lists : List (List Event)) (outputs : List (List Output))
+        (old new : WorldState C)
         → Runs (CallsWorldAs meaning_of) lists outputs old new
-        → KeepsWorldPromises meaning_of (flat_map (λ events. events) lists) (flat_map (λ list. list) outputs) old new }
-    ensures by_then { (meaning_of : C → Meaning) (keys : KeyRecord) (happenings : List (Happening C)) (old new : WorldState C)
+        → KeepsWorldPromises meaning_of (flat_map (λ events. events) lists)
+        (flat_map (λ list. list) outputs) old new }
+    ensures by_then { (meaning_of : C → Meaning) (keys : KeyRecord) (happenings : List (Happening C))
+        (old new : WorldState C)
         → IsWorldTrail meaning_of old happenings new → IsUnforgedByThen meaning_of keys happenings
         → IsUnforged meaning_of keys happenings new.stored }
-    ensures not_twice { (keys : KeyRecord) (now later : Stored) → IsLater now later → IsNeverMadeTwice keys later
+    ensures not_twice { (keys : KeyRecord) (now later : Stored) → IsLater now later
+        → IsNeverMadeTwice keys later
         → IsNeverMadeTwice keys now }
-    ensures still_sent { (end : End) (keys : KeyRecord) (response : Bool) (number : ℕ) (octets : Octets) (now later : Stored)
-        → IsLater now later → HasSent end keys response number octets now → HasSent end keys response number octets later }
+    ensures still_sent { (end : End) (keys : KeyRecord) (response : Bool) (number : ℕ) (octets : Octets)
+        (now later : Stored)
+        → IsLater now later → HasSent end keys response number octets now
+        → HasSent end keys response number octets later }
 {
     steps_are_moves();
     traces_name_what_is_held();
@@ -310,7 +348,8 @@ pub fn the_premises_of_two_ends_are_met<C>()
 /// datagram is of octets and that a cipher tells lengths, as its law says; of the gateway that the keys of its IKE associations are
 /// whole, as they stay.
 pub fn steps_are_determined<C>()
-    ensures traces { (meaning : Meaning) (given : Input) (old other a b : State C) (one two : OutputView) (trace another : Trace)
+    ensures traces { (meaning : Meaning) (given : Input) (old other a b : State C) (one two : OutputView)
+        (trace another : Trace)
         → IsGiven meaning given → HoldWholeKeys old.machine.held → state_content old ≡ state_content other
         → wants_memory one ≡ false → wants_memory two ≡ false
         → Traces meaning given old one trace a → Traces meaning given other two another b
@@ -320,13 +359,17 @@ pub fn steps_are_determined<C>()
         → wants_memory one ≡ false → wants_memory two ≡ false
         → Steps meaning given old one a → Steps meaning given other two b
         → (one ≡ two) × (state_content a ≡ state_content b) }
-    ensures runs { (meaning_of : C → Meaning) (inputs : List Input) (ones twos : List Output) (old other a b : State C)
-        → AllByRecursion (IsGiven (meaning_of old.caller)) inputs → AllByRecursion (λ output. wants_memory (output_view output) ≡ false) ones
-        → AllByRecursion (λ output. wants_memory (output_view output) ≡ false) twos → HoldWholeKeys old.machine.held
+    ensures runs { (meaning_of : C → Meaning) (inputs : List Input) (ones twos : List Output)
+        (old other a b : State C)
+        → AllByRecursion (IsGiven (meaning_of old.caller)) inputs
+        → AllByRecursion (λ output. wants_memory (output_view output) ≡ false) ones
+        → AllByRecursion (λ output. wants_memory (output_view output) ≡ false) twos
+        → HoldWholeKeys old.machine.held
         → state_content old ≡ state_content other → Runs (StepsAs meaning_of) inputs ones old a
         → Runs (StepsAs meaning_of) inputs twos other b
         → (map output_view ones ≡ map output_view twos) × (state_content a ≡ state_content b) }
-    ensures whole { (meaning : Meaning) (given : Input) (old new : State C) (said : OutputView) → HoldWholeKeys old.machine.held
+    ensures whole { (meaning : Meaning) (given : Input) (old new : State C) (said : OutputView)
+        → HoldWholeKeys old.machine.held
         → Steps meaning given old said new → HoldWholeKeys new.machine.held }
 {
     ike::laws::keys_stay_whole();

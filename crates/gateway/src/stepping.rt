@@ -154,7 +154,8 @@ fn step_ike<'a, C: Sealer + Agreement + Proof>(
           proof_of = C.proof_of caller.now;
           accepts = C.accepts caller.now;
         })
-        policy.now (input_view input.now) ike.old table.old (output_view result.output) result.trace ike.new table.new }
+        policy.now (input_view input.now) ike.old table.old
+        (output_view result.output) result.trace ike.new table.new }
     ensures sound { IsSoundMachine ike.new table.new }
     ensures timely { IsTimely ike.new }
     ensures reservations { AreReservationsHeld ike.new.held table.new }
@@ -198,7 +199,8 @@ fn step_machine<'a, C: Sealer + Agreement + Proof>(
           proof_of = C.proof_of caller.now;
           accepts = C.accepts caller.now;
         })
-        policy.now (input_view input.now) ike.old table.old (output_view result.output) result.trace ike.new table.new }
+        policy.now (input_view input.now) ike.old table.old
+        (output_view result.output) result.trace ike.new table.new }
     ensures sound { IsSoundMachine ike.new table.new }
     ensures timely { IsTimely ike.new }
     ensures reservations { AreReservationsHeld ike.new.held table.new }

@@ -8,7 +8,7 @@ use Rattle.std.proofs.lemmas.Option.{slice_get-map}
 use Rattle.wire.specs.declared.message.Header.{Header}
 use Rattle.base.specs.Octets.{Octets}
 use Rattle.association.specs.Contents.{association_content}
-use Rattle.association.specs.Finding.{found, is_meant, is_of_other_role, place_or, missing}
+use Rattle.association.specs.Finding.{place_meant, is_meant, is_of_other_role, place_or, missing}
 use Rattle.association.specs.declared.fault.MessageFault.TheVariants.{UnknownAssociation, WrongRole}
 use Rattle.association.specs.declared.phase.Association.{Association}
 use Rattle.ike.specs.Contents.{held_content}
@@ -64,7 +64,7 @@ module _ (xs ys : List Association) (same : map association_content xs ≡ map a
   pub same_answered : (octets : Octets) → position (is_answered octets) xs ≡ position (is_answered octets) ys
   same_answered octets = same_place (is_answered octets) (λ x. refl)
 
-  pub same_found : (h : Header) → found h xs ≡ found h ys
+  pub same_found : (h : Header) → place_meant h xs ≡ place_meant h ys
   same_found h =
       ap (λ (o : Option ℕ). place_or o (missing h xs)) (same_place (is_meant h) (λ x. refl))
       ∙ ap (λ b. place_or (position (is_meant h) ys) (if b then WrongRole else UnknownAssociation)) (same_any (is_of_other_role h) (λ x. refl))

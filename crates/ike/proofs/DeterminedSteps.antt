@@ -15,7 +15,7 @@ use Rattle.sa_init.specs.Cookies.{changed, CookieSecrets}
 use Rattle.sa_init.specs.Judging.{Accepted, Answered, Full, Incomplete, IsJudgement, JudgementView, OfferView}
 use Rattle.sa_init.specs.Messages.{notice_message}
 use Rattle.association.specs.Contents.{association_content}
-use Rattle.association.specs.Finding.{found}
+use Rattle.association.specs.Finding.{place_meant}
 use Rattle.association.specs.AskedChildren.{AskedChildView}
 use Rattle.association.specs.declared.fault.MessageFault.{MessageFault}
 use Rattle.association.specs.declared.fault.MessageFault.TheVariants.{WrongPhase}
@@ -202,8 +202,8 @@ module _ (laws : Laws) (meaning : Meaning) (setup : Setup) (old other : Held) (s
     one_read true cookies from octets m one two a b a_table b_table is also =
         with_table one two a b table another a_table b_table alike (one_sound (is_sound_initial m.header) cookies from octets m one two a b is.0 also.0) is.1 also.1
     one_read false cookies from octets m one two a b a_table b_table is also =
-        let place : found m.header other.associations ≡ found m.header old.associations = sym (same_found old.associations other.associations (same_list old other same) m.header) in
-        one_found (found m.header old.associations) octets m one two a b a_table b_table is
+        let place : place_meant m.header other.associations ≡ place_meant m.header old.associations = sym (same_found old.associations other.associations (same_list old other same) m.header) in
+        one_found (place_meant m.header old.associations) octets m one two a b a_table b_table is
         (subst (λ (r : Result ℕ MessageFault). TakesFound r meaning setup octets m other another two b b_table) place also)
 
     one_failure : (octets : Octets) (one two : Stepped) (a b : Held) (a_table b_table : Database) → AreOctets octets

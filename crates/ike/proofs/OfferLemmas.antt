@@ -16,7 +16,7 @@ use Rattle.sadb.specs.Database.{Database}
 use Rattle.sa_init.specs.Cookies.{CookieSecrets}
 use Rattle.sa_init.specs.Judging.{Accepted, Answered, Full, Incomplete, IsJudgement, JudgementView, OfferView}
 use Rattle.sa_init.specs.declared.judging.Sender.{Sender}
-use Rattle.association.specs.Finding.{found}
+use Rattle.association.specs.Finding.{place_meant}
 use Rattle.association.specs.declared.fault.MessageFault.{MessageFault}
 use Rattle.association.specs.declared.phase.Association.{Association}
 use Rattle.initial.specs.Beginning.{Admits}
@@ -125,7 +125,7 @@ read_offers : (b : Bool) (laws : AnswerLaws) (meaning : Meaning) (setup : Setup)
 read_offers true laws meaning setup cookies from octets m old table stepped new new_table reply spelled is now =
     sound_offers (is_sound_initial m.header) laws meaning setup cookies from octets m old stepped new reply spelled is.0 now
 read_offers false laws meaning setup cookies from octets m old table stepped new new_table reply spelled is now =
-    absurd (found_offers (found m.header old.associations) meaning setup octets m old table stepped new new_table reply is now)
+    absurd (found_offers (place_meant m.header old.associations) meaning setup octets m old table stepped new new_table reply is now)
 
 pub step_first_offer : AnswerLaws → (meaning : Meaning) (entries : List Entry) (from octets : Octets) (fresh : Fresh) (old : Machine) (table : Database) (stepped : Stepped) (new : Machine) (new_table : Database)
     (reply : Octets) (closed : Option ℕ) (ike : ℕ) → Steps meaning entries (steps.Message from octets fresh) old table stepped new new_table
@@ -257,7 +257,7 @@ read_notice : (b : Bool) (meaning : Meaning) (setup : Setup) (cookies : CookieSe
     → TakesRead b meaning setup cookies from octets m old table stepped new new_table → AnswersOnly stepped reply → AnswersNoOffer reply
 read_notice true meaning setup cookies from octets m old table stepped new new_table reply is now = sound_notice (is_sound_initial m.header) meaning setup cookies from octets m old stepped new reply is.0 now
 read_notice false meaning setup cookies from octets m old table stepped new new_table reply is now =
-    absurd (found_notice (found m.header old.associations) meaning setup octets m old table stepped new new_table reply is now)
+    absurd (found_notice (place_meant m.header old.associations) meaning setup octets m old table stepped new new_table reply is now)
 
 pub step_no_offer : (meaning : Meaning) (entries : List Entry) (from octets : Octets) (fresh : Fresh) (old : Machine) (table : Database) (stepped : Stepped) (new : Machine) (new_table : Database)
     (reply : Octets) (closed : Option ℕ) → Steps meaning entries (steps.Message from octets fresh) old table stepped new new_table

@@ -13,7 +13,7 @@ use Rattle.sadb.specs.Database.{Database}
 use Rattle.sa_init.specs.Cookies.{CookieSecrets}
 use Rattle.sa_init.specs.Judging.{Accepted, Answered, Full, Incomplete, JudgementView}
 use Rattle.requests.specs.Incoming.{PeerRequests}
-use Rattle.association.specs.Finding.{found, sent_by_other}
+use Rattle.association.specs.Finding.{place_meant, sent_by_other}
 use Rattle.association.specs.Receiving.{IsRepeating}
 use Rattle.association.specs.declared.fault.MessageFault.{MessageFault}
 use Rattle.association.specs.declared.phase.Association.{Association}
@@ -156,7 +156,7 @@ read_replies : (more : MoreLaws) (b : Bool) (meaning : Meaning) (setup : Setup) 
 read_replies more true meaning setup cookies from octets m old table stepped new new_table reply closed sound spelled initial said is =
     inr (initial_replies (is_sound_initial m.header) meaning setup cookies from octets m old stepped new reply closed spelled initial refl said is.0)
 read_replies more false meaning setup cookies from octets m old table stepped new new_table reply closed sound spelled initial said is =
-    inl (found_replies more (found m.header old.associations) meaning setup octets m old table stepped new new_table reply closed sound said is)
+    inl (found_replies more (place_meant m.header old.associations) meaning setup octets m old table stepped new new_table reply closed sound said is)
 
 pub step_replied : MoreLaws → (meaning : Meaning) (entries : List Entry) (input : InputView) (old : Machine) (table : Database) (stepped : Stepped) (new : Machine) (new_table : Database)
     (reply : Octets) (closed : Option ℕ) → IsSoundMachine old table → Steps meaning entries input old table stepped new new_table → stepped.output ≡ output.Reply reply closed
@@ -195,7 +195,7 @@ repeated_by serial number (effect.AsksAuth next) reply is = absurd cc
 repeated_by serial number (effect.Counted ended) reply is = absurd cc
 
 taken_repeats : (more : MoreLaws) (place : ℕ) (meaning : Meaning) (setup : Setup) (from octets : Octets) (fresh : Fresh) (m : Message) (old : Held) (table : Database) (stepped : Stepped) (new : Held) (new_table : Database) (reply : Octets)
-    → AreSound old table → Spells m octets → found m.header old.associations ≡ Ok place → stepped.output ≡ output.Repeat reply → TakesAt place meaning setup octets m old table stepped new new_table
+    → AreSound old table → Spells m octets → place_meant m.header old.associations ≡ Ok place → stepped.output ≡ output.Repeat reply → TakesAt place meaning setup octets m old table stepped new new_table
     → IsReplyKept meaning (steps.Message from octets fresh) old reply
 taken_repeats more place meaning setup from octets fresh m old table stepped new new_table reply sound spelled finds said t =
     let e = repeated_by t.association.serial m.header.id t.effect reply (sym (ap (λ (s : Stepped). s.output) t.said) ∙ said) in
@@ -225,7 +225,7 @@ taken_repeats more place meaning setup from octets fresh m old table stepped new
     }
 
 found_repeats : (more : MoreLaws) (r : Result ℕ MessageFault) (meaning : Meaning) (setup : Setup) (from octets : Octets) (fresh : Fresh) (m : Message) (old : Held) (table : Database) (stepped : Stepped) (new : Held) (new_table : Database) (reply : Octets)
-    → AreSound old table → Spells m octets → found m.header old.associations ≡ r → stepped.output ≡ output.Repeat reply → TakesFound r meaning setup octets m old table stepped new new_table → IsReplyKept meaning (steps.Message from octets fresh) old reply
+    → AreSound old table → Spells m octets → place_meant m.header old.associations ≡ r → stepped.output ≡ output.Repeat reply → TakesFound r meaning setup octets m old table stepped new new_table → IsReplyKept meaning (steps.Message from octets fresh) old reply
 found_repeats more (Ok place) meaning setup from octets fresh m old table stepped new new_table reply sound spelled finds said is =
     taken_repeats more place meaning setup from octets fresh m old table stepped new new_table reply sound spelled finds said is
 found_repeats more (Err f) meaning setup from octets fresh m old table stepped new new_table reply sound spelled finds said is =
@@ -273,7 +273,7 @@ read_repeats : (more : MoreLaws) (b : Bool) (meaning : Meaning) (setup : Setup) 
 read_repeats more true meaning setup cookies from octets fresh m old table stepped new new_table reply sound spelled said is =
     inr (initial_repeats (is_sound_initial m.header) meaning setup cookies from octets fresh m old table stepped new reply sound said is.0)
 read_repeats more false meaning setup cookies from octets fresh m old table stepped new new_table reply sound spelled said is =
-    inl (found_repeats more (found m.header old.associations) meaning setup from octets fresh m old table stepped new new_table reply sound spelled refl said is)
+    inl (found_repeats more (place_meant m.header old.associations) meaning setup from octets fresh m old table stepped new new_table reply sound spelled refl said is)
 
 pub step_repeats_only : MoreLaws → (meaning : Meaning) (entries : List Entry) (input : InputView) (old : Machine) (table : Database) (stepped : Stepped) (new : Machine) (new_table : Database)
     (reply : Octets) → IsSoundMachine old table → Steps meaning entries input old table stepped new new_table → stepped.output ≡ output.Repeat reply

@@ -8,7 +8,7 @@ use Rattle.policy.specs.declared.entry.Entry.{Entry}
 use Rattle.sadb.specs.Database.{Database}
 use Rattle.sa_init.specs.Cookies.{CookieSecrets}
 use Rattle.sa_init.specs.Judging.{Accepted, Answered, Full, Incomplete, JudgementView, OfferView}
-use Rattle.association.specs.Finding.{found}
+use Rattle.association.specs.Finding.{place_meant}
 use Rattle.association.specs.declared.fault.MessageFault.{MessageFault}
 use Rattle.association.specs.declared.phase.Association.{Association}
 use Rattle.initial.specs.Configs.{Setup}
@@ -98,7 +98,7 @@ quiet_read : (facts : Quietness) (b : Bool) (meaning : Meaning) (setup : Setup) 
 quiet_read facts true meaning setup cookies from octets m old table stepped new new_table quiet is =
     (quiet_sound (is_sound_initial m.header) meaning setup cookies from octets m old stepped new quiet is.0, is.1)
 quiet_read facts false meaning setup cookies from octets m old table stepped new new_table quiet is =
-    quiet_found facts (found m.header old.associations) meaning setup octets m old table stepped new new_table quiet is
+    quiet_found facts (place_meant m.header old.associations) meaning setup octets m old table stepped new new_table quiet is
 
 quiet_datagram : (facts : Quietness) (meaning : Meaning) (setup : Setup) (cookies : CookieSecrets) (from octets : Octets) (old : Held) (table : Database) (stepped : Stepped) (new : Held) (new_table : Database)
     → IsQuiet stepped.output → TakesDatagram meaning setup cookies from octets old table stepped new new_table → Still old table new new_table

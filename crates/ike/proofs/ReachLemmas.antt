@@ -12,7 +12,7 @@ use Rattle.sadb.specs.Database.{Database}
 use Rattle.sa_init.specs.Cookies.{CookieSecrets}
 use Rattle.sa_init.specs.Judging.{Accepted, Answered, Full, Incomplete, BringsRightCookie, COOKIE_THRESHOLD, IsJudgement, JudgementView, OfferView}
 use Rattle.sa_init.specs.declared.judging.Sender.{Sender}
-use Rattle.association.specs.Finding.{found}
+use Rattle.association.specs.Finding.{place_meant}
 use Rattle.association.specs.declared.fault.MessageFault.{MessageFault}
 use Rattle.association.specs.declared.phase.Association.{Association}
 use Rattle.initial.specs.Configs.{Setup}
@@ -79,7 +79,7 @@ read_reached : (facts : CookieFacts) (b : Bool) (meaning : Meaning) (setup : Set
 read_reached facts true meaning setup cookies from octets m old table stepped new new_table spelled many grows is =
     sound_reached facts (is_sound_initial m.header) meaning setup cookies from octets m old stepped new spelled many grows is.0
 read_reached facts false meaning setup cookies from octets m old table stepped new new_table spelled many grows is =
-    let as_many = found_stays facts (found m.header old.associations) meaning setup octets m old table stepped new new_table is in absurd (omega (arith, as_many, grows))
+    let as_many = found_stays facts (place_meant m.header old.associations) meaning setup octets m old table stepped new new_table is in absurd (omega (arith, as_many, grows))
 
 pub datagram_reached : (facts : CookieFacts) (meaning : Meaning) (entries : List Entry) (from octets : Octets) (fresh : Fresh) (old : Machine) (table : Database) (stepped : Stepped) (new : Machine) (new_table : Database)
     → Steps meaning entries (steps.Message from octets fresh) old table stepped new new_table → COOKIE_THRESHOLD ≤ half_open_count old.held.associations

@@ -26,7 +26,7 @@ use Rattle.requests.specs.Incoming.{IsFreshRequest, PeerRequests}
 use Rattle.requests.specs.Numbers.{HasNumber, LacksNumber}
 use Rattle.sadb.specs.Database.{Database}
 use Rattle.sa_init.specs.Cookies.{CookieSecrets}
-use Rattle.association.specs.Finding.{answers_initial, found, has_pair, is_meant, is_waiting, missing, place_or, sent_by_other}
+use Rattle.association.specs.Finding.{answers_initial, place_meant, has_pair, is_meant, is_waiting, missing, place_or, sent_by_other}
 use Rattle.association.specs.Phases.{keys_in}
 use Rattle.association.specs.Receiving.{admits, opened_by, opened_under, Opening}
 use Rattle.association.specs.declared.fault.MessageFault.{MessageFault}
@@ -146,7 +146,7 @@ first_of p xs place a first there =
       before = λ k c less is. ap p (sym (get_as xs k c a is)) ∙ by.2 k less;
     }
 
-pub found_first : (h : Header) (xs : List Association) (place : ℕ) (a : Association) → found h xs ≡ Ok place → slice_get xs place ≡ Some a → IsFirst (is_meant h) xs place a
+pub found_first : (h : Header) (xs : List Association) (place : ℕ) (a : Association) → place_meant h xs ≡ Ok place → slice_get xs place ≡ Some a → IsFirst (is_meant h) xs place a
 found_first h xs place a finds there = first_of (is_meant h) xs place a (one_place (position (is_meant h) xs) (missing h xs) place finds) there
 
 grown_same : (old : Held) (table : Database) (serial : ℕ) (b c : Association) (new : Held) → AreSound old table → b.serial ≡ old.next → new ≡ with_next old b
@@ -314,7 +314,7 @@ named_by Responder a next table role sound keyed = λ zero. sound.own (ap (λ r.
 pub record Finds (held : Held) (a : Association) (h : Header) : Type 0 where
   pub place : ℕ
   pub there : At held place a
-  pub found_there : found h held.associations ≡ Ok place
+  pub found_there : place_meant h held.associations ≡ Ok place
   pub not_initial : is_initial_request h ≡ false
 
 finds_first : (held : Held) (table : Database) (place : ℕ) (a : Association) (h : Header) (o : Option ℕ) → AreSound held table → At held place a → h.flags.response ≡ false
@@ -360,7 +360,7 @@ takes_there laws meaning setup cookies from octets old table stepped new new_tab
       let same : read.message ≡ m = laws.message read.message m octets read.spelled spelled in
       let taken : TakesRead (is_initial_request m.header) meaning setup cookies from octets m old table stepped new new_table =
       subst (λ (x : Message). TakesRead (is_initial_request x.header) meaning setup cookies from octets x old table stepped new new_table) same read.done in
-      let found_one : TakesFound (found m.header old.associations) meaning setup octets m old table stepped new new_table =
+      let found_one : TakesFound (place_meant m.header old.associations) meaning setup octets m old table stepped new new_table =
       subst (λ b. TakesRead b meaning setup cookies from octets m old table stepped new new_table) f.not_initial taken in
       let t : TakesAt f.place meaning setup octets m old table stepped new new_table =
       subst (λ r. TakesFound r meaning setup octets m old table stepped new new_table) f.found_there found_one in

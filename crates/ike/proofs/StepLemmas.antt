@@ -41,7 +41,7 @@ use Rattle.moments.specs.Ticking.{Ticks}
 use Rattle.moments.specs.declared.ticking.Ticked.{Ticked}
 use Rattle.effects.specs.Taking.{Meaning, KeepsIdentity, TakesMessage}
 use Rattle.effects.specs.declared.taking.Effect.{Effect}
-use Rattle.association.specs.Finding.{found}
+use Rattle.association.specs.Finding.{place_meant}
 use Rattle.initial.specs.Beginning.{begun, half_open as half_open_association, Admits, Begins}
 use Rattle.effects.specs.Keeping.{IsShort, KeepsShort}
 use Rattle.effects.specs.Lengths.{HoldsWholeKeys}
@@ -320,7 +320,7 @@ read_sound laws true meaning setup cookies from octets m old table stepped new n
     (initial_sound laws (is_sound_initial m.header) meaning setup cookies from octets m old stepped new table sound
     (λ sound_header. record { message = m; spelled = spelled; initial = initial; sound = sound_header }) is.0)
 read_sound laws false meaning setup cookies from octets m old table stepped new new_table sound_table sound spelled initial is =
-    found_sound laws (found m.header old.associations) meaning setup octets m old table stepped new new_table sound_table sound is
+    found_sound laws (place_meant m.header old.associations) meaning setup octets m old table stepped new new_table sound_table sound is
 
 datagram_sound : (laws : Laws) (meaning : Meaning) (setup : Setup) (cookies : CookieSecrets) (from octets : Octets) (old : Held) (table : Database) (stepped : Stepped) (new : Held) (new_table : Database)
     → IsSoundTable table → AreSound old table → TakesDatagram meaning setup cookies from octets old table stepped new new_table → AreSound new new_table

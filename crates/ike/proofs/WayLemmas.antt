@@ -9,7 +9,7 @@ use Rattle.suite.specs.declared.fresh.Fresh.{Fresh}
 use Rattle.sadb.specs.Database.{Database, IsAsBefore, Reserves}
 use Rattle.sa_init.specs.Cookies.{CookieSecrets}
 use Rattle.sa_init.specs.Judging.{Accepted, Answered, Full, Incomplete, JudgementView, OfferView}
-use Rattle.association.specs.Finding.{found}
+use Rattle.association.specs.Finding.{place_meant}
 use Rattle.association.specs.declared.fault.MessageFault.{MessageFault}
 use Rattle.association.specs.declared.phase.Association.{Association}
 use Rattle.initial.specs.Configs.{Setup}
@@ -64,7 +64,7 @@ pub record Takes (meaning : Meaning) (setup : Setup) (octets : Octets) (old : He
   pub message : Message
   pub spelled : Spells message octets
   pub place : ℕ
-  pub found_there : found message.header old.associations ≡ Ok place
+  pub found_there : place_meant message.header old.associations ≡ Ok place
   pub takes : TakesAt place meaning setup octets message old table stepped new new_table
 
 -- an association is half open from then on
@@ -177,7 +177,7 @@ initial_came true meaning setup cookies from octets m old table stepped new new_
 initial_came false meaning setup cookies from octets m old table stepped new new_table asked is same = passed_came meaning setup octets _ old table stepped new new_table is same
 
 found_came : (r : Result ℕ MessageFault) (meaning : Meaning) (setup : Setup) (octets : Octets) (m : Message) (old : Held) (table : Database) (stepped : Stepped) (new : Held) (new_table : Database)
-    → Spells m octets → found m.header old.associations ≡ r → TakesFound r meaning setup octets m old table stepped new new_table → Came meaning setup octets old table stepped new new_table
+    → Spells m octets → place_meant m.header old.associations ≡ r → TakesFound r meaning setup octets m old table stepped new new_table → Came meaning setup octets old table stepped new new_table
 found_came (Ok place) meaning setup octets m old table stepped new new_table spelled finds is = taken (record { message = m; spelled = spelled; place = place; found_there = finds; takes = is })
 found_came (Err f) meaning setup octets m old table stepped new new_table spelled finds is = passed_came meaning setup octets _ old table stepped new new_table is.0 is.1
 
@@ -187,7 +187,7 @@ read_came true meaning setup cookies from octets m old table stepped new new_tab
     initial_came (is_sound_initial m.header) meaning setup cookies from octets m old table stepped new new_table
     (λ sound. record { message = m; spelled = spelled; initial = initial; sound = sound }) is.0 is.1
 read_came false meaning setup cookies from octets m old table stepped new new_table spelled initial is =
-    found_came (found m.header old.associations) meaning setup octets m old table stepped new new_table spelled refl is
+    found_came (place_meant m.header old.associations) meaning setup octets m old table stepped new new_table spelled refl is
 
 pub datagram_came : (meaning : Meaning) (setup : Setup) (cookies : CookieSecrets) (from octets : Octets) (old : Held) (table : Database) (stepped : Stepped) (new : Held) (new_table : Database)
     → TakesDatagram meaning setup cookies from octets old table stepped new new_table → Came meaning setup octets old table stepped new new_table

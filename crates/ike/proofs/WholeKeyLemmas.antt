@@ -10,7 +10,7 @@ use Rattle.suite.specs.declared.sealer.Cipher.{Cipher}
 use Rattle.sadb.specs.Database.{Database}
 use Rattle.sa_init.specs.Cookies.{CookieSecrets}
 use Rattle.sa_init.specs.Judging.{Accepted, Answered, Full, Incomplete, JudgementView, OfferView}
-use Rattle.association.specs.Finding.{found}
+use Rattle.association.specs.Finding.{place_meant}
 use Rattle.association.specs.AskedChildren.{AskedChildView}
 use Rattle.association.specs.declared.fault.MessageFault.{MessageFault}
 use Rattle.association.specs.declared.phase.Association.{Association}
@@ -91,7 +91,7 @@ module _ (laws : KeyLaws) (meaning : Meaning) (setup : Setup) (old : Held) (whol
 
   read : (b : Bool) (cookies : CookieSecrets) (from octets : Octets) (m : Message) (table new_table : Database) → TakesRead b meaning setup cookies from octets m old table stepped new new_table → HoldWholeKeys new
   read true cookies from octets m table new_table is = sound (is_sound_initial m.header) cookies from octets m is.0
-  read false cookies from octets m table new_table is = there (found m.header old.associations) octets m table new_table is
+  read false cookies from octets m table new_table is = there (place_meant m.header old.associations) octets m table new_table is
 
   datagram : (cookies : CookieSecrets) (from octets : Octets) (table new_table : Database) → TakesDatagram meaning setup cookies from octets old table stepped new new_table → HoldWholeKeys new
   datagram cookies from octets table new_table is = elim is [

@@ -18,7 +18,7 @@ use Rattle.sa_init.specs.Messages.{notice_message}
 use Rattle.sa_init.specs.declared.judging.Sender.{Sender}
 use Rattle.children.specs.declared.fault.MemoryFault.{MemoryFault}
 use Rattle.children.specs.declared.fault.MemoryFault.TheVariants as child
-use Rattle.association.specs.Finding.{found}
+use Rattle.association.specs.Finding.{place_meant}
 use Rattle.association.specs.Receiving.{Opening}
 use Rattle.association.specs.declared.fault.MessageFault.{MessageFault}
 use Rattle.association.specs.declared.fault.MessageFault.TheVariants.{WrongPhase}
@@ -156,7 +156,7 @@ abbrev pub TakesRead : Bool → Meaning → Setup → CookieSecrets → Octets �
 TakesRead true meaning setup cookies from octets m old table stepped new new_table =
     TakesSound (is_sound_initial m.header) meaning setup cookies from octets m old stepped new × (new_table ≡ table)
 TakesRead false meaning setup cookies from octets m old table stepped new new_table =
-    TakesFound (found m.header old.associations) meaning setup octets m old table stepped new new_table
+    TakesFound (place_meant m.header old.associations) meaning setup octets m old table stepped new new_table
 
 -- the datagram is a message
 pub record ReadsDatagram (meaning : Meaning) (setup : Setup) (cookies : CookieSecrets) (from octets : Octets) (old : Held) (table : Database) (stepped : Stepped) (new : Held) (new_table : Database) : Type 0 where
@@ -223,7 +223,7 @@ pub record WantsForChild (plain_of : Opening) (octets : Octets) (old : Held) (ta
   pub spelled : Spells message octets
   pub not_initial : is_initial_request message.header ≡ false
   pub place : ℕ
-  pub finds : found message.header old.associations ≡ Ok place
+  pub finds : place_meant message.header old.associations ≡ Ok place
   pub makes : MakesChildAt plain_of place octets message old table f
 
 -- why a datagram is refused: for want of memory, for a message or for what a child takes; or as an offer

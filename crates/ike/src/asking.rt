@@ -68,8 +68,10 @@ fn delete_child<C: Sealer>(
     child: u32,
 ) -> Result<Stepped, IkeFault>
     ensures asked { IfOk result (λ stepped.
-        AsksFor C.body_of (setup_of setup.now) (Demand.DeleteChild child) held.old table.old stepped held.new table.new) }
-    ensures refused { IfErr result (λ reason. RefusesAsking (Demand.DeleteChild child) held.old table.old reason
+        AsksFor C.body_of (setup_of setup.now)
+        (Demand.DeleteChild child) held.old table.old stepped held.new table.new) }
+    ensures refused { IfErr result
+        (λ reason. RefusesAsking (Demand.DeleteChild child) held.old table.old reason
         × (held.new ≡ held.old) × (table.new ≡ table.old)) }
 {
     let Some(pair) = table.get(child) else {
@@ -98,7 +100,8 @@ fn ask_by<C: Sealer>(
     requires live { IsOfLive order table.old.pairs }
     ensures asked { IfOk result (λ stepped.
         AsksThat C.body_of (setup_of setup.now) ike order held.old table.old stepped held.new table.new) }
-    ensures refused { IfErr result (λ reason. RefusesAskingAt (association_of ike held.old.associations) reason
+    ensures refused { IfErr result
+        (λ reason. RefusesAskingAt (association_of ike held.old.associations) reason
         × (held.new ≡ held.old) × (table.new ≡ table.old)) }
 {
     orders_send_requests();
@@ -141,9 +144,11 @@ pub(crate) fn ask_further<C: Sealer>(
 ) -> Result<Stepped, IkeFault>
     requires local { IsSendableSelector local.now }
     requires remote { IsSendableSelector remote.now }
-    ensures asked { IfOk result (λ stepped. AsksFurther C.body_of (setup_of setup.now) ike local.now remote.now
+    ensures asked { IfOk result
+        (λ stepped. AsksFurther C.body_of (setup_of setup.now) ike local.now remote.now
         held.old table.old stepped held.new table.new) }
-    ensures refused { IfErr result (λ reason. RefusesFurtherAt (association_of ike held.old.associations) table.old reason
+    ensures refused { IfErr result
+        (λ reason. RefusesFurtherAt (association_of ike held.old.associations) table.old reason
         × (held.new ≡ held.old) × IsAsBefore table.old table.new) }
 {
     orders_send_requests();
@@ -168,7 +173,8 @@ fn ask_further_at<C: Sealer>(
     requires within { place < length held.old.associations }
     requires local { IsSendableSelector local.now }
     requires remote { IsSendableSelector remote.now }
-    ensures asked { IfOk result (λ issued. AsksFurtherThere C.body_of (setup_of setup.now) place local.now remote.now
+    ensures asked { IfOk result
+        (λ issued. AsksFurtherThere C.body_of (setup_of setup.now) place local.now remote.now
         held.old table.old issued held.new table.new) }
     ensures refused { IfErr result (λ fault. RefusesFurtherThere place held.old table.old fault
         × (held.new ≡ held.old) × IsAsBefore table.old table.new) }

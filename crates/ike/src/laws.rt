@@ -87,8 +87,10 @@ use wire::laws::{
 /// have 32 octets each; and the configuration is one that a machine is made with, which alone allows that children are asked for with
 /// extended sequence numbers.
 pub fn soundness_stays()
-    ensures { (meaning : Meaning) (entries : List Entry) (input : InputView) (old : Machine) (table : Database)
-        (stepped : Stepped) (new : Machine) (new_table : Database) → IsSoundTable table → IsSoundMachine old table
+    ensures { (meaning : Meaning) (entries : List Entry) (input : InputView) (old : Machine)
+        (table : Database)
+        (stepped : Stepped) (new : Machine) (new_table : Database) → IsSoundTable table
+        → IsSoundMachine old table
         → Steps meaning entries input old table stepped new new_table → IsSoundMachine new new_table }
 {
     spis_stay_reserved();
@@ -114,11 +116,13 @@ pub fn soundness_stays()
 pub fn no_spi_is_lost()
     ensures begun { (config : Config) (table : Database) → ((spi : ℕ) → ¬ IsReserved table spi)
         → AreReservationsHeld (new_machine config).held table }
-    ensures stepped { (meaning : Meaning) (entries : List Entry) (input : InputView) (old : Machine) (table : Database)
+    ensures stepped { (meaning : Meaning) (entries : List Entry) (input : InputView) (old : Machine)
+        (table : Database)
         (stepped : Stepped) (new : Machine) (new_table : Database) → IsSoundMachine old table
         → Steps meaning entries input old table stepped new new_table → AreReservationsHeld old.held table
         → AreReservationsHeld new.held new_table }
-    ensures kept { (held : Held) (table new_table : Database) → ((spi : ℕ) → IsReserved new_table spi → IsReserved table spi)
+    ensures kept { (held : Held) (table new_table : Database)
+        → ((spi : ℕ) → IsReserved new_table spi → IsReserved table spi)
         → AreReservationsHeld held table → AreReservationsHeld held new_table }
 {
     effects::laws::what_is_given_up_is_released();
@@ -128,11 +132,16 @@ pub fn no_spi_is_lost()
 /// What goes out of a step has at most 3000 octets, as a message may have: an answer, a request that goes out, or what goes out again,
 /// with a moment or without.
 pub fn what_is_sent_is_short()
-    ensures sent { (meaning : Meaning) (entries : List Entry) (input : InputView) (old : Machine) (table : Database)
-        (stepped : Stepped) (new : Machine) (new_table : Database) (octets : Octets) → IsSoundMachine old table
-        → Steps meaning entries input old table stepped new new_table → octets_in stepped.output ≡ Some octets → IsShort octets }
-    ensures again { (meaning : Meaning) (entries : List Entry) (input : InputView) (old : Machine) (table : Database)
-        (stepped : Stepped) (new : Machine) (new_table : Database) (ticked : Ticked) → IsSoundMachine old table
+    ensures sent { (meaning : Meaning) (entries : List Entry) (input : InputView) (old : Machine)
+        (table : Database)
+        (stepped : Stepped) (new : Machine) (new_table : Database) (octets : Octets)
+        → IsSoundMachine old table
+        → Steps meaning entries input old table stepped new new_table → octets_in stepped.output ≡ Some octets
+        → IsShort octets }
+    ensures again { (meaning : Meaning) (entries : List Entry) (input : InputView) (old : Machine)
+        (table : Database)
+        (stepped : Stepped) (new : Machine) (new_table : Database) (ticked : Ticked)
+        → IsSoundMachine old table
         → Steps meaning entries input old table stepped new new_table → stepped.output ≡ output.Ticked ticked
         → All (λ (request : Resent). IsShort request.octets) ticked.requests }
 {
@@ -143,7 +152,8 @@ pub fn what_is_sent_is_short()
 
 /// Requests go out again with a moment alone, and no more than wait for an answer.
 pub fn few_go_out_again()
-    ensures { (meaning : Meaning) (entries : List Entry) (input : InputView) (old : Machine) (table : Database)
+    ensures { (meaning : Meaning) (entries : List Entry) (input : InputView) (old : Machine)
+        (table : Database)
         (stepped : Stepped) (new : Machine) (new_table : Database) (ticked : Ticked)
         → Steps meaning entries input old table stepped new new_table → stepped.output ≡ output.Ticked ticked
         → (is_tick input ≡ true) × (length ticked.requests ≤ outstanding_count old.held.associations) }
@@ -157,23 +167,35 @@ pub fn few_go_out_again()
 /// what goes out again with a moment, but for a request of IKE_SA_INIT, is of one that has keys. What is sent at no moment and not named is in
 /// clear: a request of an association without keys, the reply that a half-open one keeps, or an answer to IKE_SA_INIT.
 pub fn traces_name_what_is_held()
-    ensures traced { (meaning : Meaning) (entries : List Entry) (input : InputView) (old : Machine) (table : Database)
-        (stepped : Stepped) (new : Machine) (new_table : Database) → IsSoundTable table → IsSoundMachine old table
-        → Steps meaning entries input old table stepped new new_table → IsTraced old.held table stepped new.held new_table }
-    ensures keys { (meaning : Meaning) (entries : List Entry) (input : InputView) (old : Machine) (table : Database)
-        (stepped : Stepped) (new : Machine) (new_table : Database) (serial : ℕ) (keys : KeyRecord) (a : Association)
-        → IsSoundTable table → IsSoundMachine old table → Steps meaning entries input old table stepped new new_table
-        → keys_of_serial serial old.held.associations ≡ Some keys → association_of serial new.held.associations ≡ Some a
+    ensures traced { (meaning : Meaning) (entries : List Entry) (input : InputView) (old : Machine)
+        (table : Database)
+        (stepped : Stepped) (new : Machine) (new_table : Database) → IsSoundTable table
+        → IsSoundMachine old table
+        → Steps meaning entries input old table stepped new new_table
+        → IsTraced old.held table stepped new.held new_table }
+    ensures keys { (meaning : Meaning) (entries : List Entry) (input : InputView) (old : Machine)
+        (table : Database)
+        (stepped : Stepped) (new : Machine) (new_table : Database) (serial : ℕ) (keys : KeyRecord)
+        (a : Association)
+        → IsSoundTable table → IsSoundMachine old table
+        → Steps meaning entries input old table stepped new new_table
+        → keys_of_serial serial old.held.associations ≡ Some keys
+        → association_of serial new.held.associations ≡ Some a
         → keys_in a.phase ≡ Some keys }
-    ensures again { (meaning : Meaning) (entries : List Entry) (input : InputView) (old : Machine) (table : Database)
-        (stepped : Stepped) (new : Machine) (new_table : Database) (ticked : Ticked) (request : Resent) → IsSoundTable table
+    ensures again { (meaning : Meaning) (entries : List Entry) (input : InputView) (old : Machine)
+        (table : Database)
+        (stepped : Stepped) (new : Machine) (new_table : Database) (ticked : Ticked) (request : Resent)
+        → IsSoundTable table
         → IsSoundMachine old table → Steps meaning entries input old table stepped new new_table
         → stepped.output ≡ output.Ticked ticked → Contains ticked.requests request → request.encrypted ≡ true
         → HoldsKeys new.held request.ike }
-    ensures clear { (meaning : Meaning) (entries : List Entry) (input : InputView) (old : Machine) (table : Database)
-        (stepped : Stepped) (new : Machine) (new_table : Database) (octets : Octets) → IsSoundMachine old table
+    ensures clear { (meaning : Meaning) (entries : List Entry) (input : InputView) (old : Machine)
+        (table : Database)
+        (stepped : Stepped) (new : Machine) (new_table : Database) (octets : Octets)
+        → IsSoundMachine old table
         → Steps meaning entries input old table stepped new new_table → stepped.trace.sent ≡ None
-        → octets_in stepped.output ≡ Some octets → IsInClear old.held stepped.trace.keyed new.held stepped.output }
+        → octets_in stepped.output ≡ Some octets
+        → IsInClear old.held stepped.trace.keyed new.held stepped.output }
 {
     soundness_stays();
     associations_stay_themselves();
@@ -188,9 +210,11 @@ pub fn traces_name_what_is_held()
 
 /// A step changes one association at most, and pairs of no other, but for what a moment brings.
 pub fn one_association_is_changed()
-    ensures { (meaning : Meaning) (entries : List Entry) (input : InputView) (old : Machine) (table : Database)
+    ensures { (meaning : Meaning) (entries : List Entry) (input : InputView) (old : Machine)
+        (table : Database)
         (stepped : Stepped) (new : Machine) (new_table : Database) → is_tick input ≡ false
-        → Steps meaning entries input old table stepped new new_table → ChangesOne old.held new.held table new_table }
+        → Steps meaning entries input old table stepped new new_table
+        → ChangesOne old.held new.held table new_table }
 {
     associations_stay_themselves();
     effects::laws::pairs_stay_as_they_were();
@@ -203,34 +227,46 @@ pub fn one_association_is_changed()
 /// child asks for it by the request that goes out, and waits for its answer with what it asked (`asked_further`): who waits for such an
 /// answer waited before, with the same octets and for the same child, or asks now (`waits_further`).
 pub fn children_are_made_of_their_messages()
-    ensures made { (meaning : Meaning) (entries : List Entry) (from octets : Octets) (fresh : Fresh) (old : Machine)
+    ensures made { (meaning : Meaning) (entries : List Entry) (from octets : Octets) (fresh : Fresh)
+        (old : Machine)
         (table : Database) (stepped : Stepped) (made : MadeChild) (new : Machine) (new_table : Database)
         → IsSoundTable table → IsSoundMachine old table
         → Steps meaning entries (Message from octets fresh) old table stepped new new_table
         → stepped.trace.child ≡ Some made
-        → MakesChildOf meaning (setup_at old entries fresh) octets old.held table stepped made new.held new_table }
-    ensures asked { (meaning : Meaning) (entries : List Entry) (from octets : Octets) (fresh : Fresh) (old : Machine)
-        (table : Database) (stepped : Stepped) (ike : ℕ) (next : Octets) (new : Machine) (new_table : Database)
+        → MakesChildOf meaning
+        (setup_at old entries fresh) octets old.held table stepped made new.held new_table }
+    ensures asked { (meaning : Meaning) (entries : List Entry) (from octets : Octets) (fresh : Fresh)
+        (old : Machine)
+        (table : Database) (stepped : Stepped) (ike : ℕ) (next : Octets) (new : Machine)
+        (new_table : Database)
         → IsSoundTable table → IsSoundMachine old table
         → Steps meaning entries (Message from octets fresh) old table stepped new new_table
         → stepped.output ≡ output.Request ike next → stepped.trace.keyed ≡ Some ike
         → AsksFirstChild meaning (setup_at old entries fresh) ike next new.held }
-    ensures waits { (meaning : Meaning) (entries : List Entry) (input : InputView) (old : Machine) (table : Database)
-        (stepped : Stepped) (new : Machine) (new_table : Database) (ike : ℕ) (a : Association) (sent : AuthSent)
+    ensures waits { (meaning : Meaning) (entries : List Entry) (input : InputView) (old : Machine)
+        (table : Database)
+        (stepped : Stepped) (new : Machine) (new_table : Database) (ike : ℕ) (a : Association)
+        (sent : AuthSent)
         → IsSoundTable table → IsSoundMachine old table
         → Steps meaning entries input old table stepped new new_table
         → association_of ike new.held.associations ≡ Some a → a.phase ≡ phase.AuthSent sent
         → WaitedBefore ike sent old.held ⊎ AsksNow ike stepped }
-    ensures asked_further { (meaning : Meaning) (entries : List Entry) (ike place : ℕ) (fresh : Fresh) (old : Machine)
-        (table : Database) (stepped : Stepped) (new : Machine) (new_table : Database) → IsSoundMachine old table
+    ensures asked_further { (meaning : Meaning) (entries : List Entry) (ike place : ℕ) (fresh : Fresh)
+        (old : Machine)
+        (table : Database) (stepped : Stepped) (new : Machine) (new_table : Database)
+        → IsSoundMachine old table
         → Steps meaning entries (Start (Some ike) place fresh) old table stepped new new_table
         → AsksForFurtherNow meaning.body_of (setup_at old entries fresh) ike stepped new.held }
-    ensures waits_further { (meaning : Meaning) (entries : List Entry) (input : InputView) (old : Machine) (table : Database)
+    ensures waits_further { (meaning : Meaning) (entries : List Entry) (input : InputView) (old : Machine)
+        (table : Database)
         (stepped : Stepped) (new : Machine) (new_table : Database) (ike number : ℕ) (a : Association)
-        (request : Request) → IsSoundMachine old table → Steps meaning entries input old table stepped new new_table
-        → association_of ike new.held.associations ≡ Some a → map.get a.outgoing.outstanding number ≡ Some request
+        (request : Request) → IsSoundMachine old table
+        → Steps meaning entries input old table stepped new new_table
+        → association_of ike new.held.associations ≡ Some a
+        → map.get a.outgoing.outstanding number ≡ Some request
         → asks_for_child request.purpose ≡ true
-        → FurtherWaited ike number request old.held ⊎ FurtherOrdered input old.held ike number request stepped }
+        → FurtherWaited ike number request old.held
+        ⊎ FurtherOrdered input old.held ike number request stepped }
 {
     soundness_stays();
     associations_stay_themselves();
@@ -245,17 +281,25 @@ pub fn children_are_made_of_their_messages()
 /// (RFC 7296, section 3.3.1): in the answer by which an association comes to be half open, and in each answer that is sealed, as it goes
 /// out for the first time. Any other answer has no SA.
 pub fn answers_keep_to_their_offers()
-    ensures initial { (meaning : Meaning) (entries : List Entry) (from octets : Octets) (fresh : Fresh) (old : Machine)
-        (table : Database) (stepped : Stepped) (new : Machine) (new_table : Database) (reply : Octets) (closed : Option ℕ)
+    ensures initial { (meaning : Meaning) (entries : List Entry) (from octets : Octets) (fresh : Fresh)
+        (old : Machine)
+        (table : Database) (stepped : Stepped) (new : Machine) (new_table : Database) (reply : Octets)
+        (closed : Option ℕ)
         (ike : ℕ) → Steps meaning entries (Message from octets fresh) old table stepped new new_table
-        → stepped.output ≡ output.Reply reply closed → stepped.trace.keyed ≡ Some ike → AnswersFirstOffer octets reply }
-    ensures sealed { (meaning : Meaning) (entries : List Entry) (from octets : Octets) (fresh : Fresh) (old : Machine)
-        (table : Database) (stepped : Stepped) (new : Machine) (new_table : Database) (reply : Octets) (closed : Option ℕ)
-        (mark : Mark) → IsSoundMachine old table → Steps meaning entries (Message from octets fresh) old table stepped new new_table
+        → stepped.output ≡ output.Reply reply closed → stepped.trace.keyed ≡ Some ike
+        → AnswersFirstOffer octets reply }
+    ensures sealed { (meaning : Meaning) (entries : List Entry) (from octets : Octets) (fresh : Fresh)
+        (old : Machine)
+        (table : Database) (stepped : Stepped) (new : Machine) (new_table : Database) (reply : Octets)
+        (closed : Option ℕ)
+        (mark : Mark) → IsSoundMachine old table
+        → Steps meaning entries (Message from octets fresh) old table stepped new new_table
         → stepped.output ≡ output.Reply reply closed → stepped.trace.sent ≡ Some mark
         → AnswersSealedOffer meaning (setup_at old entries fresh) mark.ike octets reply old.held }
-    ensures other { (meaning : Meaning) (entries : List Entry) (from octets : Octets) (fresh : Fresh) (old : Machine)
-        (table : Database) (stepped : Stepped) (new : Machine) (new_table : Database) (reply : Octets) (closed : Option ℕ)
+    ensures other { (meaning : Meaning) (entries : List Entry) (from octets : Octets) (fresh : Fresh)
+        (old : Machine)
+        (table : Database) (stepped : Stepped) (new : Machine) (new_table : Database) (reply : Octets)
+        (closed : Option ℕ)
         → Steps meaning entries (Message from octets fresh) old table stepped new new_table
         → stepped.output ≡ output.Reply reply closed → stepped.trace.sent ≡ None → stepped.trace.keyed ≡ None
         → AnswersNoOffer reply }
@@ -265,10 +309,13 @@ pub fn answers_keep_to_their_offers()
 
 /// A child that a step makes has at most 16 selectors on either side (RFC 7296, section 3.13; a limit of this implementation).
 pub fn children_have_few_selectors()
-    ensures { (meaning : Meaning) (entries : List Entry) (input : InputView) (old : Machine) (table : Database)
-        (stepped : Stepped) (new : Machine) (new_table : Database) (made : MadeChild) (pair : Pair) → IsSoundTable table
+    ensures { (meaning : Meaning) (entries : List Entry) (input : InputView) (old : Machine)
+        (table : Database)
+        (stepped : Stepped) (new : Machine) (new_table : Database) (made : MadeChild) (pair : Pair)
+        → IsSoundTable table
         → IsSoundMachine old table → Steps meaning entries input old table stepped new new_table
-        → stepped.trace.child ≡ Some made → pair_at new_table.pairs made.serial ≡ Some pair → HasFewSelectors pair }
+        → stepped.trace.child ≡ Some made → pair_at new_table.pairs made.serial ≡ Some pair
+        → HasFewSelectors pair }
 {
     children_are_made_of_their_messages();
 }
@@ -276,9 +323,12 @@ pub fn children_have_few_selectors()
 /// A child that a step makes receives by extended sequence numbers only where this end's configuration allows them (RFC 4303, section
 /// 2.2.1).
 pub fn children_are_extended_where_allowed()
-    ensures { (meaning : Meaning) (entries : List Entry) (from octets : Octets) (fresh : Fresh) (old : Machine) (table : Database)
-        (stepped : Stepped) (new : Machine) (new_table : Database) (made : MadeChild) (pair : Pair) → IsSoundTable table
-        → IsSoundMachine old table → Steps meaning entries (Message from octets fresh) old table stepped new new_table
+    ensures { (meaning : Meaning) (entries : List Entry) (from octets : Octets) (fresh : Fresh)
+        (old : Machine) (table : Database)
+        (stepped : Stepped) (new : Machine) (new_table : Database) (made : MadeChild) (pair : Pair)
+        → IsSoundTable table
+        → IsSoundMachine old table
+        → Steps meaning entries (Message from octets fresh) old table stepped new new_table
         → stepped.trace.child ≡ Some made → pair_at new_table.pairs made.serial ≡ Some pair
         → pair.inbound.association.extended ≡ true → old.config.extended ≡ true }
 {
@@ -288,8 +338,10 @@ pub fn children_are_extended_where_allowed()
 /// The two ends' pairs of one first child mirror each other: the initiator's, of the reply, and the responder's, of that reply and of a
 /// request that asked for the initiator's child, under equal keys.
 pub fn first_children_mirror()
-    ensures { (setup : Setup) (keys others : KeyRecord) (child : AskedChildView) (request reply : List Payload) (a b : Pair)
-        → keys ≡ others → HasChildPayloads request (child_request (asked_of child)) → IsAskedChild child keys reply a
+    ensures { (setup : Setup) (keys others : KeyRecord) (child : AskedChildView)
+        (request reply : List Payload) (a b : Pair)
+        → keys ≡ others → HasChildPayloads request (child_request (asked_of child))
+        → IsAskedChild child keys reply a
         → IsAnsweredChild First setup others request reply b → Mirrors a b }
 {
     children_mirror();
@@ -298,9 +350,11 @@ pub fn first_children_mirror()
 /// So do those of a further child: of the end that asked, of the reply, and of the end that answered, of that reply and of the request that
 /// asked for this child with this nonce, under equal keys.
 pub fn further_children_mirror()
-    ensures { (setup : Setup) (keys others : KeyRecord) (further : FurtherChild) (reply : List Payload) (a b : Pair)
+    ensures { (setup : Setup) (keys others : KeyRecord) (further : FurtherChild) (reply : List Payload)
+        (a b : Pair)
         → keys ≡ others → IsAskedFurther further keys reply a
-        → IsAnsweredChild Further setup others (further_payloads (child_request (asked_of further.child)) further.nonce) reply b
+        → IsAnsweredChild Further setup others
+        (further_payloads (child_request (asked_of further.child)) further.nonce) reply b
         → Mirrors a b }
 {
     further::laws::further_children_mirror();
@@ -310,8 +364,10 @@ pub fn further_children_mirror()
 /// the input is a datagram that opens under its keys, and what it opens to proves the configured peer's identity. No order
 /// establishes one.
 pub fn the_established_proved_themselves()
-    ensures { (meaning : Meaning) (entries : List Entry) (input : InputView) (old : Machine) (table : Database)
-        (stepped : Stepped) (new : Machine) (new_table : Database) (ike : ℕ) (a : Association) (keys : KeyRecord)
+    ensures { (meaning : Meaning) (entries : List Entry) (input : InputView) (old : Machine)
+        (table : Database)
+        (stepped : Stepped) (new : Machine) (new_table : Database) (ike : ℕ) (a : Association)
+        (keys : KeyRecord)
         → IsSoundMachine old table → Steps meaning entries input old table stepped new new_table
         → association_of ike new.held.associations ≡ Some a → a.phase ≡ phase.Established keys
         → WasKnown meaning entries input old ike keys }
@@ -324,7 +380,8 @@ pub fn the_established_proved_themselves()
 /// While 8 or more associations are half open, no datagram makes another one but with a right cookie of its sender, for the message's
 /// own nonce (RFC 7296, section 2.6).
 pub fn no_association_without_a_cookie()
-    ensures { (meaning : Meaning) (entries : List Entry) (from octets : Octets) (fresh : Fresh) (old : Machine)
+    ensures { (meaning : Meaning) (entries : List Entry) (from octets : Octets) (fresh : Fresh)
+        (old : Machine)
         (table : Database) (stepped : Stepped) (new : Machine) (new_table : Database)
         → Steps meaning entries (Message from octets fresh) old table stepped new new_table
         → COOKIE_THRESHOLD ≤ half_open_count old.held.associations
@@ -337,7 +394,8 @@ pub fn no_association_without_a_cookie()
 
 /// A datagram that is dropped, or that took effect before, changes nothing.
 pub fn what_is_quiet_changes_nothing()
-    ensures { (meaning : Meaning) (entries : List Entry) (input : InputView) (old : Machine) (table : Database)
+    ensures { (meaning : Meaning) (entries : List Entry) (input : InputView) (old : Machine)
+        (table : Database)
         (stepped : Stepped) (new : Machine) (new_table : Database)
         → Steps meaning entries input old table stepped new new_table → IsQuiet stepped.output
         → (new ≡ old) × (new_table ≡ table) }
@@ -355,9 +413,11 @@ pub fn soundness_asks_for_reservations()
 /// The keys of all associations have 32 octets each: a new machine holds none, and whatever a step does, they stay so. So are they of every
 /// machine that is sound.
 pub fn keys_stay_whole()
-    ensures sound { (machine : Machine) (table : Database) → IsSoundMachine machine table → HoldWholeKeys machine.held }
+    ensures sound { (machine : Machine) (table : Database) → IsSoundMachine machine table
+        → HoldWholeKeys machine.held }
     ensures begun { (config : Config) → HoldWholeKeys (new_machine config).held }
-    ensures stepped { (meaning : Meaning) (entries : List Entry) (input : InputView) (old : Machine) (table : Database)
+    ensures stepped { (meaning : Meaning) (entries : List Entry) (input : InputView) (old : Machine)
+        (table : Database)
         (stepped : Stepped) (new : Machine) (new_table : Database) → HoldWholeKeys old.held
         → Steps meaning entries input old table stepped new new_table → HoldWholeKeys new.held }
 {
@@ -371,20 +431,26 @@ pub fn keys_stay_whole()
 /// as they stay ([`keys_stay_whole`]).
 pub fn steps_are_determined()
     ensures steps { (meaning : Meaning) (entries : List Entry) (input : InputView) (old other a b : Machine)
-        (table another a_table b_table : Database) (one two : Stepped) → IsTold meaning input → HoldWholeKeys old.held
+        (table another a_table b_table : Database) (one two : Stepped) → IsTold meaning input
+        → HoldWholeKeys old.held
         → machine_content old ≡ machine_content other → table_content table ≡ table_content another
-        → Steps meaning entries input old table one a a_table → Steps meaning entries input other another two b b_table
-        → (one ≡ two) × (machine_content a ≡ machine_content b) × (table_content a_table ≡ table_content b_table) }
-    ensures steps_or_refusals { (meaning : Meaning) (entries : List Entry) (input : InputView) (old other new : Machine)
+        → Steps meaning entries input old table one a a_table
+        → Steps meaning entries input other another two b b_table
+        → (one ≡ two) × (machine_content a ≡ machine_content b)
+        × (table_content a_table ≡ table_content b_table) }
+    ensures steps_or_refusals { (meaning : Meaning) (entries : List Entry) (input : InputView)
+        (old other new : Machine)
         (table another new_table : Database) (stepped : Stepped) (reason : IkeFault)
         → machine_content old ≡ machine_content other → table_content table ≡ table_content another
-        → Steps meaning entries input old table stepped new new_table → Refuses meaning entries input other another reason
+        → Steps meaning entries input old table stepped new new_table
+        → Refuses meaning entries input other another reason
         → is_want_of_memory reason ≡ true }
     ensures refusals { (meaning : Meaning) (entries : List Entry) (input : InputView) (old other : Machine)
         (table another : Database) (one two : IkeFault)
         → machine_content old ≡ machine_content other → table_content table ≡ table_content another
         → is_want_of_memory one ≡ false → is_want_of_memory two ≡ false
-        → Refuses meaning entries input old table one → Refuses meaning entries input other another two → one ≡ two }
+        → Refuses meaning entries input old table one → Refuses meaning entries input other another two
+        → one ≡ two }
 {
     beginnings_are_determined();
     effects_are_determined();
@@ -404,24 +470,29 @@ pub fn steps_are_determined()
 /// its number into effect, unless it is refused for want of memory; any other one that opens changes nothing. Nothing but a request
 /// that takes effect, or one of IKE_SA_INIT, is replied to.
 pub fn requests_take_effect()
-    ensures alone { (meaning : Meaning) (entries : List Entry) (input : InputView) (old : Machine) (table : Database)
+    ensures alone { (meaning : Meaning) (entries : List Entry) (input : InputView) (old : Machine)
+        (table : Database)
         (stepped : Stepped) (new : Machine) (new_table : Database) (serial : ℕ) (a b : Association)
         (number : ℕ) → IsSoundMachine old table → Steps meaning entries input old table stepped new new_table
         → IsHeldThrough serial old.held new.held a b → ComesIntoEffect number a b
         → IsNewRequest meaning input a number × IsAnswered stepped number b }
-    ensures always { (meaning : Meaning) (entries : List Entry) (input : InputView) (old : Machine) (table : Database)
+    ensures always { (meaning : Meaning) (entries : List Entry) (input : InputView) (old : Machine)
+        (table : Database)
         (stepped : Stepped) (new : Machine) (new_table : Database) (serial : ℕ) (a : Association)
         (number : ℕ) → IsSoundMachine old table → Steps meaning entries input old table stepped new new_table
         → association_of serial old.held.associations ≡ Some a → IsNewRequest meaning input a number
         → HoldsInEffect new.held serial number }
-    ensures otherwise { (meaning : Meaning) (entries : List Entry) (input : InputView) (old : Machine) (table : Database)
+    ensures otherwise { (meaning : Meaning) (entries : List Entry) (input : InputView) (old : Machine)
+        (table : Database)
         (stepped : Stepped) (new : Machine) (new_table : Database) (serial : ℕ) (a : Association)
         (number : ℕ) → IsSoundMachine old table → Steps meaning entries input old table stepped new new_table
         → association_of serial old.held.associations ≡ Some a → OpensAsRequest meaning input a number
         → IsQuiet stepped.output ⊎ IsNewRequest meaning input a number }
-    ensures replied { (meaning : Meaning) (entries : List Entry) (input : InputView) (old : Machine) (table : Database)
+    ensures replied { (meaning : Meaning) (entries : List Entry) (input : InputView) (old : Machine)
+        (table : Database)
         (stepped : Stepped) (new : Machine) (new_table : Database) (reply : Octets) (closed : Option ℕ)
-        → IsSoundMachine old table → Steps meaning entries input old table stepped new new_table → stepped.output ≡ output.Reply reply closed
+        → IsSoundMachine old table → Steps meaning entries input old table stepped new new_table
+        → stepped.output ≡ output.Reply reply closed
         → PutsOneIntoEffect old.held new.held ⊎ IsInitialDatagram input }
 {
     associations_stay_themselves();
@@ -440,42 +511,58 @@ pub fn requests_take_effect()
 /// out. One that comes to be held has the next serial and begins with no request in effect, or with that of IKE_SA_INIT; it is held until
 /// a moment at which its time is over. Serials rise, and what is held of each association is sound.
 pub fn requests_are_remembered()
-    ensures follows { (meaning : Meaning) (entries : List Entry) (input : InputView) (old : Machine) (table : Database)
+    ensures follows { (meaning : Meaning) (entries : List Entry) (input : InputView) (old : Machine)
+        (table : Database)
         (stepped : Stepped) (new : Machine) (new_table : Database) (serial : ℕ) (a b : Association)
         → IsSoundMachine old table → Steps meaning entries input old table stepped new new_table
         → IsHeldThrough serial old.held new.held a b → FollowsIncoming a.incoming b.incoming }
-    ensures concluded { (meaning : Meaning) (entries : List Entry) (input : InputView) (old : Machine) (table : Database)
+    ensures concluded { (meaning : Meaning) (entries : List Entry) (input : InputView) (old : Machine)
+        (table : Database)
         (stepped : Stepped) (new : Machine) (new_table : Database) (serial : ℕ) (a b : Association)
         → IsSoundMachine old table → Steps meaning entries input old table stepped new new_table
         → IsHeldThrough serial old.held new.held a b → is_concluded a.phase ≡ true → StaysConcluded a b }
-    ensures window { (meaning : Meaning) (entries : List Entry) (input : InputView) (old : Machine) (table : Database)
+    ensures window { (meaning : Meaning) (entries : List Entry) (input : InputView) (old : Machine)
+        (table : Database)
         (stepped : Stepped) (new : Machine) (new_table : Database) (serial : ℕ) (a b : Association)
         → IsSoundMachine old table → Steps meaning entries input old table stepped new new_table
         → IsHeldThrough serial old.held new.held a b → KeepsWindow old.config.window a b }
-    ensures gone { (meaning : Meaning) (entries : List Entry) (input : InputView) (old : Machine) (table : Database)
+    ensures gone { (meaning : Meaning) (entries : List Entry) (input : InputView) (old : Machine)
+        (table : Database)
         (stepped : Stepped) (new : Machine) (new_table : Database) (serial : ℕ) (a : Association)
         → IsSoundMachine old table → Steps meaning entries input old table stepped new new_table
-        → association_of serial old.held.associations ≡ Some a → association_of serial new.held.associations ≡ None
+        → association_of serial old.held.associations ≡ Some a
+        → association_of serial new.held.associations ≡ None
         → IsGivenUp input old a }
-    ensures half_open { (meaning : Meaning) (entries : List Entry) (input : InputView) (old : Machine) (table : Database)
+    ensures half_open { (meaning : Meaning) (entries : List Entry) (input : InputView) (old : Machine)
+        (table : Database)
         (stepped : Stepped) (new : Machine) (new_table : Database) (serial : ℕ) (a b : Association)
-        (opened : HalfOpen) → IsSoundMachine old table → Steps meaning entries input old table stepped new new_table
-        → IsHeldThrough serial old.held new.held a b → b.phase ≡ phase.HalfOpen opened → a.phase ≡ phase.HalfOpen opened }
-    ensures admitted { (meaning : Meaning) (entries : List Entry) (input : InputView) (old : Machine) (table : Database)
+        (opened : HalfOpen) → IsSoundMachine old table
+        → Steps meaning entries input old table stepped new new_table
+        → IsHeldThrough serial old.held new.held a b → b.phase ≡ phase.HalfOpen opened
+        → a.phase ≡ phase.HalfOpen opened }
+    ensures admitted { (meaning : Meaning) (entries : List Entry) (input : InputView) (old : Machine)
+        (table : Database)
         (stepped : Stepped) (new : Machine) (new_table : Database) (serial : ℕ) (b : Association)
-        (opened : HalfOpen) → IsSoundMachine old table → Steps meaning entries input old table stepped new new_table
-        → association_of serial old.held.associations ≡ None → association_of serial new.held.associations ≡ Some b
+        (opened : HalfOpen) → IsSoundMachine old table
+        → Steps meaning entries input old table stepped new new_table
+        → association_of serial old.held.associations ≡ None
+        → association_of serial new.held.associations ≡ Some b
         → b.phase ≡ phase.HalfOpen opened → IsAdmitted input opened stepped }
-    ensures begun { (meaning : Meaning) (entries : List Entry) (input : InputView) (old : Machine) (table : Database)
+    ensures begun { (meaning : Meaning) (entries : List Entry) (input : InputView) (old : Machine)
+        (table : Database)
         (stepped : Stepped) (new : Machine) (new_table : Database) (serial : ℕ) (b : Association)
         → IsSoundMachine old table → Steps meaning entries input old table stepped new new_table
-        → association_of serial old.held.associations ≡ None → association_of serial new.held.associations ≡ Some b
+        → association_of serial old.held.associations ≡ None
+        → association_of serial new.held.associations ≡ Some b
         → (serial ≡ old.held.next) × (b.incoming ≡ first_requests b.role) }
-    ensures given { (machine : Machine) (table : Database) (serial : ℕ) (a : Association) → IsSoundMachine machine table
+    ensures given { (machine : Machine) (table : Database) (serial : ℕ) (a : Association)
+        → IsSoundMachine machine table
         → association_of serial machine.held.associations ≡ Some a → serial < machine.held.next }
-    ensures soundly { (machine : Machine) (table : Database) (serial : ℕ) (a : Association) → IsSoundMachine machine table
+    ensures soundly { (machine : Machine) (table : Database) (serial : ℕ) (a : Association)
+        → IsSoundMachine machine table
         → association_of serial machine.held.associations ≡ Some a → IsSoundlyHeld a }
-    ensures rises { (meaning : Meaning) (entries : List Entry) (input : InputView) (old : Machine) (table : Database)
+    ensures rises { (meaning : Meaning) (entries : List Entry) (input : InputView) (old : Machine)
+        (table : Database)
         (stepped : Stepped) (new : Machine) (new_table : Database)
         → Steps meaning entries input old table stepped new new_table → old.held.next ≤ new.held.next }
 {
@@ -498,9 +585,11 @@ pub fn requests_are_remembered()
 /// counted as that response, and keys come by a datagram of IKE_SA_INIT; where the cipher opens what it seals ([`fresh_octets_open`]), a
 /// request and a reply that go out open as this end's of that number (RFC 7296, sections 2.1 to 2.4 and 3.14).
 pub fn steps_are_moves()
-    ensures { (meaning : Meaning) (entries : List Entry) (input : InputView) (old : Machine) (table : Database)
+    ensures { (meaning : Meaning) (entries : List Entry) (input : InputView) (old : Machine)
+        (table : Database)
         (stepped : Stepped) (new : Machine) (new_table : Database) (serial : ℕ) → IsSoundMachine old table
-        → Steps meaning entries input old table stepped new new_table → MovesAt meaning input old.held stepped new.held serial }
+        → Steps meaning entries input old table stepped new new_table
+        → MovesAt meaning input old.held stepped new.held serial }
 {
     associations_stay_themselves();
     keys_stay();
@@ -516,7 +605,8 @@ pub fn steps_are_moves()
 /// What [`steps_are_moves`] asks of a cipher is so of every caller's, as the law of [`Sealer`] says: with the octets that are fresh to a step,
 /// which are 16, it opens what it seals.
 pub fn fresh_octets_open<S: Sealer>(sealer: &S)
-    ensures { (meaning : Meaning) (input : InputView) → meaning.body_of ≡ S.body_of → meaning.plain_of ≡ S.plain_of
+    ensures { (meaning : Meaning) (input : InputView) → meaning.body_of ≡ S.body_of
+        → meaning.plain_of ≡ S.plain_of
         → HasFresh input → OpensFresh meaning input }
 {
     what_is_sealed_opens(sealer);
@@ -530,16 +620,22 @@ pub fn fresh_octets_open<S: Sealer>(sealer: &S)
 /// and 2.4).
 pub fn what_is_due_comes_in_time()
     ensures first { (config : Config) → IsTimely (new_machine config) }
-    ensures timely { (meaning : Meaning) (entries : List Entry) (input : InputView) (old : Machine) (table : Database)
+    ensures timely { (meaning : Meaning) (entries : List Entry) (input : InputView) (old : Machine)
+        (table : Database)
         (stepped : Stepped) (new : Machine) (new_table : Database) → IsTimely old
         → Steps meaning entries input old table stepped new new_table → IsTimely new }
     ensures comes { (meaning : Meaning) (entries : List Entry) (moment : ℕ) (old : Machine) (table : Database)
         (stepped : Stepped) (new : Machine) (new_table : Database)
-        → Steps meaning entries (Tick moment) old table stepped new new_table → ComesTo (max old.moment moment) old table stepped new new_table }
-    ensures unrefused { (meaning : Meaning) (entries : List Entry) (moment : ℕ) (machine : Machine) (table : Database)
-        (reason : IkeFault) → Refuses meaning entries (Tick moment) machine table reason → is_want_of_memory reason ≡ true }
-    ensures stays { (meaning : Meaning) (entries : List Entry) (input : InputView) (old : Machine) (table : Database)
-        (stepped : Stepped) (new : Machine) (new_table : Database) → is_tick input ≡ false → IsSoundMachine old table
+        → Steps meaning entries (Tick moment) old table stepped new new_table
+        → ComesTo (max old.moment moment) old table stepped new new_table }
+    ensures unrefused { (meaning : Meaning) (entries : List Entry) (moment : ℕ) (machine : Machine)
+        (table : Database)
+        (reason : IkeFault) → Refuses meaning entries (Tick moment) machine table reason
+        → is_want_of_memory reason ≡ true }
+    ensures stays { (meaning : Meaning) (entries : List Entry) (input : InputView) (old : Machine)
+        (table : Database)
+        (stepped : Stepped) (new : Machine) (new_table : Database) → is_tick input ≡ false
+        → IsSoundMachine old table
         → Steps meaning entries input old table stepped new new_table → StaysAt old stepped new }
 {
     associations_stay_themselves();
@@ -557,31 +653,42 @@ pub fn what_is_due_comes_in_time()
 /// reply is kept any more is dropped (E30). None of these is refused, but for want of memory, and nothing else is answered by a reply
 /// that is kept (RFC 7296, section 2.1).
 pub fn repeats_are_answered()
-    ensures repeated { (meaning : Meaning) (entries : List Entry) (input : InputView) (old : Machine) (table : Database)
+    ensures repeated { (meaning : Meaning) (entries : List Entry) (input : InputView) (old : Machine)
+        (table : Database)
         (stepped : Stepped) (new : Machine) (new_table : Database) (serial : ℕ) (a : Association)
-        (number : ℕ) (reply : Octets) → IsSoundMachine old table → Steps meaning entries input old table stepped new new_table
+        (number : ℕ) (reply : Octets) → IsSoundMachine old table
+        → Steps meaning entries input old table stepped new new_table
         → association_of serial old.held.associations ≡ Some a → OpensAsRequest meaning input a number
-        → map.get a.incoming.kept number ≡ Some reply → OnlySays (output.Repeat reply) old table stepped new new_table }
-    ensures forgotten { (meaning : Meaning) (entries : List Entry) (input : InputView) (old : Machine) (table : Database)
+        → map.get a.incoming.kept number ≡ Some reply
+        → OnlySays (output.Repeat reply) old table stepped new new_table }
+    ensures forgotten { (meaning : Meaning) (entries : List Entry) (input : InputView) (old : Machine)
+        (table : Database)
         (stepped : Stepped) (new : Machine) (new_table : Database) (serial : ℕ) (a : Association)
         (number : ℕ) → IsSoundMachine old table → Steps meaning entries input old table stepped new new_table
         → association_of serial old.held.associations ≡ Some a → OpensAsRequest meaning input a number
         → HasNumber a.incoming.in_effect number → map.get a.incoming.kept number ≡ None
         → OnlySays (output.Dropped (fault.Message why.Forgotten)) old table stepped new new_table }
-    ensures first { (meaning : Meaning) (entries : List Entry) (input : InputView) (old : Machine) (table : Database)
+    ensures first { (meaning : Meaning) (entries : List Entry) (input : InputView) (old : Machine)
+        (table : Database)
         (stepped : Stepped) (new : Machine) (new_table : Database) (serial : ℕ) (a : Association)
-        (opened : HalfOpen) → IsSoundMachine old table → Steps meaning entries input old table stepped new new_table
+        (opened : HalfOpen) → IsSoundMachine old table
+        → Steps meaning entries input old table stepped new new_table
         → association_of serial old.held.associations ≡ Some a → a.phase ≡ phase.HalfOpen opened
-        → IsOfOctets input opened.request → OnlySays (output.Repeat opened.reply) old table stepped new new_table }
-    ensures only { (meaning : Meaning) (entries : List Entry) (input : InputView) (old : Machine) (table : Database)
+        → IsOfOctets input opened.request
+        → OnlySays (output.Repeat opened.reply) old table stepped new new_table }
+    ensures only { (meaning : Meaning) (entries : List Entry) (input : InputView) (old : Machine)
+        (table : Database)
         (stepped : Stepped) (new : Machine) (new_table : Database) (reply : Octets)
-        → IsSoundMachine old table → Steps meaning entries input old table stepped new new_table → stepped.output ≡ output.Repeat reply
+        → IsSoundMachine old table → Steps meaning entries input old table stepped new new_table
+        → stepped.output ≡ output.Repeat reply
         → IsReplyKept meaning input old.held reply ⊎ IsFirstReplyKept input old.held reply }
-    ensures unrefused { (meaning : Meaning) (entries : List Entry) (input : InputView) (machine : Machine) (table : Database)
+    ensures unrefused { (meaning : Meaning) (entries : List Entry) (input : InputView) (machine : Machine)
+        (table : Database)
         (reason : IkeFault) (serial : ℕ) (a : Association) (number : ℕ) → IsSoundMachine machine table
         → association_of serial machine.held.associations ≡ Some a → OpensAsRequest meaning input a number
         → Refuses meaning entries input machine table reason → is_want_of_memory reason ≡ true }
-    ensures unrefused_first { (meaning : Meaning) (entries : List Entry) (input : InputView) (machine : Machine)
+    ensures unrefused_first { (meaning : Meaning) (entries : List Entry) (input : InputView)
+        (machine : Machine)
         (table : Database) (reason : IkeFault) (serial : ℕ) (a : Association) (opened : HalfOpen)
         → association_of serial machine.held.associations ≡ Some a → a.phase ≡ phase.HalfOpen opened
         → IsOfOctets input opened.request → Refuses meaning entries input machine table reason

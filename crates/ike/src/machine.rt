@@ -232,7 +232,8 @@ impl Ike {
 }
 
 fn change_secret(cookies: &mut Cookies, secret: &[u8; 32]) -> Result<Stepped, IkeFault>
-    ensures changed { IfOk result (λ stepped. (stepped ≡ plain_step IkeOutput.Done) × (cookies.new ≡ changed cookies.old secret.now)
+    ensures changed { IfOk result
+        (λ stepped. (stepped ≡ plain_step IkeOutput.Done) × (cookies.new ≡ changed cookies.old secret.now)
         × (cookies.old.version + 1 < 2 ^ 32)) }
     ensures refused { IfErr result (λ reason. (reason ≡ IkeFault.NumbersSpent) × (cookies.new ≡ cookies.old)
         × (¬ (cookies.old.version + 1 < 2 ^ 32))) }

@@ -5,7 +5,7 @@ ghost use Rattle.wire.specs.Messages.{Spells};
 ghost use Rattle.sadb.specs.Database.{Database, IsAsBefore};
 ghost use Rattle.sa_init.specs.Fitting.{FitsOffer};
 ghost use Rattle.sa_init.specs.Judging.{judgement_view, offer_view, IsJudgement};
-ghost use Rattle.association.specs.Finding.{found};
+ghost use Rattle.association.specs.Finding.{place_meant};
 ghost use Rattle.initial.specs.Configs.{setup_of, IsConfig};
 ghost use Rattle.ike.specs.Machines.{half_open_count, SERIAL_END};
 ghost use Rattle.ike.specs.Outputs.{half_open_step};
@@ -104,7 +104,8 @@ fn take_read<C: Sealer + Agreement + Proof>(
           proof_of = C.proof_of setup.now.caller.now;
           accepts = C.accepts setup.now.caller.now;
         })
-        (setup_of setup.now) cookies.now from.now octets.now message.now held.old table.old stepped held.new table.new) }
+        (setup_of setup.now) cookies.now from.now octets.now message.now held.old table.old stepped
+        held.new table.new) }
     ensures refused { IfErr result (λ reason. RefusesDatagram
         (record {
           cipher = C.cipher;
@@ -151,7 +152,7 @@ fn take_found<C: Sealer + Agreement + Proof>(
     requires config { IsConfig setup.now.config.now }
     requires sound { AreSound held.old table.old }
     requires spelled { Spells message.now octets.now }
-    ensures taken { IfOk result (λ stepped. TakesFound (found message.now.header held.old.associations)
+    ensures taken { IfOk result (λ stepped. TakesFound (place_meant message.now.header held.old.associations)
         (record {
           cipher = C.cipher;
           body_of = C.body_of;
@@ -165,7 +166,9 @@ fn take_found<C: Sealer + Agreement + Proof>(
         })
         (setup_of setup.now) octets.now message.now held.old table.old stepped held.new table.new) }
     ensures refused { IfErr result (λ _. (held.new ≡ held.old) × IsAsBefore table.old table.new) }
-    ensures wanted { IfErr result (WantsFound C.plain_of (found message.now.header held.old.associations) octets.now message.now held.old table.old) }
+    ensures wanted { IfErr result
+        (WantsFound C.plain_of
+        (place_meant message.now.header held.old.associations) octets.now message.now held.old table.old) }
 {
     match find(held.associations(), &message.header) {
         Ok(place) => take_at(alloc, setup, held, place, table, octets, message),
@@ -200,7 +203,8 @@ fn take_at<C: Sealer + Agreement + Proof>(
         })
         (setup_of setup.now) octets.now message.now held.old table.old stepped held.new table.new) }
     ensures refused { IfErr result (λ _. (held.new ≡ held.old) × IsAsBefore table.old table.new) }
-    ensures wanted { IfErr result (WantsFound C.plain_of (Ok place) octets.now message.now held.old table.old) }
+    ensures wanted { IfErr result
+        (WantsFound C.plain_of (Ok place) octets.now message.now held.old table.old) }
 {
     let association = &mut held.associations[place];
     let ike = association.serial;
@@ -333,7 +337,8 @@ fn judge_new<'a, C: Sealer + Agreement>(
     message: &'a Message,
 ) -> Judgement<'a>
     ensures { IsJudgement C.cipher C.group_number cookies.now (sender_of from.now message.now.header)
-        (half_open_count associations.now) (length associations.now) message.now.payloads (judgement_view result) }
+        (half_open_count associations.now) (length associations.now) message.now.payloads
+        (judgement_view result) }
 {
     let sender = Sender {
         address: *from,
@@ -383,7 +388,8 @@ fn take_offer<C: Sealer + Agreement + Proof>(
           accepts = C.accepts setup.now.caller.now;
         })
         (setup_of setup.now) (offer_view offer.now) spi_i octets.now held.old stepped held.new) }
-    ensures refused { IfErr result (λ reason. CannotMake held.old setup.now.fresh.now.spi reason × (held.new ≡ held.old)) }
+    ensures refused { IfErr result
+        (λ reason. CannotMake held.old setup.now.fresh.now.spi reason × (held.new ≡ held.old)) }
 {
     let Some(serial) = held.next_serial() else {
         return Err(IkeFault::NumbersSpent);

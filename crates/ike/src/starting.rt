@@ -42,7 +42,8 @@ pub(crate) fn start<C: Sealer + Agreement + Proof>(
           accepts = C.accepts setup.now.caller.now;
         })
         (setup_of setup.now) ike place held.old table.old stepped held.new table.new) }
-    ensures refused { IfErr result (λ reason. RefusesStart setup.now.policy.now setup.now.fresh.now ike place held.old table.old reason
+    ensures refused { IfErr result
+        (λ reason. RefusesStart setup.now.policy.now setup.now.fresh.now ike place held.old table.old reason
         × (held.new ≡ held.old) × IsAsBefore table.old table.new) }
 {
     match ike {
@@ -72,7 +73,8 @@ fn begin_by<C: Sealer + Agreement + Proof>(
           accepts = C.accepts setup.now.caller.now;
         })
         (setup_of setup.now) place held.old table.old stepped held.new table.new) }
-    ensures refused { IfErr result (λ reason. RefusesBeginning setup.now.policy.now setup.now.fresh.now place held.old table.old reason
+    ensures refused { IfErr result
+        (λ reason. RefusesBeginning setup.now.policy.now setup.now.fresh.now place held.old table.old reason
         × (held.new ≡ held.old) × IsAsBefore table.old table.new) }
 {
     let allowed = check_beginning(setup, held, place)?;
@@ -110,7 +112,9 @@ fn further_by<C: Sealer + Agreement + Proof>(
           accepts = C.accepts setup.now.caller.now;
         })
         (setup_of setup.now) ike place held.old table.old stepped held.new table.new) }
-    ensures refused { IfErr result (λ reason. RefusesFurtherBy (protecting_entry setup.now.policy.now place) ike held.old table.old reason
+    ensures refused { IfErr result
+        (λ reason. RefusesFurtherBy
+        (protecting_entry setup.now.policy.now place) ike held.old table.old reason
         × (held.new ≡ held.old) × IsAsBefore table.old table.new) }
 {
     let entry = sound_entry(setup, place)?;
@@ -126,9 +130,11 @@ struct Allowed {
 }
 
 fn check_beginning<C>(setup: &Setup<'_, C>, held: &Held, place: u32) -> Result<Allowed, IkeFault>
-    ensures allowed { IfOk result (λ a. IsAllowed setup.now.policy.now place setup.now.fresh.now held.now a.serial a.entry) }
+    ensures allowed { IfOk result
+        (λ a. IsAllowed setup.now.policy.now place setup.now.fresh.now held.now a.serial a.entry) }
     ensures sound { IfOk result (λ a. IsSoundEntry a.entry) }
-    ensures refused { IfErr result (λ reason. beginning_fault setup.now.policy.now place setup.now.fresh.now held.now ≡ Some reason) }
+    ensures refused { IfErr result
+        (λ reason. beginning_fault setup.now.policy.now place setup.now.fresh.now held.now ≡ Some reason) }
 {
     let entry = sound_entry(setup, place)?;
     let serial = new_serial(held, setup.fresh.spi)?;
@@ -139,7 +145,8 @@ fn check_beginning<C>(setup: &Setup<'_, C>, held: &Held, place: u32) -> Result<A
 fn sound_entry<C>(setup: &Setup<'_, C>, place: u32) -> Result<Entry, IkeFault>
     ensures entry { IfOk result (λ entry. protecting_entry setup.now.policy.now place ≡ Some entry) }
     ensures sound { IfOk result IsSoundEntry }
-    ensures refused { IfErr result (λ reason. (reason ≡ IkeFault.Unprotected) × (protecting_entry setup.now.policy.now place ≡ None)) }
+    ensures refused { IfErr result
+        (λ reason. (reason ≡ IkeFault.Unprotected) × (protecting_entry setup.now.policy.now place ≡ None)) }
 {
     match protecting_entry(setup.policy.entries(), place) {
         Some(entry) => Ok(entry),
@@ -168,7 +175,9 @@ fn if_protects(entry: &Entry) -> Option<Entry>
 
 // The serial of an association that is begun with this SPI.
 fn new_serial(held: &Held, spi: u64) -> Result<u32, IkeFault>
-    ensures serial { IfOk result (λ serial. (new_association_fault held.now spi ≡ None) × (serial ≡ held.now.next) × (held.now.next < SERIAL_END)) }
+    ensures serial { IfOk result
+        (λ serial. (new_association_fault held.now spi ≡ None) × (serial ≡ held.now.next)
+        × (held.now.next < SERIAL_END)) }
     ensures refused { IfErr result (λ reason. new_association_fault held.now spi ≡ Some reason) }
 {
     if held.associations().len() >= ASSOCIATION_LIMIT {
@@ -207,7 +216,9 @@ fn begin_next(
     requires ready { IsReady table.old }
     requires serial { (allowed.now.serial ≡ held.old.next) × (held.old.next < SERIAL_END) }
     requires sound { IsSoundEntry allowed.now.entry }
-    ensures begun { IfOk result (λ stepped. BeginsNext allowed.now.entry extended beginning held.old table.old stepped held.new table.new) }
+    ensures begun { IfOk result
+        (λ stepped. BeginsNext allowed.now.entry extended beginning held.old table.old stepped held.new
+        table.new) }
     ensures refused { IfErr result (λ _. (held.new ≡ held.old) × (table.new ≡ table.old)) }
 {
     let (local, remote) = sides(&allowed.entry);

@@ -111,7 +111,8 @@ fn issue(
     requires { MayIssue association.old.outgoing }
     ensures issued { IfOk result (λ _.
         IssuesNext association.old.outgoing (new_request octets purpose moment) association.new.outgoing) }
-    ensures content { IfOk result (λ _. association.new ≡ with_outgoing association.old association.new.outgoing) }
+    ensures content { IfOk result
+        (λ _. association.new ≡ with_outgoing association.old association.new.outgoing) }
     ensures refused { IfErr result (λ _. association.new ≡ association.old) }
 {
     match association.outgoing.prepare() {

@@ -74,7 +74,8 @@ pub fn answer_auth<C: Sealer + Proof>(
         })
         (setup_of setup.now) association.old table.old number plain.now
         answered association.new table.new) }
-    ensures refused { IfErr result (λ _. (association.new ≡ association.old) × IsAsBefore table.old table.new) }
+    ensures refused { IfErr result
+        (λ _. (association.new ≡ association.old) × IsAsBefore table.old table.new) }
     ensures wanted { IfErr result (CanBeWanted table.old) }
 {
     let Phase::HalfOpen(half_open) = &association.phase else {
@@ -113,7 +114,8 @@ fn make_reply<C: Sealer + Proof>(
 ) -> Result<Reply, AllocError>
     requires config { IsConfig setup.now.config.now }
     requires fits { FitsDecision decision }
-    ensures sealed { IfOk result (λ reply. IsSealed C.body_of (keys_of association.now.role half_open.now.keys)
+    ensures sealed { IfOk result
+        (λ reply. IsSealed C.body_of (keys_of association.now.role half_open.now.keys)
         setup.now.fresh.now.seal (reply_message association.now IKE_AUTH number (reply_payloads
         (C.own_method setup.now.caller.now) (C.proof_of setup.now.caller.now)
         (setup_of setup.now) half_open.now decision)) reply.octets) }

@@ -34,7 +34,8 @@ pub fn begin<C: Sealer + Agreement>(
     alloc: Global,
     setup: &Setup<'_, C>,
 ) -> Result<Beginning, AllocError>
-    ensures { IfOk result (Begins C.cipher C.group_number C.public_value setup.now.fresh.now setup.now.moment) }
+    ensures { IfOk result
+        (Begins C.cipher C.group_number C.public_value setup.now.fresh.now setup.now.moment) }
 {
     let fresh = setup.fresh;
     let octets = request(
@@ -119,7 +120,8 @@ pub fn admit<C: Sealer + Agreement>(
     requires { FitsOffer (offer_view offer.now) }
     ensures { IfOk result (λ admitted. MatchOption admitted
         (C.shared_secret setup.now.fresh.now.secret offer.now.public.now ≡ None)
-        (Admits C.cipher C.group_number C.public_value C.shared_secret setup.now.fresh.now setup.now.moment serial
+        (Admits C.cipher C.group_number C.public_value C.shared_secret setup.now.fresh.now setup.now.moment
+        serial
         (offer_view offer.now) spi_i request.now)) }
 {
     let Some(agreed) = answer(alloc, setup.caller, offer, spi_i, setup.fresh)? else {

@@ -45,7 +45,8 @@ pub fn conclude<C>(
 ) -> Option<u32>
     requires window { IsWindow setup.now.config.now.window }
     requires ready { CanConclude association.old table.old outcome }
-    ensures { ConcludesBy (setup_of setup.now) association.old table.old outcome result association.new table.new }
+    ensures { ConcludesBy
+        (setup_of setup.now) association.old table.old outcome result association.new table.new }
 {
     match outcome {
         Outcome::Closes => {

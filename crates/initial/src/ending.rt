@@ -77,7 +77,8 @@ fn judge_response<C: Proof>(
     plain: &Plain,
 ) -> Result<Outcome, MemoryFault>
     requires { IsConfig setup.now.config.now }
-    ensures judged { IfOk result (Judges (C.accepts setup.now.caller.now) (setup_of setup.now) ike sent.now plain.now) }
+    ensures judged { IfOk result
+        (Judges (C.accepts setup.now.caller.now) (setup_of setup.now) ike sent.now plain.now) }
     ensures fits { IfOk result (FitsVerdict sent.now) }
     ensures wanted { IfErr result (λ fault. fault ≢ child.Table) }
 {

@@ -178,7 +178,8 @@ fn identity_request<C: Sealer + Proof>(
 ) -> Result<Items<u8>, AllocError>
     requires { IsConfig setup.now.config.now }
     ensures { IfOk result (IsSealed C.body_of (keys_of association.now.role keys.now) setup.now.fresh.now.seal
-        (identity_message (C.own_method setup.now.caller.now) (C.proof_of setup.now.caller.now) (setup_of setup.now)
+        (identity_message (C.own_method setup.now.caller.now) (C.proof_of setup.now.caller.now)
+        (setup_of setup.now)
         association.now sent.now spi_r keys.now first.now)) }
 {
     short_messages_can_be_sent();
@@ -200,8 +201,10 @@ fn identity_payloads<C: Proof>(
 ) -> Result<Items<Payload>, AllocError>
     requires { IsConfig setup.now.config.now }
     ensures payloads { IfOk result (λ payloads. payloads ≡ auth_request
-        (C.own_method setup.now.caller.now) (C.proof_of setup.now.caller.now) setup.now.config.now.own.identity
-        (proving_of Initiator keys.now first.now) (child_request (asked_of child.now)) setup.now.config.now.window) }
+        (C.own_method setup.now.caller.now)
+        (C.proof_of setup.now.caller.now) setup.now.config.now.own.identity
+        (proving_of Initiator keys.now first.now)
+        (child_request (asked_of child.now)) setup.now.config.now.window) }
     ensures fits { IfOk result (FitWithin 2840) }
 {
     payloads_fit();

@@ -16,7 +16,8 @@ use std::simd::prelude::*;
 fn row(messages: &[Message<'_>], j: usize, index: usize) -> [u32; 16]
     requires { j < length messages.now }
     ensures long { length result ≡ 16 }
-    ensures row { (m : Message) (octets : List ℕ) → slice_get messages.now j ≡ Some m → HasBlocks m octets → index < m.count
+    ensures row { (m : Message) (octets : List ℕ) → slice_get messages.now j ≡ Some m → HasBlocks m octets
+        → index < m.count
         → result ≡ first_words (take 64 (drop (index * 64) octets)) 16 }
 {
     words(messages[j].block(index))
@@ -26,7 +27,8 @@ fn row(messages: &[Message<'_>], j: usize, index: usize) -> [u32; 16]
 #[inline(always)]
 fn words_at(messages: &[Message<'_>], index: usize) -> [u32x8; 16]
     requires { length messages.now ≡ 8 }
-    ensures { (j : ℕ) → IsLane j → (m : Message) (octets : List ℕ) → slice_get messages.now j ≡ Some m → HasBlocks m octets → index < m.count
+    ensures { (j : ℕ) → IsLane j → (m : Message) (octets : List ℕ) → slice_get messages.now j ≡ Some m
+        → HasBlocks m octets → index < m.count
         → lane j result ≡ first_words (take 64 (drop (index * 64) octets)) 16 }
 {
     words_in_lanes([
@@ -54,7 +56,8 @@ fn is_live(messages: &[Message<'_>], j: usize, index: usize) -> u32
 #[inline(always)]
 fn live(messages: &[Message<'_>], index: usize) -> u32x8
     requires { length messages.now ≡ 8 }
-    ensures { (j : ℕ) → IsLane j → (m : Message) → slice_get messages.now j ≡ Some m → IsLive index m.count (slice_index result j) }
+    ensures { (j : ℕ) → IsLane j → (m : Message) → slice_get messages.now j ≡ Some m
+        → IsLive index m.count (slice_index result j) }
 {
     u32x8::from_array([
         is_live(messages, 0, index),
@@ -71,7 +74,8 @@ fn live(messages: &[Message<'_>], index: usize) -> u32x8
 /// In each lane `other` where that of `test` is 0, and else `state`.
 #[inline(always)]
 fn choose_state(test: u32x8, state: &[u32x8; 8], other: &[u32x8; 8]) -> [u32x8; 8]
-    ensures { (j : ℕ) → IsLane j → lane j result ≡ (if nat_eq (slice_index test j) 0 then lane j other.now else lane j state.now) }
+    ensures { (j : ℕ) → IsLane j
+        → lane j result ≡ (if nat_eq (slice_index test j) 0 then lane j other.now else lane j state.now) }
 {
     [
         choose(test, state[0], other[0]),
@@ -88,8 +92,10 @@ fn choose_state(test: u32x8, state: &[u32x8; 8], other: &[u32x8; 8]) -> [u32x8; 
 /// Each lane's state after the block at `index`, if its message has one.
 fn step(state: [u32x8; 8], messages: &[Message<'_>], index: usize) -> [u32x8; 8]
     requires { length messages.now ≡ 8 }
-    ensures { (j : ℕ) → IsLane j → (m : Message) (octets start : List ℕ) → slice_get messages.now j ≡ Some m → HasBlocks m octets
-        → lane j state ≡ hash_after start octets (min index m.count) → lane j result ≡ hash_after start octets (min (index + 1) m.count) }
+    ensures { (j : ℕ) → IsLane j → (m : Message) (octets start : List ℕ) → slice_get messages.now j ≡ Some m
+        → HasBlocks m octets
+        → lane j state ≡ hash_after start octets (min index m.count)
+        → lane j result ≡ hash_after start octets (min (index + 1) m.count) }
 {
     let next = compress(state, words_at(messages, index));
     choose_state(live(messages, index), &next, &state)
@@ -109,7 +115,8 @@ fn most_blocks(messages: &[Message<'_>]) -> usize
 /// Each lane's state after the blocks of its message.
 pub(crate) fn absorb(start: [u32x8; 8], messages: &[Message<'_>]) -> [u32x8; 8]
     requires { length messages.now ≡ 8 }
-    ensures { (j : ℕ) → IsLane j → (m : Message) (octets : List ℕ) → slice_get messages.now j ≡ Some m → HasBlocks m octets
+    ensures { (j : ℕ) → IsLane j → (m : Message) (octets : List ℕ) → slice_get messages.now j ≡ Some m
+        → HasBlocks m octets
         → lane j result ≡ hash_after (lane j start) octets m.count }
 {
     let mut state = start;

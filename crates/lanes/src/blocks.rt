@@ -53,7 +53,8 @@ fn column<const N: usize>(rows: [[u32; N]; 8], k: usize) -> u32x8
 /// Each of eight states in a lane of its own.
 #[inline(always)]
 pub(crate) fn states_in_lanes(rows: [[u32; 8]; 8]) -> [u32x8; 8]
-    ensures { (j : ℕ) → IsLane j → length (slice_index_or rows j []) ≡ 8 → lane j result ≡ slice_index_or rows j [] }
+    ensures { (j : ℕ) → IsLane j → length (slice_index_or rows j []) ≡ 8
+        → lane j result ≡ slice_index_or rows j [] }
 {
     [
         column(rows, 0),
@@ -88,7 +89,8 @@ pub(crate) fn state_of_lane(state: &[u32x8; 8], j: usize) -> [u32; 8]
 /// The words of eight blocks, each block in a lane of its own.
 #[inline(always)]
 pub(crate) fn words_in_lanes(rows: [[u32; 16]; 8]) -> [u32x8; 16]
-    ensures { (j : ℕ) → IsLane j → length (slice_index_or rows j []) ≡ 16 → lane j result ≡ slice_index_or rows j [] }
+    ensures { (j : ℕ) → IsLane j → length (slice_index_or rows j []) ≡ 16
+        → lane j result ≡ slice_index_or rows j [] }
 {
     [
         column(rows, 0),

@@ -18,7 +18,8 @@ use std::simd::prelude::*;
 /// The state behind the inner pad of the key at a place.
 fn inner_state(tasks: &[Task<'_>], place: usize) -> [u32; 8]
     requires { FitsALane tasks.now place }
-    ensures { (task : Task) → slice_get tasks.now place ≡ Some task → result ≡ state_behind (pad_with 0x36 (hmac_block task.key.now)) }
+    ensures { (task : Task) → slice_get tasks.now place ≡ Some task
+        → result ≡ state_behind (pad_with 0x36 (hmac_block task.key.now)) }
 {
     tasks[place].key.inner_state()
 }
@@ -26,7 +27,8 @@ fn inner_state(tasks: &[Task<'_>], place: usize) -> [u32; 8]
 /// The state behind the outer pad of the key at a place.
 fn outer_state(tasks: &[Task<'_>], place: usize) -> [u32; 8]
     requires { FitsALane tasks.now place }
-    ensures { (task : Task) → slice_get tasks.now place ≡ Some task → result ≡ state_behind (pad_with 0x5c (hmac_block task.key.now)) }
+    ensures { (task : Task) → slice_get tasks.now place ≡ Some task
+        → result ≡ state_behind (pad_with 0x5c (hmac_block task.key.now)) }
 {
     tasks[place].key.outer_state()
 }
@@ -34,7 +36,8 @@ fn outer_state(tasks: &[Task<'_>], place: usize) -> [u32; 8]
 /// The blocks of the message at a place.
 fn message<'a>(tasks: &[Task<'a>], place: usize) -> Message<'a>
     requires { FitsALane tasks.now place }
-    ensures { (task : Task) → slice_get tasks.now place ≡ Some task → HasBlocks result (after_a_block (message_of task)) }
+    ensures { (task : Task) → slice_get tasks.now place ≡ Some task
+        → HasBlocks result (after_a_block (message_of task)) }
 {
     tasks[place].message()
 }

@@ -58,8 +58,10 @@ fn place_for(places: &[usize; BATCH], start: usize, end: usize, j: usize) -> usi
 pub(crate) fn next_eight(places: &[usize; BATCH], start: usize, end: usize) -> [usize; 8]
     requires start { start < end }
     requires end { end ≤ BATCH }
-    ensures next { (j : ℕ) → IsLane j → start + j < end → slice_index result j ≡ slice_index places.now (start + j) }
-    ensures left { (j : ℕ) → IsLane j → end ≤ start + j → slice_index result j ≡ slice_index places.now start }
+    ensures next { (j : ℕ) → IsLane j → start + j < end
+        → slice_index result j ≡ slice_index places.now (start + j) }
+    ensures left { (j : ℕ) → IsLane j → end ≤ start + j
+        → slice_index result j ≡ slice_index places.now start }
 {
     [
         place_for(places, start, end, 0),

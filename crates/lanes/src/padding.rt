@@ -12,7 +12,8 @@ pub(crate) fn end_len(used: usize) -> usize
 /// Puts octets behind those that were put before.
 fn put(end: &mut [u8; 128], at: usize, octets: &[u8])
     requires { at + length octets.now ≤ 128 }
-    ensures { (before : List ℕ) → length before ≡ at → end.old ≡ filled before → end.new ≡ filled (before ++ octets.now) }
+    ensures { (before : List ℕ) → length before ≡ at → end.old ≡ filled before
+        → end.new ≡ filled (before ++ octets.now) }
 {
     end[at..at + octets.len()].copy_from_slice(octets);
 }

@@ -45,8 +45,10 @@ fn outer_words(digest: &[u32x8; 8]) -> [u32x8; 16]
 /// Each lane's tag, as words: that of its message under the key whose states it begins with.
 pub(crate) fn tags(inner: [u32x8; 8], outer: [u32x8; 8], messages: &[Message<'_>]) -> [u32x8; 8]
     requires { length messages.now ≡ 8 }
-    ensures { (j : ℕ) → IsLane j → (m : Message) (key octets : List ℕ) → slice_get messages.now j ≡ Some m → HasBlocks m (after_a_block octets)
-        → HasStates key (lane j inner) (lane j outer) → digest_bytes (lane j result) 8 ≡ hmac_sha256 key octets }
+    ensures { (j : ℕ) → IsLane j → (m : Message) (key octets : List ℕ) → slice_get messages.now j ≡ Some m
+        → HasBlocks m (after_a_block octets)
+        → HasStates key (lane j inner) (lane j outer)
+        → digest_bytes (lane j result) 8 ≡ hmac_sha256 key octets }
 {
     let digests = absorb(inner, messages);
     compress(outer, outer_words(&digests))

@@ -32,14 +32,16 @@ pub(crate) fn choose(test: u32x8, word: u32x8, other: u32x8) -> u32x8
 
 #[inline(always)]
 pub(crate) fn ch(x: u32x8, y: u32x8, z: u32x8) -> u32x8
-    ensures { (j : ℕ) → IsLane j → slice_index result j ≡ ch (slice_index x j) (slice_index y j) (slice_index z j) }
+    ensures { (j : ℕ) → IsLane j
+        → slice_index result j ≡ ch (slice_index x j) (slice_index y j) (slice_index z j) }
 {
     (x & y) ^ (!x & z)
 }
 
 #[inline(always)]
 pub(crate) fn maj(x: u32x8, y: u32x8, z: u32x8) -> u32x8
-    ensures { (j : ℕ) → IsLane j → slice_index result j ≡ maj (slice_index x j) (slice_index y j) (slice_index z j) }
+    ensures { (j : ℕ) → IsLane j
+        → slice_index result j ≡ maj (slice_index x j) (slice_index y j) (slice_index z j) }
 {
     (x & y) ^ (x & z) ^ (y & z)
 }
@@ -65,7 +67,8 @@ fn shifted(x: u32x8, by: u32) -> u32x8
 
 #[inline(always)]
 fn xor(x: u32x8, y: u32x8, z: u32x8) -> u32x8
-    ensures { (j : ℕ) → IsLane j → slice_index result j ≡ bit_xor (bit_xor (slice_index x j) (slice_index y j)) (slice_index z j) }
+    ensures { (j : ℕ) → IsLane j
+        → slice_index result j ≡ bit_xor (bit_xor (slice_index x j) (slice_index y j)) (slice_index z j) }
 {
     x ^ y ^ z
 }

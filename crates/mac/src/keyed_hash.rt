@@ -76,7 +76,8 @@ impl HmacKey {
 
     // The tag of a message that begins with other octets than its parts, and ends with one more.
     pub(crate) fn tag_between(&self, front: &[u8], parts: &[&[u8]], end: u8) -> [u8; 32]
-        ensures { result ≡ keyed_hash self.now (front.now ++ flat_map (λ part. part.now) parts.now ++ end ∷ []) }
+        ensures { result
+            ≡ keyed_hash self.now (front.now ++ flat_map (λ part. part.now) parts.now ++ end ∷ []) }
     {
         let mut hasher = copy_of(&self.inner);
         hasher.update(front);
@@ -163,7 +164,8 @@ fn copy_of(hasher: &Sha256) -> Sha256
 
 // The digest of what the hasher holds and the parts after it.
 fn finish(mut hasher: Sha256, parts: &[&[u8]]) -> [u8; 32]
-    ensures { (held : List ℕ) → Holds256 hasher held → result ≡ sha256 (held ++ flat_map (λ part. part.now) parts.now) }
+    ensures { (held : List ℕ) → Holds256 hasher held
+        → result ≡ sha256 (held ++ flat_map (λ part. part.now) parts.now) }
 {
     for part in parts {
         hasher.update(*part);

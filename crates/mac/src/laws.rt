@@ -5,6 +5,8 @@ ghost use Rattle.mac.specs.KeyMaterial.{prf_plus};
 
 /// Key material (RFC 7296, section 2.13) has as many octets as are asked for, up to 8160.
 pub fn key_material_is_octets()
-    ensures length { (key seed : List ℕ) (count : ℕ) → count ≤ 8160 → length (prf_plus key seed count) ≡ count }
-    ensures octets { (key seed : List ℕ) (count : ℕ) → AllByRecursion (λ octet. octet < 256) (prf_plus key seed count) }
+    ensures length { (key seed : List ℕ) (count : ℕ) → count ≤ 8160
+        → length (prf_plus key seed count) ≡ count }
+    ensures octets { (key seed : List ℕ) (count : ℕ)
+        → AllByRecursion (λ octet. octet < 256) (prf_plus key seed count) }
 {}

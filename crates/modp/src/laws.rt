@@ -17,7 +17,8 @@ pub fn powers_are_elements()
 /// Octets and the numbers that they spell tell each other, and an element's octets give it again.
 pub fn octets_tell_numbers()
     ensures number { (n m : ℕ) → m < 256 ^ n → octets_number (number_octets n m) ≡ m }
-    ensures octets { (octets : List ℕ) → AreOctets octets → number_octets (length octets) (octets_number octets) ≡ octets }
+    ensures octets { (octets : List ℕ) → AreOctets octets
+        → number_octets (length octets) (octets_number octets) ≡ octets }
     ensures length { (n m : ℕ) → length (number_octets n m) ≡ n }
     ensures element { (m : ℕ) → m < prime → element_of (number_octets 256 m) ≡ Some m }
 {}

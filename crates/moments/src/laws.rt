@@ -19,10 +19,13 @@ use association::laws::endings_are_determined;
 /// A moment brings one thing: what is sent and what is closed, and what is held then of the associations and of the table, go by what
 /// was held of both before, whatever room there is.
 pub fn ticks_are_determined()
-    ensures { (now : ℕ) (old other a b : List Association) (table another a_table b_table : Database) (one two : Ticked)
-        → map association_content old ≡ map association_content other → table_content table ≡ table_content another
+    ensures { (now : ℕ) (old other a b : List Association) (table another a_table b_table : Database)
+        (one two : Ticked)
+        → map association_content old ≡ map association_content other
+        → table_content table ≡ table_content another
         → Ticks now old table one a a_table → Ticks now other another two b b_table
-        → (one ≡ two) × (map association_content a ≡ map association_content b) × (table_content a_table ≡ table_content b_table) }
+        → (one ≡ two) × (map association_content a ≡ map association_content b)
+        × (table_content a_table ≡ table_content b_table) }
 {
     endings_are_determined();
 }
@@ -31,7 +34,8 @@ pub fn ticks_are_determined()
 /// role and SPIs and with the same keys: as it was but for timers, or closed by this moment and told so.
 pub fn what_is_held_was_held()
     ensures { (now : ℕ) (old new : List Association) (table new_table : Database) (ticked : Ticked)
-        → Ticks now old table ticked new new_table → AllZip (StaysItself now ticked.closed) (held_of now old) new }
+        → Ticks now old table ticked new new_table
+        → AllZip (StaysItself now ticked.closed) (held_of now old) new }
 {}
 
 /// Each request that goes out again waits for an answer and is due, and goes out under its number with the octets that it had, of an
@@ -44,7 +48,8 @@ pub fn what_goes_out_again_is_outstanding()
 /// All that is due comes, and nothing else: of each association that is held on the requests that are due, by rising number, and the
 /// serial of each that is closed, in the order of the associations.
 pub fn what_comes_is_due()
-    ensures { (now : ℕ) (old : List Association) (table : Database) (ticked : Ticked) (new : List Association) (new_table : Database)
+    ensures { (now : ℕ) (old : List Association) (table : Database) (ticked : Ticked) (new : List Association)
+        (new_table : Database)
         → Ticks now old table ticked new new_table
         → (ticked.requests ≡ flat_map (sent_of now) old) × (ticked.closed ≡ flat_map (closed_of now) old) }
 {}
@@ -52,16 +57,20 @@ pub fn what_comes_is_due()
 /// After a moment nothing is due that it has reached, and nothing waits from a later one on: a request that went out again waits from
 /// then on, and a closed association is held from then on, whatever closed it. So what is due at a later moment was not at this one.
 pub fn nothing_is_due_afterwards()
-    ensures held { (earlier now : ℕ) (old : List Association) (table : Database) (ticked : Ticked) (new : List Association)
-        (new_table : Database) → earlier ≤ now → All (HasBegun earlier) old → Ticks now old table ticked new new_table
+    ensures held { (earlier now : ℕ) (old : List Association) (table : Database) (ticked : Ticked)
+        (new : List Association)
+        (new_table : Database) → earlier ≤ now → All (HasBegun earlier) old
+        → Ticks now old table ticked new new_table
         → All (IsInTime now) new }
-    ensures closed { (now : ℕ) (old new : Association) (table new_table : Database) → Closes old table now new new_table
+    ensures closed { (now : ℕ) (old new : Association) (table new_table : Database)
+        → Closes old table now new new_table
         → IsInTime now new }
 {}
 
 /// The pairs of the associations that a moment closes go, and no other pair is changed.
 pub fn pairs_go_with_their_associations()
-    ensures { (now : ℕ) (old : List Association) (table : Database) (ticked : Ticked) (new : List Association) (new_table : Database)
+    ensures { (now : ℕ) (old : List Association) (table : Database) (ticked : Ticked) (new : List Association)
+        (new_table : Database)
         → Ticks now old table ticked new new_table → LeavesPairsBut ticked.closed table new_table }
 {}
 
@@ -88,10 +97,14 @@ pub fn no_more_go_out_than_wait()
 /// what it answered; it stays in its phase and asks for nothing more, or is closed. Pairs go from the table, and none comes or is
 /// changed. An SPI stays reserved that no association holds whose peer is gone.
 pub fn some_are_held_on()
-    ensures held { (now : ℕ) (old : List Association) (table : Database) (ticked : Ticked) (new : List Association) (new_table : Database)
+    ensures held { (now : ℕ) (old : List Association) (table : Database) (ticked : Ticked)
+        (new : List Association) (new_table : Database)
         → Ticks now old table ticked new new_table → HoldSome now old new }
-    ensures pairs { (now : ℕ) (old : List Association) (table : Database) (ticked : Ticked) (new : List Association) (new_table : Database)
+    ensures pairs { (now : ℕ) (old : List Association) (table : Database) (ticked : Ticked)
+        (new : List Association) (new_table : Database)
         → Ticks now old table ticked new new_table → LeavesFewer table new_table }
-    ensures reserved { (now : ℕ) (old : List Association) (table : Database) (ticked : Ticked) (new : List Association) (new_table : Database)
-        (spi : ℕ) → HoldsNone now old spi → IsReserved table spi → Ticks now old table ticked new new_table → IsReserved new_table spi }
+    ensures reserved { (now : ℕ) (old : List Association) (table : Database) (ticked : Ticked)
+        (new : List Association) (new_table : Database)
+        (spi : ℕ) → HoldsNone now old spi → IsReserved table spi → Ticks now old table ticked new new_table
+        → IsReserved new_table spi }
 {}

@@ -35,8 +35,10 @@ pub fn tick(
     now: u64,
 ) -> Result<Ticked, AllocError>
     requires { HoldTheirSpis associations.old.items table.old }
-    ensures ticked { IfOk result (λ ticked. Ticks now associations.old.items table.old ticked associations.new.items table.new) }
-    ensures refused { IfErr result (λ _. (associations.new.items ≡ associations.old.items) × (table.new ≡ table.old)) }
+    ensures ticked { IfOk result
+        (λ ticked. Ticks now associations.old.items table.old ticked associations.new.items table.new) }
+    ensures refused { IfErr result
+        (λ _. (associations.new.items ≡ associations.old.items) × (table.new ≡ table.old)) }
 {
     let requests = due(alloc, associations.as_slice(), now)?;
     let closed = failed(alloc, associations.as_slice(), now)?;

@@ -22,19 +22,22 @@ pub fn bodies_open_as_made()
 /// that peer's secret, which is not empty.
 pub fn proofs_are_of_the_first_peer()
     ensures { (peers : List Peer) (kind : ℕ) (id : List ℕ) (method : ℕ) (octets given : List ℕ)
-        → (is_accepted peers kind id method octets given ≡ true) ↔ IsProved peers kind id method octets given }
+        → (is_accepted peers kind id method octets given
+        ≡ true) ↔ IsProved peers kind id method octets given }
 {}
 
 /// A secret is shared exactly if the public value is 256 octets that spell a number below the prime, whose power by the own secret is from 2 to the
 /// prime less 2, and it is the 256 octets that spell that power (RFC 7296, sections 2.14 and 3.4; RFC 6989, section 2.1).
 pub fn shared_secrets_are_powers()
-    ensures { (secret other shared : List ℕ) → (shared_of secret other ≡ Some shared) ↔ IsSharedBy secret other shared }
+    ensures { (secret other shared : List ℕ)
+        → (shared_of secret other ≡ Some shared) ↔ IsSharedBy secret other shared }
 {}
 
 /// With the public value of the other's secret an end comes to the generator's power by both, where that is not refused.
 pub fn both_ends_come_to_one_power()
     ensures { (a b : List ℕ) → is_trivial (2 ^ (octets_number a * octets_number b) % prime) ≡ false
-        → shared_of a (public_of b) ≡ Some (number_octets 256 (2 ^ (octets_number a * octets_number b) % prime)) }
+        → shared_of a (public_of b)
+        ≡ Some (number_octets 256 (2 ^ (octets_number a * octets_number b) % prime)) }
 {}
 
 /// What is made of a plain text is what section 3.14 of RFC 7296 has a body be, with zeros for padding, as few as fill a block: the fresh octets, the

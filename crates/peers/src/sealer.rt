@@ -51,7 +51,8 @@ impl Sealer for PeerCaller {
         fresh: &[u8; 16],
         out: &mut Vec<u8>,
     ) -> Result<(), AllocError>
-        ensures appended { OnOk result (out.new.items ≡ out.old.items ++ sealed_body keys.now head.now plain.now fresh.now) }
+        ensures appended { OnOk result
+            (out.new.items ≡ out.old.items ++ sealed_body keys.now head.now plain.now fresh.now) }
         ensures refused { OnErr result (out.new.items ≡ out.old.items) }
         ensures room { vec_len out.old + body_size (length plain.now) ≤ vec_capacity out.old → IsOk result }
     {
@@ -70,10 +71,12 @@ impl Sealer for PeerCaller {
         body: &[u8],
         out: &mut Vec<u8>,
     ) -> Result<bool, AllocError>
-        ensures answered { IfOk result (λ opens. Opens (opened_body keys.now head.now body.now) opens out.old.items out.new.items) }
+        ensures answered { IfOk result
+            (λ opens. Opens (opened_body keys.now head.now body.now) opens out.old.items out.new.items) }
         ensures refused { OnErr result (out.new.items ≡ out.old.items) }
         // What doesn't open takes no memory.
-        ensures unopened { opened_body keys.now head.now body.now ≡ None → (result ≡ Ok false) × (out.new.items ≡ out.old.items) }
+        ensures unopened { opened_body keys.now head.now body.now ≡ None
+            → (result ≡ Ok false) × (out.new.items ≡ out.old.items) }
         // What is written are the blocks, all but vector and check value.
         ensures room { vec_len out.old + length body.now ≤ vec_capacity out.old + 32 → IsOk result }
     {
@@ -156,7 +159,8 @@ fn padding(plain: usize) -> ([u8; BLOCK], usize)
 fn plain_len(keys: &Keys, body: &[u8]) -> Option<usize>
     requires long { 48 ≤ length body.now }
     requires whole { length body.now % 16 ≡ 0 }
-    ensures plain { option_map (λ plain. take plain (decrypted_part keys.now body.now)) result ≡ unpadded (decrypted_part keys.now body.now) }
+    ensures plain { option_map (λ plain. take plain (decrypted_part keys.now body.now)) result
+        ≡ unpadded (decrypted_part keys.now body.now) }
     ensures within { IfSome result (λ plain. plain ≤ length body.now) }
 {
     let pad = last_block(keys, body)[BLOCK - 1];

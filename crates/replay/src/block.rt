@@ -102,7 +102,8 @@ fn mark(blocks: &mut [u64], top: u64, n: u64)
 fn set_bit(blocks: &mut [u64], n: u64)
     requires { 1 ≤ length blocks.old }
     ensures length { length blocks.new ≡ length blocks.old }
-    ensures marked { (q : ℕ) → is_marked blocks.new q ≡ (is_twin (length blocks.old) n q || is_marked blocks.old q) }
+    ensures marked { (q : ℕ)
+        → is_marked blocks.new q ≡ (is_twin (length blocks.old) n q || is_marked blocks.old q) }
 {
     let place = place(blocks, n / BLOCK);
     blocks[place] |= 1 << (n % BLOCK);
@@ -113,8 +114,10 @@ fn clear_passed(blocks: &mut [u64], from: u64, to: u64)
     requires some_blocks { 1 ≤ length blocks.old }
     requires upwards { from ≤ to }
     ensures length { length blocks.new ≡ length blocks.old }
-    ensures cleared { (block : ℕ) → from < block → block ≤ to → get_or blocks.new (block % length blocks.old) 0 ≡ 0 }
-    ensures kept { (block : ℕ) → block ≤ from → to < block + length blocks.old → get_or blocks.new (block % length blocks.old) 0 ≡ get_or blocks.old (block % length blocks.old) 0 }
+    ensures cleared { (block : ℕ) → from < block → block ≤ to
+        → get_or blocks.new (block % length blocks.old) 0 ≡ 0 }
+    ensures kept { (block : ℕ) → block ≤ from → to < block + length blocks.old
+        → get_or blocks.new (block % length blocks.old) 0 ≡ get_or blocks.old (block % length blocks.old) 0 }
 {
     if to - from >= blocks.len() as u64 {
         blocks.fill(0);

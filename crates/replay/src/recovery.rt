@@ -8,7 +8,8 @@ const LOW_HALF: u64 = 0xffff_ffff;
 /// ends at `top`, the greatest number taken so far; `None` where that number would be 0, negative or 2^64 or more
 /// (RFC 4303 section 2.2.1 and appendix A2).
 pub fn recover(top: u64, window: u64, low: u32) -> Option<u64>
-    ensures { MatchOption result ((n : ℕ) → ¬ IsRecovered top window low n) (λ n. IsRecovered top window low n) }
+    ensures { MatchOption result ((n : ℕ) → ¬ IsRecovered top window low n)
+        (λ n. IsRecovered top window low n) }
 {
     let low = u64::from(low);
     if window > top {

@@ -89,28 +89,36 @@ pub fn a_moment_sends_once()
 
 /// What is said of the peer's requests, and what they are after a call, goes by what they are, whatever room there is.
 pub fn later_incoming_are_determined()
-    ensures prepared { (old new : PeerRequests) → HasSameRequests old new → incoming_content new ≡ incoming_content old }
+    ensures prepared { (old new : PeerRequests) → HasSameRequests old new
+        → incoming_content new ≡ incoming_content old }
     ensures judged { (old other : PeerRequests) (n : ℕ) (judgement : Judgement)
-        → incoming_content old ≡ incoming_content other → IsJudgement old n judgement → IsJudgement other n judgement }
+        → incoming_content old ≡ incoming_content other → IsJudgement old n judgement
+        → IsJudgement other n judgement }
     ensures taken { (old other a b : PeerRequests) (n : ℕ) (reply : Octets)
-        → incoming_content old ≡ incoming_content other → TakesRequest old n reply a → TakesRequest other n reply b
+        → incoming_content old ≡ incoming_content other → TakesRequest old n reply a
+        → TakesRequest other n reply b
         → incoming_content a ≡ incoming_content b }
 {}
 
 /// So do this end's requests after a call, and the request that it found.
 pub fn later_outgoing_are_determined<T>()
-    ensures prepared { (old new : OwnRequests T) → HasSameOwnRequests old new → outgoing_content new ≡ outgoing_content old }
+    ensures prepared { (old new : OwnRequests T) → HasSameOwnRequests old new
+        → outgoing_content new ≡ outgoing_content old }
     ensures issued { (old other a b : OwnRequests T) (request : T) (m n : ℕ)
-        → outgoing_content old ≡ outgoing_content other → IssuesRequest old request m a → IssuesRequest other request n b
+        → outgoing_content old ≡ outgoing_content other → IssuesRequest old request m a
+        → IssuesRequest other request n b
         → outgoing_content a ≡ outgoing_content b }
     ensures counted { (old other a b : OwnRequests T) (n : ℕ) (one another : T)
-        → outgoing_content old ≡ outgoing_content other → CountsAnswer old n one a → CountsAnswer other n another b
+        → outgoing_content old ≡ outgoing_content other → CountsAnswer old n one a
+        → CountsAnswer other n another b
         → (one ≡ another) × (outgoing_content a ≡ outgoing_content b) }
     ensures replaced { (old other a b : OwnRequests T) (n : ℕ) (was were is : T)
-        → outgoing_content old ≡ outgoing_content other → ReplacesRequest old n was is a → ReplacesRequest other n were is b
+        → outgoing_content old ≡ outgoing_content other → ReplacesRequest old n was is a
+        → ReplacesRequest other n were is b
         → (was ≡ were) × (outgoing_content a ≡ outgoing_content b) }
     ensures withdrawn { (old other a b : OwnRequests T) (n : ℕ) (one another : T)
-        → outgoing_content old ≡ outgoing_content other → WithdrawsRequest old n one a → WithdrawsRequest other n another b
+        → outgoing_content old ≡ outgoing_content other → WithdrawsRequest old n one a
+        → WithdrawsRequest other n another b
         → (one ≡ another) × (outgoing_content a ≡ outgoing_content b) }
     ensures given_up { (old other a b : OwnRequests T)
         → outgoing_content old ≡ outgoing_content other → GivesUpRequests old a → GivesUpRequests other b

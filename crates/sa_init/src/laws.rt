@@ -94,11 +94,13 @@ pub fn both_ends_have_one_record<C: Agreement>(caller: &C)
 
 /// A response means one thing, a cookie told by its octets; and an offer has one answer and one record of keys. Does nothing.
 pub fn answers_are_determined()
-    ensures response { (cipher : Cipher) (group : ℕ) (shared_secret : Octets → Octets → Option Octets) (sent : WaitingView)
+    ensures response { (cipher : Cipher) (group : ℕ) (shared_secret : Octets → Octets → Option Octets)
+        (sent : WaitingView)
         (m : Message) (one other : Response) → IsResponse cipher group shared_secret sent m one
         → IsResponse cipher group shared_secret sent m other → IsSameResponse one other }
     ensures answer { (cipher : Cipher) (group : ℕ) (public_value : Octets → Octets)
-        (shared_secret : Octets → Octets → Option Octets) (offer : OfferView) (spi_i : ℕ) (fresh : Fresh) (a b : Agreed)
+        (shared_secret : Octets → Octets → Option Octets) (offer : OfferView) (spi_i : ℕ) (fresh : Fresh)
+        (a b : Agreed)
         → IsAnswer cipher group public_value shared_secret offer spi_i fresh a
         → IsAnswer cipher group public_value shared_secret offer spi_i fresh b → a ≡ b }
 {

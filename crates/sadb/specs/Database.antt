@@ -190,8 +190,8 @@ pub record IsOutbound (pairs : PairMap) (flow : Flow) (serial : ℕ) : Type 0 wh
   pub carries : Carries pairs flow serial
   pub greatest : (other : ℕ) → serial < other → ¬ Carries pairs flow other
 
--- the packet is addressed to the pair with this serial
-pub record IsFor (pairs : PairMap) (serial : ℕ) (packet : List ℕ) : Type 0 where
+-- a pair stands under this serial, and the packet begins with the SPI under which that receives, or is shorter than one
+pub record IsForPair (pairs : PairMap) (serial : ℕ) (packet : List ℕ) : Type 0 where
   pub pair : Pair
   pub there : pair_at pairs serial ≡ Some pair
   pub addressed : IsOf pair.inbound.association packet

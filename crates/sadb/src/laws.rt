@@ -17,18 +17,24 @@ ghost use Rattle.sadb.specs.declared.pair.Pair.{Pair};
 pub fn later_tables_follow()
     ensures transitive { (a b c : Database) → Follows a b → Follows b c → Follows a c }
     ensures preparing { (old new : Database) → IsSoundTable old → IsAsBefore old new → Follows old new }
-    ensures reserving { (old new : Database) (spi : ℕ) → IsSoundTable old → Reserves old spi new → Follows old new }
-    ensures releasing { (old new : Database) (spi : ℕ) → IsSoundTable old → Releases old spi new → Follows old new }
+    ensures reserving { (old new : Database) (spi : ℕ) → IsSoundTable old → Reserves old spi new
+        → Follows old new }
+    ensures releasing { (old new : Database) (spi : ℕ) → IsSoundTable old → Releases old spi new
+        → Follows old new }
     ensures installing { (old new : Database) (spi : ℕ) (pair : Pair) (serial : ℕ)
         → IsSoundTable old → Installs old spi pair serial new → Follows old new }
-    ensures removing { (old new : Database) (serial : ℕ) → IsSoundTable old → Removes old serial new → Follows old new }
-    ensures emptying { (old new : Database) (ike : ℕ) → IsSoundTable old → RemovesAllOf old ike new → Follows old new }
-    ensures marking { (old new : Database) (serial : ℕ) → IsSoundTable old → Marks old serial new → Follows old new }
+    ensures removing { (old new : Database) (serial : ℕ) → IsSoundTable old → Removes old serial new
+        → Follows old new }
+    ensures emptying { (old new : Database) (ike : ℕ) → IsSoundTable old → RemovesAllOf old ike new
+        → Follows old new }
+    ensures marking { (old new : Database) (serial : ℕ) → IsSoundTable old → Marks old serial new
+        → Follows old new }
     ensures opening { (old new : Database) (serial : ℕ) (packet : List ℕ) (number next : ℕ) (payload : List ℕ)
         → IsSoundTable old → OpensAt old serial packet number next payload new → Follows old new }
     ensures refusing { (old new : Database) (serial : ℕ) (packet : List ℕ) (fault : EspFault)
         → IsSoundTable old → RefusesAt old serial packet fault new → Follows old new }
-    ensures sealing { (old new : Database) (serial next : ℕ) (payload before : List ℕ) (number : ℕ) (after : List ℕ)
+    ensures sealing { (old new : Database) (serial next : ℕ) (payload before : List ℕ) (number : ℕ)
+        (after : List ℕ)
         → IsSoundTable old → SealsAt old serial next payload before number new after → Follows old new }
 {}
 
@@ -36,13 +42,15 @@ pub fn later_tables_follow()
 /// release, a removal, the end of a pair's traffic outward, an opening, whatever came of it, and a sealing.
 pub fn room_stays()
     ensures releasing { (old new : Database) (spi : ℕ) → IsReady old → Releases old spi new → IsReady new }
-    ensures removing { (old new : Database) (serial : ℕ) → IsReady old → Removes old serial new → IsReady new }
+    ensures removing { (old new : Database) (serial : ℕ) → IsReady old → Removes old serial new
+        → IsReady new }
     ensures marking { (old new : Database) (serial : ℕ) → IsReady old → Marks old serial new → IsReady new }
     ensures opening { (old new : Database) (serial : ℕ) (packet : List ℕ) (number next : ℕ) (payload : List ℕ)
         → IsReady old → OpensAt old serial packet number next payload new → IsReady new }
     ensures refusing { (old new : Database) (serial : ℕ) (packet : List ℕ) (fault : EspFault)
         → IsReady old → RefusesAt old serial packet fault new → IsReady new }
-    ensures sealing { (old new : Database) (serial next : ℕ) (payload before : List ℕ) (number : ℕ) (after : List ℕ)
+    ensures sealing { (old new : Database) (serial next : ℕ) (payload before : List ℕ) (number : ℕ)
+        (after : List ℕ)
         → IsReady old → SealsAt old serial next payload before number new after → IsReady new }
 {}
 
@@ -61,9 +69,12 @@ pub fn an_spi_names_one_pair()
 /// What [`Table::inbound`](crate::Table::inbound), [`outbound`](crate::Table::outbound) and [`after`](crate::Table::after) answer
 /// is determined, and of the refusals of an SPI one applies at most.
 pub fn answers_are_determined()
-    ensures inbound { (pairs : PairMap) (spi : ℕ) (a b : Pair) → IsInbound pairs spi a → IsInbound pairs spi b → a ≡ b }
-    ensures outbound { (pairs : PairMap) (flow : Flow) (a b : ℕ) → IsOutbound pairs flow a → IsOutbound pairs flow b → a ≡ b }
-    ensures after { (pairs : PairMap) (serial : ℕ) (a b : Pair) → IsAfter pairs serial a → IsAfter pairs serial b → a ≡ b }
+    ensures inbound { (pairs : PairMap) (spi : ℕ) (a b : Pair) → IsInbound pairs spi a → IsInbound pairs spi b
+        → a ≡ b }
+    ensures outbound { (pairs : PairMap) (flow : Flow) (a b : ℕ) → IsOutbound pairs flow a
+        → IsOutbound pairs flow b → a ≡ b }
+    ensures after { (pairs : PairMap) (serial : ℕ) (a b : Pair) → IsAfter pairs serial a
+        → IsAfter pairs serial b → a ≡ b }
     ensures refusal { (d : Database) (a b : TableFault) → IsTableRefusal d a → IsTableRefusal d b → a ≡ b }
 {}
 
@@ -74,7 +85,8 @@ pub fn mirroring_is_symmetric()
 
 /// A pair whose two associations have numbers of one length has a mirror: what the other end would hold.
 pub fn mirrors_exist()
-    ensures { (a : Pair) → a.inbound.association.extended ≡ a.outbound.association.extended → Mirrors a (reflection a) }
+    ensures { (a : Pair) → a.inbound.association.extended ≡ a.outbound.association.extended
+        → Mirrors a (reflection a) }
 {}
 
 /// What a table holds after a call, and what the call gave, goes by what the table held before, whatever room there is.
@@ -85,7 +97,8 @@ pub fn later_tables_are_determined()
     ensures released { (old other a b : Database) (spi : ℕ) → table_content old ≡ table_content other
         → Releases old spi a → Releases other spi b → table_content a ≡ table_content b }
     ensures installed { (old other a b : Database) (spi mark : ℕ) (pair : Pair) (serial number : ℕ)
-        → table_content old ≡ table_content other → Installs old spi pair serial a → Installs other mark pair number b
+        → table_content old ≡ table_content other → Installs old spi pair serial a
+        → Installs other mark pair number b
         → (serial ≡ number) × (table_content a ≡ table_content b) }
     ensures emptied { (old other a b : Database) (ike : ℕ) → table_content old ≡ table_content other
         → RemovesAllOf old ike a → RemovesAllOf other ike b → table_content a ≡ table_content b }

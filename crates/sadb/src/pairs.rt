@@ -7,7 +7,7 @@ ghost use Rattle.std.specs.FinMap as map;
 ghost use Rattle.policy.specs.Decisions.{Covers};
 ghost use Rattle.replay.specs.Window.{IsSoundWindow};
 ghost use Rattle.sadb.specs.declared.pair.Pair as held;
-ghost use Rattle.sadb.specs.Database.{BelongsTo, Carries, IsAfter, IsFor, IsNextOf, IsOutbound, IsSenderUnder, SealRefusalAt, SendsUnder};
+ghost use Rattle.sadb.specs.Database.{BelongsTo, Carries, IsAfter, IsForPair, IsNextOf, IsOutbound, IsSenderUnder, SealRefusalAt, SendsUnder};
 ghost use Rattle.sadb.specs.Storage.{MarksPair, OpensPair, RefusesPair, SealsPair, key_of};
 
 use crate::pair::{Pair, State};
@@ -51,7 +51,8 @@ fn key(keys: &[Option<usize>], serial: u32) -> Option<usize>
 
 /// Whether a pair carries a flow outward.
 fn carries(pair: &Pair, flow: &Flow) -> bool
-    ensures { IsTrue result ↔ ((pair.now.state ≡ State.Live) × Covers pair.now.local pair.now.remote flow.now) }
+    ensures { IsTrue result ↔
+        ((pair.now.state ≡ State.Live) × Covers pair.now.local pair.now.remote flow.now) }
 {
     pair.state == State::Live && covers(pair.local.as_slice(), pair.remote.as_slice(), flow)
 }
@@ -70,10 +71,12 @@ impl Pairs {
     /// What holds of all pairs. Does nothing.
     pub fn invariants_hold(&self)
         ensures first { 1 ≤ self.now.next }
-        ensures serial { (serial : ℕ) (pair : held.Pair) → map.get self.now.pairs serial ≡ Some pair → pair.serial ≡ serial }
+        ensures serial { (serial : ℕ) (pair : held.Pair) → map.get self.now.pairs serial ≡ Some pair
+            → pair.serial ≡ serial }
         ensures windows { (serial : ℕ) (pair : held.Pair) → map.get self.now.pairs serial ≡ Some pair
             → IsSoundWindow pair.inbound.window }
-        ensures given { (serial : ℕ) → IsSome (map.get self.now.pairs serial) → (1 ≤ serial) × (serial < self.now.next) }
+        ensures given { (serial : ℕ) → IsSome (map.get self.now.pairs serial)
+            → (1 ≤ serial) × (serial < self.now.next) }
     {
         // Opens the model, so that its invariant is known here.
         let _ = &self.keys;
@@ -126,7 +129,8 @@ impl Pairs {
     pub fn remove(&mut self, serial: u32) -> Pair
         requires { IsSome (map.get self.old.pairs serial) }
         ensures there { map.get self.old.pairs serial ≡ Some result }
-        ensures content { self.new ≡ record self.old { pairs = map.remove self.old.pairs serial; room = self.new.room } }
+        ensures content { self.new
+            ≡ record self.old { pairs = map.remove self.old.pairs serial; room = self.new.room } }
         ensures room { self.old.room ≤ self.new.room }
         ensures no_more { self.new.room ≤ self.old.room + 1 }
     {
@@ -155,9 +159,11 @@ impl Pairs {
 
     /// Opens a packet by a pair's inbound association.
     pub fn open<'a>(&mut self, serial: u32, packet: &'a [u8]) -> Result<Opened<'a>, EspFault>
-        requires { IsFor self.old.pairs serial packet.now }
-        ensures up { IfOk result (λ o. OpensPair self.old.pairs serial packet.now o.number o.next o.payload.now self.new.pairs) }
-        ensures refused { IfErr result (λ fault. RefusesPair self.old.pairs serial packet.now fault self.new.pairs) }
+        requires { IsForPair self.old.pairs serial packet.now }
+        ensures up { IfOk result
+            (λ o. OpensPair self.old.pairs serial packet.now o.number o.next o.payload.now self.new.pairs) }
+        ensures refused { IfErr result
+            (λ fault. RefusesPair self.old.pairs serial packet.now fault self.new.pairs) }
         ensures rest { self.new ≡ record self.old { pairs = self.new.pairs } }
     {
         let key = key(&self.keys, serial).unwrap();
@@ -178,7 +184,8 @@ impl Pairs {
     ) -> Result<u64, EspFault>
         requires { IsSome (map.get self.old.pairs serial) }
         ensures sealed { IfOk result (λ number.
-            SealsPair self.old.pairs serial next payload.now out.old.items number self.new.pairs out.new.items) }
+            SealsPair self.old.pairs serial next payload.now out.old.items number self.new.pairs
+            out.new.items) }
         ensures refused { IfErr result (λ fault. SealRefusalAt self.old.pairs serial payload.now fault
             × (self.new ≡ self.old) × (out.new.items ≡ out.old.items)) }
         ensures rest { self.new ≡ record self.old { pairs = self.new.pairs } }

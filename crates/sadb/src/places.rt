@@ -50,7 +50,8 @@ impl Places {
     /// None given yet. Takes no memory.
     pub fn new(alloc: Global, start: u32) -> Places
         requires { IsStart start }
-        ensures { result ≡ record { start = start; given = 0; reserved = set.empty; serials = map.empty; room = 0 } }
+        ensures { result
+            ≡ record { start = start; given = 0; reserved = set.empty; serials = map.empty; room = 0 } }
     {
         Places {
             start,
@@ -63,7 +64,8 @@ impl Places {
     pub fn invariants_hold(&self)
         ensures start { IsStart self.now.start }
         ensures reserved { (spi : ℕ) → set.contains self.now.reserved spi ≡ true
-            → (self.now.start ≤ spi) × (spi < self.now.start + self.now.given) × (map.get self.now.serials spi ≡ None) }
+            → (self.now.start ≤ spi) × (spi < self.now.start + self.now.given)
+            × (map.get self.now.serials spi ≡ None) }
         ensures held { (spi : ℕ) → IsSome (map.get self.now.serials spi)
             → (self.now.start ≤ spi) × (spi < self.now.start + self.now.given) }
     {

@@ -2,7 +2,7 @@
 ghost use Rattle.std.specs.Prelude.{◌≡◌, ◌≢◌, ◌+◌, ◌<◌, ◌≤◌, ℕ, List, Some, None, OnOk, IfOk, IfErr, IfSome, IfNone, IsOk, length, vec_len};
 ghost use Rattle.sadb.specs.Database.{IsStart, empty_table, IsFull, IsSpent, IsTableRefusal, IsAsBefore, Reserves, IsReserved, Releases, Installs};
 ghost use Rattle.sadb.specs.Database.{pair_at, IsThere, Removes, IsLive, Marks, HasInbound, IsInbound, IsSoundTable, IsAfter, Carries, IsOutbound};
-ghost use Rattle.sadb.specs.Database.{BelongsTo, IsFor, IsNextOf, IsSenderUnder, OpensAt, RefusesAt, RemovesAllOf, SealsAt, SealRefusalAt, SendsUnder};
+ghost use Rattle.sadb.specs.Database.{BelongsTo, IsForPair, IsNextOf, IsSenderUnder, OpensAt, RefusesAt, RemovesAllOf, SealsAt, SealRefusalAt, SendsUnder};
 ghost use Rattle.std.specs.Option.{option_copied};
 ghost use Rattle.std.specs.Vec.{vec_capacity};
 ghost use Rattle.sadb.specs.Storage.{RemovesIfOf};
@@ -110,9 +110,11 @@ impl Table {
     ///
     /// Refused as [`prepare`](Table::prepare) is, with nothing changed.
     pub fn reserve(&mut self) -> Result<Spi, TableFault>
-        ensures ok { IfOk result (λ spi. Reserves self.old spi self.new × (¬ IsFull self.old) × (¬ IsSpent self.old)) }
+        ensures ok { IfOk result
+            (λ spi. Reserves self.old spi self.new × (¬ IsFull self.old) × (¬ IsSpent self.old)) }
         ensures reserved { IfOk result (IsReserved self.new) }
-        ensures refused { IfErr result (λ fault. IsTableRefusal self.old fault × IsAsBefore self.old self.new) }
+        ensures refused { IfErr result
+            (λ fault. IsTableRefusal self.old fault × IsAsBefore self.old self.new) }
         ensures succeeds { 1 ≤ self.old.room → ¬ IsFull self.old → ¬ IsSpent self.old → IsOk result }
     {
         self.prepare()?;
@@ -231,8 +233,9 @@ impl Table {
     /// memory, which never comes. The caller asks only for a pair that is there, with a packet that begins with its inbound SPI
     /// or is shorter than one. Takes no memory.
     pub fn open<'a>(&mut self, serial: u32, packet: &'a [u8]) -> Result<Opened<'a>, EspFault>
-        requires { IsFor self.old.pairs serial packet.now }
-        ensures up { IfOk result (λ o. OpensAt self.old serial packet.now o.number o.next o.payload.now self.new) }
+        requires { IsForPair self.old.pairs serial packet.now }
+        ensures up { IfOk result
+            (λ o. OpensAt self.old serial packet.now o.number o.next o.payload.now self.new) }
         ensures refused { IfErr result (λ fault. RefusesAt self.old serial packet.now fault self.new) }
         ensures unchanged { IfErr result (λ fault. fault ≢ EspFault.BadPadding → self.new ≡ self.old) }
     {

@@ -42,7 +42,8 @@ pub trait Proof {
         octets: &[u8],
         proof: &[u8],
     ) -> Result<bool, AllocError>
-        ensures { IfOk result (λ accepted. accepted ≡ accepts self.now kind id.now method octets.now proof.now) };
+        ensures { IfOk result
+            (λ accepted. accepted ≡ accepts self.now kind id.now method octets.now proof.now) };
 
     /// A proof has 1 to 1024 octets.
     ghost proof_fits: { (caller : Self) (octets : List ℕ) → AreOctets octets → FitsPayload (proof_of caller octets) };

@@ -56,7 +56,8 @@ pub trait Sealer {
         fresh: &[u8; 16],
         out: &mut Vec<u8>,
     ) -> Result<(), AllocError>
-        ensures appended { OnOk result (out.new.items ≡ out.old.items ++ body_of keys.now head.now plain.now fresh.now) }
+        ensures appended { OnOk result
+            (out.new.items ≡ out.old.items ++ body_of keys.now head.now plain.now fresh.now) }
         ensures refused { OnErr result (out.new.items ≡ out.old.items) };
 
     /// Appends the plain text that a body opens to, and answers whether it opens. `false` and an error, which is
@@ -68,7 +69,8 @@ pub trait Sealer {
         body: &[u8],
         out: &mut Vec<u8>,
     ) -> Result<bool, AllocError>
-        ensures answered { IfOk result (λ opens. Opens (plain_of keys.now head.now body.now) opens out.old.items out.new.items) }
+        ensures answered { IfOk result
+            (λ opens. Opens (plain_of keys.now head.now body.now) opens out.old.items out.new.items) }
         ensures refused { OnErr result (out.new.items ≡ out.old.items) };
 
     /// What is sealed opens to the same plain text, under the same keys and head.

@@ -8,7 +8,7 @@ use Rattle.std.specs.FinMap as map
 use Rattle.byteorder.specs.Endian.{big_bytes}
 use Rattle.base.specs.Octets.{Octets}
 use Rattle.esp.specs.Views.{Receiving}
-use Rattle.sadb.specs.Database.{Database, HasInbound, IsFor, IsInbound, OpensAt, PairMap, RefusesAt, pair_at}
+use Rattle.sadb.specs.Database.{Database, HasInbound, IsForPair, IsInbound, OpensAt, PairMap, RefusesAt, pair_at}
 use Rattle.sadb.specs.declared.pair.Pair.{Pair}
 use Rattle.traffic.specs.Receiving.{HasAddressee, IsAddressedTo, IsAddressedToNone, IsNotOpened, IsOpened, IsVerdictAt, Receives, reception_of, spi_of}
 use Rattle.traffic.specs.Verdicts.{IsVerdict, Verdict}
@@ -40,7 +40,7 @@ spi_spells b long octets =
 
 -- the pair of a packet's SPI may be asked to open it
 pub asked_for : (pairs : PairMap) (packet : Octets) (pair : Pair) → 4 ≤ length packet → HasOctets packet → IsInbound pairs (spi_of packet) pair
-    → IsFor pairs pair.serial packet
+    → IsForPair pairs pair.serial packet
 asked_for pairs packet pair long octets found = record {
   pair = pair;
   there = found.there;

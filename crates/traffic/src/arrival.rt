@@ -1,6 +1,6 @@
 //! Packets that come protected (RFC 4301, section 5.2).
 ghost use Rattle.std.specs.Prelude.{IfErr, IfOk};
-ghost use Rattle.sadb.specs.Database.{IsFor};
+ghost use Rattle.sadb.specs.Database.{IsForPair};
 ghost use Rattle.traffic.specs.Outcomes.{outcome_of_arrival};
 ghost use Rattle.traffic.specs.Receiving.{HasAddressee, IsAddressedTo, IsAddressedToNone, IsVerdictAt, Receives, reception_of};
 ghost use Rattle.traffic.specs.Verdicts.{verdict_of};
@@ -73,7 +73,7 @@ fn open<'a>(table: &mut Table, packet: &'a [u8]) -> Result<Arrival<'a>, PacketFa
 /// The pair that a packet is addressed to.
 fn addressee<'a>(table: &'a Table, packet: &[u8]) -> Result<&'a Pair, PacketFault>
     ensures found { IfOk result (λ pair. IsAddressedTo table.now packet.now pair.now) }
-    ensures may_open { IfOk result (λ pair. IsFor table.now.pairs pair.now.serial packet.now) }
+    ensures may_open { IfOk result (λ pair. IsForPair table.now.pairs pair.now.serial packet.now) }
     ensures none { IfErr result (IsAddressedToNone table.now packet.now) }
 {
     if packet.len() < SPI {
@@ -88,7 +88,8 @@ fn addressee<'a>(table: &'a Table, packet: &[u8]) -> Result<&'a Pair, PacketFaul
 /// Judges what was opened by the pair that the packet is addressed to, which is there still.
 fn carried<'a>(table: &Table, packet: &[u8], opened: Opened<'a>) -> Result<Carried<'a>, PacketFault>
     requires { HasAddressee table.now packet.now }
-    ensures { IsVerdictAt table.now packet.now opened.entry.next opened.entry.payload.now (verdict_of result) }
+    ensures { IsVerdictAt table.now packet.now opened.entry.next opened.entry.payload.now
+        (verdict_of result) }
 {
     judge(addressee(table, packet).unwrap(), opened)
 }

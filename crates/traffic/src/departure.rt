@@ -57,7 +57,8 @@ pub fn send<'a>(
 ) -> Result<Departure<'a>, AllocError>
     ensures sent { IfOk result (λ departure.
         Sends table.old policy.now packet.now (outcome_of_departure departure) table.new) }
-    ensures memory { IfErr result (λ _. IsToBeSealed table.old policy.now packet.now × (table.new ≡ table.old)) }
+    ensures memory { IfErr result
+        (λ _. IsToBeSealed table.old policy.now packet.now × (table.new ≡ table.old)) }
 {
     let flow = match inner(packet) {
         Ok(flow) => flow,
@@ -82,7 +83,8 @@ pub fn send_remembering<'a>(
     requires { AllRight policy.now table.old.pairs flows.old }
     ensures sent { IfOk result (λ departure.
         Sends table.old policy.now packet.now (outcome_of_departure departure) table.new) }
-    ensures memory { IfErr result (λ _. IsToBeSealed table.old policy.now packet.now × (table.new ≡ table.old)) }
+    ensures memory { IfErr result
+        (λ _. IsToBeSealed table.old policy.now packet.now × (table.new ≡ table.old)) }
     ensures right { AllRight policy.now table.new.pairs flows.new }
 {
     answers_stay_right();

@@ -28,7 +28,8 @@ pub fn outcomes_are_determined()
     ensures received { (old new other : Database) (packet : Octets) (one another : Outcome)
         → Receives old packet one new → Receives old packet another other → (one ≡ another) × (new ≡ other) }
     ensures sent { (old new other : Database) (policy : List Entry) (packet : Octets) (one another : Outcome)
-        → Sends old policy packet one new → Sends old policy packet another other → (one ≡ another) × (new ≡ other) }
+        → Sends old policy packet one new → Sends old policy packet another other
+        → (one ≡ another) × (new ≡ other) }
     ensures admitted { (policy : List Entry) (packet : Octets) (one another : Outcome)
         → Admits policy packet one → Admits policy packet another → one ≡ another }
 {
@@ -40,10 +41,12 @@ pub fn outcomes_are_determined()
 /// What is to be protected never goes in the clear, outward or inward, and is never discarded: outward it is
 /// sealed, or dropped for want of an association or of a number. Only what the policy bypasses goes as it is.
 pub fn only_the_bypassed_goes_in_the_clear()
-    ensures outward { (old new : Database) (policy : List Entry) (packet : Octets) (flow : Flow) (action : Action) (octets : Octets)
+    ensures outward { (old new : Database) (policy : List Entry) (packet : Octets) (flow : Flow)
+        (action : Action) (octets : Octets)
         → IsDecided policy Outward packet flow action → Sends old policy packet (Clear octets) new
         → (action ≡ Bypass) × (octets ≡ packet) }
-    ensures protected { (old new : Database) (policy : List Entry) (packet : Octets) (flow : Flow) (outcome : Outcome)
+    ensures protected { (old new : Database) (policy : List Entry) (packet : Octets) (flow : Flow)
+        (outcome : Outcome)
         → IsDecided policy Outward packet flow Protect → Sends old policy packet outcome new
         → Protects old flow packet outcome new }
     ensures inward { (policy : List Entry) (packet : Octets) (flow : Flow) (action : Action) (octets : Octets)
@@ -62,7 +65,8 @@ pub fn a_packet_takes_one_number()
     ensures dummy { (old new : Database) (packet : Octets) (child number : ℕ)
         → Receives old packet (Dummy child number) new → TakesNumberAt old packet child number new }
     ensures refused_after_judging { (old new : Database) (packet : Octets) (fault : PacketFault)
-        → Receives old packet (Dropped fault) new → is_after_judging fault ≡ true → TakesOneNumber old packet new }
+        → Receives old packet (Dropped fault) new → is_after_judging fault ≡ true
+        → TakesOneNumber old packet new }
     ensures refused_before { (old new : Database) (packet : Octets) (fault : PacketFault)
         → Receives old packet (Dropped fault) new → is_after_judging fault ≡ false → new ≡ old }
 {}
@@ -101,7 +105,8 @@ pub fn room_stays()
 /// What one end seals by a pair, the end that has the mirrored pair hands up, octet for octet, where its number is due: not below the
 /// window and not taken yet.
 pub fn what_one_end_seals_the_other_hands_up()
-    ensures { (near near_new far far_new : Database) (policy : List Entry) (packet octets : Octets) (child number : ℕ)
+    ensures { (near near_new far far_new : Database) (policy : List Entry) (packet octets : Octets)
+        (child number : ℕ)
         (pair mirror : Pair) (outcome : Outcome) → pair_at near.pairs child ≡ Some pair
         → Sends near policy packet (Sealed child number octets) near_new → Mirrors pair mirror
         → IsSoundTable far → IsDueAtPair far mirror octets number → Receives far octets outcome far_new

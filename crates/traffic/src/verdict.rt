@@ -22,7 +22,8 @@ pub enum Carried<'a> {
 /// Refused, in this order: [`InnerFault::BadInner`] (E21) for a next header that names no packet, or where the payload is not of
 /// the family that it names; the refusals of [`inner`]; [`PacketFault::OutsideSelectors`].
 pub fn judge<'a>(pair: &Pair, opened: Opened<'a>) -> Result<Carried<'a>, PacketFault>
-    ensures { IsVerdict opened.entry.next opened.entry.payload.now pair.now.remote pair.now.local (verdict_of result) }
+    ensures { IsVerdict opened.entry.next opened.entry.payload.now pair.now.remote pair.now.local
+        (verdict_of result) }
 {
     if opened.next == NO_NEXT_HEADER {
         return Ok(Carried::Nothing);

@@ -78,7 +78,8 @@ fn checks<P: Proof>(
     octets: &[u8],
     proof: &[u8],
 ) -> Result<bool, AllocError>
-    ensures { IfOk result (λ accepted. accepted ≡ P.accepts caller.now 2 [] (P.own_method caller.now) octets.now proof.now) }
+    ensures { IfOk result
+        (λ accepted. accepted ≡ P.accepts caller.now 2 [] (P.own_method caller.now) octets.now proof.now) }
 {
     caller.check(alloc, 2, &[], caller.method(), octets, proof)
 }

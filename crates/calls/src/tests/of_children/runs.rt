@@ -1,6 +1,6 @@
 //! Whole runs: a child is asked for, answered and accepted, and packets cross between the two ends.
 ghost use Rattle.std.specs.Prelude.{IfSome};
-ghost use Rattle.sadb.specs.Database.{IsFor, IsThere};
+ghost use Rattle.sadb.specs.Database.{IsForPair, IsThere};
 
 use super::fixture::{START, asked, far, has_pair, lower_half, reply, request, setting, table};
 use crate::tests::asserts::same;
@@ -72,7 +72,7 @@ fn connect(rt: &impl Abort, alloc: Global, ends: &mut Ends, extended: bool) -> R
 
 /// The serial of the pair under an SPI, where the packet is for it.
 fn serial_for(table: &Table, spi: u32, packet: &[u8]) -> Option<u32>
-    ensures { IfSome result (λ serial. IsFor table.now.pairs serial packet.now) }
+    ensures { IfSome result (λ serial. IsForPair table.now.pairs serial packet.now) }
 {
     let pair = table.inbound(spi)?;
     if packet.len() >= 4 && &packet[..4] == spi.to_be_bytes().as_slice() {

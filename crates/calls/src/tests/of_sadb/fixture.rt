@@ -1,6 +1,6 @@
 //! What the tests share: pairs that carry what goes to a few networks, and questions that tell what a call may be asked for.
 ghost use Rattle.std.specs.Prelude.{◌≡◌, ◌≢◌, ℕ, Some, IsTrue, IfOk, IfSome};
-ghost use Rattle.sadb.specs.Database.{IsReserved, pair_at, IsThere, IsLive, IsFor};
+ghost use Rattle.sadb.specs.Database.{IsReserved, pair_at, IsThere, IsLive, IsForPair};
 
 use base::{Address, Items, Range, Selector};
 use esp::{Inbound, Outbound};
@@ -156,7 +156,7 @@ pub fn is_live(table: &Table, serial: u32) -> bool
 
 /// Whether a packet may be handed to the pair with this serial: its first four octets, where it has four, are the SPI.
 pub fn is_for(table: &Table, serial: u32, packet: &[u8]) -> bool
-    ensures { IsTrue result → IsFor table.now.pairs serial packet.now }
+    ensures { IsTrue result → IsForPair table.now.pairs serial packet.now }
 {
     match with_serial(table, serial) {
         Some(pair) => packet.len() < 4
