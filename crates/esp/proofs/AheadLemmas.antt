@@ -1,7 +1,7 @@
 -- Check values that are computed ahead, and runs over groups of packets.
 use Rattle.std.proofs.Common.{◌≡◌, ℕ, zero, suc, ◌+◌, ◌-◌, ◌/◌, ◌^◌, ◌<◌, ◌≤◌, List, [], ◌∷◌, ◌++◌, length, map, take, drop, get_or, refl, sym, ap, ◌∙◌, subst, arith, inl, inr, Some, None, Option, length-append, length-drop}
-use Rattle.std.specs.Prelude.{◌≢◌, IfSome, if◌then◌else◌, All, replicate}
-use Rattle.std.proofs.lemmas.List.Elements.{All-append, All-from_get_or, All-take, All-drop}
+use Rattle.std.specs.Prelude.{◌≢◌, IsSome, IfSome, if◌then◌else◌, All, replicate}
+use Rattle.std.proofs.lemmas.List.Elements.{All-append, All-from_get_or, All-more, All-take, All-drop, All-weaker}
 use Rattle.std.specs.Global.{Vec}
 use Rattle.std.proofs.lemmas.List.{append_assoc, take_more, take_more_set, map-append, take-map, drop-map, length-take-le, take-take, get_or-set_same, get_or-set_other, get_or-replicate, get_or_past, length-replicate}
 use Rattle.std.proofs.Math.ListN.{set}
@@ -16,7 +16,7 @@ use Rattle.esp.specs.declared.ahead.Ahead.{Ahead}
 use Rattle.esp.specs.declared.answer.Answer.{Answer}
 use Rattle.esp.specs.Views.{Receiving}
 use Rattle.esp.specs.Opening.{Run}
-use Rattle.esp.specs.Ahead.{value_of, IsAsked, value_asked, IsAhead, AreAhead, RunsFirst}
+use Rattle.esp.specs.Ahead.{value_of, HasAhead, IsAsked, value_asked, IsAhead, AreAhead, RunsFirst}
 use Rattle.esp.specs.Delivery.{octets_of}
 use Rattle.esp.proofs.LayingLemmas.{take-more}
 use Rattle.esp.proofs.Runs.{run_joined, step_keeps}
@@ -24,14 +24,12 @@ use Rattle.esp.proofs.Runs.{run_joined, step_keeps}
 -- ---- what is asked
 
 -- what is asked of one packet is its check value
-pub asked_value : (a : Association) (packets : List (List ℕ)) (one : Asked) (key b part more : List ℕ) → key ≡ a.key → b ≡ get_or packets one.place []
-    → part ≡ take (length b - 16) b → more ≡ (if a.extended then one.half else []) → one.half ≡ big_bytes 4 (one.number / 2 ^ 32)
-    → icv_sha256 key (part ++ more) ≡ value_asked a packets one
-asked_value a packets one key b part more e_key e_b e_part e_more e_half =
-    ap (λ (k : List ℕ). icv_sha256 k (part ++ more)) e_key
-    ∙ ap (λ (xs : List ℕ). icv_sha256 a.key (xs ++ more)) (e_part ∙ ap (λ (q : List ℕ). take (length q - 16) q) e_b)
-    ∙ ap (λ (xs : List ℕ). icv_sha256 a.key (take (length (get_or packets one.place []) - 16) (get_or packets one.place []) ++ xs))
-    (e_more ∙ ap (λ (h : List ℕ). if a.extended then h else []) e_half)
+pub asked_value : (a : Association) (packets : List (List ℕ)) (one : Asked) (b part value : List ℕ) → value ≡ icv_sha256 a.key (part ++ (if a.extended then one.half else []))
+    → b ≡ get_or packets one.place [] → part ≡ take (length b - 16) b → one.half ≡ big_bytes 4 (one.number / 2 ^ 32) → value ≡ value_asked a packets one
+asked_value a packets one b part value is e_b e_part e_half =
+    is
+    ∙ ap (λ (xs : List ℕ). icv_sha256 a.key (xs ++ (if a.extended then one.half else []))) (e_part ∙ ap (λ (q : List ℕ). take (length q - 16) q) e_b)
+    ∙ ap (λ (h : List ℕ). icv_sha256 a.key (take (length (get_or packets one.place []) - 16) (get_or packets one.place []) ++ (if a.extended then h else []))) e_half
 
 -- one task more
 pub asked_more : (f : Asked → List ℕ) (j : ℕ) (tasks : List Task) (asked : List Asked) (t : Task) (d : Asked) → j < length tasks → j < length asked
@@ -89,6 +87,28 @@ ahead_more a packets ahead place x within so_far right = record {
     ]
   ];
 }
+
+there_still : (ahead : List (Option Ahead)) (place : ℕ) (x : Ahead) (one : Asked) → place < length ahead → HasAhead ahead one → HasAhead (set ahead place (Some x)) one
+there_still ahead place x one within there = elim (cases_lt one.place place) [
+  | inl below ↦ (let other : one.place ≢ place = omega arith in subst (λ (o : Option Ahead). IsSome o) (sym (get_or-set_other ahead place one.place (Some x) None other)) there)
+  | inr above ↦ elim (cases_lt place one.place) [
+    | inl over ↦ (let other : one.place ≢ place = omega arith in subst (λ (o : Option Ahead). IsSome o) (sym (get_or-set_other ahead place one.place (Some x) None other)) there)
+    | inr at ↦
+        let same : place ≡ one.place = omega arith in
+        subst (λ (k : ℕ). IsSome (get_or (set ahead place (Some x)) k None)) same (subst (λ (o : Option Ahead). IsSome o) (sym (get_or-set_same ahead place (Some x) None within)) refl)
+  ]
+]
+
+-- one more has its value
+pub there_more : (ahead : List (Option Ahead)) (asked : List Asked) (turn : ℕ) (d : Asked) (x : Ahead) → turn < length asked → (get_or asked turn d).place < length ahead
+    → All (HasAhead ahead) (take turn asked) → All (HasAhead (set ahead (get_or asked turn d).place (Some x))) (take (turn + 1) asked)
+there_more ahead asked turn d x in_asked within so_far =
+    let after : List (Option Ahead) = set ahead (get_or asked turn d).place (Some x) in
+    let here : HasAhead after (get_or asked turn d) =
+    subst (λ (o : Option Ahead). IsSome o) (sym (get_or-set_same ahead (get_or asked turn d).place (Some x) None within)) refl
+    in
+    All-more (HasAhead after) asked turn d in_asked
+    (All-weaker (HasAhead ahead) (HasAhead after) (λ one there. there_still ahead (get_or asked turn d).place x one within there) (take turn asked) so_far) here
 
 -- what is ahead for one packet
 pub if_ahead : (P : Ahead → Type 0) (o : Option Ahead) → ((found : Ahead) → o ≡ Some found → P found) → IfSome o P

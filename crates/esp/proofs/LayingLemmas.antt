@@ -69,13 +69,13 @@ abbrev sending : Association → ℕ → Sending
 sending a last = record { association = a; last = last }
 
 -- once they have their check values, the packets that were laid are those that so many calls would have sealed
-pub signed : (a : Association) (last next : ℕ) (ps : List (List ℕ)) (before : List ℕ) (n : ℕ) → n ≡ length ps
+pub with_check_values : (a : Association) (last next : ℕ) (ps : List (List ℕ)) (before : List ℕ) (n : ℕ) → n ≡ length ps
     → ((i : ℕ) → i < n → FitsPacket (get_or ps i [])) → (1 ≤ n → last + n < number_limit a.extended)
     → SealRun (sending a last) next ps before (sending a (last + n)) (before ++ with_values (sizes ps) (values_in a last (sizes ps) (laid a last next ps)) (laid a last next ps))
-signed a last next [] before n none fit have =
+with_check_values a last next [] before n none fit have =
     let same : last + n ≡ last = omega arith in
     (ap (sending a) same, append-nil before)
-signed a last next (p ∷ ps) before n count fit have =
+with_check_values a last next (p ∷ ps) before n count fit have =
     let size : ℕ = covered_size (length p) in
     let cover : List ℕ = covered a (last + 1) next p in
     let rest : List ℕ = laid a (last + 1) next ps in
@@ -96,7 +96,7 @@ signed a last next (p ∷ ps) before n count fit have =
     (let h = have (omega arith) in omega arith) (fit 0 (omega arith)) (pad_fills (length p)) (pad_small (length p)) refl
     in
     let after : SealRun (sending a (last + 1)) next ps between (sending a (last + 1 + length ps)) (between ++ tail) =
-    signed a (last + 1) next ps between (length ps) refl (λ i h. fit (suc i) (omega arith)) (λ h. (let l = have (omega arith) in omega arith))
+    with_check_values a (last + 1) next ps between (length ps) refl (λ i h. fit (suc i) (omega arith)) (λ h. (let l = have (omega arith) in omega arith))
     in
     let same : last + 1 + length ps ≡ last + n = omega arith in
     let joined : between ++ tail ≡ before ++ with_values (sizes (p ∷ ps)) (values_in a last (sizes (p ∷ ps)) ((cover ++ zeros) ++ rest)) ((cover ++ zeros) ++ rest) =
@@ -169,13 +169,13 @@ take-more {A} xs a m =
     ∙ ap (λ (ys : List A). take a xs ++ ys) (drop-take a m xs)
 
 -- what is asked of one packet
-pub task_value : (a : Association) (last j size start : ℕ) (octets key part more half : List ℕ) → key ≡ a.key → part ≡ take size (drop start octets)
-    → more ≡ (if a.extended then half else []) → half ≡ big_bytes 4 ((last + 1 + j) / 2 ^ 32) → icv_sha256 key (part ++ more) ≡ check_value a (last + j + 1) (take size (drop start octets))
-task_value a last j size start octets key part more half e_key e_part e_more e_half =
+pub task_value : (a : Association) (last j size start : ℕ) (octets part half value : List ℕ) → value ≡ icv_sha256 a.key (part ++ (if a.extended then half else []))
+    → part ≡ take size (drop start octets) → half ≡ big_bytes 4 ((last + 1 + j) / 2 ^ 32) → value ≡ check_value a (last + j + 1) (take size (drop start octets))
+task_value a last j size start octets part half value is e_part e_half =
     let number : last + 1 + j ≡ last + j + 1 = omega arith in
-    ap (λ (k : List ℕ). icv_sha256 k (part ++ more)) e_key
-    ∙ ap (λ (xs : List ℕ). icv_sha256 a.key (xs ++ more)) e_part
-    ∙ ap (λ (xs : List ℕ). icv_sha256 a.key (take size (drop start octets) ++ xs)) (e_more ∙ ap (λ (h : List ℕ). if a.extended then h else []) (e_half ∙ ap (λ (n : ℕ). big_bytes 4 (n / 2 ^ 32)) number))
+    is
+    ∙ ap (λ (xs : List ℕ). icv_sha256 a.key (xs ++ (if a.extended then half else []))) e_part
+    ∙ ap (λ (h : List ℕ). icv_sha256 a.key (take size (drop start octets) ++ (if a.extended then h else []))) (e_half ∙ ap (λ (n : ℕ). big_bytes 4 (n / 2 ^ 32)) number)
 
 pub task_more : (a : Association) (last j start size : ℕ) (ss octets : List ℕ) (tasks : List Task) (t : Task) (all : List (List ℕ)) → j < length tasks
     → drop j ss ≡ size ∷ drop (j + 1) ss → icv_of t ≡ check_value a (last + j + 1) (take size (drop start octets))
@@ -199,9 +199,9 @@ half_more last j halves v within is so_far = record {
 }
 
 -- parts that were appended, with what stands in the place of the check value
-pub unsigned : (before front payload pads tail zeros after : List ℕ) → after ≡ before ++ (front ++ (payload ++ (pads ++ (tail ++ (zeros ++ [])))))
+pub with_zeros : (before front payload pads tail zeros after : List ℕ) → after ≡ before ++ (front ++ (payload ++ (pads ++ (tail ++ (zeros ++ [])))))
     → after ≡ before ++ ((front ++ payload ++ (pads ++ tail)) ++ zeros)
-unsigned before front payload pads tail zeros after is =
+with_zeros before front payload pads tail zeros after is =
     is
     ∙ ap (λ (xs : List ℕ). before ++ (front ++ (payload ++ (pads ++ (tail ++ xs))))) (append-nil zeros)
     ∙ ap (λ (xs : List ℕ). before ++ xs) (
@@ -326,7 +326,7 @@ module _ (k : ℕ) (old : Sending) (next : ℕ) (payloads : List (Bor (List ℕ)
       let octets : List ℕ = laid a old.last next ps in
       let ends : mid.association ≡ a = ap (λ (m : Sending). m.association) first.last in
       let run : SealRun old next ps before (sending a (old.last + k)) (before ++ with_values (sizes ps) (values_in a old.last (sizes ps) octets) octets) =
-      signed a old.last next ps before k (sym count) (λ i h. subst FitsPacket (sym (get_or-take k (payloads_of payloads) i [] h)) (first.fit i h)) first.have_numbers
+      with_check_values a old.last next ps before k (sym count) (λ i h. subst FitsPacket (sym (get_or-take k (payloads_of payloads) i [] h)) (first.fit i h)) first.have_numbers
       in
       let same : after ≡ before ++ with_values (sizes ps) (values_in a old.last (sizes ps) octets) octets =
       is

@@ -3,6 +3,7 @@ pub mod HistoryLemmas
 pub mod ContentsLemmas
 pub mod OpeningLemmas
 pub mod SealingLemmas
+pub mod SealingLaws
 pub mod LayingLemmas
 pub mod AheadLemmas
 pub mod GroupLemmas

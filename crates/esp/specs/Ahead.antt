@@ -1,5 +1,5 @@
 -- Opening a list in steps: check values are computed before their packets are judged, and packets are opened in groups.
-use Rattle.std.specs.Prelude.{◌≡◌, ℕ, ◌-◌, ◌/◌, ◌^◌, ◌<◌, ◌≤◌, List, [], ◌++◌, Option, Some, None, length, take, get_or}
+use Rattle.std.specs.Prelude.{◌≡◌, ℕ, ◌-◌, ◌/◌, ◌^◌, ◌<◌, ◌≤◌, List, [], ◌++◌, Option, Some, None, IsSome, length, take, get_or}
 use Rattle.byteorder.specs.Endian.{big_bytes}
 use Rattle.esp.specs.declared.association.Association.{Association}
 use Rattle.esp.specs.declared.ahead.Asked.{Asked}
@@ -34,6 +34,10 @@ pub record IsAhead (a : Association) (b : List ℕ) (found : Ahead) : Type 0 whe
 -- each value that was computed ahead is that of the packet at its place
 pub record AreAhead (a : Association) (packets : List (List ℕ)) (ahead : List (Option Ahead)) : Type 0 where
   pub each : (i : ℕ) (found : Ahead) → get_or ahead i None ≡ Some found → IsAhead a (get_or packets i []) found
+
+-- a value stands at the place of the packet that is asked for
+abbrev pub HasAhead : List (Option Ahead) → Asked → Type 0
+HasAhead ahead one = IsSome (get_or ahead one.place None)
 
 -- The first k of these packets were delivered in order, and their answers were appended.
 pub record RunsFirst (want : Type 0) (k : ℕ) (old : Receiving) (packets : List (List ℕ)) (before : List Answer) (new : Receiving) (after : List Answer) : Type 0 where

@@ -5,6 +5,7 @@ pub mod Faults
 pub mod Opening
 pub mod Ahead
 pub mod Sealing
+pub mod Progress
 pub mod Laying
 pub mod Delivery
 pub mod Worked

@@ -50,8 +50,8 @@ pub record IsPacket (a : Association) (n next : ℕ) (payload : List ℕ) (p : �
   pub fits : n < number_limit a.extended
 
 -- the packet is addressed to this association: its first four octets, where there are four, are the SPI
-abbrev pub IsOf : Association → List ℕ → Type 0
-IsOf a b = 4 ≤ length b → take 4 b ≡ big_bytes 4 a.spi
+abbrev pub BeginsWithItsSpi : Association → List ℕ → Type 0
+BeginsWithItsSpi a b = 4 ≤ length b → take 4 b ≡ big_bytes 4 a.spi
 
 -- b passes the integrity check under the number n (section 3.4.4): it begins with the SPI and the number's low half, and its
 -- last 16 octets are the check value over the rest. What else it holds is free.

@@ -2,12 +2,12 @@
 ghost use Rattle.std.specs.Prelude.{◌≡◌, ℕ, ◌-◌, ◌<◌, ◌≤◌, All, List, None, get_or, length, map, take};
 ghost use Rattle.lanes.specs.Task.{icv_of};
 ghost use Rattle.esp.specs.declared.association.Association.{Association};
-ghost use Rattle.esp.specs.Ahead.{AreAhead, IsAsked, value_asked};
+ghost use Rattle.esp.specs.Ahead.{AreAhead, HasAhead, IsAsked, value_asked};
 ghost use Rattle.esp.specs.Delivery.{octets_of};
 
 use crate::association::Association;
-use crate::packet::{CHECK, unsent_of};
-use crate::signing::GROUP;
+use crate::check_values::GROUP;
+use crate::packet::CHECK;
 use lanes::{Task, icv_all};
 
 /// A packet whose check value is computed ahead.
@@ -49,7 +49,8 @@ pub fn values_ahead(
     requires few { length asked.now ≤ GROUP }
     requires room { length packets.now ≤ GROUP }
     requires asked { All (IsAsked (octets_of packets.now)) asked.now }
-    ensures { AreAhead association.now (octets_of packets.now) result }
+    ensures right { AreAhead association.now (octets_of packets.now) result }
+    ensures all { All (HasAhead result) asked.now }
 {
     let mut values = [[0; CHECK]; GROUP];
     let count = asked.len();
@@ -69,18 +70,9 @@ fn tasks_for<'a>(
     ensures { map icv_of (take (length asked.now) result)
         ≡ map (value_asked association.now (octets_of packets.now)) asked.now }
 {
-    let key = association.key.prepared();
-    let mut tasks = [Task {
-        key,
-        octets: &[],
-        more: &[],
-    }; GROUP];
+    let mut tasks = [association.task(&[], &[0; 4]); GROUP];
     for (turn, one) in asked.iter().enumerate() {
-        tasks[turn] = Task {
-            key,
-            octets: covered_of(&packets[one.place]),
-            more: unsent_of(association.extended, &one.half),
-        };
+        tasks[turn] = association.task(covered_of(&packets[one.place]), &one.half);
     }
     tasks
 }
@@ -88,7 +80,7 @@ fn tasks_for<'a>(
 /// The octets of a packet that its check value covers.
 fn covered_of(packet: &[u8]) -> &[u8]
     requires { CHECK ≤ length packet.now }
-    ensures { result.now ≡ take (length packet.now - 16) packet.now }
+    ensures { result.now ≡ take (length packet.now - CHECK) packet.now }
 {
     &packet[..packet.len() - CHECK]
 }
@@ -97,8 +89,9 @@ fn covered_of(packet: &[u8]) -> &[u8]
 fn placed(asked: &[Asked], values: &[[u8; CHECK]]) -> [Option<Ahead>; GROUP]
     requires same { length values.now ≡ length asked.now }
     requires places { All (λ one. one.place < GROUP) asked.now }
-    ensures { (a : Association) (packets : List (List ℕ))
+    ensures right { (a : Association) (packets : List (List ℕ))
         → values.now ≡ map (value_asked a packets) asked.now → AreAhead a packets result }
+    ensures all { All (HasAhead result) asked.now }
 {
     let mut ahead = [None; GROUP];
     for (turn, one) in asked.iter().enumerate() {

@@ -1,9 +1,12 @@
 //! What the two ends of a one-way association agree on.
-ghost use Rattle.std.specs.Prelude.{◌≡◌, ◌+◌, ◌<◌, [], if◌then◌else◌, IfSome, IfNone};
+ghost use Rattle.std.specs.Prelude.{◌≡◌, ◌+◌, ◌<◌, ◌++◌, [], if◌then◌else◌, IfSome, IfNone};
+ghost use Rattle.lanes.specs.Task.{icv_of};
+ghost use Rattle.mac.specs.Hmac.{icv_sha256};
 ghost use Rattle.esp.specs.Packet.{check_value, number_limit};
 
 use crate::key::IntegrityKey;
-use crate::packet::{high_half, unsent_of};
+use crate::packet::{CHECK, high_half, unsent_of};
+use lanes::Task;
 
 /// What the two ends of a one-way association agree on (RFC 4301 section 4.1).
 #[derive(Drop)]
@@ -34,11 +37,22 @@ impl Association {
     /// the number where numbers are extended (RFC 4303 sections 2.2.1 and 2.8).
     ///
     /// Over n octets in all it costs ceil((n + 9) / 64) + 1 compressions of SHA-256.
-    pub fn check_value(&self, number: u64, covered: &[u8]) -> [u8; 16]
+    pub fn check_value(&self, number: u64, covered: &[u8]) -> [u8; CHECK]
         ensures { result ≡ check_value self.now number covered.now }
     {
-        let half = high_half(number);
-        let unsent = unsent_of(self.extended, &half);
-        self.key.prepared().icv(covered, unsent)
+        self.task(covered, &high_half(number)).icv()
+    }
+
+    /// What its check value is computed from: the octets of a packet from SPI to next header, and the high half of its number
+    /// where numbers are extended.
+    pub fn task<'a>(&'a self, covered: &'a [u8], half: &'a [u8; 4]) -> Task<'a>
+        ensures { icv_of result ≡ icv_sha256 self.now.key
+            (covered.now ++ (if self.now.extended then half.now else [])) }
+    {
+        Task {
+            key: self.key.prepared(),
+            octets: covered,
+            more: unsent_of(self.extended, half),
+        }
     }
 }

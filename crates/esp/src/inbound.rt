@@ -4,17 +4,17 @@ ghost use Rattle.std.specs.Prelude.{All, IsTrue, ◌↔◌, OnOk, IfOk, IfErr, I
 ghost use Rattle.std.specs.Vec.{vec_capacity};
 ghost use Rattle.replay.specs.Window.{IsSoundWindow};
 ghost use Rattle.esp.specs.Judging.{IsNumber};
-ghost use Rattle.esp.specs.Packet.{check_value, IsOf};
+ghost use Rattle.esp.specs.Packet.{check_value, BeginsWithItsSpi};
 ghost use Rattle.esp.specs.Ahead.{AreAhead, HasFreshNumber, IsAhead, IsAsked, RunsFirst};
 ghost use Rattle.esp.specs.Opening.{IsOpeningRefusal, IsFreshNumber, HandsUp, Refuses, Step};
 ghost use Rattle.esp.specs.Delivery.{AnswersFirst, IsStop, JudgesAtMostOnce, JudgesExactlyAtFirst, answers_since, octets_of};
 
 use crate::ahead::{Ahead, Asked, ahead_at, values_ahead};
 use crate::association::Association;
+use crate::check_values::GROUP;
 use crate::key::IntegrityKey;
 use crate::load::{FEWEST, gain_by_lanes};
 use crate::packet::{CHECK, HEAD, contents, high_half, is_judged_length, low_half_of};
-use crate::signing::GROUP;
 use crate::{Answer, EspFault, ListFault};
 use replay::{Judgement, Window, recover};
 use std::marker::Model;
@@ -107,7 +107,7 @@ impl<W: Window> Inbound<W> {
     /// No memory but the window's is taken, and nothing is copied. A packet whose check value covers n octets costs
     /// ceil((n + 9) / 64) + 1 compressions of SHA-256.
     pub fn open<'a>(&mut self, packet: &'a [u8]) -> Result<Opened<'a>, EspFault>
-        requires { IsOf self.old.association packet.now }
+        requires { BeginsWithItsSpi self.old.association packet.now }
         ensures up { IfOk result (λ o. HandsUp self.old packet.now o.number o.next o.payload.now self.new) }
         ensures refused { IfErr result (λ e. Refuses W.may_want self.old packet.now e self.new) }
     {
@@ -120,7 +120,7 @@ impl<W: Window> Inbound<W> {
         packet: &'a [u8],
         ahead: Option<Ahead>,
     ) -> Result<Opened<'a>, EspFault>
-        requires mine { IsOf self.old.association packet.now }
+        requires mine { BeginsWithItsSpi self.old.association packet.now }
         requires ahead { IfSome ahead (IsAhead self.old.association packet.now) }
         ensures up { IfOk result (λ o. HandsUp self.old packet.now o.number o.next o.payload.now self.new) }
         ensures refused { IfErr result (λ e. Refuses W.may_want self.old packet.now e self.new) }
@@ -207,8 +207,9 @@ impl<W: Window> Inbound<W> {
     /// value is computed ahead of a packet that is refused before its check value at the head of its group; one that an earlier
     /// packet of its group makes old or replayed costs its own. No memory is taken but for `out` and the window.
     pub fn open_all(&mut self, packets: &[Vec<u8>], out: &mut Vec<Answer>) -> Result<(), ListFault>
-        requires { All (IsOf self.old.association) (octets_of packets.now) }
-        ensures at_most_once { JudgesAtMostOnce self.old (octets_of packets.now) (answers_since out.old.items out.new.items) }
+        requires { All (BeginsWithItsSpi self.old.association) (octets_of packets.now) }
+        ensures at_most_once { JudgesAtMostOnce self.old (octets_of packets.now)
+            (answers_since out.old.items out.new.items) }
         ensures exactly_at_first { JudgesExactlyAtFirst self.old (octets_of packets.now)
             (answers_since out.old.items out.new.items) }
         ensures answers { OnOk result (AnswersFirst W.may_want (length packets.now) self.old
@@ -222,7 +223,7 @@ impl<W: Window> Inbound<W> {
 
     /// Opens packets in order, in groups.
     fn answer_each(&mut self, packets: &[Vec<u8>], out: &mut Vec<Answer>) -> Result<(), ListFault>
-        requires { All (IsOf self.old.association) (octets_of packets.now) }
+        requires { All (BeginsWithItsSpi self.old.association) (octets_of packets.now) }
         ensures all { OnOk result (AnswersFirst W.may_want (length packets.now) self.old
             (octets_of packets.now) out.old.items self.new out.new.items) }
         ensures stopped { IfErr result (λ fault. IsStop W.may_want self.old
@@ -245,10 +246,12 @@ impl<W: Window> Inbound<W> {
     /// Opens packets in order, at most as many as a group has; answers how many. Check values are computed ahead where that
     /// gains time: a list of one packet, as most are, needs none of the arrays.
     fn answer_group(&mut self, packets: &[Vec<u8>], out: &mut Vec<Answer>) -> usize
-        requires mine { All (IsOf self.old.association) (octets_of packets.now) }
+        requires mine { All (BeginsWithItsSpi self.old.association) (octets_of packets.now) }
         requires few { length packets.now ≤ GROUP }
-        ensures first { RunsFirst W.may_want result self.old (octets_of packets.now) out.old.items self.new out.new.items }
-        ensures room { vec_len out.old + length packets.now ≤ vec_capacity out.old → result ≡ length packets.now }
+        ensures first { RunsFirst W.may_want result self.old (octets_of packets.now)
+            out.old.items self.new out.new.items }
+        ensures room { vec_len out.old + length packets.now ≤ vec_capacity out.old
+            → result ≡ length packets.now }
         ensures capacity { vec_capacity out.old ≤ vec_capacity out.new }
         ensures size { vec_len out.new ≡ vec_len out.old + result }
     {
@@ -297,10 +300,12 @@ impl<W: Window> Inbound<W> {
         ahead: &[Option<Ahead>],
         out: &mut Vec<Answer>,
     ) -> usize
-        requires mine { All (IsOf self.old.association) (octets_of packets.now) }
+        requires mine { All (BeginsWithItsSpi self.old.association) (octets_of packets.now) }
         requires ahead { AreAhead self.old.association (octets_of packets.now) ahead.now }
-        ensures first { RunsFirst W.may_want result self.old (octets_of packets.now) out.old.items self.new out.new.items }
-        ensures room { vec_len out.old + length packets.now ≤ vec_capacity out.old → result ≡ length packets.now }
+        ensures first { RunsFirst W.may_want result self.old (octets_of packets.now)
+            out.old.items self.new out.new.items }
+        ensures room { vec_len out.old + length packets.now ≤ vec_capacity out.old
+            → result ≡ length packets.now }
         ensures capacity { vec_capacity out.old ≤ vec_capacity out.new }
         ensures size { vec_len out.new ≡ vec_len out.old + result }
     {
@@ -316,7 +321,7 @@ impl<W: Window> Inbound<W> {
 
     /// Opens one packet of a list.
     fn answer(&mut self, packet: &[u8], ahead: Option<Ahead>) -> Answer
-        requires mine { IsOf self.old.association packet.now }
+        requires mine { BeginsWithItsSpi self.old.association packet.now }
         requires ahead { IfSome ahead (IsAhead self.old.association packet.now) }
         ensures { Step W.may_want self.old packet.now result self.new }
     {

@@ -1,11 +1,12 @@
 //! Facts about the definitions, each the contract of a function that does nothing: what a sealed packet is to its receiver,
-//! what calls in a row are, and that the premise of the theorem on deliveries can be met.
-ghost use Rattle.std.specs.Prelude.{◌≡◌, ◌≢◌, ℕ, List, ◌++◌, length, Option};
+//! what calls in a row are, that sealing and judging are determined, and that the premise of the theorem on deliveries can be
+//! met.
+ghost use Rattle.std.specs.Prelude.{◌≡◌, ◌≢◌, ℕ, ◌+◌, List, ◌++◌, length, Option};
 ghost use Rattle.replay.specs.Window.{IsSoundWindow};
 ghost use Rattle.esp.specs.declared.association.Association.{Association};
 ghost use Rattle.esp.specs.declared.answer.Answer.{Answer};
-ghost use Rattle.esp.specs.Sealing.{IsShortestPacket, FitsPacket};
-ghost use Rattle.esp.specs.Views.{Receiving};
+ghost use Rattle.esp.specs.Sealing.{IsShortestPacket, FitsPacket, SealsFirst};
+ghost use Rattle.esp.specs.Views.{Receiving, Sending};
 ghost use Rattle.esp.specs.declared.fault.EspFault.{EspFault};
 ghost use Rattle.esp.specs.Opening.{HandsUp, Refuses, Run, Step};
 ghost use Rattle.esp.specs.Delivery.{Deliveries, IsJudged, history};
@@ -18,6 +19,22 @@ use replay::{BlockWindow, Window};
 pub fn sealed_packets_open()
     ensures { (a : Association) (n next : ℕ) (payload b : List ℕ)
         → IsShortestPacket a n next payload b → FitsPacket payload → IsOpenable a n next payload b }
+{}
+
+/// Sealing a list is determined by the end, the payloads and how many of them are sealed: so are the octets, and the end after
+/// it. Where it stops for memory, how many are is all that is left open.
+pub fn sealing_is_determined()
+    ensures { (k next : ℕ) (s t u : Sending) (payloads : List (List ℕ)) (before after other : List ℕ)
+        → SealsFirst k s next payloads before t after → SealsFirst k s next payloads before u other
+        → (t ≡ u) × (after ≡ other) }
+{}
+
+/// Two lists of which one is sealed whole and the other behind it, as far as it comes, are one list: how payloads are grouped
+/// into lists makes no difference.
+pub fn lists_in_a_row_are_one_list()
+    ensures { (k next : ℕ) (s t u : Sending) (ps qs : List (List ℕ)) (before between after : List ℕ)
+        → SealsFirst (length ps) s next ps before t between → SealsFirst k t next qs between u after
+        → SealsFirst (length ps + k) s next (ps ++ qs) before u after }
 {}
 
 /// A packet that [`Inbound::open`](crate::Inbound::open) hands up is one step of a run, as one of a list is.

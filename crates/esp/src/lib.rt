@@ -23,6 +23,7 @@
 mod ahead;
 mod answer;
 mod association;
+mod check_values;
 mod fault;
 mod inbound;
 mod key;
@@ -30,7 +31,7 @@ pub mod laws;
 mod load;
 mod outbound;
 mod packet;
-mod signing;
+mod progress;
 
 pub use answer::Answer;
 pub use fault::{EspFault, ListFault, SealStop};

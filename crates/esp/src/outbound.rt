@@ -1,16 +1,18 @@
 //! The sender's end of an association (RFC 4303 section 3.3).
-ghost use Rattle.std.specs.Prelude.{◌≡◌, ◌≢◌, ◌+◌, ◌<◌, ◌≤◌, [], ◌++◌, length, drop, vec_len, get_or, replicate, IfOk, IfErr, OnOk};
+ghost use Rattle.std.specs.Prelude.{◌≡◌, ◌≢◌, ℕ, ◌+◌, ◌<◌, ◌≤◌, ◌++◌, length, take, vec_len, replicate, IfOk, IfErr, OnOk};
 ghost use Rattle.std.specs.Vec.{vec_capacity};
 ghost use Rattle.esp.specs.Packet.{head, joined_parts, packet, trailer};
 ghost use Rattle.esp.specs.Sealing.{Seals, SealsFirst, IsSealRefusal, IsSealStop, most_octets, payloads_of};
 ghost use Rattle.esp.specs.Laying.{IsReady, Lays, LaysFirst};
+ghost use Rattle.esp.specs.Progress.{EndsRightly, UsesRoom};
 ghost use Rattle.esp.specs.declared.fault.EspFault.{EspFault};
 
 use crate::association::Association;
+use crate::check_values::{GROUP, write_check_values};
 use crate::key::IntegrityKey;
 use crate::load::gain_by_lanes;
 use crate::packet::{CHECK, HEAD, MOST_PAYLOAD, TAIL, head_of, least_padding};
-use crate::signing::{GROUP, sign_all};
+use crate::progress::Progress;
 use crate::{EspFault, SealStop};
 use std::marker::Model;
 
@@ -112,28 +114,30 @@ impl Outbound {
     ///
     /// Refused where sealing one of them would be, in the same way: those before it were sealed then, and none after them.
     ///
-    /// Check values are computed side by side, for at most 64 packets at a time, where that gains time; packets are laid out one
-    /// after the other. Nothing is computed that isn't sent, and no memory is taken but for `out`.
+    /// Check values are computed side by side, for at most 64 packets at a time, where that gains time; packets are laid out
+    /// one after the other. Nothing is computed that isn't sent, and no memory is taken but for `out`.
     pub fn seal_all(
         &mut self,
         next: u8,
         payloads: &[&[u8]],
         out: &mut Vec<u8>,
     ) -> Result<(), SealStop>
-        ensures sealed { OnOk result (SealsFirst (length payloads.now) self.old next (payloads_of payloads.now)
-            out.old.items self.new out.new.items) }
+        ensures sealed { OnOk result (SealsFirst (length payloads.now) self.old next
+            (payloads_of payloads.now) out.old.items self.new out.new.items) }
         ensures stopped { IfErr result (λ stop. IsSealStop self.old next (payloads_of payloads.now)
             out.old.items stop self.new out.new.items) }
-        ensures room { vec_len out.old + most_octets (payloads_of payloads.now) ≤ vec_capacity out.old
-            → IfErr result (λ stop. stop.fault ≢ EspFault.Memory) }
+        // With room for the first k packets, memory is wanted only after them; with room for all, never.
+        ensures room { (k : ℕ)
+            → vec_len out.old + most_octets (take k (payloads_of payloads.now)) ≤ vec_capacity out.old
+            → IfErr result (λ stop. stop.fault ≡ EspFault.Memory → k ≤ stop.sealed) }
     {
         for group in 0..payloads.len().div_ceil(GROUP) {
             let start = GROUP * group;
             let end = start + (payloads.len() - start).min(GROUP);
-            let (sealed, outcome) = self.seal_group(next, &payloads[start..end], out);
-            if let Err(fault) = outcome {
+            let progress = self.seal_group(next, &payloads[start..end], out);
+            if let Some(fault) = progress.refusal {
                 return Err(SealStop {
-                    sealed: start + sealed,
+                    sealed: start + progress.done,
                     fault,
                 });
             }
@@ -141,23 +145,14 @@ impl Outbound {
         Ok(())
     }
 
-    /// Seals payloads, at most as many as a group has; answers how many, and why not the next one.
-    fn seal_group(
-        &mut self,
-        next: u8,
-        payloads: &[&[u8]],
-        out: &mut Vec<u8>,
-    ) -> (usize, Result<(), EspFault>)
+    /// Seals payloads, at most as many as a group has; answers how far they came.
+    fn seal_group(&mut self, next: u8, payloads: &[&[u8]], out: &mut Vec<u8>) -> Progress
         requires { length payloads.now ≤ GROUP }
-        ensures first { SealsFirst result.0 self.old next (payloads_of payloads.now) out.old.items self.new out.new.items }
-        ensures all { OnOk result.1 (result.0 ≡ length payloads.now) }
-        ensures refused { IfErr result.1 (λ fault. (result.0 < length payloads.now)
-            × IsSealRefusal self.new (get_or (payloads_of payloads.now) result.0 []) fault) }
-        ensures room { vec_len out.old + most_octets (payloads_of payloads.now) ≤ vec_capacity out.old
-            → IfErr result.1 (λ fault. fault ≢ EspFault.Memory) }
-        ensures capacity { vec_capacity out.old ≤ vec_capacity out.new }
-        ensures growth { vec_len out.new + most_octets (drop result.0 (payloads_of payloads.now))
-            ≤ vec_len out.old + most_octets (payloads_of payloads.now) }
+        ensures first { SealsFirst result.done self.old next (payloads_of payloads.now)
+            out.old.items self.new out.new.items }
+        ensures ended { EndsRightly (payloads_of payloads.now) result self.new }
+        ensures room { UsesRoom (payloads_of payloads.now) result
+            (vec_len out.old) (vec_capacity out.old) (vec_len out.new) (vec_capacity out.new) }
     {
         if gain_by_lanes(payloads) {
             self.seal_side_by_side(next, payloads, out)
@@ -166,84 +161,69 @@ impl Outbound {
         }
     }
 
-    /// Seals payloads in order by a call for each; answers how many, and why not the next one.
-    fn seal_each(
-        &mut self,
-        next: u8,
-        payloads: &[&[u8]],
-        out: &mut Vec<u8>,
-    ) -> (usize, Result<(), EspFault>)
-        ensures first { SealsFirst result.0 self.old next (payloads_of payloads.now) out.old.items self.new out.new.items }
-        ensures all { OnOk result.1 (result.0 ≡ length payloads.now) }
-        ensures refused { IfErr result.1 (λ fault. (result.0 < length payloads.now)
-            × IsSealRefusal self.new (get_or (payloads_of payloads.now) result.0 []) fault) }
-        ensures room { vec_len out.old + most_octets (payloads_of payloads.now) ≤ vec_capacity out.old
-            → IfErr result.1 (λ fault. fault ≢ EspFault.Memory) }
-        ensures capacity { vec_capacity out.old ≤ vec_capacity out.new }
-        ensures growth { vec_len out.new + most_octets (drop result.0 (payloads_of payloads.now))
-            ≤ vec_len out.old + most_octets (payloads_of payloads.now) }
+    /// Seals payloads in order by a call for each; answers how far they came.
+    fn seal_each(&mut self, next: u8, payloads: &[&[u8]], out: &mut Vec<u8>) -> Progress
+        ensures first { SealsFirst result.done self.old next (payloads_of payloads.now)
+            out.old.items self.new out.new.items }
+        ensures ended { EndsRightly (payloads_of payloads.now) result self.new }
+        ensures room { UsesRoom (payloads_of payloads.now) result
+            (vec_len out.old) (vec_capacity out.old) (vec_len out.new) (vec_capacity out.new) }
     {
         for (done, payload) in payloads.iter().enumerate() {
             if let Err(fault) = self.seal_one(next, payload, out) {
-                return (done, Err(fault));
+                return Progress {
+                    done,
+                    refusal: Some(fault),
+                };
             }
         }
-        (payloads.len(), Ok(()))
+        Progress {
+            done: payloads.len(),
+            refusal: None,
+        }
     }
 
-    /// Seals payloads in order, with their check values computed side by side; answers how many, and why not the next one.
-    fn seal_side_by_side(
-        &mut self,
-        next: u8,
-        payloads: &[&[u8]],
-        out: &mut Vec<u8>,
-    ) -> (usize, Result<(), EspFault>)
+    /// Seals payloads in order, with their check values computed side by side; answers how far they came.
+    fn seal_side_by_side(&mut self, next: u8, payloads: &[&[u8]], out: &mut Vec<u8>) -> Progress
         requires { length payloads.now ≤ GROUP }
-        ensures first { SealsFirst result.0 self.old next (payloads_of payloads.now) out.old.items self.new out.new.items }
-        ensures all { OnOk result.1 (result.0 ≡ length payloads.now) }
-        ensures refused { IfErr result.1 (λ fault. (result.0 < length payloads.now)
-            × IsSealRefusal self.new (get_or (payloads_of payloads.now) result.0 []) fault) }
-        ensures room { vec_len out.old + most_octets (payloads_of payloads.now) ≤ vec_capacity out.old
-            → IfErr result.1 (λ fault. fault ≢ EspFault.Memory) }
-        ensures capacity { vec_capacity out.old ≤ vec_capacity out.new }
-        ensures growth { vec_len out.new + most_octets (drop result.0 (payloads_of payloads.now))
-            ≤ vec_len out.old + most_octets (payloads_of payloads.now) }
+        ensures first { SealsFirst result.done self.old next (payloads_of payloads.now)
+            out.old.items self.new out.new.items }
+        ensures ended { EndsRightly (payloads_of payloads.now) result self.new }
+        ensures room { UsesRoom (payloads_of payloads.now) result
+            (vec_len out.old) (vec_capacity out.old) (vec_len out.new) (vec_capacity out.new) }
     {
         let start = out.len();
         let last = self.last;
-        let (count, outcome) = self.lay_all(next, payloads, out);
-        sign_all(
+        let progress = self.lay_all(next, payloads, out);
+        write_check_values(
             &self.association,
             last,
-            &payloads[..count],
+            &payloads[..progress.done],
             &mut out[start..],
         );
-        (count, outcome)
+        progress
     }
 
-    /// Lays packets in order, up to the first that is refused; answers how many, and why not the next one.
-    fn lay_all(
-        &mut self,
-        next: u8,
-        payloads: &[&[u8]],
-        out: &mut Vec<u8>,
-    ) -> (usize, Result<(), EspFault>)
-        ensures first { LaysFirst result.0 self.old next (payloads_of payloads.now) out.old.items self.new out.new.items }
-        ensures all { OnOk result.1 (result.0 ≡ length payloads.now) }
-        ensures refused { IfErr result.1 (λ fault. (result.0 < length payloads.now)
-            × IsSealRefusal self.new (get_or (payloads_of payloads.now) result.0 []) fault) }
-        ensures room { vec_len out.old + most_octets (payloads_of payloads.now) ≤ vec_capacity out.old
-            → IfErr result.1 (λ fault. fault ≢ EspFault.Memory) }
-        ensures capacity { vec_capacity out.old ≤ vec_capacity out.new }
-        ensures growth { vec_len out.new + most_octets (drop result.0 (payloads_of payloads.now))
-            ≤ vec_len out.old + most_octets (payloads_of payloads.now) }
+    /// Lays packets in order, up to the first that is refused; answers how far they came.
+    fn lay_all(&mut self, next: u8, payloads: &[&[u8]], out: &mut Vec<u8>) -> Progress
+        ensures first { LaysFirst result.done self.old next (payloads_of payloads.now)
+            out.old.items self.new out.new.items }
+        ensures ended { EndsRightly (payloads_of payloads.now) result self.new }
+        ensures room { UsesRoom (payloads_of payloads.now) result
+            (vec_len out.old) (vec_capacity out.old) (vec_len out.new) (vec_capacity out.new) }
     {
         for (done, payload) in payloads.iter().enumerate() {
             if let Err(fault) = self.lay(next, payload, out) {
-                return (done, Err(fault));
+                return Progress {
+                    done,
+                    refusal: Some(fault),
+                };
             }
         }
-        (payloads.len(), Ok(()))
+        Progress {
+            done: payloads.len(),
+            refusal: None,
+        }
     }
 
     /// Appends a packet, with zeros in the place of its check value. Refused as [`Outbound::seal`] is.
@@ -257,7 +237,7 @@ impl Outbound {
         ensures growth { vec_len out.new ≤ vec_len out.old + (length payload.now + 29) }
     {
         let (number, pad) = self.prepare(payload, out)?;
-        append_unsigned(out, &self.association, number, next, payload, pad);
+        append_without_check_value(out, &self.association, number, next, payload, pad);
         self.last = number;
         Ok(())
     }
@@ -266,7 +246,7 @@ impl Outbound {
     fn prepare(&self, payload: &[u8], out: &mut Vec<u8>) -> Result<(u64, usize), EspFault>
         ensures ready { IfOk result (λ found. IsReady self.now payload.now found.0 found.1) }
         ensures enough { IfOk result (λ found.
-            vec_len out.new + (8 + length payload.now + found.1 + 2 + 16) ≤ vec_capacity out.new) }
+            vec_len out.new + (HEAD + length payload.now + found.1 + TAIL + CHECK) ≤ vec_capacity out.new) }
         ensures refused { IfErr result (IsSealRefusal self.now payload.now) }
         ensures items { out.new.items ≡ out.old.items }
         ensures size { vec_len out.new ≡ vec_len out.old }
@@ -301,10 +281,11 @@ fn append_packet(
     pad: usize,
 )
     requires word { pad < 4 }
-    requires room { vec_len out.old + (8 + length payload.now + pad + 2 + 16) ≤ vec_capacity out.old }
+    requires room { vec_len out.old + (HEAD + length payload.now + pad + TAIL + CHECK)
+        ≤ vec_capacity out.old }
     ensures items { out.new.items ≡ out.old.items ++ packet association.now number next payload.now pad }
     ensures capacity { vec_capacity out.old ≤ vec_capacity out.new }
-    ensures size { vec_len out.new ≡ vec_len out.old + (8 + length payload.now + pad + 2 + 16) }
+    ensures size { vec_len out.new ≡ vec_len out.old + (HEAD + length payload.now + pad + TAIL + CHECK) }
 {
     let start = out.len();
     let head = head_of(association.spi, number);
@@ -314,7 +295,7 @@ fn append_packet(
 }
 
 /// Appends a packet, for which there is room, with zeros in the place of its check value.
-fn append_unsigned(
+fn append_without_check_value(
     out: &mut Vec<u8>,
     association: &Association,
     number: u64,
@@ -323,11 +304,12 @@ fn append_unsigned(
     pad: usize,
 )
     requires word { pad < 4 }
-    requires room { vec_len out.old + (8 + length payload.now + pad + 2 + 16) ≤ vec_capacity out.old }
+    requires room { vec_len out.old + (HEAD + length payload.now + pad + TAIL + CHECK)
+        ≤ vec_capacity out.old }
     ensures items { out.new.items ≡ out.old.items
         ++ ((head association.now number ++ payload.now ++ trailer pad next) ++ replicate 16 0) }
     ensures capacity { vec_capacity out.old ≤ vec_capacity out.new }
-    ensures size { vec_len out.new ≡ vec_len out.old + (8 + length payload.now + pad + 2 + 16) }
+    ensures size { vec_len out.new ≡ vec_len out.old + (HEAD + length payload.now + pad + TAIL + CHECK) }
 {
     let head = head_of(association.spi, number);
     append(

@@ -1,6 +1,7 @@
 //! The layout of a packet (RFC 4303 section 2): the SPI in four octets, the low half of the number in four, the payload,
 //! padding, its length in one octet, the next header in one, and the check value in sixteen.
-ghost use Rattle.std.specs.Prelude.{◌≡◌, ℕ, ◌+◌, ◌-◌, ◌%◌, ◌<◌, ◌≤◌, ◌++◌, List, [], if◌then◌else◌, length, take, drop, ◌^◌, ◌/◌, IsTrue, ◌↔◌, IfSome, IfNone};
+ghost use Rattle.std.specs.Prelude.{◌≡◌, ℕ, ◌+◌, ◌/◌, ◌%◌, ◌^◌, ◌<◌, ◌≤◌, ◌↔◌, List, [], ◌++◌, length, take, drop};
+ghost use Rattle.std.specs.Prelude.{IsTrue, if◌then◌else◌, IfSome, IfNone};
 ghost use Rattle.byteorder.specs.Endian.{big_bytes};
 ghost use Rattle.esp.specs.Packet.{IsContents, padding};
 ghost use Rattle.esp.specs.Judging.{IsJudgedLength, low_half};
@@ -20,12 +21,15 @@ pub const TAIL: usize = 2;
 /// The longest payload that is sealed, in octets.
 pub const MOST_PAYLOAD: usize = 16_384;
 
+/// The shortest packet that is opened, in octets: one of no payload, with two octets of padding.
+pub const LEAST_PACKET: usize = HEAD + 2 + TAIL + CHECK;
+
 /// The longest packet that is opened, in octets: [`MOST_PAYLOAD`] and the longest padding, which is 254 octets there.
 pub const MOST_PACKET: usize = 16_664;
 
 /// The least padding with which payload, padding, pad length and next header fill whole words of four octets.
 pub fn least_padding(payload: usize) -> usize
-    requires { payload ≤ 16384 }
+    requires { payload ≤ MOST_PAYLOAD }
     ensures value { result ≡ pad_of payload }
     ensures aligned { (payload + result + 2) % 4 ≡ 0 }
     ensures least { result < 4 }
@@ -35,7 +39,7 @@ pub fn least_padding(payload: usize) -> usize
 
 /// The octets that a check value covers in the packet of a payload of so many.
 pub fn covered_size(payload: usize) -> usize
-    requires { payload ≤ 16384 }
+    requires { payload ≤ MOST_PAYLOAD }
     ensures { result ≡ covered_size payload }
 {
     HEAD + payload + least_padding(payload) + TAIL
@@ -45,7 +49,7 @@ pub fn covered_size(payload: usize) -> usize
 pub fn is_judged_length(octets: usize) -> bool
     ensures { IsTrue result ↔ IsJudgedLength octets }
 {
-    octets % 4 == 0 && octets >= HEAD + TAIL + CHECK + TAIL && octets <= MOST_PACKET
+    octets % 4 == 0 && octets >= LEAST_PACKET && octets <= MOST_PACKET
 }
 
 /// SPI and low half of the number, as a packet begins.
@@ -76,7 +80,7 @@ pub fn unsent_of(extended: bool, half: &[u8; 4]) -> &[u8]
 
 /// The low half of a packet's number.
 pub fn low_half_of(packet: &[u8]) -> u32
-    requires { 8 ≤ length packet.now }
+    requires { HEAD ≤ length packet.now }
     ensures { result ≡ low_half packet.now }
 {
     BigEndian::read_u32(&packet[4..])
@@ -85,7 +89,8 @@ pub fn low_half_of(packet: &[u8]) -> u32
 /// The next header and the payload's length in octets; `None` where the padding doesn't fit or is not 1, 2, .. .
 pub fn contents(packet: &[u8]) -> Option<(u8, usize)>
     requires { IsJudgedLength (length packet.now) }
-    ensures found { IfSome result (λ found. (8 + found.1 ≤ length packet.now) × IsContents packet.now found.0 (take found.1 (drop 8 packet.now))) }
+    ensures found { IfSome result (λ found. (HEAD + found.1 ≤ length packet.now)
+        × IsContents packet.now found.0 (take found.1 (drop HEAD packet.now))) }
     ensures none { IfNone result ((next : ℕ) (payload : List ℕ) → ¬ IsContents packet.now next payload) }
 {
     let end = packet.len() - CHECK - TAIL;

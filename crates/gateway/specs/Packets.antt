@@ -43,8 +43,8 @@ table_passage p = record { before = p.before.table; received = reception_of p.gi
 abbrev pub table_passages : {C : Type 0} → List (Passage C) → List tables.Passage
 table_passages passages = map table_passage passages
 
--- At this step these octets came as an ESP packet. It is a packet to the table too, with what is said of it as its outcome; it takes no
--- memory, and the machine of IKE, the policy and the caller stay as they are.
+-- At this step these octets came as an ESP packet. It is a packet to the table too, with what is said of it as its outcome; it is never
+-- refused for want of memory, and the machine of IKE, the policy and the caller stay as they are.
 pub record TakesPacket {C : Type 0} (octets : Octets) (p : Passage C) : Type 0 where
   pub outcome : traffic.Outcome
   pub said : p.said ≡ view_of_outcome outcome

@@ -113,7 +113,7 @@ pub record RequestsTakeEffect {C : Type 0} (meaning_of : C → Meaning) (passage
   -- an association that comes to be held begins with none in effect, or at the responder with that of IKE_SA_INIT
   pub begun : (place serial : ℕ) (p : Passage C) (a : Association) → slice_get passages place ≡ Some p → association_in p.before serial ≡ None
       → association_in p.after serial ≡ Some a → a.incoming ≡ first_requests a.role
-  -- and its window is widened once, when IKE_AUTH is done, to the one that this end tells
+  -- and its window changes only where IKE_AUTH establishes it, to the one that this end tells; that it then does, the steps say
   pub window : (place serial : ℕ) (p : Passage C) (a b : Association) → slice_get passages place ≡ Some p → association_in p.before serial ≡ Some a
       → association_in p.after serial ≡ Some b → KeepsWindow p.before.machine.config.window a b
   -- what opens and is not new is dropped, or its reply goes out again, and nothing changes

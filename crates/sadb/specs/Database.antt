@@ -5,7 +5,7 @@ use Rattle.std.specs.Coded.{Coded, code_by, coded×, coded_ℕ}
 use Rattle.std.specs.FinMap as map
 use Rattle.std.specs.FinSet as set
 use Rattle.esp.specs.Opening.{HandsUp, Refuses}
-use Rattle.esp.specs.Packet.{IsOf}
+use Rattle.esp.specs.Packet.{BeginsWithItsSpi}
 use Rattle.esp.specs.Sealing.{IsSealRefusal, Seals}
 use Rattle.esp.specs.Views.{Receiving, Sending}
 use Rattle.esp.specs.declared.fault.EspFault.{EspFault}
@@ -194,7 +194,7 @@ pub record IsOutbound (pairs : PairMap) (flow : Flow) (serial : ℕ) : Type 0 wh
 pub record IsForPair (pairs : PairMap) (serial : ℕ) (packet : List ℕ) : Type 0 where
   pub pair : Pair
   pub there : pair_at pairs serial ≡ Some pair
-  pub addressed : IsOf pair.inbound.association packet
+  pub addressed : BeginsWithItsSpi pair.inbound.association packet
 
 -- One pair became another under the same serial, and nothing else of the table changed, its room neither.
 pub record ChangesAt (old : Database) (serial : ℕ) (was is : Pair) (new : Database) : Type 0 where

@@ -47,6 +47,11 @@ impl<'a> Words<'a> {
         Ok(number)
     }
 
+    /// The next word as a decimal number of 32 bits.
+    pub fn small_number(&mut self) -> Result<u32, LineFault> {
+        Ok(self.number(u64::from(u32::MAX))? as u32)
+    }
+
     /// The next word as octets in hexadecimal, `-` for none.
     pub fn octets(&mut self, alloc: Global) -> Result<Vec<u8>, LineFault> {
         match self.word()? {

@@ -2,7 +2,7 @@
 use super::side::{Side, named};
 use crate::script::LineFault;
 use crate::script::words::Words;
-use base::Items;
+use base::{Items, Range};
 use policy::{Action, Entry};
 use std::alloc::Global;
 
@@ -154,17 +154,10 @@ fn read_window(words: &mut Words) -> Result<Term, LineFault> {
 
 fn read_entry(words: &mut Words) -> Result<Term, LineFault> {
     let side = read_side(words)?;
-    let action = match words.word()? {
-        b"protect" => Action::Protect,
-        b"bypass" => Action::Bypass,
-        b"discard" => Action::Discard,
-        _ => return Err(LineFault::Refused),
-    };
+    let action = read_action(words)?;
     let protocol = words.number(u64::from(u8::MAX))? as u8;
-    let local = words.addresses()?;
-    let local_ports = words.ports()?;
-    let remote = words.addresses()?;
-    let remote_ports = words.ports()?;
+    let (local, local_ports) = read_scope(words)?;
+    let (remote, remote_ports) = read_scope(words)?;
     let entry = Entry {
         protocol,
         local,
@@ -176,74 +169,110 @@ fn read_entry(words: &mut Words) -> Result<Term, LineFault> {
     Ok(Term::Entry { side, entry })
 }
 
+fn read_action(words: &mut Words) -> Result<Action, LineFault> {
+    match words.word()? {
+        b"protect" => Ok(Action::Protect),
+        b"bypass" => Ok(Action::Bypass),
+        b"discard" => Ok(Action::Discard),
+        _ => Err(LineFault::Refused),
+    }
+}
+
+/// The addresses of one side, and its ports.
+fn read_scope(words: &mut Words) -> Result<(Range, (u16, u16)), LineFault> {
+    let addresses = words.addresses()?;
+    let ports = words.ports()?;
+    Ok((addresses, ports))
+}
+
+// One function for each: what drops at an exit is proved at each of them.
 fn read_act(alloc: Global, name: &[u8], words: &mut Words) -> Result<Act, LineFault> {
     match name {
-        b"start" => {
-            let side = read_side(words)?;
-            let entry = words.number(u64::from(u32::MAX))? as u32;
-            Ok(Act::Start { side, entry })
-        }
-        b"child" => {
-            let side = read_side(words)?;
-            let ike = words.number(u64::from(u32::MAX))? as u32;
-            let entry = words.number(u64::from(u32::MAX))? as u32;
-            Ok(Act::Child { side, ike, entry })
-        }
-        b"probe" => {
-            let side = read_side(words)?;
-            let ike = words.number(u64::from(u32::MAX))? as u32;
-            Ok(Act::Probe { side, ike })
-        }
-        b"delete" => {
-            let side = read_side(words)?;
-            let child = words.number(u64::from(u32::MAX))? as u32;
-            Ok(Act::Delete { side, child })
-        }
-        b"close" => {
-            let side = read_side(words)?;
-            let ike = words.number(u64::from(u32::MAX))? as u32;
-            Ok(Act::Close { side, ike })
-        }
-        b"tick" => {
-            let side = read_side(words)?;
-            let moment = words.number(u64::MAX)?;
-            Ok(Act::Tick { side, moment })
-        }
-        b"secret" => {
-            let side = read_side(words)?;
-            let secret = words.array()?;
-            Ok(Act::Secret { side, secret })
-        }
+        b"start" => read_start(words),
+        b"child" => read_child(words),
+        b"probe" => read_probe(words),
+        b"delete" => read_delete(words),
+        b"close" => read_close(words),
+        b"tick" => read_tick(words),
+        b"secret" => read_secret(words),
         b"raw" => read_raw(alloc, words),
-        b"out" => {
-            let side = read_side(words)?;
-            let packet = Items::from_vec(words.octets(alloc)?);
-            Ok(Act::Out { side, packet })
-        }
-        b"in" => {
-            let side = read_side(words)?;
-            let packet = Items::from_vec(words.octets(alloc)?);
-            Ok(Act::In { side, packet })
-        }
-        b"table" => Ok(Act::Table {
-            side: read_side(words)?,
-        }),
-        b"same" => {
-            let one = words.number(u64::MAX)?;
-            let other = words.number(u64::MAX)?;
-            Ok(Act::Same { one, other })
-        }
-        name => Ok(Act::Deliver(read_delivery(name, words)?)),
+        b"out" => read_out(alloc, words),
+        b"in" => read_in(alloc, words),
+        b"table" => read_table(words),
+        b"same" => read_same(words),
+        name => read_delivery(name, words),
     }
+}
+
+fn read_start(words: &mut Words) -> Result<Act, LineFault> {
+    let side = read_side(words)?;
+    let entry = words.small_number()?;
+    Ok(Act::Start { side, entry })
+}
+
+fn read_child(words: &mut Words) -> Result<Act, LineFault> {
+    let side = read_side(words)?;
+    let ike = words.small_number()?;
+    let entry = words.small_number()?;
+    Ok(Act::Child { side, ike, entry })
+}
+
+fn read_probe(words: &mut Words) -> Result<Act, LineFault> {
+    let side = read_side(words)?;
+    let ike = words.small_number()?;
+    Ok(Act::Probe { side, ike })
+}
+
+fn read_delete(words: &mut Words) -> Result<Act, LineFault> {
+    let side = read_side(words)?;
+    let child = words.small_number()?;
+    Ok(Act::Delete { side, child })
+}
+
+fn read_close(words: &mut Words) -> Result<Act, LineFault> {
+    let side = read_side(words)?;
+    let ike = words.small_number()?;
+    Ok(Act::Close { side, ike })
+}
+
+fn read_tick(words: &mut Words) -> Result<Act, LineFault> {
+    let side = read_side(words)?;
+    let moment = words.number(u64::MAX)?;
+    Ok(Act::Tick { side, moment })
+}
+
+fn read_secret(words: &mut Words) -> Result<Act, LineFault> {
+    let side = read_side(words)?;
+    let secret = words.array()?;
+    Ok(Act::Secret { side, secret })
+}
+
+fn read_out(alloc: Global, words: &mut Words) -> Result<Act, LineFault> {
+    let side = read_side(words)?;
+    let packet = Items::from_vec(words.octets(alloc)?);
+    Ok(Act::Out { side, packet })
+}
+
+fn read_in(alloc: Global, words: &mut Words) -> Result<Act, LineFault> {
+    let side = read_side(words)?;
+    let packet = Items::from_vec(words.octets(alloc)?);
+    Ok(Act::In { side, packet })
+}
+
+fn read_table(words: &mut Words) -> Result<Act, LineFault> {
+    let side = read_side(words)?;
+    Ok(Act::Table { side })
+}
+
+fn read_same(words: &mut Words) -> Result<Act, LineFault> {
+    let one = words.number(u64::MAX)?;
+    let other = words.number(u64::MAX)?;
+    Ok(Act::Same { one, other })
 }
 
 fn read_raw(alloc: Global, words: &mut Words) -> Result<Act, LineFault> {
     let side = read_side(words)?;
-    let protocol = match words.word()? {
-        b"ike" => Protocol::Ike,
-        b"esp" => Protocol::Esp,
-        _ => return Err(LineFault::Refused),
-    };
+    let protocol = read_protocol(words)?;
     let octets = Items::from_vec(words.octets(alloc)?);
     Ok(Act::Raw {
         side,
@@ -252,23 +281,35 @@ fn read_raw(alloc: Global, words: &mut Words) -> Result<Act, LineFault> {
     })
 }
 
-fn read_delivery(name: &[u8], words: &mut Words) -> Result<Delivery, LineFault> {
+fn read_protocol(words: &mut Words) -> Result<Protocol, LineFault> {
+    match words.word()? {
+        b"ike" => Ok(Protocol::Ike),
+        b"esp" => Ok(Protocol::Esp),
+        _ => Err(LineFault::Refused),
+    }
+}
+
+fn read_delivery(name: &[u8], words: &mut Words) -> Result<Act, LineFault> {
     let datagram = words.number(u64::MAX)?;
-    let way = match name {
-        b"deliver" => Way::Straight,
-        b"reflect" => Way::Back,
+    let way = read_way(name, words)?;
+    Ok(Act::Deliver(Delivery { datagram, way }))
+}
+
+fn read_way(name: &[u8], words: &mut Words) -> Result<Way, LineFault> {
+    match name {
+        b"deliver" => Ok(Way::Straight),
+        b"reflect" => Ok(Way::Back),
         b"damage" => {
             let offset = words.number(u64::MAX)?;
             let change = words.octet()?;
-            Way::Damaged { offset, change }
+            Ok(Way::Damaged { offset, change })
         }
         b"cut" => {
             let length = words.number(u64::MAX)?;
-            Way::Cut { length }
+            Ok(Way::Cut { length })
         }
-        _ => return Err(LineFault::Refused),
-    };
-    Ok(Delivery { datagram, way })
+        _ => Err(LineFault::Refused),
+    }
 }
 
 fn read_side(words: &mut Words) -> Result<Side, LineFault> {

@@ -2,7 +2,7 @@ use Rattle.std.proofs.Common.{◌≡◌, ℕ, ◌+◌, ◌-◌, ◌*◌, List, l
 use Rattle.std.proofs.lemmas.List.{length-map, length-take-le}
 use Rattle.replay.specs.Window.{IsSoundWindow}
 use Rattle.esp.specs.declared.association.Association.{Association}
-use Rattle.esp.specs.Packet.{IsOf}
+use Rattle.esp.specs.Packet.{BeginsWithItsSpi}
 use Rattle.esp.specs.Views.{Receiving}
 use Rattle.esp.specs.Ahead.{RunsFirst}
 use Rattle.esp.specs.Delivery.{octets_of}
@@ -16,10 +16,10 @@ answer_group-answered-requires-clause-mine g c =
     let i = c.loop-group.invariant in
     let first = i.first in
     let same = run_keeps _ _ _ _ _ first.run in
-    let mine : All (IsOf c.loop-group.self.association) (octets_of c.args.packets.now) =
-    subst (λ (a : Association). All (IsOf a) (octets_of c.args.packets.now)) (sym same) c.requires
+    let mine : All (BeginsWithItsSpi c.loop-group.self.association) (octets_of c.args.packets.now) =
+    subst (λ (a : Association). All (BeginsWithItsSpi a) (octets_of c.args.packets.now)) (sym same) c.requires
     in
-    group_of (IsOf c.loop-group.self.association) c.args.packets.now (64 * c.loop-group.group) (64 * c.loop-group.group + c.min-count.result - 64 * c.loop-group.group) mine
+    group_of (BeginsWithItsSpi c.loop-group.self.association) c.args.packets.now (64 * c.loop-group.group) (64 * c.loop-group.group + c.min-count.result - 64 * c.loop-group.group) mine
 
 pub returns-then-answered-count-clause-stopped : goal.returns-then-answered-count-clause-stopped
 returns-then-answered-count-clause-stopped g c =

@@ -2,7 +2,7 @@ use Rattle.std.proofs.Common.{◌≡◌, ℕ, ◌+◌, List, [], ◌∷◌, ◌+
 use Rattle.std.proofs.lemmas.List.{length_push, length-map, get_or-map}
 use Rattle.std.specs.Global.{Vec}
 use Rattle.esp.specs.declared.association.Association.{Association}
-use Rattle.esp.specs.Packet.{IsOf}
+use Rattle.esp.specs.Packet.{BeginsWithItsSpi}
 use Rattle.esp.specs.Opening.{Step, Run}
 use Rattle.esp.specs.Ahead.{IsAhead}
 use Rattle.esp.specs.Delivery.{octets_of}
@@ -31,11 +31,11 @@ answer-answer-requires-clause-mine g c =
     let here : get_or (octets_of packets) k packet.items ≡ packet.items =
     get_or-map (λ p. p.items) packets k packet packet.items h ∙ ap (λ (p : Vec ℕ). p.items) (sym c.index-packets-done.is)
     in
-    let asked : IsOf c.args.self.now.association packet.items =
-    subst (IsOf c.args.self.now.association) here (c.requires.mine k packet.items (simp length-map h))
+    let asked : BeginsWithItsSpi c.args.self.now.association packet.items =
+    subst (BeginsWithItsSpi c.args.self.now.association) here (c.requires.mine k packet.items (simp length-map h))
     in
-    let still : IsOf c.loop-done.self.association packet.items = subst (λ (a : Association). IsOf a packet.items) (sym i.association) asked in
-    subst (IsOf c.loop-done.self.association) (sym c.deref.ensures.value) still
+    let still : BeginsWithItsSpi c.loop-done.self.association packet.items = subst (λ (a : Association). BeginsWithItsSpi a packet.items) (sym i.association) asked in
+    subst (BeginsWithItsSpi c.loop-done.self.association) (sym c.deref.ensures.value) still
 
 pub answer-answer-requires-clause-ahead : goal.answer-answer-requires-clause-ahead
 answer-answer-requires-clause-ahead g c =

@@ -1,7 +1,7 @@
 use Rattle.std.proofs.Common.{◌≡◌, ℕ, Some, IsSome, sym, ap, ◌∙◌, refl, subst, is_some, Option}
 use Rattle.std.specs.FinMap as map
 use Rattle.sadb.specs.declared.pair.Pair as held
-use Rattle.esp.specs.Packet.{IsOf}
+use Rattle.esp.specs.Packet.{BeginsWithItsSpi}
 use Rattle.slab.specs.Slab.{get}
 use Rattle.std.proofs.lemmas.Result.{MatchResult-weaker}
 use Rattle.sadb.specs.Storage.{key_of, PairsBySerial}
@@ -30,7 +30,7 @@ open-opened-requires c =
     let here : get c.self.inside.slab c.unwrap-key.result ≡ Some c.index_mut.result.now = c.index_mut.ensures.value in
     let there : map.get c.args.self.now.pairs c.args.serial ≡ Some c.index_mut.result.now = get_at_key c.self.inside.keys.items c.self.inside.slab c.args.self.now.pairs c.args.serial (ap (λ (s : PairsBySerial). s.pairs) c.self.view_is) c.unwrap-key.result at ∙ here in
     let same : c.requires.pair ≡ c.index_mut.result.now = (let both : Some c.requires.pair ≡ Some c.index_mut.result.now = sym c.requires.there ∙ there in cc) in
-    subst (λ (p : held.Pair). IsOf p.inbound.association c.args.packet.now) same c.requires.addressed
+    subst (λ (p : held.Pair). BeginsWithItsSpi p.inbound.association c.args.packet.now) same c.requires.addressed
 
 pub returns-clause-up : goal.returns-clause-up
 returns-clause-up c =

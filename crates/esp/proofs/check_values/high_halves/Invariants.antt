@@ -1,0 +1,9 @@
+use Rattle.std.proofs.Common.{◌≡◌, length}
+use Rattle.esp.specs.Laying.{AreHighHalves}
+use Rattle.esp.proofs.check_values.high_halves.Given as goal
+
+abbrev pub invariant-loop-place : goal.invariant-loop-place
+invariant-loop-place l = record {
+  long : length l.halves ≡ 64;
+  are : AreHighHalves l.last l.place l.halves;
+}

@@ -1,0 +1,104 @@
+//! Check values of packets that lie one after the other, computed side by side.
+ghost use Rattle.std.specs.Prelude.{◌≡◌, ℕ, ◌+◌, ◌^◌, ◌<◌, ◌≤◌, [], length, get_or, map, take};
+ghost use Rattle.lanes.specs.Task.{icv_of};
+ghost use Rattle.esp.specs.Laying.{AreHighHalves, covered_sizes, packets_size, values_in, with_values};
+ghost use Rattle.esp.specs.Sealing.{FitsPacket, payloads_of};
+
+use crate::association::Association;
+use crate::packet::{CHECK, covered_size, high_half};
+use lanes::{Task, icv_all};
+
+/// How many check values are computed at once.
+pub const GROUP: usize = 64;
+
+/// Writes the check values of packets that lie one after the other and carry these payloads, with the numbers after `last`.
+pub fn write_check_values(
+    association: &Association,
+    last: u64,
+    payloads: &[&[u8]],
+    packets: &mut [u8],
+)
+    requires few { length payloads.now ≤ GROUP }
+    requires fit { (i : ℕ) → i < length payloads.now → FitsPacket (get_or (payloads_of payloads.now) i []) }
+    requires numbers { 1 ≤ length payloads.now → last + length payloads.now < 2 ^ 64 }
+    requires size { packets_size (covered_sizes payloads.now) ≤ length packets.old }
+    ensures { packets.new ≡ with_values (covered_sizes payloads.now)
+        (values_in association.now last (covered_sizes payloads.now) packets.old) packets.old }
+{
+    let mut values = [[0; CHECK]; GROUP];
+    let count = payloads.len();
+    compute_all(association, last, payloads, packets, &mut values[..count]);
+    write_all(payloads, &values[..count], packets);
+}
+
+/// Computes the check value of each packet.
+fn compute_all(
+    association: &Association,
+    last: u64,
+    payloads: &[&[u8]],
+    packets: &[u8],
+    values: &mut [[u8; CHECK]],
+)
+    requires few { length payloads.now ≤ GROUP }
+    requires fit { (i : ℕ) → i < length payloads.now → FitsPacket (get_or (payloads_of payloads.now) i []) }
+    requires numbers { last + length payloads.now < 2 ^ 64 }
+    requires size { packets_size (covered_sizes payloads.now) ≤ length packets.now }
+    requires places { length values.old ≡ length payloads.now }
+    ensures { values.new ≡ values_in association.now last (covered_sizes payloads.now) packets.now }
+{
+    let halves = high_halves(last, payloads.len());
+    let tasks = tasks_of(association, payloads, packets, &halves);
+    icv_all(&tasks[..payloads.len()], values);
+}
+
+/// What is asked of each packet: its covered octets, and the half of its number that is not sent.
+fn tasks_of<'a>(
+    association: &'a Association,
+    payloads: &[&[u8]],
+    packets: &'a [u8],
+    halves: &'a [[u8; 4]; GROUP],
+) -> [Task<'a>; GROUP]
+    requires few { length payloads.now ≤ GROUP }
+    requires fit { (i : ℕ) → i < length payloads.now → FitsPacket (get_or (payloads_of payloads.now) i []) }
+    requires size { packets_size (covered_sizes payloads.now) ≤ length packets.now }
+    ensures { (last : ℕ) → AreHighHalves last (length payloads.now) halves.now
+        → map icv_of (take (length payloads.now) result)
+        ≡ values_in association.now last (covered_sizes payloads.now) packets.now }
+{
+    let mut tasks = [association.task(&[], &[0; 4]); GROUP];
+    let mut start = 0;
+    for (place, payload) in payloads.iter().enumerate() {
+        let end = start + covered_size(payload.len());
+        tasks[place] = association.task(&packets[start..end], &halves[place]);
+        start = end + CHECK;
+    }
+    tasks
+}
+
+/// The high halves of so many numbers after `last`.
+fn high_halves(last: u64, count: usize) -> [[u8; 4]; GROUP]
+    requires few { count ≤ GROUP }
+    requires numbers { last + count < 2 ^ 64 }
+    ensures { AreHighHalves last count result }
+{
+    let mut halves = [[0; 4]; GROUP];
+    for place in 0..count {
+        halves[place] = high_half(last + 1 + place as u64);
+    }
+    halves
+}
+
+/// Writes each check value behind the octets that it covers.
+fn write_all(payloads: &[&[u8]], values: &[[u8; CHECK]], packets: &mut [u8])
+    requires fit { (i : ℕ) → i < length payloads.now → FitsPacket (get_or (payloads_of payloads.now) i []) }
+    requires size { packets_size (covered_sizes payloads.now) ≤ length packets.old }
+    requires places { length values.now ≡ length payloads.now }
+    ensures { packets.new ≡ with_values (covered_sizes payloads.now) values.now packets.old }
+{
+    let mut start = 0;
+    for (place, payload) in payloads.iter().enumerate() {
+        let end = start + covered_size(payload.len());
+        packets[end..end + CHECK].copy_from_slice(&values[place]);
+        start = end + CHECK;
+    }
+}
