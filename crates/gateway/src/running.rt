@@ -15,10 +15,10 @@ use suite::{Agreement, Proof, Sealer};
 ///
 /// Over whatever list: of one association each number of a request under its keys takes effect at most once, exactly where such a request
 /// is delivered new; every repeat that is still remembered is answered by the octets of the first reply; and what is due (a request again,
-/// an association closed or let go) comes with the first moment that has reached it, and with no other input. Each ESP packet that was sent to a child is judged at most once, exactly at its first arrival while the child's pair stands
-/// and its number is rightly recovered and lies inside or above the window, as long as no check value is forged and its number was not
-/// taken before the list, and answered by the verdict on what it holds; of every other one nothing is handed up. An input that is refused
-/// for want of memory counts as not delivered.
+/// an association closed or let go) comes with the first moment that has reached it, and with no other input. Each ESP packet that was sent
+/// to a child is judged at most once, exactly at its first arrival while the child's pair stands and its number is rightly recovered and
+/// lies inside or above the window, as long as no check value is forged and its number was not taken before the list, and answered by the
+/// verdict on what it holds; of every other one nothing is handed up. An input that is refused for want of memory counts as not delivered.
 pub fn run<'a, C: Sealer + Agreement + Proof>(
     alloc: Global,
     gateway: &mut Gateway<C>,
