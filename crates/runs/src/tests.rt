@@ -1,4 +1,5 @@
 //! Long lists of inputs, beside what is due to each.
+mod inward;
 mod outward;
 mod random;
 mod worlds;
