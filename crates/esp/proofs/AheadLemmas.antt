@@ -16,7 +16,7 @@ use Rattle.esp.specs.declared.ahead.Ahead.{Ahead}
 use Rattle.esp.specs.declared.answer.Answer.{Answer}
 use Rattle.esp.specs.Views.{Receiving}
 use Rattle.esp.specs.Opening.{Run}
-use Rattle.esp.specs.Ahead.{value_of, HasAhead, IsAsked, value_asked, IsAhead, AreAhead, RunsFirst}
+use Rattle.esp.specs.Ahead.{value_of, HasAhead, value_asked, IsAhead, AreAhead, RunsFirst}
 use Rattle.esp.specs.Delivery.{octets_of}
 use Rattle.esp.proofs.LayingLemmas.{take-more}
 use Rattle.esp.proofs.Runs.{run_joined, step_keeps}

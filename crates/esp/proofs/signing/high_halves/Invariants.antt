@@ -1,9 +1,0 @@
-use Rattle.std.proofs.Common.{◌≡◌, length}
-use Rattle.esp.specs.Laying.{AreHighHalves}
-use Rattle.esp.proofs.signing.high_halves.Given as goal
-
-abbrev pub invariant-loop-place : goal.invariant-loop-place
-invariant-loop-place l = record {
-  long : length l.halves ≡ 64;
-  are : AreHighHalves l.last l.place l.halves;
-}
