@@ -1,5 +1,6 @@
 mod asserts;
 mod edges;
 mod fixture;
+mod memory;
 mod opening;
 mod sealing;

@@ -154,22 +154,19 @@ impl Link {
             End::A => &mut self.a,
             End::B => &mut self.b,
         };
-        let before = look_at(gateway);
-        let mut taken = take(gateway, alloc, &input);
-        let is_refused = matches!(&taken, Taken::Wanting);
-        if is_refused {
-            if look_at(gateway) != before {
-                return Err(Trouble::Changed);
-            }
-            taken = take(gateway, alloc, &input);
-        }
-        match taken {
-            Taken::Sent(octets) => self.sent.push(octets)?,
-            Taken::Nothing => {}
-            Taken::Wanting => return Err(Trouble::Memory),
-            Taken::Refused => return Err(Trouble::Other),
-        }
+        let (taken, is_refused) = take_again(gateway, alloc, &input)?;
+        self.keep(taken)?;
         Ok(is_refused)
+    }
+
+    /// Keeps what was sent.
+    fn keep(&mut self, taken: Taken) -> Result<(), Trouble> {
+        match taken {
+            Taken::Sent(octets) => Ok(self.sent.push(octets)?),
+            Taken::Nothing => Ok(()),
+            Taken::Wanting => Err(Trouble::Memory),
+            Taken::Refused => Err(Trouble::Other),
+        }
     }
 
     /// The input, and a place for what will be sent: what was refused is asked for once more.
@@ -184,25 +181,23 @@ impl Link {
     }
 
     fn input(&self, alloc: Global, given: Given) -> Result<Input, AllocError> {
-        Ok(match given {
-            Given::Start => order(1),
-            Given::Further => further(1),
-            Given::Probe => probe(1),
-            Given::DeleteChild => Input::DeleteChild {
+        match given {
+            Given::Start => Ok(order(1)),
+            Given::Further => Ok(further(1)),
+            Given::Probe => Ok(probe(1)),
+            Given::DeleteChild => Ok(Input::DeleteChild {
                 child: 1,
                 fresh: fresh(9),
-            },
-            Given::Close => Input::DeleteIke {
+            }),
+            Given::Close => Ok(Input::DeleteIke {
                 ike: 1,
                 fresh: fresh(9),
-            },
-            Given::Tick(moment) => Input::Tick { moment },
-            Given::Packet => packet_out(alloc, 7)?,
-            Given::Message => message(alloc, self.last(), 20)?,
-            Given::Sealed => Input::Esp {
-                octets: Items::from_slice(alloc, self.last())?,
-            },
-        })
+            }),
+            Given::Tick(moment) => Ok(Input::Tick { moment }),
+            Given::Packet => packet_out(alloc, 7),
+            Given::Message => message(alloc, self.last(), 20),
+            Given::Sealed => sealed(alloc, self.last()),
+        }
     }
 
     /// The datagram that was sent last.
@@ -219,6 +214,26 @@ fn made(alloc: Global, end: End) -> Result<Gateway<ScriptCaller>, Trouble> {
     match gateway(alloc, end) {
         Ok(made) => Ok(made),
         Err(_) => Ok(gateway(alloc, end)?),
+    }
+}
+
+/// A datagram comes as a packet of ESP.
+fn sealed(alloc: Global, octets: &[u8]) -> Result<Input, AllocError> {
+    let octets = Items::from_slice(alloc, octets)?;
+    Ok(Input::Esp { octets })
+}
+
+/// Gives a gateway an input, once more where it is refused for want of memory: what came of it, and whether it was.
+fn take_again(
+    gateway: &mut Gateway<ScriptCaller>,
+    alloc: Global,
+    input: &Input,
+) -> Result<(Taken, bool), Trouble> {
+    let before = look_at(gateway);
+    match take(gateway, alloc, input) {
+        Taken::Wanting if look_at(gateway) != before => Err(Trouble::Changed),
+        Taken::Wanting => Ok((take(gateway, alloc, input), true)),
+        taken => Ok((taken, false)),
     }
 }
 
