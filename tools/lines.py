@@ -10,7 +10,8 @@ def lines(paths):
 
 
 def is_test(path, source):
-    return path.relative_to(source).parts[0] in ("tests", "tests.rt")
+    parts = path.relative_to(source).parts
+    return "tests" in parts or parts[-1] == "tests.rt"
 
 
 print("| Crate | Code | Tests | Definitions | Proofs | Must-fail edits |")
