@@ -1,3 +1,4 @@
+mod asserts;
 mod of_console;
 mod of_engine;
 mod of_moments;

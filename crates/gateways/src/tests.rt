@@ -1,3 +1,4 @@
+mod asserts;
 mod flood;
 mod lists;
 mod notices;

@@ -1,5 +1,6 @@
 use std::process::Abort;
 
+mod asserts;
 mod entries;
 mod flows;
 mod keying;

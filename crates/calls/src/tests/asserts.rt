@@ -5,7 +5,6 @@ ghost use Rattle.std.specs.Prelude.{IsTrue};
 use std::alloc::Global;
 use std::fmt::{Debug, Display};
 use std::process::Abort;
-use std::test::Fail;
 
 /// Finds what was wanted.
 pub fn same<T: PartialEq + Debug + Drop>(rt: &impl Abort, found: T, wanted: T) {
@@ -36,6 +35,12 @@ pub fn holds_at<P: Debug + Drop>(rt: &impl Abort, place: P, fact: bool)
     assert!(rt; fact, "at {place:?}");
 }
 
+/// What was answered where memory was there for it; without memory the test ends. Where a later call needs what a contract says of
+/// the answer, `expect` stays, which costs more.
+pub fn granted<T, E: Debug>(rt: &impl Abort, answer: Result<T, E>) -> T {
+    answer.expect(rt, "memory")
+}
+
 /// Finds that a fault has this number, and is printed so.
 pub fn named<F: Display + Drop>(
     rt: &impl Abort,
@@ -44,9 +49,8 @@ pub fn named<F: Display + Drop>(
     number: u8,
     fault: F,
     text: &str,
-) -> Result<(), Fail> {
+) {
     same(rt, code, number);
-    let printed = format!(in alloc; "{fault}")?;
+    let printed = granted(rt, format!(in alloc; "{fault}"));
     same(rt, printed.as_str(), text);
-    Ok(())
 }

@@ -7,7 +7,6 @@ use base::Items;
 use caller::ScriptCaller;
 use std::alloc::{AllocError, Global};
 use std::process::Abort;
-use std::test::Fail;
 use suite::{Agreement, Cipher, Keys, Proof, Sealer};
 
 // Any sealer opens what it sealed, and told the body's length: its laws promise it to code that knows no more of it.
@@ -90,10 +89,10 @@ const KEYS: Keys = Keys {
 };
 
 #[test]
-fn seals_and_opens(rt: HostRuntime) -> Result<(), Fail> {
+fn seals_and_opens(rt: HostRuntime) {
     let alloc = rt.alloc();
     let mut body = Vec::new(alloc);
-    let mut opened = [0xee].to_vec(alloc)?;
+    let mut opened = [0xee].to_vec(alloc).expect(&rt, "memory");
     let told = sealed_and_opened(
         &ScriptCaller,
         &KEYS,
@@ -102,7 +101,8 @@ fn seals_and_opens(rt: HostRuntime) -> Result<(), Fail> {
         &[0; 16],
         &mut body,
         &mut opened,
-    )?;
+    )
+    .expect(&rt, "memory");
     same(&rt, opened.as_slice(), b"\xeeplain".as_slice());
     same(&rt, told, 22);
     // As Python's module `hmac` computes it.
@@ -111,53 +111,43 @@ fn seals_and_opens(rt: HostRuntime) -> Result<(), Fail> {
         0xbd, 0x31, 0x8c, 0x4b, 0xa2, 0x33, 0x2b,
     ];
     same(&rt, body.as_slice(), wanted.as_slice());
-    Ok(())
 }
 
 // Finds that a body doesn't open so.
-fn refuses(
-    rt: &impl Abort,
-    keys: &Keys,
-    head: &[u8],
-    body: &[u8],
-    opened: &mut Vec<u8>,
-) -> Result<(), Fail> {
-    holds(rt, !ScriptCaller.open(keys, head, body, opened)?);
-    Ok(())
+fn refuses(rt: &impl Abort, keys: &Keys, head: &[u8], body: &[u8], opened: &mut Vec<u8>) {
+    let is_opened = ScriptCaller
+        .open(keys, head, body, opened)
+        .expect(rt, "memory");
+    holds(rt, !is_opened);
 }
 
 // Finds that a body doesn't open with any octet damaged.
-fn refuses_damaged(
-    rt: &impl Abort,
-    alloc: Global,
-    body: &[u8],
-    opened: &mut Vec<u8>,
-) -> Result<(), Fail> {
+fn refuses_damaged(rt: &impl Abort, alloc: Global, body: &[u8], opened: &mut Vec<u8>) {
     for place in 0..body.len() {
-        let mut damaged = body.to_vec(alloc)?;
+        let mut damaged = body.to_vec(alloc).expect(rt, "memory");
         if let Some(octet) = damaged.get_mut(place) {
             *octet ^= 1;
         }
-        refuses(rt, &KEYS, b"head", &damaged, opened)?;
+        refuses(rt, &KEYS, b"head", &damaged, opened);
     }
-    Ok(())
 }
 
 #[test]
-fn opens_nothing_else(rt: HostRuntime) -> Result<(), Fail> {
+fn opens_nothing_else(rt: HostRuntime) {
     let mut body = Vec::new(rt.alloc());
     let mut opened = Vec::new(rt.alloc());
-    ScriptCaller.seal(&KEYS, b"head", b"plain", &[0; 16], &mut body)?;
-    refuses(&rt, &KEYS, b"heap", &body, &mut opened)?;
+    ScriptCaller
+        .seal(&KEYS, b"head", b"plain", &[0; 16], &mut body)
+        .expect(&rt, "memory");
+    refuses(&rt, &KEYS, b"heap", &body, &mut opened);
     let other = Keys {
         encryption: [1; 32],
         integrity: [3; 32],
     };
-    refuses(&rt, &other, b"head", &body, &mut opened)?;
-    refuses_damaged(&rt, rt.alloc(), &body, &mut opened)?;
-    refuses(&rt, &KEYS, b"head", &[0; 16], &mut opened)?;
+    refuses(&rt, &other, b"head", &body, &mut opened);
+    refuses_damaged(&rt, rt.alloc(), &body, &mut opened);
+    refuses(&rt, &KEYS, b"head", &[0; 16], &mut opened);
     holds(&rt, opened.is_empty());
-    Ok(())
 }
 
 // Passes whether an allocation fails or not.
@@ -171,17 +161,27 @@ fn a_refusal_leaves_out_as_it_was(rt: HostRuntime) {
 }
 
 #[test]
-fn agrees_on_a_secret(rt: HostRuntime) -> Result<(), Fail> {
-    let (at_a, at_b) = agreed(&ScriptCaller, rt.alloc(), &[0x0f; 32], &[0x33; 32])?;
-    same(&rt, at_a.ok_or("none")?.as_slice(), [0x3c; 32].as_slice());
-    same(&rt, at_b.ok_or("none")?.as_slice(), [0x3c; 32].as_slice());
+fn agrees_on_a_secret(rt: HostRuntime) {
+    let (at_a, at_b) = agreed(&ScriptCaller, rt.alloc(), &[0x0f; 32], &[0x33; 32]).expect(
+        &rt, "memory",
+    );
+    same(
+        &rt,
+        at_a.expect(&rt, "a secret").as_slice(),
+        [0x3c; 32].as_slice(),
+    );
+    same(
+        &rt,
+        at_b.expect(&rt, "a secret").as_slice(),
+        [0x3c; 32].as_slice(),
+    );
     holds(
         &rt,
         ScriptCaller
-            .shared(rt.alloc(), &[1; 32], &[2; 31])?
+            .shared(rt.alloc(), &[1; 32], &[2; 31])
+            .expect(&rt, "memory")
             .is_none(),
     );
-    Ok(())
 }
 
 // What proves "octets", as Python's module `hmac` computes it.
@@ -194,21 +194,25 @@ fn proof_of_octets() -> [u8; 32] {
 }
 
 // Whether octets are proved so by the peer of type 2 and data "a".
-fn accepts(alloc: Global, method: u8, octets: &[u8], proof: &[u8]) -> Result<bool, AllocError> {
-    ScriptCaller.check(alloc, 2, b"a", method, octets, proof)
+fn accepts(rt: &impl Abort, alloc: Global, method: u8, octets: &[u8], proof: &[u8]) -> bool {
+    ScriptCaller
+        .check(alloc, 2, b"a", method, octets, proof)
+        .expect(rt, "memory")
 }
 
 #[test]
-fn proves_and_checks(rt: HostRuntime) -> Result<(), Fail> {
+fn proves_and_checks(rt: HostRuntime) {
     let alloc = rt.alloc();
-    let proof = proved(&ScriptCaller, alloc, b"octets")?;
+    let proof = proved(&ScriptCaller, alloc, b"octets").expect(&rt, "memory");
     same(&rt, proof.as_slice(), proof_of_octets().as_slice());
     let proof = proof.as_slice();
-    holds(&rt, checks(&ScriptCaller, alloc, b"octets", proof)?);
-    holds(&rt, accepts(alloc, 2, b"octets", proof)?);
-    holds(&rt, !accepts(alloc, 1, b"octets", proof)?);
-    holds(&rt, !accepts(alloc, 2, b"octet", proof)?);
-    Ok(())
+    holds(
+        &rt,
+        checks(&ScriptCaller, alloc, b"octets", proof).expect(&rt, "memory"),
+    );
+    holds(&rt, accepts(&rt, alloc, 2, b"octets", proof));
+    holds(&rt, !accepts(&rt, alloc, 1, b"octets", proof));
+    holds(&rt, !accepts(&rt, alloc, 2, b"octet", proof));
 }
 
 #[test]

@@ -1,11 +1,10 @@
 mod prf;
 
-use crate::tests::asserts::same;
+use crate::tests::asserts::{granted, same};
 use mac::{HmacKey, IcvKey, hmac, icv};
 use std::process::Abort;
-use std::test::Fail;
 
-#[derive(Drop)]
+#[derive(Clone, Copy)]
 struct Case<'a> {
     key: &'a [u8],
     data: &'a [u8],
@@ -13,11 +12,13 @@ struct Case<'a> {
 }
 
 // The octets 0 to 64, cut as each case needs them.
-const OCTETS: [u8; 65] = [
-    0, 1, 2, 3, 4, 5, 6, 7, 8, 9, 10, 11, 12, 13, 14, 15, 16, 17, 18, 19, 20, 21, 22, 23, 24, 25,
-    26, 27, 28, 29, 30, 31, 32, 33, 34, 35, 36, 37, 38, 39, 40, 41, 42, 43, 44, 45, 46, 47, 48, 49,
-    50, 51, 52, 53, 54, 55, 56, 57, 58, 59, 60, 61, 62, 63, 64,
-];
+fn octets() -> [u8; 65] {
+    let mut octets = [0; 65];
+    for (place, octet) in octets.iter_mut().enumerate() {
+        *octet = place as u8;
+    }
+    octets
+}
 
 // The tag is the same under the key and under the prepared key, in one part and in several.
 fn expect(rt: &impl Abort, case: &Case) {
@@ -29,11 +30,15 @@ fn expect(rt: &impl Abort, case: &Case) {
     same(rt, key.tag(&[b"", front, b"", rest, b""]), case.tag);
 }
 
+fn expect_each(rt: &impl Abort, cases: &[Case]) {
+    for case in cases {
+        expect(rt, case);
+    }
+}
+
 // RFC 4231, sections 4.2 to 4.8. Of the fifth tag the RFC prints the first 128 bits.
-#[test]
-fn cases_of_rfc_4231(rt: HostRuntime) {
-    let octets = &OCTETS;
-    let cases = [
+fn rfc_4231<'a>(octets: &'a [u8; 65]) -> [Case<'a>; 7] {
+    [
         Case {
             key: &[0x0b; 20],
             data: b"Hi There",
@@ -97,17 +102,17 @@ fn cases_of_rfc_4231(rt: HostRuntime) {
                 0x5c, 0x3a, 0x35, 0xe2,
             ],
         },
-    ];
-    for case in &cases {
-        expect(&rt, case);
-    }
+    ]
+}
+
+#[test]
+fn cases_of_rfc_4231(rt: HostRuntime) {
+    expect_each(&rt, &rfc_4231(&octets()));
 }
 
 // Keys and messages at the edges of a block, as Python's module `hmac` computes them.
-#[test]
-fn edges_of_a_block(rt: HostRuntime) {
-    let octets = &OCTETS;
-    let cases = [
+fn at_edges<'a>(octets: &'a [u8; 65]) -> [Case<'a>; 7] {
+    [
         Case {
             key: &octets[..0],
             data: b"Hi There",
@@ -171,10 +176,12 @@ fn edges_of_a_block(rt: HostRuntime) {
                 0x03, 0x53, 0x13, 0x4c,
             ],
         },
-    ];
-    for case in &cases {
-        expect(&rt, case);
-    }
+    ]
+}
+
+#[test]
+fn edges_of_a_block(rt: HostRuntime) {
+    expect_each(&rt, &at_edges(&octets()));
 }
 
 // A message of no part is the empty one.
@@ -193,63 +200,65 @@ fn expect_check(rt: &impl Abort, data: &[u8], value: [u8; 16]) {
 }
 
 // As Python's module `hmac` computes them, cut to 16 octets.
-#[test]
-fn check_values(rt: HostRuntime) {
-    let cases = [
+fn checked<'a>(octets: &'a [u8; 65]) -> [(&'a [u8], [u8; 16]); 4] {
+    [
         (
-            &OCTETS[..0],
+            &octets[..0],
             [
                 0x51, 0x77, 0xe6, 0x37, 0xaa, 0xac, 0x0b, 0x50, 0xe5, 0xdc, 0xa8, 0xbb, 0x05, 0xb0,
                 0xb5, 0x71,
             ],
         ),
         (
-            &OCTETS[..55],
+            &octets[..55],
             [
                 0xad, 0x79, 0x71, 0xcb, 0xee, 0x58, 0xc7, 0x3c, 0xdb, 0xad, 0x6b, 0x31, 0x7a, 0x09,
                 0xda, 0x62,
             ],
         ),
         (
-            &OCTETS[..56],
+            &octets[..56],
             [
                 0xf6, 0x97, 0x19, 0x18, 0x54, 0xe8, 0xb9, 0x68, 0xd7, 0xf4, 0xb6, 0xdf, 0xcf, 0x99,
                 0xaf, 0xe6,
             ],
         ),
         (
-            &OCTETS[..64],
+            &octets[..64],
             [
                 0x3a, 0xaa, 0xb9, 0x5a, 0xfc, 0x2f, 0x38, 0x45, 0x82, 0x9d, 0x88, 0x44, 0x02, 0x51,
                 0x49, 0x82,
             ],
         ),
-    ];
-    for (data, value) in cases {
+    ]
+}
+
+#[test]
+fn check_values(rt: HostRuntime) {
+    for (data, value) in checked(&octets()) {
         expect_check(&rt, data, value);
     }
 }
 
 #[test]
-fn copies_of_a_key(rt: HostRuntime) -> Result<(), Fail> {
-    let key = HmacKey::new(b"Jefe").clone()?;
+fn copies_of_a_key(rt: HostRuntime) {
+    let key = granted(&rt, HmacKey::new(b"Jefe").clone());
     same(&rt, key.tag(&[b"message"]), hmac(b"Jefe", &[b"message"]));
-    let key = IcvKey::new(&[0x0b; 32]).clone()?;
+    let key = granted(&rt, IcvKey::new(&[0x0b; 32]).clone());
     same(
         &rt,
         key.icv(&[b"head", b"payload"]),
         icv(&[0x0b; 32], &[b"headpayload"]),
     );
-    Ok(())
 }
 
 #[test]
-fn a_printed_key_shows_no_octet(rt: HostRuntime) -> Result<(), Fail> {
+fn a_printed_key_shows_no_octet(rt: HostRuntime) {
     let printed = format!(in rt.alloc();
         "{:?} {:?}",
         HmacKey::new(b"Jefe"),
         IcvKey::new(&[0x0b; 32])
-    )?;
+    )
+    .expect(&rt, "memory");
     same(&rt, printed.as_str(), "HmacKey { .. } IcvKey { .. }");
-    Ok(())
 }

@@ -3,14 +3,16 @@ ghost use Rattle.std.specs.Prelude.{All};
 ghost use Rattle.std.specs.Bool.{OnTrue};
 ghost use Rattle.association.specs.Closing.{HoldsNoSpi};
 
+use super::asserts::same;
 use association::{Association, HalfOpen, Phase, Purpose, Request};
 use base::Items;
 use exchange::Role;
 use moments::{Ticked, tick};
 use requests::{Incoming, Outgoing, Timer};
 use sadb::Table;
-use std::alloc::{AllocError, Global};
-use std::test::Fail;
+use std::alloc::Global;
+use std::panic::Expect;
+use std::process::Abort;
 use suite::{KeyRecord, Nonce};
 
 fn keys() -> KeyRecord {
@@ -59,29 +61,29 @@ fn association(alloc: Global, serial: u32, phase: Phase) -> Association {
 
 /// A request is under way from now on, with what it asks for and the timer that it has.
 fn issue(
+    rt: &impl Abort,
     alloc: Global,
     association: &mut Association,
     purpose: Purpose,
     timer: Timer,
-) -> Result<(), Fail> {
-    association.outgoing.prepare()?;
+) {
+    association.outgoing.prepare().expect(rt, "room");
     association.outgoing.issue(Request {
-        octets: Items::from_slice(alloc, &[purpose.exchange(), 8, 9])?,
+        octets: Items::from_slice(alloc, &[purpose.exchange(), 8, 9]).expect(rt, "memory"),
         purpose,
         timer,
     });
-    Ok(())
 }
 
 /// Established associations, the first with these requests under way.
-fn established(alloc: Global, timers: &[Timer]) -> Result<Vec<Association>, Fail> {
+fn established(rt: &impl Abort, alloc: Global, timers: &[Timer]) -> Vec<Association> {
     let mut first = association(alloc, 1, Phase::Established(keys()));
     for timer in timers {
-        issue(alloc, &mut first, Purpose::Probe, *timer)?;
+        issue(rt, alloc, &mut first, Purpose::Probe, *timer);
     }
     let mut all = Vec::new(alloc);
-    all.push(first)?;
-    Ok(all)
+    all.push(first).expect(rt, "memory");
+    all
 }
 
 /// Whether none holds an SPI for a child, as none does in these tests.
@@ -98,49 +100,50 @@ fn none_waits_for_child(associations: &[Association]) -> bool
 
 /// What a moment brings to associations without SPIs for a child.
 fn told(
+    rt: &impl Abort,
     alloc: Global,
     associations: &mut Vec<Association>,
     now: u64,
-) -> Result<Option<Ticked>, AllocError> {
+) -> Option<Ticked> {
     if !none_waits_for_child(associations.as_slice()) {
-        return Ok(None);
+        return None;
     }
     let mut table = Table::new(alloc, 256);
-    Ok(Some(tick(alloc, associations, &mut table, now)?))
+    Some(tick(alloc, associations, &mut table, now).expect(rt, "memory"))
 }
 
 /// How many requests go out again, how many associations are closed, and how many are held then.
 fn counted(
+    rt: &impl Abort,
     alloc: Global,
     associations: &mut Vec<Association>,
     now: u64,
-) -> Result<Option<(usize, usize, usize)>, AllocError> {
-    let Some(ticked) = told(alloc, associations, now)? else {
-        return Ok(None);
-    };
-    Ok(Some((
+) -> Option<(usize, usize, usize)> {
+    let ticked = told(rt, alloc, associations, now)?;
+    Some((
         ticked.requests.len(),
         ticked.closed.len(),
         associations.len(),
-    )))
+    ))
 }
 
 /// The moment of the first row that is not so, one after the other.
 fn first_other(
+    rt: &impl Abort,
     alloc: Global,
     associations: &mut Vec<Association>,
     rows: &[(u64, (usize, usize, usize))],
-) -> Result<Option<u64>, AllocError> {
+) -> Option<u64> {
     for (now, expected) in rows {
-        if counted(alloc, associations, *now)? != Some(*expected) {
-            return Ok(Some(*now));
+        if counted(rt, alloc, associations, *now) != Some(*expected) {
+            return Some(*now);
         }
     }
-    Ok(None)
+    None
 }
 
 #[test]
-fn a_request_goes_out_five_times_more(rt: HostRuntime) -> Result<(), Fail> {
+fn a_request_goes_out_five_times_more(rt: HostRuntime) {
     let rows = [
         (999, (0, 0, 1)),
         (1000, (1, 0, 1)),
@@ -156,83 +159,112 @@ fn a_request_goes_out_five_times_more(rt: HostRuntime) -> Result<(), Fail> {
         (166_999, (0, 0, 1)),
         (167_000, (0, 0, 0)),
     ];
-    let mut associations = established(rt.alloc(), &[timer(0, 0)])?;
-    assert_eq!(rt; first_other(rt.alloc(), &mut associations, &rows)?, None);
-    Ok(())
+    let mut associations = established(&rt, rt.alloc(), &[timer(0, 0)]);
+    same(
+        &rt,
+        first_other(&rt, rt.alloc(), &mut associations, &rows),
+        None,
+    );
 }
 
 #[test]
-fn one_that_fails_sends_nothing(rt: HostRuntime) -> Result<(), Fail> {
+fn one_that_fails_sends_nothing(rt: HostRuntime) {
     let timers = [timer(0, 0), timer(31_000, 5), timer(40_000, 1)];
     let rows = [(47_000, (0, 1, 1)), (60_000, (0, 0, 1))];
-    let mut associations = established(rt.alloc(), &timers)?;
-    assert_eq!(rt; first_other(rt.alloc(), &mut associations, &rows)?, None);
-    Ok(())
+    let mut associations = established(&rt, rt.alloc(), &timers);
+    same(
+        &rt,
+        first_other(&rt, rt.alloc(), &mut associations, &rows),
+        None,
+    );
+}
+
+/// One association in a phase.
+fn alone(rt: &impl Abort, alloc: Global, phase: Phase) -> Vec<Association> {
+    let mut all = Vec::new(alloc);
+    all.push(association(alloc, 1, phase)).expect(rt, "memory");
+    all
 }
 
 #[test]
-fn a_half_open_one_is_held_for_a_while(rt: HostRuntime) -> Result<(), Fail> {
-    let mut associations = Vec::new(rt.alloc());
-    associations.push(association(rt.alloc(), 1, half_open(rt.alloc(), 0)))?;
+fn a_half_open_one_is_held_for_a_while(rt: HostRuntime) {
+    let mut associations = alone(&rt, rt.alloc(), half_open(rt.alloc(), 0));
     let rows = [(29_999, (0, 0, 1)), (30_000, (0, 0, 0))];
-    assert_eq!(rt; first_other(rt.alloc(), &mut associations, &rows)?, None);
-    Ok(())
+    same(
+        &rt,
+        first_other(&rt, rt.alloc(), &mut associations, &rows),
+        None,
+    );
 }
 
 #[test]
-fn a_closed_one_is_held_for_a_while(rt: HostRuntime) -> Result<(), Fail> {
-    let mut associations = Vec::new(rt.alloc());
+fn a_closed_one_is_held_for_a_while(rt: HostRuntime) {
     let closed = Phase::Closed {
         keys: None,
         at: 1000,
     };
-    associations.push(association(rt.alloc(), 1, closed))?;
+    let mut associations = alone(&rt, rt.alloc(), closed);
     let rows = [(120_999, (0, 0, 1)), (121_000, (0, 0, 0))];
-    assert_eq!(rt; first_other(rt.alloc(), &mut associations, &rows)?, None);
-    Ok(())
+    same(
+        &rt,
+        first_other(&rt, rt.alloc(), &mut associations, &rows),
+        None,
+    );
 }
 
 #[test]
-fn a_late_moment_sends_once(rt: HostRuntime) -> Result<(), Fail> {
+fn a_late_moment_sends_once(rt: HostRuntime) {
     let rows = [
         (1_000_000, (1, 0, 1)),
         (1_000_000, (0, 0, 1)),
         (1_001_999, (0, 0, 1)),
         (1_002_000, (1, 0, 1)),
     ];
-    let mut associations = established(rt.alloc(), &[timer(0, 0)])?;
-    assert_eq!(rt; first_other(rt.alloc(), &mut associations, &rows)?, None);
-    Ok(())
+    let mut associations = established(&rt, rt.alloc(), &[timer(0, 0)]);
+    same(
+        &rt,
+        first_other(&rt, rt.alloc(), &mut associations, &rows),
+        None,
+    );
 }
 
-/// What goes out again, as serials, numbers, whether they are encrypted, and first octets.
-fn sent(
-    alloc: Global,
-    ticked: Option<Ticked>,
-) -> Result<Vec<(u32, u32, bool, Option<u8>)>, AllocError> {
+/// What goes out again: its serial and number, whether it is encrypted, and its first octet.
+type Again = (u32, u32, bool, Option<u8>);
+
+fn sent(rt: &impl Abort, alloc: Global, ticked: &Ticked) -> Vec<Again> {
     let mut sent = Vec::new(alloc);
-    if let Some(ticked) = ticked {
-        for again in ticked.requests.as_slice() {
-            let first = again.octets.as_slice().first().copied();
-            sent.push((again.ike, again.number, again.encrypted, first))?;
-        }
+    for again in ticked.requests.as_slice() {
+        let first = again.octets.as_slice().first().copied();
+        sent.push((again.ike, again.number, again.encrypted, first))
+            .expect(rt, "memory");
     }
-    Ok(sent)
+    sent
+}
+
+/// Two associations, the first with three requests under way, of which two are due, the second with its first message.
+fn both(rt: &impl Abort, alloc: Global) -> Vec<Association> {
+    let mut all = established(rt, alloc, &[timer(0, 0), timer(500, 0), timer(0, 0)]);
+    let mut other = association(alloc, 2, Phase::Established(keys()));
+    issue(rt, alloc, &mut other, Purpose::Begin, timer(0, 0));
+    all.push(other).expect(rt, "memory");
+    all
 }
 
 #[test]
-fn the_same_octets_go_out_in_order(rt: HostRuntime) -> Result<(), Fail> {
-    let alloc = rt.alloc();
-    let mut associations = established(alloc, &[timer(0, 0), timer(500, 0), timer(0, 0)])?;
-    let mut other = association(alloc, 2, Phase::Established(keys()));
-    issue(alloc, &mut other, Purpose::Begin, timer(0, 0))?;
-    associations.push(other)?;
-    let ticked = told(alloc, &mut associations, 1000)?;
+fn the_same_octets_go_out_in_order(rt: HostRuntime) {
+    let mut associations = both(&rt, rt.alloc());
+    let ticked = told(&rt, rt.alloc(), &mut associations, 1000).expect(
+        &rt,
+        "no child is waited for",
+    );
     let expected = [
         (1, 0, true, Some(37)),
         (1, 2, true, Some(37)),
         (2, 0, false, Some(34)),
     ];
-    assert!(rt; sent(alloc, ticked)?.as_slice() == &expected[..]);
-    Ok(())
+    same(
+        &rt,
+        sent(&rt, rt.alloc(), &ticked).as_slice(),
+        expected.as_slice(),
+    );
 }

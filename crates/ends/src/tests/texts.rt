@@ -1,23 +1,23 @@
 //! What faults print, each of them once. The texts are those of the crates' documentation.
+use super::asserts::same;
 use association::MessageFault;
 use console::HexFault;
 use engine::Stop;
 use ike::IkeFault;
 use replay::ReplayFault;
 use std::alloc::Global;
+use std::panic::Expect;
 use std::process::Abort;
-use std::test::Fail;
 use wire::WireFault;
 
 /// Compares what a fault of a message prints.
-fn prints(rt: &impl Abort, alloc: Global, fault: WireFault, text: &str) -> Result<(), Fail> {
-    let printed = format!(in alloc; "{fault}")?;
-    assert_eq!(rt; printed.as_str(), text);
-    Ok(())
+fn prints(rt: &impl Abort, alloc: Global, fault: WireFault, text: &str) {
+    let printed = format!(in alloc; "{fault}").expect(rt, "memory");
+    same(rt, printed.as_str(), text);
 }
 
 #[test]
-fn faults_of_messages(rt: HostRuntime) -> Result<(), Fail> {
+fn faults_of_messages(rt: HostRuntime) {
     for (fault, text) in [
         (WireFault::Short, "E1: fewer octets than a header has"),
         (
@@ -28,13 +28,12 @@ fn faults_of_messages(rt: HostRuntime) -> Result<(), Fail> {
         (WireFault::TooLong, "E9: the message is too long"),
         (WireFault::Memory, "E10: no memory"),
     ] {
-        prints(&rt, rt.alloc(), fault, text)?;
+        prints(&rt, rt.alloc(), fault, text);
     }
-    Ok(())
 }
 
 #[test]
-fn faults_of_payloads(rt: HostRuntime) -> Result<(), Fail> {
+fn faults_of_payloads(rt: HostRuntime) {
     let offset = 28;
     for (fault, text) in [
         (
@@ -58,20 +57,18 @@ fn faults_of_payloads(rt: HostRuntime) -> Result<(), Fail> {
             "E8 at 28: a field is malformed",
         ),
     ] {
-        prints(&rt, rt.alloc(), fault, text)?;
+        prints(&rt, rt.alloc(), fault, text);
     }
-    Ok(())
 }
 
 /// Compares what the program prints where it stops.
-fn stops(rt: &impl Abort, alloc: Global, stop: Stop, text: &str) -> Result<(), Fail> {
-    let printed = format!(in alloc; "{stop}")?;
-    assert_eq!(rt; printed.as_str(), text);
-    Ok(())
+fn stops(rt: &impl Abort, alloc: Global, stop: Stop, text: &str) {
+    let printed = format!(in alloc; "{stop}").expect(rt, "memory");
+    same(rt, printed.as_str(), text);
 }
 
 #[test]
-fn reasons_to_stop(rt: HostRuntime) -> Result<(), Fail> {
+fn reasons_to_stop(rt: HostRuntime) {
     let number = 5;
     for (stop, text) in [
         (Stop::File, "refused file"),
@@ -81,41 +78,35 @@ fn reasons_to_stop(rt: HostRuntime) -> Result<(), Fail> {
         (Stop::Line(7), "line 7 refused"),
         (Stop::Memory, "no memory"),
     ] {
-        stops(&rt, rt.alloc(), stop, text)?;
+        stops(&rt, rt.alloc(), stop, text);
     }
-    Ok(())
 }
 
 #[test]
-fn the_fault_of_a_window(rt: HostRuntime) -> Result<(), Fail> {
-    let printed = format!(in rt.alloc(); "{}", ReplayFault::Memory)?;
-    assert!(rt; printed.as_str() == "E20: no memory for the replay window");
-    Ok(())
+fn the_fault_of_a_window(rt: HostRuntime) {
+    let printed = format!(in rt.alloc(); "{}", ReplayFault::Memory).expect(&rt, "memory");
+    same(
+        &rt,
+        printed.as_str(),
+        "E20: no memory for the replay window",
+    );
 }
 
 #[test]
-fn the_fault_of_digits(rt: HostRuntime) -> Result<(), Fail> {
-    let printed = format!(in rt.alloc(); "{}", HexFault::NotHex)?;
-    assert!(rt; printed.as_str() == "the text is not hexadecimal");
-    Ok(())
+fn the_fault_of_digits(rt: HostRuntime) {
+    let printed = format!(in rt.alloc(); "{}", HexFault::NotHex).expect(&rt, "memory");
+    same(&rt, printed.as_str(), "the text is not hexadecimal");
 }
 
 /// Compares the number and the text of a fault of IKE.
-fn tells(
-    rt: &impl Abort,
-    alloc: Global,
-    fault: IkeFault,
-    code: u8,
-    text: &str,
-) -> Result<(), Fail> {
-    let printed = format!(in alloc; "{fault}")?;
-    assert_eq!(rt; printed.as_str(), text);
-    assert_eq!(rt; fault.code(), code);
-    Ok(())
+fn tells(rt: &impl Abort, alloc: Global, fault: IkeFault, code: u8, text: &str) {
+    let printed = format!(in alloc; "{fault}").expect(rt, "memory");
+    same(rt, printed.as_str(), text);
+    same(rt, fault.code(), code);
 }
 
 #[test]
-fn faults_of_ike(rt: HostRuntime) -> Result<(), Fail> {
+fn faults_of_ike(rt: HostRuntime) {
     for (fault, code, text) in [
         (
             IkeFault::Unread(WireFault::BadVersion),
@@ -143,13 +134,12 @@ fn faults_of_ike(rt: HostRuntime) -> Result<(), Fail> {
             "E37: the fresh SPI is zero or in use",
         ),
     ] {
-        tells(&rt, rt.alloc(), fault, code, text)?;
+        tells(&rt, rt.alloc(), fault, code, text);
     }
-    Ok(())
 }
 
 #[test]
-fn faults_of_what_came(rt: HostRuntime) -> Result<(), Fail> {
+fn faults_of_what_came(rt: HostRuntime) {
     for (fault, code, text) in [
         (
             MessageFault::UnknownAssociation,
@@ -178,7 +168,6 @@ fn faults_of_what_came(rt: HostRuntime) -> Result<(), Fail> {
             "E33: the message claims the role of this end",
         ),
     ] {
-        tells(&rt, rt.alloc(), IkeFault::Message(fault), code, text)?;
+        tells(&rt, rt.alloc(), IkeFault::Message(fault), code, text);
     }
-    Ok(())
 }

@@ -1,60 +1,67 @@
 //! Requests of IKE_AUTH, made by hand, that close their association (RFC 7296, sections 2.21.2 and 3.10.1).
+use super::asserts::{add, same};
 use caller::ScriptCaller;
 use console::read_hex;
 use gateway::{End, Gateway, Output};
 use mac::icv;
 use sa_init::request;
 use samples::{gateway, message};
-use std::alloc::{AllocError, Global};
+use std::alloc::Global;
+use std::panic::Expect;
 use std::process::Abort;
-use std::test::Fail;
 
 /// The octets that digits spell.
-fn hex(alloc: Global, digits: &str) -> Result<Vec<u8>, AllocError> {
+fn hex(rt: &impl Abort, alloc: Global, digits: &str) -> Vec<u8> {
     let mut octets = Vec::new(alloc);
-    read_hex(digits.as_bytes(), &mut octets).map_err(|_| AllocError)?;
-    Ok(octets)
+    read_hex(digits.as_bytes(), &mut octets).expect(rt, "digits");
+    octets
 }
 
 /// A message as the caller of scripts seals it: with one octet 00 behind the payloads, under its integrity key.
-fn sealed(alloc: Global, digits: &str, key: &[u8; 32]) -> Result<Vec<u8>, AllocError> {
-    let mut octets = hex(alloc, digits)?;
-    octets.push(0)?;
+fn sealed(rt: &impl Abort, alloc: Global, digits: &str, key: &[u8; 32]) -> Vec<u8> {
+    let mut octets = hex(rt, alloc, digits);
+    add(rt, &mut octets, &[0]);
     let check = icv(key, &[&octets]);
-    octets.extend_from_slice(&check)?;
-    Ok(octets)
+    add(rt, &mut octets, &check);
+    octets
 }
 
-/// B answered the request of an initiator of SPI 1 under the SPI 2; these are the initiator's key and B.
-fn half_open(alloc: Global) -> Result<(Gateway<ScriptCaller>, [u8; 32]), Fail> {
-    let mut gateway = gateway(alloc, End::B)?;
-    let request = request(alloc, &ScriptCaller, 1, None, &[5; 32], &[6; 32])?;
-    let first = message(alloc, request.as_slice(), 2)?;
+/// B, which answered the request of an initiator of SPI 1 under the SPI 2.
+fn half_open(rt: &impl Abort, alloc: Global) -> Gateway<ScriptCaller> {
+    let mut gateway = gateway(alloc, End::B).expect(rt, "a gateway");
+    let request = request(alloc, &ScriptCaller, 1, None, &[5; 32], &[6; 32]).expect(rt, "memory");
+    let first = message(alloc, request.as_slice(), 2).expect(rt, "memory");
     gateway.step(alloc, &first);
-    let key = gateway.keys_of(1).ok_or("no keys")?.sk_ai;
-    Ok((gateway, key))
+    gateway
+}
+
+/// The initiator's key.
+fn key(rt: &impl Abort, gateway: &Gateway<ScriptCaller>) -> [u8; 32] {
+    gateway.keys_of(1).expect(rt, "keys").sk_ai
 }
 
 /// What B answers to such a request of IKE_AUTH by which it closes the association.
-fn closing(alloc: Global, digits: &str) -> Result<Vec<u8>, Fail> {
-    let (mut gateway, key) = half_open(alloc)?;
-    let second = message(alloc, &sealed(alloc, digits, &key)?, 3)?;
+fn closing(rt: &impl Abort, alloc: Global, digits: &str) -> Vec<u8> {
+    let mut gateway = half_open(rt, alloc);
+    let octets = sealed(rt, alloc, digits, &key(rt, &gateway));
+    let second = message(alloc, &octets, 3).expect(rt, "memory");
     match gateway.step(alloc, &second) {
         Output::Reply {
             octets,
             closed: Some(1),
-        } => Ok(octets.into_vec()),
-        _ => Err(Fail::new("not closed")),
+        } => octets.into_vec(),
+        _ => panic!(rt; "not closed"),
     }
 }
 
 /// Finds that the answer is one notice alone, of this number.
 fn is_notice(rt: &impl Abort, octets: &[u8], number: u8) {
-    assert_eq!(rt; octets.len(), 57);
-    assert_eq!(rt; octets.get(28), Some(&41));
-    assert_eq!(rt;
+    same(rt, octets.len(), 57);
+    same(rt, octets.get(28), Some(&41));
+    same(
+        rt,
         octets.get(32..40),
-        Some([0, 0, 0, 8, 0, 0, 0, number].as_slice())
+        Some([0, 0, 0, 8, 0, 0, 0, number].as_slice()),
     );
 }
 
@@ -70,13 +77,11 @@ const STRANGER: &str = "0000000000000001 0000000000000002 2e202308 00000001 0000
     00000018 01000000 07000010 0000ffff 0a010000 0a0100ff";
 
 #[test]
-fn invalid_syntax(rt: HostRuntime) -> Result<(), Fail> {
-    is_notice(&rt, &closing(rt.alloc(), EMPTY)?, 7);
-    Ok(())
+fn invalid_syntax(rt: HostRuntime) {
+    is_notice(&rt, &closing(&rt, rt.alloc(), EMPTY), 7);
 }
 
 #[test]
-fn authentication_failed(rt: HostRuntime) -> Result<(), Fail> {
-    is_notice(&rt, &closing(rt.alloc(), STRANGER)?, 24);
-    Ok(())
+fn authentication_failed(rt: HostRuntime) {
+    is_notice(&rt, &closing(&rt, rt.alloc(), STRANGER), 24);
 }

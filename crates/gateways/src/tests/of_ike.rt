@@ -3,6 +3,7 @@ mod deleting;
 mod further_children;
 mod sealing;
 
+use super::asserts::{add, holds, same};
 use association::MessageFault;
 use base::Items;
 use caller::ScriptCaller;
@@ -12,10 +13,10 @@ use mac::icv;
 use policy::Policy;
 use sadb::Table;
 use samples::{config, fresh, policy};
-use std::alloc::{AllocError, Global};
+use std::alloc::Global;
 use std::marker::Model;
+use std::panic::Expect;
 use std::process::Abort;
-use std::test::Fail;
 
 /// One end: its machine, and the table and the policy that go with it. That the machine is sound with the table is an invariant, so that
 /// no test has to say it.
@@ -38,29 +39,26 @@ impl Model for Side {
 }
 
 impl Side {
-    fn new(alloc: Global, end: End) -> Result<Side, Fail> {
-        Side::with(alloc, end, Table::new(alloc, 4096))
+    fn new(rt: &impl Abort, alloc: Global, end: End) -> Side {
+        Side::with(rt, alloc, end, Table::new(alloc, 4096))
     }
 
-    fn with(alloc: Global, end: End, table: Table) -> Result<Side, Fail> {
-        let config = config(alloc, end, 4)?;
-        let policy = policy(alloc, end)?;
-        Ok(Side {
+    fn with(rt: &impl Abort, alloc: Global, end: End, table: Table) -> Side {
+        let config = config(alloc, end, 4).expect(rt, "a configuration");
+        let policy = policy(alloc, end).expect(rt, "a policy");
+        Side {
             ike: Ike::new(alloc, config),
             table,
             policy,
-        })
+        }
     }
 
     /// What a step says.
-    fn step(&mut self, alloc: Global, input: &IkeInput<'_>) -> Result<IkeOutput, Fail> {
-        match self
-            .ike
+    fn step(&mut self, rt: &impl Abort, alloc: Global, input: &IkeInput<'_>) -> IkeOutput {
+        self.ike
             .step(alloc, input, &mut self.table, &self.policy, &ScriptCaller)
-        {
-            Ok(stepped) => Ok(stepped.output),
-            Err(_) => Err(Fail::new("refused")),
-        }
+            .expect(rt, "a step")
+            .output
     }
 
     /// Why an order is refused.
@@ -71,7 +69,7 @@ impl Side {
     }
 
     /// What is said of a datagram.
-    fn take(&mut self, alloc: Global, octets: &[u8], spi: u64) -> Result<IkeOutput, Fail> {
+    fn take(&mut self, rt: &impl Abort, alloc: Global, octets: &[u8], spi: u64) -> IkeOutput {
         let fresh = fresh(spi);
         let from = [192, 0, 2, 9];
         let input = IkeInput::Message {
@@ -79,15 +77,25 @@ impl Side {
             octets,
             fresh: &fresh,
         };
-        self.step(alloc, &input)
+        self.step(rt, alloc, &input)
+    }
+
+    /// The datagram that answers one.
+    fn answer(&mut self, rt: &impl Abort, alloc: Global, octets: &[u8], spi: u64) -> Items<u8> {
+        sent(rt, self.take(rt, alloc, octets, spi))
+    }
+
+    /// The key of what the initiator of the first association sends.
+    fn key(&self, rt: &impl Abort) -> [u8; 32] {
+        self.ike.keys_of(1).expect(rt, "keys").sk_ai
     }
 }
 
 /// The datagram that goes out.
-fn sent(output: IkeOutput) -> Result<Items<u8>, Fail> {
+fn sent(rt: &impl Abort, output: IkeOutput) -> Items<u8> {
     match output {
-        IkeOutput::Request { octets, .. } | IkeOutput::Reply { octets, .. } => Ok(octets),
-        _ => Err(Fail::new("nothing is sent")),
+        IkeOutput::Request { octets, .. } | IkeOutput::Reply { octets, .. } => octets,
+        _ => panic!(rt; "nothing is sent"),
     }
 }
 
@@ -99,134 +107,134 @@ fn dropped(output: IkeOutput) -> Option<MessageFault> {
     }
 }
 
+/// Whether a request is answered, and its association stays.
+fn is_answered(output: IkeOutput) -> bool {
+    matches!(output, IkeOutput::Reply { closed: None, .. })
+}
+
+/// Whether a request is answered as before.
+fn is_repeated(output: IkeOutput) -> bool {
+    matches!(output, IkeOutput::Repeat(_))
+}
+
 /// One more association between both ends, under this SPI of A's and the next one of B's: IKE_SA_INIT and IKE_AUTH.
-fn agree(alloc: Global, a: &mut Side, b: &mut Side, spi: u64) -> Result<(), Fail> {
+fn agree(rt: &impl Abort, alloc: Global, a: &mut Side, b: &mut Side, spi: u64) {
     let fresh = fresh(spi);
     let order = IkeInput::Start {
         ike: None,
         entry: 0,
         fresh: &fresh,
     };
-    let first = sent(a.step(alloc, &order)?)?;
-    let answer = sent(b.take(alloc, first.as_slice(), spi.saturating_add(1))?)?;
-    let second = sent(a.take(alloc, answer.as_slice(), 90)?)?;
-    let last = sent(b.take(alloc, second.as_slice(), 91)?)?;
-    let _ = a.take(alloc, last.as_slice(), 92)?;
-    Ok(())
+    let first = sent(rt, a.step(rt, alloc, &order));
+    let answer = b.answer(rt, alloc, first.as_slice(), spi.saturating_add(1));
+    let second = a.answer(rt, alloc, answer.as_slice(), 90);
+    let last = b.answer(rt, alloc, second.as_slice(), 91);
+    a.take(rt, alloc, last.as_slice(), 92);
+}
+
+/// A, which has two associations with B.
+fn agreed_twice(rt: &impl Abort, alloc: Global, b: &mut Side) -> Side {
+    let mut a = Side::new(rt, alloc, End::A);
+    agree(rt, alloc, &mut a, b, 1);
+    agree(rt, alloc, &mut a, b, 3);
+    a
 }
 
 /// A request of INFORMATIONAL without payloads under A's SPI 1 and B's 2, as the caller of scripts seals it under A's key.
-fn request(alloc: Global, number: u32, key: &[u8; 32]) -> Result<Vec<u8>, AllocError> {
+fn request(rt: &impl Abort, alloc: Global, number: u32, key: &[u8; 32]) -> Vec<u8> {
     let mut octets = Vec::new(alloc);
-    octets.extend_from_slice(&[0, 0, 0, 0, 0, 0, 0, 1, 0, 0, 0, 0, 0, 0, 0, 2])?;
-    octets.extend_from_slice(&[46, 0x20, 37, 8])?;
-    octets.extend_from_slice(&number.to_be_bytes())?;
-    octets.extend_from_slice(&[0, 0, 0, 49, 0, 0, 0, 21, 0])?;
+    add(
+        rt,
+        &mut octets,
+        &[0, 0, 0, 0, 0, 0, 0, 1, 0, 0, 0, 0, 0, 0, 0, 2],
+    );
+    add(rt, &mut octets, &[46, 0x20, 37, 8]);
+    add(rt, &mut octets, &number.to_be_bytes());
+    add(rt, &mut octets, &[0, 0, 0, 49, 0, 0, 0, 21, 0]);
     let check = icv(key, &[&octets]);
-    octets.extend_from_slice(&check)?;
-    Ok(octets)
+    add(rt, &mut octets, &check);
+    octets
 }
 
-/// B, established with a window of 4 and two requests in effect, and A's key.
-fn established(alloc: Global) -> Result<(Side, [u8; 32]), Fail> {
-    established_with(alloc, Table::new(alloc, 4096))
+/// B, established with a window of 4 and two requests in effect.
+fn established(rt: &impl Abort, alloc: Global) -> Side {
+    established_with(rt, alloc, Table::new(alloc, 4096))
 }
 
 /// The same, where B begins with this table.
-fn established_with(alloc: Global, table: Table) -> Result<(Side, [u8; 32]), Fail> {
-    let mut a = Side::new(alloc, End::A)?;
-    let mut b = Side::with(alloc, End::B, table)?;
-    agree(alloc, &mut a, &mut b, 1)?;
-    let key = b.ike.keys_of(1).ok_or("no keys")?.sk_ai;
-    Ok((b, key))
+fn established_with(rt: &impl Abort, alloc: Global, table: Table) -> Side {
+    let mut a = Side::new(rt, alloc, End::A);
+    let mut b = Side::with(rt, alloc, End::B, table);
+    agree(rt, alloc, &mut a, &mut b, 1);
+    b
 }
 
 /// What B says of a request of this number.
-fn asked(
-    alloc: Global,
-    b: &mut Side,
-    number: u32,
-    key: &[u8; 32],
-    spi: u64,
-) -> Result<IkeOutput, Fail> {
-    let octets = request(alloc, number, key)?;
-    b.take(alloc, &octets, spi)
+fn asked(rt: &impl Abort, alloc: Global, b: &mut Side, number: u32, spi: u64) -> IkeOutput {
+    let octets = request(rt, alloc, number, &b.key(rt));
+    b.take(rt, alloc, &octets, spi)
 }
 
 /// Whether B passes a request of this number over as outside its window.
-fn is_outside(alloc: Global, b: &mut Side, number: u32, key: &[u8; 32]) -> Result<bool, Fail> {
-    let said = dropped(asked(alloc, b, number, key, 20)?);
-    Ok(said == Some(MessageFault::OutsideWindow))
+fn is_outside(rt: &impl Abort, alloc: Global, b: &mut Side, number: u32) -> bool {
+    dropped(asked(rt, alloc, b, number, 20)) == Some(MessageFault::OutsideWindow)
 }
 
 /// A window of 4 from 2 on ends below 6.
 #[test]
-fn numbers_of_a_window(rt: HostRuntime) -> Result<(), Fail> {
+fn numbers_of_a_window(rt: HostRuntime) {
     let alloc = rt.alloc();
-    let (mut b, key) = established(alloc)?;
-    assert!(rt; is_outside(alloc, &mut b, 6, &key)?);
-    let last = asked(alloc, &mut b, 5, &key, 21)?;
-    assert!(rt; matches!(last, IkeOutput::Reply { closed: None, .. }));
+    let mut b = established(&rt, alloc);
+    holds(&rt, is_outside(&rt, alloc, &mut b, 6));
+    holds(&rt, is_answered(asked(&rt, alloc, &mut b, 5, 21)));
     // The least number that is not in effect is still 2.
-    assert!(rt; is_outside(alloc, &mut b, 6, &key)?);
-    let repeat = asked(alloc, &mut b, 5, &key, 23)?;
-    assert!(rt; matches!(repeat, IkeOutput::Repeat(_)));
-    Ok(())
+    holds(&rt, is_outside(&rt, alloc, &mut b, 6));
+    holds(&rt, is_repeated(asked(&rt, alloc, &mut b, 5, 23)));
 }
 
-/// Whether B passes the greatest numbers over that a header can have.
-fn ends_before(alloc: Global, b: &mut Side, key: &[u8; 32]) -> Result<bool, Fail> {
-    for number in [u32::MAX, u32::MAX - 1, u32::MAX - 2, u32::MAX - 3, 1 << 31] {
-        if !is_outside(alloc, b, number, key)? {
-            return Ok(false);
-        }
-    }
-    Ok(true)
-}
+/// The greatest numbers that a header can have, and the one in the middle.
+const GREAT: [u32; 5] = [u32::MAX, u32::MAX - 1, u32::MAX - 2, u32::MAX - 3, 1 << 31];
 
 #[test]
-fn numbers_near_the_end(rt: HostRuntime) -> Result<(), Fail> {
-    let alloc = rt.alloc();
-    let (mut b, key) = established(alloc)?;
-    assert!(rt; ends_before(alloc, &mut b, &key)?);
-    Ok(())
+fn numbers_near_the_end(rt: HostRuntime) {
+    let mut b = established(&rt, rt.alloc());
+    for number in GREAT {
+        holds(&rt, is_outside(&rt, rt.alloc(), &mut b, number));
+    }
 }
 
 /// The SPIs of association 1, written over those of another that has 3 and 4.
-fn with_foreign_spis(octets: &[u8], alloc: Global) -> Result<Vec<u8>, AllocError> {
+fn with_foreign_spis(rt: &impl Abort, alloc: Global, octets: &[u8]) -> Vec<u8> {
     let mut foreign = Vec::new(alloc);
-    foreign.extend_from_slice(octets)?;
+    add(rt, &mut foreign, octets);
     for place in [7_usize, 15] {
         if let Some(octet) = foreign.get_mut(place) {
             *octet = octet.saturating_sub(2);
         }
     }
-    Ok(foreign)
+    foreign
 }
 
 /// A's probe under its second association.
-fn probe(alloc: Global, a: &mut Side) -> Result<Items<u8>, Fail> {
+fn probe(rt: &impl Abort, alloc: Global, a: &mut Side) -> Items<u8> {
     let fresh = fresh(30);
     let what = Demand::Probe { ike: 2 };
     let probe = IkeInput::Order {
         what,
         fresh: &fresh,
     };
-    sent(a.step(alloc, &probe)?)
+    sent(rt, a.step(rt, alloc, &probe))
 }
 
 /// Requests of one association, of the number that is expected, with the SPIs of another written over them.
 #[test]
-fn foreign_spis(rt: HostRuntime) -> Result<(), Fail> {
+fn foreign_spis(rt: HostRuntime) {
     let alloc = rt.alloc();
-    let mut a = Side::new(alloc, End::A)?;
-    let mut b = Side::new(alloc, End::B)?;
-    agree(alloc, &mut a, &mut b, 1)?;
-    agree(alloc, &mut a, &mut b, 3)?;
-    let own = probe(alloc, &mut a)?;
-    let output = b.take(alloc, &with_foreign_spis(own.as_slice(), alloc)?, 31)?;
-    assert_eq!(rt; dropped(output), Some(MessageFault::NotOpened));
-    let output = b.take(alloc, own.as_slice(), 32)?;
-    assert!(rt; matches!(output, IkeOutput::Reply { closed: None, .. }));
-    Ok(())
+    let mut b = Side::new(&rt, alloc, End::B);
+    let mut a = agreed_twice(&rt, alloc, &mut b);
+    let own = probe(&rt, alloc, &mut a);
+    let foreign = with_foreign_spis(&rt, alloc, own.as_slice());
+    let said = b.take(&rt, alloc, &foreign, 31);
+    same(&rt, dropped(said), Some(MessageFault::NotOpened));
+    holds(&rt, is_answered(b.take(&rt, alloc, own.as_slice(), 32)));
 }

@@ -1,4 +1,5 @@
 //! The entries that `check_all` counts.
+use crate::tests::asserts::same;
 use crate::{ENTRIES, Report, check_all};
 
 #[test]
@@ -9,5 +10,5 @@ fn all_hold(rt: HostRuntime) {
         unread: 0,
         first_failed: None,
     };
-    assert_eq!(rt; check_all(rt.alloc()), wanted);
+    same(&rt, check_all(rt.alloc()), wanted);
 }

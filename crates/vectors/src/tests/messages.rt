@@ -1,8 +1,9 @@
 //! The worked rows, every payload type and every fault. The octets come from a program of another language.
 use super::none_differs;
+use crate::tests::asserts::{granted, holds, holds_at, same, same_at};
 use base::{Items, Range, Selector};
 use std::alloc::Global;
-use std::test::Fail;
+use std::process::Abort;
 use wire::numbers::{HEADER_LENGTH, VENDOR_ID_TYPE};
 use wire::{
     Attribute, Flags, Header, Message, Payload, Proposal, SkippedKind, Transform, WireFault,
@@ -89,12 +90,15 @@ fn refusal<T: Drop>(answer: Result<T, WireFault>) -> Refusal {
 }
 
 /// What is said of a body with the header of a payload of this type, behind an empty vendor ID of four octets.
-fn refusal_of_body(alloc: Global, kind: u8, body: &[u8]) -> Result<Refusal, Fail> {
+fn refusal_of_body(rt: &impl Abort, alloc: Global, kind: u8, body: &[u8]) -> Refusal {
     let length = body.len() + 4;
-    let mut octets = [kind, 0, 0, 4, 0, 0].to_vec(alloc)?;
-    octets.extend_from_slice(&[(length / 256 % 256) as u8, (length % 256) as u8])?;
-    octets.extend_from_slice(body)?;
-    Ok(refusal(decode_chain(alloc, VENDOR_ID_TYPE, &octets)))
+    let mut octets = granted(rt, [kind, 0, 0, 4, 0, 0].to_vec(alloc));
+    granted(
+        rt,
+        octets.extend_from_slice(&[(length / 256 % 256) as u8, (length % 256) as u8]),
+    );
+    granted(rt, octets.extend_from_slice(body));
+    refusal(decode_chain(alloc, VENDOR_ID_TYPE, &octets))
 }
 
 fn set(octets: &mut [u8], place: usize, value: u8) {
@@ -128,9 +132,9 @@ fn header_alone(first: u8, version: u8) -> [u8; 28] {
 }
 
 #[test]
-fn datagrams(rt: HostRuntime) -> Result<(), Fail> {
+fn datagrams(rt: HostRuntime) {
     let alloc = rt.alloc();
-    let long = vec![in alloc; 0u8; 3001]?;
+    let long = granted(&rt, vec![in alloc; 0u8; 3001]);
     let rows: [(&[u8], Refusal); 6] = [
         (&COOKIE_ANSWER[..27], (1, None)),
         (&COOKIE_ANSWER[..28], (2, None)),
@@ -140,16 +144,14 @@ fn datagrams(rt: HostRuntime) -> Result<(), Fail> {
         (&header_alone(33, 0x30), (3, None)),
     ];
     for (octets, wanted) in rows {
-        assert_eq!(rt; refusal(decode_message(alloc, octets)), wanted);
+        same(&rt, refusal(decode_message(alloc, octets)), wanted);
     }
-    Ok(())
 }
 
 #[test]
-fn a_message_without_payloads(rt: HostRuntime) -> Result<(), Fail> {
-    let read = decode_message(rt.alloc(), &header_alone(0, 0x20))?;
-    assert!(rt; read.payloads.is_empty());
-    Ok(())
+fn a_message_without_payloads(rt: HostRuntime) {
+    let read = decode_message(rt.alloc(), &header_alone(0, 0x20)).expect(&rt, "a message");
+    holds(&rt, read.payloads.is_empty());
 }
 
 #[test]
@@ -173,10 +175,11 @@ fn chains(rt: HostRuntime) {
         (0, &[], (0, None)),
     ];
     for (first, octets, wanted) in rows {
-        assert_eq!(rt;
+        same_at(
+            &rt,
+            first,
             refusal(decode_chain(rt.alloc(), first, octets)),
             wanted,
-            "of type {first}"
         );
     }
 }
@@ -184,21 +187,20 @@ fn chains(rt: HostRuntime) {
 const DELETION: [u8; 12] = [0, 0, 0, 12, 3, 4, 0, 1, 0, 0, 16, 0];
 
 #[test]
-fn a_deletion_is_read(rt: HostRuntime) -> Result<(), Fail> {
-    let read = decode_chain(rt.alloc(), 42, &DELETION)?;
+fn a_deletion_is_read(rt: HostRuntime) {
+    let read = decode_chain(rt.alloc(), 42, &DELETION).expect(&rt, "payloads");
     let [Payload::Delete { protocol, spis }] = read.as_slice() else {
-        return Err(Fail::from("another payload is read"));
+        panic!(rt; "another payload is read");
     };
-    assert_eq!(rt; *protocol, 3);
-    assert_eq!(rt; spis.as_slice(), [0x1000].as_slice());
-    Ok(())
+    same(&rt, *protocol, 3);
+    same(&rt, spis.as_slice(), [0x1000].as_slice());
 }
 
 const UNKNOWN: [u8; 5] = [0, 0x80, 0, 5, 0xaa];
 
 #[test]
-fn an_unknown_payload_is_read(rt: HostRuntime) -> Result<(), Fail> {
-    let read = decode_chain(rt.alloc(), 200, &UNKNOWN)?;
+fn an_unknown_payload_is_read(rt: HostRuntime) {
+    let read = decode_chain(rt.alloc(), 200, &UNKNOWN).expect(&rt, "payloads");
     let [
         Payload::Unknown {
             kind,
@@ -207,11 +209,10 @@ fn an_unknown_payload_is_read(rt: HostRuntime) -> Result<(), Fail> {
         },
     ] = read.as_slice()
     else {
-        return Err(Fail::from("another payload is read"));
+        panic!(rt; "another payload is read");
     };
-    assert_eq!(rt; (*kind, *critical), (200, true));
-    assert_eq!(rt; data.as_slice(), [0xaa].as_slice());
-    Ok(())
+    same(&rt, (*kind, *critical), (200, true));
+    same(&rt, data.as_slice(), [0xaa].as_slice());
 }
 
 /// How octets are read: as a chain that begins with this type, as the body of a payload of this type, or as a datagram.
@@ -222,11 +223,11 @@ enum Reading {
     Datagram,
 }
 
-fn refusal_of_reading(alloc: Global, reading: Reading, octets: &[u8]) -> Result<Refusal, Fail> {
+fn refusal_of_reading(rt: &impl Abort, alloc: Global, reading: Reading, octets: &[u8]) -> Refusal {
     match reading {
-        Reading::Chain(first) => Ok(refusal(decode_chain(alloc, first, octets))),
-        Reading::Body(kind) => refusal_of_body(alloc, kind, octets),
-        Reading::Datagram => Ok(refusal(decode_message(alloc, octets))),
+        Reading::Chain(first) => refusal(decode_chain(alloc, first, octets)),
+        Reading::Body(kind) => refusal_of_body(rt, alloc, kind, octets),
+        Reading::Datagram => refusal(decode_message(alloc, octets)),
     }
 }
 
@@ -235,19 +236,20 @@ type Change = (usize, u8, u8, Option<usize>);
 
 /// The first change after which the octets are refused otherwise than it says.
 fn first_change_differing(
+    rt: &impl Abort,
     alloc: Global,
     reading: Reading,
     octets: &[u8],
     changes: &[Change],
-) -> Result<Option<usize>, Fail> {
+) -> Option<usize> {
     for (index, (place, value, code, offset)) in changes.iter().enumerate() {
-        let mut changed = octets.to_vec(alloc)?;
+        let mut changed = granted(rt, octets.to_vec(alloc));
         set(changed.as_mut_slice(), *place, *value);
-        if refusal_of_reading(alloc, reading, changed.as_slice())? != (*code, *offset) {
-            return Ok(Some(index));
+        if refusal_of_reading(rt, alloc, reading, changed.as_slice()) != (*code, *offset) {
+            return Some(index);
         }
     }
-    Ok(None)
+    None
 }
 
 const PROPOSALS: [Change; 24] = [
@@ -281,80 +283,75 @@ const PROPOSALS: [Change; 24] = [
 ];
 
 #[test]
-fn proposals(rt: HostRuntime) -> Result<(), Fail> {
+fn proposals(rt: HostRuntime) {
     let alloc = rt.alloc();
-    let place = first_change_differing(alloc, Reading::Chain(33), &ESP_PROPOSAL, &PROPOSALS)?;
+    let place = first_change_differing(&rt, alloc, Reading::Chain(33), &ESP_PROPOSAL, &PROPOSALS);
     none_differs(&rt, place);
-    Ok(())
 }
 
 // The payload that the header names behind it is missing, and a number 0 behind a vendor ID of no octets.
 #[test]
-fn proposals_among_other_payloads(rt: HostRuntime) -> Result<(), Fail> {
+fn proposals_among_other_payloads(rt: HostRuntime) {
     let alloc = rt.alloc();
-    assert_eq!(rt;
+    same(
+        &rt,
         refusal(decode_chain(alloc, 33, &IKE_PROPOSAL)),
-        (4, Some(44))
+        (4, Some(44)),
     );
-    let mut behind = [33, 0, 0, 4].to_vec(alloc)?;
+    let mut behind = granted(&rt, [33, 0, 0, 4].to_vec(alloc));
     let mut proposal = ESP_PROPOSAL;
     proposal[8] = 0;
-    behind.extend_from_slice(&proposal)?;
-    assert_eq!(rt; refusal(decode_chain(alloc, 43, &behind)), (5, Some(4)));
-    Ok(())
+    granted(&rt, behind.extend_from_slice(&proposal));
+    same(&rt, refusal(decode_chain(alloc, 43, &behind)), (5, Some(4)));
 }
 
 #[test]
-fn a_proposal_is_read(rt: HostRuntime) -> Result<(), Fail> {
-    let read = decode_chain(rt.alloc(), 33, &ESP_PROPOSAL)?;
+fn a_proposal_is_read(rt: HostRuntime) {
+    let read = decode_chain(rt.alloc(), 33, &ESP_PROPOSAL).expect(&rt, "payloads");
     let [Payload::Sa(proposals)] = read.as_slice() else {
-        return Err(Fail::from("another payload is read"));
+        panic!(rt; "another payload is read");
     };
     let [proposal] = proposals.as_slice() else {
-        return Err(Fail::from("more proposals are read"));
+        panic!(rt; "more proposals are read");
     };
-    assert_eq!(rt; proposal.spi.as_slice(), [0, 0, 1, 0].as_slice());
-    assert_eq!(rt; proposal.transforms.len(), 3);
-    Ok(())
+    same(&rt, proposal.spi.as_slice(), [0, 0, 1, 0].as_slice());
+    same(&rt, proposal.transforms.len(), 3);
 }
 
 /// Whether a message is read and written again as it was, behind octets that stay.
-fn goes_round(alloc: Global, octets: &[u8]) -> Result<bool, Fail> {
-    let read = decode_message(alloc, octets)?;
-    let mut out = [1, 2].to_vec(alloc)?;
-    encode_message(&read, &mut out)?;
-    Ok(out.as_slice().strip_prefix(&[1, 2]) == Some(octets))
+fn goes_round(rt: &impl Abort, alloc: Global, octets: &[u8]) -> bool {
+    let read = decode_message(alloc, octets).expect(rt, "a message");
+    let mut out = granted(rt, [1, 2].to_vec(alloc));
+    encode_message(&read, &mut out).expect(rt, "a spelling");
+    out.as_slice().strip_prefix(&[1, 2]) == Some(octets)
 }
 
 #[test]
-fn exact_pieces(rt: HostRuntime) -> Result<(), Fail> {
+fn exact_pieces(rt: HostRuntime) {
     let rows: [&[u8]; 3] = [&COOKIE_ANSWER, &SEALED_REQUEST, &EVERY_TYPE];
     for octets in rows {
-        assert!(rt; goes_round(rt.alloc(), octets)?, "{octets:?}");
+        holds_at(&rt, octets, goes_round(&rt, rt.alloc(), octets));
     }
-    Ok(())
 }
 
 #[test]
-fn sizes_of_every_type(rt: HostRuntime) -> Result<(), Fail> {
-    let read = decode_message(rt.alloc(), &EVERY_TYPE)?;
-    assert_eq!(rt; read.header, header());
-    assert_eq!(rt; read.payloads.len(), 14);
+fn sizes_of_every_type(rt: HostRuntime) {
+    let read = decode_message(rt.alloc(), &EVERY_TYPE).expect(&rt, "a message");
+    same(&rt, read.header, header());
+    same(&rt, read.payloads.len(), 14);
     let mut length = HEADER_LENGTH;
     for payload in read.payloads.as_slice() {
         length = length.saturating_add(payload.size());
     }
-    assert_eq!(rt; length, EVERY_TYPE.len());
-    Ok(())
+    same(&rt, length, EVERY_TYPE.len());
 }
 
 #[test]
-fn reserved_octets_are_passed_over(rt: HostRuntime) -> Result<(), Fail> {
-    let plain = decode_message(rt.alloc(), &EVERY_TYPE)?;
-    let free = decode_message(rt.alloc(), &EVERY_TYPE_FREE)?;
-    assert!(rt; plain == free);
-    assert!(rt; plain.clone()? == free);
-    Ok(())
+fn reserved_octets_are_passed_over(rt: HostRuntime) {
+    let plain = decode_message(rt.alloc(), &EVERY_TYPE).expect(&rt, "a message");
+    let free = decode_message(rt.alloc(), &EVERY_TYPE_FREE).expect(&rt, "a message");
+    holds(&rt, plain == free);
+    holds(&rt, granted(&rt, plain.clone()) == free);
 }
 
 // A length octet that is wrong, of the payload at each offset.
@@ -375,8 +372,7 @@ const LENGTHS: [Change; 12] = [
 ];
 
 #[test]
-fn offsets(rt: HostRuntime) -> Result<(), Fail> {
-    let place = first_change_differing(rt.alloc(), Reading::Datagram, &EVERY_TYPE, &LENGTHS)?;
+fn offsets(rt: HostRuntime) {
+    let place = first_change_differing(&rt, rt.alloc(), Reading::Datagram, &EVERY_TYPE, &LENGTHS);
     none_differs(&rt, place);
-    Ok(())
 }

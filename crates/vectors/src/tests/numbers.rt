@@ -1,10 +1,11 @@
 //! The numbers that RFC 7296 gives, each as section 3 has it.
+use crate::tests::asserts::same;
 use std::process::Abort;
 use suite::transforms;
 use wire::numbers;
 
 fn are(rt: &impl Abort, named: &[u16], numbers: &[u16]) {
-    assert_eq!(rt; named, numbers);
+    same(rt, named, numbers);
 }
 
 /// RFC 7296, section 3.1.
@@ -16,7 +17,7 @@ fn exchanges(rt: HostRuntime) {
         numbers::CREATE_CHILD_SA,
         numbers::INFORMATIONAL,
     ];
-    assert_eq!(rt; named, [34, 35, 36, 37]);
+    same(&rt, named, [34, 35, 36, 37]);
 }
 
 /// RFC 7296, section 3.10.1.
@@ -48,7 +49,7 @@ fn transform_types(rt: HostRuntime) {
         transforms::GROUP,
         transforms::ESN,
     ];
-    assert_eq!(rt; kinds, [1, 2, 3, 4, 5]);
+    same(&rt, kinds, [1, 2, 3, 4, 5]);
     let algorithms = [
         transforms::ENCR_NULL,
         transforms::PRF_HMAC_SHA2_256,

@@ -1,12 +1,12 @@
 ghost use Rattle.auth.specs.Windows.{IsWindow};
 
 use super::parts::{are_of_types, auth, child, critical, has_proof, identity};
-use crate::tests::asserts::same;
+use crate::tests::asserts::{granted, same};
 use auth::{ChildAnswer, Proving, answer, is_accepted};
 use caller::ScriptCaller;
 use exchange::Notice;
-use std::alloc::{AllocError, Global};
-use std::test::Fail;
+use std::alloc::Global;
+use std::process::Abort;
 use wire::Payload;
 
 // prf (prf ("play", "Key Pad for IKEv2"), what "b.example" of type 2 proves), by another program.
@@ -19,86 +19,84 @@ fn proof() -> [u8; 32] {
 }
 
 // The answer of "b.example" of type 2.
-fn answer_with(alloc: Global, answered: ChildAnswer, window: u8) -> Result<Vec<Payload>, AllocError>
+fn answer_with(rt: &impl Abort, alloc: Global, answered: ChildAnswer, window: u8) -> Vec<Payload>
     requires { IsWindow window }
 {
-    let own = identity(alloc, 2, b"b.example")?;
-    if !own.fits_payload() {
-        return Err(AllocError);
-    }
+    let own = identity(rt, alloc, 2, b"b.example");
+    assert!(rt; own.fits_payload());
     let what = Proving {
         first: b"answer",
         nonce: &[8; 16],
         sk_p: &[6; 32],
     };
-    let payloads = answer(alloc, &ScriptCaller, &own, &what, answered, window)?;
-    Ok(payloads.into_vec())
+    let payloads = answer(alloc, &ScriptCaller, &own, &what, answered, window).expect(rt, "memory");
+    payloads.into_vec()
 }
 
-fn with_child(alloc: Global) -> Result<Vec<Payload>, AllocError> {
-    answer_with(alloc, ChildAnswer::Payloads(child(alloc)?), 2)
+fn with_child(rt: &impl Abort, alloc: Global) -> Vec<Payload> {
+    answer_with(rt, alloc, ChildAnswer::Payloads(child(rt, alloc)), 2)
 }
 
-fn with_notice(alloc: Global) -> Result<Vec<Payload>, AllocError> {
-    answer_with(alloc, ChildAnswer::Notice(Notice::NoProposalChosen), 1)
+fn with_notice(rt: &impl Abort, alloc: Global) -> Vec<Payload> {
+    answer_with(rt, alloc, ChildAnswer::Notice(Notice::NoProposalChosen), 1)
 }
 
 // What an initiator that waits for this identity of type 2 makes of an answer.
 fn established(
+    rt: &impl Abort,
     alloc: Global,
     id: &[u8],
     nonce: &[u8],
     payloads: &[Payload],
-) -> Result<bool, AllocError> {
-    let peer = identity(alloc, 2, id)?;
+) -> bool {
+    let peer = identity(rt, alloc, 2, id);
     let what = Proving {
         first: b"answer",
         nonce,
         sk_p: &[6; 32],
     };
-    is_accepted(alloc, &ScriptCaller, &peer, &what, payloads)
+    is_accepted(alloc, &ScriptCaller, &peer, &what, payloads).expect(rt, "memory")
 }
 
 // The same of an answer that makes the child.
-fn established_by(alloc: Global, id: &[u8], nonce: &[u8]) -> Result<bool, AllocError> {
-    established(alloc, id, nonce, &with_child(alloc)?)
+fn established_by(rt: &impl Abort, alloc: Global, id: &[u8], nonce: &[u8]) -> bool {
+    established(rt, alloc, id, nonce, &with_child(rt, alloc))
 }
 
 // The same of an answer that refuses it, with this payload behind it.
-fn established_behind(alloc: Global, payload: Payload) -> Result<bool, AllocError> {
-    let mut payloads = with_notice(alloc)?;
-    payloads.push(payload)?;
-    established(alloc, b"b.example", &[8; 16], &payloads)
+fn established_behind(rt: &impl Abort, alloc: Global, payload: Payload) -> bool {
+    let mut payloads = with_notice(rt, alloc);
+    granted(rt, payloads.push(payload));
+    established(rt, alloc, b"b.example", &[8; 16], &payloads)
 }
 
-fn answers(alloc: Global) -> Result<[bool; 3], AllocError> {
-    Ok([
-        are_of_types(&with_child(alloc)?, &[36, 39, 33, 44, 45, 41]),
-        are_of_types(&with_notice(alloc)?, &[36, 39, 41]),
-        has_proof(&with_child(alloc)?, &proof()),
-    ])
+fn answers(rt: &impl Abort, alloc: Global) -> [bool; 3] {
+    [
+        are_of_types(&with_child(rt, alloc), &[36, 39, 33, 44, 45, 41]),
+        are_of_types(&with_notice(rt, alloc), &[36, 39, 41]),
+        has_proof(&with_child(rt, alloc), &proof()),
+    ]
 }
 
 // Another identity and another nonce; a critical payload is passed over, by the rule of this implementation, and of two proofs
 // none counts.
-fn established_answers(alloc: Global) -> Result<[bool; 5], AllocError> {
-    Ok([
-        established_by(alloc, b"b.example", &[8; 16])?,
-        established_by(alloc, b"a.example", &[8; 16])?,
-        established_by(alloc, b"b.example", &[7; 16])?,
-        established_behind(alloc, critical(alloc))?,
-        established_behind(alloc, auth(alloc, 2, &proof())?)?,
-    ])
+fn established_answers(rt: &impl Abort, alloc: Global) -> [bool; 5] {
+    [
+        established_by(rt, alloc, b"b.example", &[8; 16]),
+        established_by(rt, alloc, b"a.example", &[8; 16]),
+        established_by(rt, alloc, b"b.example", &[7; 16]),
+        established_behind(rt, alloc, critical(alloc)),
+        established_behind(rt, alloc, auth(rt, alloc, 2, &proof())),
+    ]
 }
 
 // RFC 7296, sections 1.2 and 2.15.
 #[test]
-fn what_is_sent_and_accepted(rt: HostRuntime) -> Result<(), Fail> {
-    same(&rt, answers(rt.alloc())?, [true; 3]);
+fn what_is_sent_and_accepted(rt: HostRuntime) {
+    same(&rt, answers(&rt, rt.alloc()), [true; 3]);
     same(
         &rt,
-        established_answers(rt.alloc())?,
+        established_answers(&rt, rt.alloc()),
         [true, false, false, true, false],
     );
-    Ok(())
 }

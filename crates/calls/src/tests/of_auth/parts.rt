@@ -1,25 +1,27 @@
 //! What the tests make messages of.
 ghost use Rattle.auth.specs.Windows.{IsWindow};
 
+use crate::tests::asserts::granted;
 use auth::{Identity, Proving, request};
 use base::{Items, Range, Selector};
 use caller::ScriptCaller;
 use exchange::{ChildPayloads, only_auth};
-use std::alloc::{AllocError, Global};
+use std::alloc::Global;
+use std::process::Abort;
 use wire::{Payload, Proposal};
 
-pub fn identity(alloc: Global, kind: u8, octets: &[u8]) -> Result<Identity, AllocError> {
-    Ok(Identity {
+pub fn identity(rt: &impl Abort, alloc: Global, kind: u8, octets: &[u8]) -> Identity {
+    Identity {
         kind,
-        data: Items::from_slice(alloc, octets)?,
-    })
+        data: granted(rt, Items::from_slice(alloc, octets)),
+    }
 }
 
-pub fn auth(alloc: Global, method: u8, octets: &[u8]) -> Result<Payload, AllocError> {
-    Ok(Payload::Auth {
+pub fn auth(rt: &impl Abort, alloc: Global, method: u8, octets: &[u8]) -> Payload {
+    Payload::Auth {
         method,
-        data: Items::from_slice(alloc, octets)?,
-    })
+        data: granted(rt, Items::from_slice(alloc, octets)),
+    }
 }
 
 // A payload of an unknown type that is marked as critical.
@@ -42,51 +44,56 @@ pub fn selector(address: u32) -> Selector {
 }
 
 // One proposal, and the addresses 1 and 2.
-pub fn child(alloc: Global) -> Result<ChildPayloads, AllocError> {
+pub fn child(rt: &impl Abort, alloc: Global) -> ChildPayloads {
     let mut proposals = Items::new(alloc);
-    proposals.push(Proposal {
-        number: 1,
-        protocol: 3,
-        spi: Items::from_slice(alloc, &[1, 2, 3, 4])?,
-        transforms: Items::new(alloc),
-    })?;
-    Ok(ChildPayloads {
+    granted(
+        rt,
+        proposals.push(Proposal {
+            number: 1,
+            protocol: 3,
+            spi: granted(rt, Items::from_slice(alloc, &[1, 2, 3, 4])),
+            transforms: Items::new(alloc),
+        }),
+    );
+    ChildPayloads {
         proposals,
-        ts_i: Items::from_slice(alloc, &[selector(1)])?,
-        ts_r: Items::from_slice(alloc, &[selector(2)])?,
-    })
+        ts_i: granted(rt, Items::from_slice(alloc, &[selector(1)])),
+        ts_r: granted(rt, Items::from_slice(alloc, &[selector(2)])),
+    }
 }
 
 // The request of an end of this identity, behind this first message.
 pub fn request_behind(
+    rt: &impl Abort,
     alloc: Global,
     first: &[u8],
     own: &Identity,
     window: u8,
-) -> Result<Vec<Payload>, AllocError>
+) -> Vec<Payload>
     requires { IsWindow window }
 {
-    if !own.fits_payload() {
-        return Err(AllocError);
-    }
+    assert!(rt; own.fits_payload());
     let what = Proving {
         first,
         nonce: &[9; 16],
         sk_p: &[5; 32],
     };
-    let payloads = request(alloc, &ScriptCaller, own, &what, child(alloc)?, window)?;
-    Ok(payloads.into_vec())
+    let payloads = request(alloc, &ScriptCaller, own, &what, child(rt, alloc), window).expect(
+        rt, "memory",
+    );
+    payloads.into_vec()
 }
 
-pub fn request_of(
-    alloc: Global,
-    kind: u8,
-    id: &[u8],
-    window: u8,
-) -> Result<Vec<Payload>, AllocError>
+pub fn request_of(rt: &impl Abort, alloc: Global, kind: u8, id: &[u8], window: u8) -> Vec<Payload>
     requires { IsWindow window }
 {
-    request_behind(alloc, b"first message", &identity(alloc, kind, id)?, window)
+    request_behind(
+        rt,
+        alloc,
+        b"first message",
+        &identity(rt, alloc, kind, id),
+        window,
+    )
 }
 
 // Whether the payloads are of just these types.

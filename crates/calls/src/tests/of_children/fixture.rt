@@ -2,15 +2,14 @@
 //! from functions without a contract, so that a test is proved without them.
 ghost use Rattle.replay.specs.Window.{IsBlockCount};
 
-use crate::tests::asserts::same;
+use crate::tests::asserts::{granted, same};
 use base::{Items, Range, Selector};
 use children::{Asked, Response, Setting, ask, install, respond};
 use exchange::{ChildOffer, ChildPayloads};
 use policy::{Action, Entry, Policy};
 use sadb::{Pair, Table};
-use std::alloc::{AllocError, Global};
+use std::alloc::Global;
 use std::process::Abort;
-use std::test::Fail;
 use wire::{Payload, Proposal, Transform};
 
 /// The first SPI of the responder's table.
@@ -87,71 +86,76 @@ pub enum Suite {
 }
 
 /// A proposal for ESP.
-pub fn proposal(alloc: Global, number: u8, spi: u32, suite: Suite) -> Result<Proposal, Fail> {
+pub fn proposal(rt: &impl Abort, alloc: Global, number: u8, spi: u32, suite: Suite) -> Proposal {
     let transforms = match suite {
-        Suite::Plain => transforms(alloc, &[(1, 11), (3, 12), (5, 0)])?,
-        Suite::Extended => transforms(alloc, &[(1, 11), (3, 12), (5, 1)])?,
-        Suite::Either => transforms(alloc, &[(1, 11), (3, 12), (5, 1), (5, 0)])?,
-        Suite::Sha1 => transforms(alloc, &[(1, 11), (3, 2), (5, 0)])?,
+        Suite::Plain => transforms(rt, alloc, &[(1, 11), (3, 12), (5, 0)]),
+        Suite::Extended => transforms(rt, alloc, &[(1, 11), (3, 12), (5, 1)]),
+        Suite::Either => transforms(rt, alloc, &[(1, 11), (3, 12), (5, 1), (5, 0)]),
+        Suite::Sha1 => transforms(rt, alloc, &[(1, 11), (3, 2), (5, 0)]),
     };
-    Ok(Proposal {
+    Proposal {
         number,
         protocol: 3,
-        spi: Items::from_slice(alloc, &spi.to_be_bytes())?,
+        spi: granted(rt, Items::from_slice(alloc, &spi.to_be_bytes())),
         transforms,
-    })
+    }
 }
 
-fn transforms(alloc: Global, rows: &[(u8, u16)]) -> Result<Items<Transform>, Fail> {
+fn transforms(rt: &impl Abort, alloc: Global, rows: &[(u8, u16)]) -> Items<Transform> {
     let mut transforms = Items::new(alloc);
     for (kind, id) in rows {
-        transforms.push(Transform {
-            kind: *kind,
-            id: *id,
-            attributes: Items::new(alloc),
-        })?;
+        granted(
+            rt,
+            transforms.push(Transform {
+                kind: *kind,
+                id: *id,
+                attributes: Items::new(alloc),
+            }),
+        );
     }
-    Ok(transforms)
+    transforms
 }
 
 /// The proposals of an SA payload that has one.
-pub fn one(alloc: Global, proposal: Proposal) -> Result<Items<Proposal>, Fail> {
-    Ok(lone(alloc, proposal)?)
+pub fn one(rt: &impl Abort, alloc: Global, proposal: Proposal) -> Items<Proposal> {
+    lone(rt, alloc, proposal)
 }
 
 /// A list of one item.
-fn lone<T: Drop>(alloc: Global, item: T) -> Result<Items<T>, AllocError> {
+fn lone<T: Drop>(rt: &impl Abort, alloc: Global, item: T) -> Items<T> {
     let mut items = Items::new(alloc);
-    items.push(item)?;
-    Ok(items)
+    granted(rt, items.push(item));
+    items
 }
 
 /// The payloads of a message with one proposal.
 pub fn message(
+    rt: &impl Abort,
     alloc: Global,
     proposal: Proposal,
     ts_i: &[Selector],
     ts_r: &[Selector],
-) -> Result<Items<Payload>, Fail> {
+) -> Items<Payload> {
     let child = ChildPayloads {
-        proposals: one(alloc, proposal)?,
-        ts_i: Items::from_slice(alloc, ts_i)?,
-        ts_r: Items::from_slice(alloc, ts_r)?,
+        proposals: one(rt, alloc, proposal),
+        ts_i: granted(rt, Items::from_slice(alloc, ts_i)),
+        ts_r: granted(rt, Items::from_slice(alloc, ts_r)),
     };
     let mut payloads = Items::new(alloc);
-    child.append_to(&mut payloads)?;
-    Ok(payloads)
+    granted(rt, child.append_to(&mut payloads));
+    payloads
 }
 
 /// What an initiator sends.
-pub fn request(alloc: Global, asked: &Asked) -> Result<Items<Payload>, AllocError> {
+pub fn request(rt: &impl Abort, alloc: Global, asked: &Asked) -> Items<Payload> {
     let mut payloads = Items::new(alloc);
-    ask(alloc, asked)?.append_to(&mut payloads)?;
-    Ok(payloads)
+    let child = ask(alloc, asked).expect(rt, "memory");
+    granted(rt, child.append_to(&mut payloads));
+    payloads
 }
 
 /// The responder's: it protects what goes between 10.1.0.0/16 and the lower half of 10.0.0.0/24.
-pub fn policy(alloc: Global) -> Result<Policy, Fail> {
+pub fn policy(rt: &impl Abort, alloc: Global) -> Policy {
     let entry = Entry {
         protocol: 0,
         local: Range::V4(0x0a01_0000, 0x0a01_ffff),
@@ -160,26 +164,30 @@ pub fn policy(alloc: Global) -> Result<Policy, Fail> {
         remote_ports: (0, 65535),
         action: Action::Protect,
     };
-    Ok(Policy::new(lone(alloc, entry)?)?)
+    Policy::new(lone(rt, alloc, entry)).expect(rt, "a policy")
 }
 
 /// What a responder sends; the pair that it makes is added.
 pub fn reply(
+    rt: &impl Abort,
     alloc: Global,
     offer: &ChildOffer<'_>,
     extended: bool,
     table: &mut Table,
-) -> Result<Items<Payload>, Fail> {
-    let policy = policy(alloc)?;
+) -> Items<Payload> {
+    let policy = policy(rt, alloc);
     let mut payloads = Items::new(alloc);
-    match respond(alloc, offer, extended, &setting(), &policy, table)? {
+    match respond(alloc, offer, extended, &setting(), &policy, table).expect(rt, "memory") {
         Response::Made(made) => {
             install(table, made.pair);
-            made.payloads.append_to(&mut payloads)?;
+            granted(rt, made.payloads.append_to(&mut payloads));
         }
-        Response::Refused(notice) => payloads.push(notice.payload(alloc)?)?,
+        Response::Refused(notice) => {
+            let payload = granted(rt, notice.payload(alloc));
+            granted(rt, payloads.push(payload));
+        }
     }
-    Ok(payloads)
+    payloads
 }
 
 /// Finds a pair of these SPIs, inward and outward, and of one selector of each side.
@@ -196,8 +204,7 @@ pub fn has_pair(
     spis: (u32, u32),
     local: Selector,
     remote: Selector,
-) -> Result<(), Fail> {
-    let pair = table.inbound(spis.0).ok_or("no pair")?;
+) {
+    let pair = table.inbound(spis.0).expect(rt, "a pair");
     is_pair(rt, pair, spis, local, remote);
-    Ok(())
 }

@@ -1,29 +1,26 @@
 //! Numbers of 64 bits. The expected check values are those that Python's module `hmac` computes.
 use super::fixture::{Receiver, extended_sender, first, packet, sealed};
-use crate::tests::asserts::{same, same_at};
+use crate::tests::asserts::{granted, same, same_at};
 use esp::EspFault;
 use std::alloc::Global;
 use std::process::Abort;
-use std::test::Fail;
 
 /// Finds that the packets under these numbers send this low half and have this check value.
-fn covers(rt: &impl Abort, alloc: Global, rows: &[(u64, [u8; 4], [u8; 16])]) -> Result<(), Fail> {
+fn covers(rt: &impl Abort, alloc: Global, rows: &[(u64, [u8; 4], [u8; 16])]) {
     for (number, low, check) in rows {
         let sender = extended_sender(number.wrapping_sub(1));
-        let sealed = sealed(rt, alloc, sender, *number)?;
-        let mut wanted = vec![in alloc; 0, 0, 1, 0]?;
-        wanted.extend_from_slice(low)?;
-        wanted.extend_from_slice(&first()[8..32])?;
-        wanted.extend_from_slice(check)?;
+        let sealed = sealed(rt, alloc, sender, *number);
+        let mut wanted = granted(rt, vec![in alloc; 0, 0, 1, 0]);
+        granted(rt, wanted.extend_from_slice(low));
+        granted(rt, wanted.extend_from_slice(&first()[8..32]));
+        granted(rt, wanted.extend_from_slice(check));
         same_at(rt, *number, sealed.as_slice(), wanted.as_slice());
     }
-    Ok(())
 }
 
-// The high half is covered and not sent, so packets whose low halves agree differ in their check value alone.
-#[test]
-fn covers_the_high_half(rt: HostRuntime) -> Result<(), Fail> {
-    let rows = [
+/// The numbers of packets, and their low halves and check values.
+fn covered() -> [(u64, [u8; 4], [u8; 16]); 5] {
+    [
         (
             1,
             [0, 0, 0, 1],
@@ -64,70 +61,67 @@ fn covers_the_high_half(rt: HostRuntime) -> Result<(), Fail> {
                 0x4c, 0x96,
             ],
         ),
-    ];
-    covers(&rt, rt.alloc(), &rows)
+    ]
+}
+
+// The high half is covered and not sent, so packets whose low halves agree differ in their check value alone.
+#[test]
+fn covers_the_high_half(rt: HostRuntime) {
+    covers(&rt, rt.alloc(), &covered());
 }
 
 // From a window at 0 the low half 0 stands for no number.
 #[test]
-fn finds_no_number_too_far_ahead(rt: HostRuntime) -> Result<(), Fail> {
+fn finds_no_number_too_far_ahead(rt: HostRuntime) {
     let mut receiver = Receiver::new(rt.alloc(), true);
     let sealed = sealed(
         &rt,
         rt.alloc(),
         extended_sender(4_294_967_295),
         4_294_967_296,
-    )?;
+    );
     same(&rt, sealed.len(), 48);
     receiver.refuses(&rt, &sealed, EspFault::BadNumber);
-    Ok(())
 }
 
 /// A receiver that opened the packet with the number 2^32 - 64, and that packet.
-fn near_32_bits(rt: &impl Abort, alloc: Global) -> Result<(Receiver, Vec<u8>), Fail> {
+fn near_32_bits(rt: &impl Abort, alloc: Global) -> (Receiver, Vec<u8>) {
     let mut receiver = Receiver::new(alloc, true);
-    let below = sealed(rt, alloc, extended_sender(4_294_967_231), 4_294_967_232)?;
-    receiver.opens_inner(rt, &below, 4_294_967_232)?;
-    Ok((receiver, below))
+    let below = sealed(rt, alloc, extended_sender(4_294_967_231), 4_294_967_232);
+    receiver.opens_inner(rt, &below, 4_294_967_232);
+    (receiver, below)
 }
 
 #[test]
-fn crosses_32_bits(rt: HostRuntime) -> Result<(), Fail> {
-    let (mut receiver, below) = near_32_bits(&rt, rt.alloc())?;
+fn crosses_32_bits(rt: HostRuntime) {
+    let (mut receiver, below) = near_32_bits(&rt, rt.alloc());
     let above = sealed(
         &rt,
         rt.alloc(),
         extended_sender(4_294_967_295),
         4_294_967_296,
-    )?;
-    receiver.opens_inner(&rt, &above, 4_294_967_296)?;
+    );
+    receiver.opens_inner(&rt, &above, 4_294_967_296);
     receiver.refuses(&rt, &above, EspFault::Replayed);
     // Below the window a low half stands for the number a cycle later.
     receiver.refuses(&rt, &below, EspFault::BadIcv);
-    Ok(())
 }
 
 /// Finds that a check value over a high half is wrong under the low half 1.
-fn is_wrong(
-    rt: &impl Abort,
-    alloc: Global,
-    receiver: &mut Receiver,
-    half: &[u8],
-) -> Result<(), Fail> {
-    let wrong = packet(alloc, 1, &[1, 2, 2, 4], half)?;
+fn is_wrong(rt: &impl Abort, alloc: Global, receiver: &mut Receiver, half: &[u8]) {
+    let wrong = granted(rt, packet(alloc, 1, &[1, 2, 2, 4], half));
     receiver.refuses(rt, &wrong, EspFault::BadIcv);
-    Ok(())
 }
 
 // The low half 1 stands for 2^32 + 1 there, so a check value for the number 1 is wrong.
 #[test]
-fn checks_the_recovered_number(rt: HostRuntime) -> Result<(), Fail> {
+fn checks_the_recovered_number(rt: HostRuntime) {
     let alloc = rt.alloc();
-    let (mut receiver, _) = near_32_bits(&rt, alloc)?;
-    is_wrong(&rt, alloc, &mut receiver, &[0, 0, 0, 0])?;
-    is_wrong(&rt, alloc, &mut receiver, &[0, 0, 0, 2])?;
-    is_wrong(&rt, alloc, &mut receiver, &[])?;
-    let right = packet(alloc, 1, &[1, 2, 2, 4], &[0, 0, 0, 1])?;
-    same(&rt, receiver.open(&rt, &right)?.number, 4_294_967_297);
-    Ok(())
+    let (mut receiver, _) = near_32_bits(&rt, alloc);
+    is_wrong(&rt, alloc, &mut receiver, &[0, 0, 0, 0]);
+    is_wrong(&rt, alloc, &mut receiver, &[0, 0, 0, 2]);
+    is_wrong(&rt, alloc, &mut receiver, &[]);
+    let right = granted(&rt, packet(alloc, 1, &[1, 2, 2, 4], &[0, 0, 0, 1]));
+    let opened = receiver.open(&rt, &right);
+    same(&rt, opened.map(|opened| opened.number), Ok(4_294_967_297));
 }

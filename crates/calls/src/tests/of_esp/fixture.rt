@@ -7,7 +7,6 @@ use esp::{Answer, EspFault, Inbound, ListFault, Opened, Outbound};
 use replay::PlainWindow;
 use std::alloc::{AllocError, Global};
 use std::process::Abort;
-use std::test::Fail;
 
 pub const SPI: u32 = 256;
 
@@ -45,15 +44,10 @@ pub fn extended_sender(last: u64) -> Outbound {
 }
 
 /// The packet in which a sender carries [`inner`], which is to have this number.
-pub fn sealed(
-    rt: &impl Abort,
-    alloc: Global,
-    mut sender: Outbound,
-    number: u64,
-) -> Result<Vec<u8>, Fail> {
+pub fn sealed(rt: &impl Abort, alloc: Global, mut sender: Outbound, number: u64) -> Vec<u8> {
     let mut packet = Vec::new(alloc);
-    same(rt, sender.seal(IPV4, &inner(), &mut packet)?, number);
-    Ok(packet)
+    same(rt, sender.seal(IPV4, &inner(), &mut packet), Ok(number));
+    packet
 }
 
 /// A receiver with a window of 64 numbers, which is handed only packets of its SPI.
@@ -81,26 +75,18 @@ impl Receiver {
     }
 
     /// Finds what a packet carries.
-    pub fn opens(
-        &mut self,
-        rt: &impl Abort,
-        packet: &[u8],
-        number: u64,
-        next: u8,
-        payload: &[u8],
-    ) -> Result<(), Fail> {
+    pub fn opens(&mut self, rt: &impl Abort, packet: &[u8], number: u64, next: u8, payload: &[u8]) {
         let wanted = Opened {
             number,
             next,
             payload,
         };
-        same(rt, self.open(rt, packet)?, wanted);
-        Ok(())
+        same(rt, self.open(rt, packet), Ok(wanted));
     }
 
     /// Finds that a packet carries [`inner`] under this number.
-    pub fn opens_inner(&mut self, rt: &impl Abort, packet: &[u8], number: u64) -> Result<(), Fail> {
-        self.opens(rt, packet, number, IPV4, &inner())
+    pub fn opens_inner(&mut self, rt: &impl Abort, packet: &[u8], number: u64) {
+        self.opens(rt, packet, number, IPV4, &inner());
     }
 
     pub fn open_all(

@@ -1,26 +1,46 @@
 use super::fixture::{Receiver, damaged, packet, sealed, sender};
-use crate::tests::asserts::{holds, same};
+use crate::tests::asserts::{granted, holds, same};
 use esp::{Answer, EspFault};
 use std::alloc::Global;
 use std::process::Abort;
-use std::test::Fail;
+
+/// A packet of no octet of payload, with number 100.
+fn hundredth(rt: &impl Abort, alloc: Global) -> Vec<u8> {
+    let mut packet = Vec::new(alloc);
+    same(rt, sender(99).seal(59, b"", &mut packet), Ok(100));
+    packet
+}
+
+/// Adds packets with these low halves and these octets up to the next header.
+fn push_packets(rt: &impl Abort, alloc: Global, packets: &mut Vec<Vec<u8>>, rows: &[(u32, &[u8])]) {
+    for (low, contents) in rows {
+        let packet = granted(rt, packet(alloc, *low, contents, b""));
+        granted(rt, packets.push(packet));
+    }
+}
+
+/// Adds a copy of a packet.
+fn push_copy(rt: &impl Abort, alloc: Global, packets: &mut Vec<Vec<u8>>, packet: &[u8]) {
+    let copy = granted(rt, packet.to_vec(alloc));
+    granted(rt, packets.push(copy));
+}
 
 /// Nine packets, of which three are repeated or damaged, and the others differ in their faults.
-fn packets(rt: &impl Abort, alloc: Global) -> Result<[Vec<u8>; 9], Fail> {
-    let seventh = sealed(rt, alloc, sender(6), 7)?;
-    let mut another = Vec::new(alloc);
-    same(rt, sender(99).seal(59, b"", &mut another)?, 100);
-    Ok([
-        seventh.clone()?,
-        seventh.clone()?,
-        damaged(alloc, &another, 27)?,
-        another,
-        packet(alloc, 37, b"\0\0\x02\x04", b"")?,
-        packet(alloc, 0, b"\x01\x02\x02\x04", b"")?,
-        seventh,
-        vec![in alloc; 0, 0, 1]?,
-        packet(alloc, 38, b"abcdef\x00\x29", b"")?,
-    ])
+fn packets(rt: &impl Abort, alloc: Global) -> Vec<Vec<u8>> {
+    let seventh = sealed(rt, alloc, sender(6), 7);
+    let hundredth = hundredth(rt, alloc);
+    let damaged = granted(rt, damaged(alloc, &hundredth, 27));
+    let mut packets = Vec::new(alloc);
+    push_copy(rt, alloc, &mut packets, &seventh);
+    push_copy(rt, alloc, &mut packets, &seventh);
+    push_copy(rt, alloc, &mut packets, &damaged);
+    push_copy(rt, alloc, &mut packets, &hundredth);
+    let rows: [(u32, &[u8]); 2] = [(37, b"\0\0\x02\x04"), (0, b"\x01\x02\x02\x04")];
+    push_packets(rt, alloc, &mut packets, &rows);
+    push_copy(rt, alloc, &mut packets, &seventh);
+    push_copy(rt, alloc, &mut packets, &[0, 0, 1]);
+    push_packets(rt, alloc, &mut packets, &[(38, b"abcdef\x00\x29")]);
+    packets
 }
 
 /// The answer to a packet whose payload begins behind its SPI and its number.
@@ -34,12 +54,14 @@ fn up(number: u64, next: u8, length: usize) -> Answer {
 }
 
 #[test]
-fn answers_each_packet_in_order(rt: HostRuntime) -> Result<(), Fail> {
+fn answers_each_packet_in_order(rt: HostRuntime) {
     let alloc = rt.alloc();
     let mut receiver = Receiver::new(alloc, false);
-    let packets = packets(&rt, alloc)?;
-    let mut out = vec![in alloc; Answer::Refused(EspFault::Memory)]?;
-    receiver.open_all(&rt, &packets, &mut out)?;
+    let packets = packets(&rt, alloc);
+    let mut out = granted(&rt, vec![in alloc; Answer::Refused(EspFault::Memory)]);
+    receiver
+        .open_all(&rt, &packets, &mut out)
+        .expect(&rt, "answers");
     same(
         &rt,
         out.as_slice(),
@@ -57,31 +79,32 @@ fn answers_each_packet_in_order(rt: HostRuntime) -> Result<(), Fail> {
         ]
         .as_slice(),
     );
-    Ok(())
 }
 
 #[test]
-fn answers_no_packet(rt: HostRuntime) -> Result<(), Fail> {
+fn answers_no_packet(rt: HostRuntime) {
     let mut receiver = Receiver::new(rt.alloc(), false);
     let mut out = Vec::new(rt.alloc());
-    receiver.open_all(&rt, &[], &mut out)?;
+    receiver.open_all(&rt, &[], &mut out).expect(&rt, "answers");
     holds(&rt, out.is_empty());
-    Ok(())
 }
 
 // A list is opened where the one before it left the association.
 #[test]
-fn goes_on_with_the_next_list(rt: HostRuntime) -> Result<(), Fail> {
+fn goes_on_with_the_next_list(rt: HostRuntime) {
     let alloc = rt.alloc();
     let mut receiver = Receiver::new(alloc, false);
-    let packets = [sealed(&rt, alloc, sender(6), 7)?];
+    let packets = [sealed(&rt, alloc, sender(6), 7)];
     let mut out = Vec::new(alloc);
-    receiver.open_all(&rt, &packets, &mut out)?;
-    receiver.open_all(&rt, &packets, &mut out)?;
+    receiver
+        .open_all(&rt, &packets, &mut out)
+        .expect(&rt, "answers");
+    receiver
+        .open_all(&rt, &packets, &mut out)
+        .expect(&rt, "answers");
     same(
         &rt,
         out.as_slice(),
         [up(7, 4, 20), Answer::Refused(EspFault::Replayed)].as_slice(),
     );
-    Ok(())
 }

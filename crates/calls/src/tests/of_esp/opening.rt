@@ -1,19 +1,18 @@
-use super::fixture::{IPV4, Receiver, damaged, first, inner, packet, sealed, sender};
-use crate::tests::asserts::{same, same_at};
+use super::fixture::{IPV4, Receiver, damaged, first, packet, sealed, sender};
+use crate::tests::asserts::{granted, same, same_at};
 use esp::{EspFault, Opened};
-use std::alloc::{AllocError, Global};
+use std::alloc::Global;
 use std::process::Abort;
-use std::test::Fail;
 
 #[test]
-fn opens_a_packet_once(rt: HostRuntime) -> Result<(), Fail> {
+fn opens_a_packet_once(rt: HostRuntime) {
     let mut receiver = Receiver::new(rt.alloc(), false);
-    let packet = sealed(&rt, rt.alloc(), sender(6), 7)?;
-    receiver.opens_inner(&rt, &packet, 7)?;
+    let packet = sealed(&rt, rt.alloc(), sender(6), 7);
+    receiver.opens_inner(&rt, &packet, 7);
     receiver.refuses(&rt, &packet, EspFault::Replayed);
     // And what another program sealed.
     let mut receiver = Receiver::new(rt.alloc(), false);
-    receiver.opens_inner(&rt, &first(), 1)
+    receiver.opens_inner(&rt, &first(), 1);
 }
 
 /// Finds that packets of so many octets, which are 0 behind the SPI, are refused so.
@@ -23,38 +22,36 @@ fn refuses_lengths(
     receiver: &mut Receiver,
     lengths: &[usize],
     fault: EspFault,
-) -> Result<(), Fail> {
+) {
     for octets in lengths {
-        let mut packet = b"\0\0\x01\0".to_vec(alloc)?;
-        packet.extend_from_slice(&vec![in alloc; 0; *octets]?)?;
-        packet.truncate(*octets);
+        let mut packet = granted(rt, b"\0\0\x01\0".to_vec(alloc));
+        granted(rt, packet.resize(*octets, 0));
         same(rt, packet.len(), *octets);
         same_at(rt, *octets, receiver.open(rt, &packet).err(), Some(fault));
     }
-    Ok(())
 }
 
 // Below the shortest packet, off the words of four octets, and above the longest packet no number is looked at.
 #[test]
-fn refuses_other_lengths(rt: HostRuntime) -> Result<(), Fail> {
+fn refuses_other_lengths(rt: HostRuntime) {
     let mut receiver = Receiver::new(rt.alloc(), false);
     let bad = [
         0, 1, 3, 4, 8, 24, 26, 27, 29, 30, 31, 16_665, 16_666, 16_667, 16_668, 20_000,
     ];
-    refuses_lengths(&rt, rt.alloc(), &mut receiver, &bad, EspFault::BadLength)?;
+    refuses_lengths(&rt, rt.alloc(), &mut receiver, &bad, EspFault::BadLength);
     let good = [28, 32, 16_664];
-    refuses_lengths(&rt, rt.alloc(), &mut receiver, &good, EspFault::BadNumber)
+    refuses_lengths(&rt, rt.alloc(), &mut receiver, &good, EspFault::BadNumber);
 }
 
 /// So many octets of payload under so many of padding, up to the next header.
-fn padded(alloc: Global, payload: usize, pad: u8) -> Result<Vec<u8>, AllocError> {
-    let mut contents = vec![in alloc; 0x5a; payload]?;
+fn padded(rt: &impl Abort, alloc: Global, payload: usize, pad: u8) -> Vec<u8> {
+    let mut contents = granted(rt, vec![in alloc; 0x5a; payload]);
     for octet in 1..=pad {
-        contents.push(octet)?;
+        granted(rt, contents.push(octet));
     }
-    contents.push(pad)?;
-    contents.push(IPV4)?;
-    Ok(contents)
+    granted(rt, contents.push(pad));
+    granted(rt, contents.push(IPV4));
+    contents
 }
 
 /// Finds that packets under these numbers, of so many octets of payload and of padding, have so many octets and open.
@@ -63,18 +60,19 @@ fn opens_padded(
     alloc: Global,
     receiver: &mut Receiver,
     rows: &[(u32, usize, u8, usize)],
-) -> Result<(), Fail> {
+) {
     for (number, payload, pad, octets) in rows {
-        let packet = packet(alloc, *number, &padded(alloc, *payload, *pad)?, &[])?;
+        let packet = packet(alloc, *number, &padded(rt, alloc, *payload, *pad), &[]).expect(
+            rt, "memory",
+        );
         same(rt, packet.len(), *octets);
-        let wanted = vec![in alloc; 0x5a; *payload]?;
-        receiver.opens(rt, &packet, u64::from(*number), IPV4, &wanted)?;
+        let wanted = granted(rt, vec![in alloc; 0x5a; *payload]);
+        receiver.opens(rt, &packet, u64::from(*number), IPV4, &wanted);
     }
-    Ok(())
 }
 
 #[test]
-fn opens_every_padding_that_aligns(rt: HostRuntime) -> Result<(), Fail> {
+fn opens_every_padding_that_aligns(rt: HostRuntime) {
     let mut receiver = Receiver::new(rt.alloc(), false);
     let rows = [
         (1, 0, 2, 28),
@@ -86,22 +84,18 @@ fn opens_every_padding_that_aligns(rt: HostRuntime) -> Result<(), Fail> {
         (7, 16_384, 254, 16_664),
         (8, 16_638, 0, 16_664),
     ];
-    opens_padded(&rt, rt.alloc(), &mut receiver, &rows)?;
-    let long = packet(rt.alloc(), 9, &padded(rt.alloc(), 16_388, 254)?, &[])?;
+    opens_padded(&rt, rt.alloc(), &mut receiver, &rows);
+    let long = packet(rt.alloc(), 9, &padded(&rt, rt.alloc(), 16_388, 254), &[]).expect(
+        &rt, "memory",
+    );
     same(&rt, long.len(), 16_668);
     receiver.refuses(&rt, &long, EspFault::BadLength);
-    Ok(())
 }
 
 /// Finds that packets of these contents, numbered from 1 on, are refused for their padding, and then as repeated.
-fn refuses_padding(
-    rt: &impl Abort,
-    alloc: Global,
-    receiver: &mut Receiver,
-    cases: &[&[u8]],
-) -> Result<(), Fail> {
+fn refuses_padding(rt: &impl Abort, alloc: Global, receiver: &mut Receiver, cases: &[&[u8]]) {
     for (contents, number) in cases.iter().zip(1..) {
-        let packet = packet(alloc, number, contents, &[])?;
+        let packet = granted(rt, packet(alloc, number, contents, &[]));
         same_at(
             rt,
             number,
@@ -115,12 +109,11 @@ fn refuses_padding(
             Some(EspFault::Replayed),
         );
     }
-    Ok(())
 }
 
 // Each stands under a right check value, so its number stays taken.
 #[test]
-fn refuses_bad_padding_and_keeps_the_number(rt: HostRuntime) -> Result<(), Fail> {
+fn refuses_bad_padding_and_keeps_the_number(rt: HostRuntime) {
     let mut receiver = Receiver::new(rt.alloc(), false);
     let cases: [&[u8]; 12] = [
         &[0, 0, 2, 4],
@@ -136,30 +129,24 @@ fn refuses_bad_padding_and_keeps_the_number(rt: HostRuntime) -> Result<(), Fail>
         &[1, 2, 255, 4],
         &[9, 1, 2, 3, 5, 5, 5, 4],
     ];
-    refuses_padding(&rt, rt.alloc(), &mut receiver, &cases)
+    refuses_padding(&rt, rt.alloc(), &mut receiver, &cases);
 }
 
 /// Finds that packets of these contents, numbered from 1 on, hand up this next header and this payload.
-fn hands_up(
-    rt: &impl Abort,
-    alloc: Global,
-    receiver: &mut Receiver,
-    cases: &[(&[u8], u8, &[u8])],
-) -> Result<(), Fail> {
+fn hands_up(rt: &impl Abort, alloc: Global, receiver: &mut Receiver, cases: &[(&[u8], u8, &[u8])]) {
     for ((contents, next, payload), number) in cases.iter().zip(1..) {
-        let packet = packet(alloc, number, contents, &[])?;
+        let packet = granted(rt, packet(alloc, number, contents, &[]));
         let wanted = Opened {
             number: u64::from(number),
             next: *next,
             payload,
         };
-        same(rt, receiver.open(rt, &packet)?, wanted);
+        same(rt, receiver.open(rt, &packet), Ok(wanted));
     }
-    Ok(())
 }
 
 #[test]
-fn hands_up_what_stands_before_the_padding(rt: HostRuntime) -> Result<(), Fail> {
+fn hands_up_what_stands_before_the_padding(rt: HostRuntime) {
     let mut receiver = Receiver::new(rt.alloc(), false);
     let cases: [(&[u8], u8, &[u8]); 5] = [
         (&[1, 2, 2, 4], 4, &[]),
@@ -168,7 +155,7 @@ fn hands_up_what_stands_before_the_padding(rt: HostRuntime) -> Result<(), Fail> 
         (&[1, 2, 0, 255], 255, &[1, 2]),
         (&[9, 8, 7, 6, 1, 2, 3, 4, 5, 6, 6, 41], 41, &[9, 8, 7, 6]),
     ];
-    hands_up(&rt, rt.alloc(), &mut receiver, &cases)
+    hands_up(&rt, rt.alloc(), &mut receiver, &cases);
 }
 
 /// Finds that a packet with a damaged octet at any of these places is refused.
@@ -178,9 +165,9 @@ fn refuses_damaged(
     receiver: &mut Receiver,
     packet: &[u8],
     places: &[usize],
-) -> Result<(), Fail> {
+) {
     for place in places {
-        let wrong = damaged(alloc, packet, *place)?;
+        let wrong = granted(rt, damaged(alloc, packet, *place));
         same_at(
             rt,
             *place,
@@ -188,19 +175,17 @@ fn refuses_damaged(
             Some(EspFault::BadIcv),
         );
     }
-    Ok(())
 }
 
 // Octets of the number, the payload, the padding, its length, the next header and the check value. Number 8 becomes 9.
 #[test]
-fn refuses_each_damaged_octet(rt: HostRuntime) -> Result<(), Fail> {
+fn refuses_each_damaged_octet(rt: HostRuntime) {
     let mut receiver = Receiver::new(rt.alloc(), false);
-    let packet = sealed(&rt, rt.alloc(), sender(7), 8)?;
+    let packet = sealed(&rt, rt.alloc(), sender(7), 8);
     let places = [4, 7, 8, 27, 28, 29, 30, 31, 32, 40, 47];
-    refuses_damaged(&rt, rt.alloc(), &mut receiver, &packet, &places)?;
-    receiver.opens_inner(&rt, &packet, 8)?;
+    refuses_damaged(&rt, rt.alloc(), &mut receiver, &packet, &places);
+    receiver.opens_inner(&rt, &packet, 8);
     receiver.refuses(&rt, &packet, EspFault::Replayed);
-    Ok(())
 }
 
 /// The contents of a packet whose padding is wrong.
@@ -212,12 +197,12 @@ fn refuses_wrong(
     alloc: Global,
     receiver: &mut Receiver,
     rows: &[(u32, EspFault)],
-) -> Result<(), Fail> {
+) {
     for (number, fault) in rows {
-        let right = packet(alloc, *number, &BAD, &[])?;
-        let mut wrong = damaged(alloc, &right, 27)?;
+        let right = granted(rt, packet(alloc, *number, &BAD, &[]));
+        let mut wrong = granted(rt, damaged(alloc, &right, 27));
         same_at(rt, *number, receiver.open(rt, &wrong).err(), Some(*fault));
-        wrong.push(0)?;
+        granted(rt, wrong.push(0));
         same_at(
             rt,
             *number,
@@ -225,7 +210,6 @@ fn refuses_wrong(
             Some(EspFault::BadLength),
         );
     }
-    Ok(())
 }
 
 /// Finds how such packets are refused where their check value is right.
@@ -234,20 +218,19 @@ fn refuses_right(
     alloc: Global,
     receiver: &mut Receiver,
     rows: &[(u32, EspFault)],
-) -> Result<(), Fail> {
+) {
     for (number, fault) in rows {
-        let right = packet(alloc, *number, &BAD, &[])?;
+        let right = granted(rt, packet(alloc, *number, &BAD, &[]));
         same_at(rt, *number, receiver.open(rt, &right).err(), Some(*fault));
     }
-    Ok(())
 }
 
 // A packet with several faults gets the first. Only the last of them takes its number.
 #[test]
-fn refuses_in_order(rt: HostRuntime) -> Result<(), Fail> {
+fn refuses_in_order(rt: HostRuntime) {
     let mut receiver = Receiver::new(rt.alloc(), false);
-    let top = sealed(&rt, rt.alloc(), sender(99), 100)?;
-    receiver.opens_inner(&rt, &top, 100)?;
+    let top = sealed(&rt, rt.alloc(), sender(99), 100);
+    receiver.opens_inner(&rt, &top, 100);
     let wrong = [
         (0, EspFault::BadNumber),
         (1, EspFault::Old),
@@ -257,7 +240,7 @@ fn refuses_in_order(rt: HostRuntime) -> Result<(), Fail> {
         (101, EspFault::BadIcv),
         (u32::MAX, EspFault::BadIcv),
     ];
-    refuses_wrong(&rt, rt.alloc(), &mut receiver, &wrong)?;
+    refuses_wrong(&rt, rt.alloc(), &mut receiver, &wrong);
     let right = [
         (0, EspFault::BadNumber),
         (36, EspFault::Old),
@@ -267,5 +250,5 @@ fn refuses_in_order(rt: HostRuntime) -> Result<(), Fail> {
         (101, EspFault::BadPadding),
         (37, EspFault::Old),
     ];
-    refuses_right(&rt, rt.alloc(), &mut receiver, &right)
+    refuses_right(&rt, rt.alloc(), &mut receiver, &right);
 }

@@ -1,10 +1,9 @@
 //! What is sealed. The expected check values are those that Python's module `hmac` computes.
 use super::fixture::{IPV4, extended_sender, first, inner, sealed, sender};
-use crate::tests::asserts::{holds, same, same_at};
+use crate::tests::asserts::{granted, holds, same, same_at};
 use esp::{EspFault, Outbound};
 use std::alloc::Global;
 use std::process::Abort;
-use std::test::Fail;
 
 /// The packet with number 2 that carries [`inner`].
 fn second() -> [u8; 48] {
@@ -18,36 +17,34 @@ fn second() -> [u8; 48] {
 
 // A packet is appended, and covers none of the octets before it.
 #[test]
-fn seals_and_appends(rt: HostRuntime) -> Result<(), Fail> {
+fn seals_and_appends(rt: HostRuntime) {
     let mut sender = sender(0);
     let mut out = Vec::new(rt.alloc());
-    same(&rt, sender.seal(IPV4, &inner(), &mut out)?, 1);
+    same(&rt, sender.seal(IPV4, &inner(), &mut out), Ok(1));
     same(&rt, out.as_slice(), first().as_slice());
-    same(&rt, sender.seal(IPV4, &inner(), &mut out)?, 2);
-    let (one, other) = out.as_slice().split_at_checked(48).ok_or("too short")?;
+    same(&rt, sender.seal(IPV4, &inner(), &mut out), Ok(2));
+    let (one, other) = out.as_slice().split_at_checked(48).expect(&rt, "48 octets");
     same(&rt, one, first().as_slice());
     same(&rt, other, second().as_slice());
-    Ok(())
 }
 
 /// Finds how long a packet with so many octets 5a is, that they stand in it behind number 1, and what stands behind them.
-fn pads(rt: &impl Abort, alloc: Global, rows: &[(usize, usize, &[u8])]) -> Result<(), Fail> {
+fn pads(rt: &impl Abort, alloc: Global, rows: &[(usize, usize, &[u8])]) {
     for (octets, length, end) in rows {
-        let payload = vec![in alloc; 0x5a; *octets]?;
+        let payload = granted(rt, vec![in alloc; 0x5a; *octets]);
         let mut out = Vec::new(alloc);
-        same(rt, sender(0).seal(IPV4, &payload, &mut out)?, 1);
+        same(rt, sender(0).seal(IPV4, &payload, &mut out), Ok(1));
         same_at(rt, *octets, out.len(), *length);
-        let mut wanted = b"\0\0\x01\0\0\0\0\x01".to_vec(alloc)?;
-        wanted.extend_from_slice(&payload)?;
-        wanted.extend_from_slice(end)?;
+        let mut wanted = granted(rt, b"\0\0\x01\0\0\0\0\x01".to_vec(alloc));
+        granted(rt, wanted.extend_from_slice(&payload));
+        granted(rt, wanted.extend_from_slice(end));
         same_at(rt, *octets, out.as_slice(), wanted.as_slice());
     }
-    Ok(())
 }
 
 // Payloads of octets 5a under every remainder by four, and the longest: their trailer and check value.
 #[test]
-fn pads_with_the_least_padding(rt: HostRuntime) -> Result<(), Fail> {
+fn pads_with_the_least_padding(rt: HostRuntime) {
     let cases: [(usize, usize, &[u8]); 6] = [
         (
             0,
@@ -80,45 +77,43 @@ fn pads_with_the_least_padding(rt: HostRuntime) -> Result<(), Fail> {
             b"\x01\x02\x02\x04\xff\x1c\xdc\x0d\xac\x5b\x1d\xf6\xea\x33\x73\xcc\x75\xd8\x50\xad",
         ),
     ];
-    pads(&rt, rt.alloc(), &cases)
+    pads(&rt, rt.alloc(), &cases);
 }
 
 #[test]
-fn refuses_a_longer_payload(rt: HostRuntime) -> Result<(), Fail> {
+fn refuses_a_longer_payload(rt: HostRuntime) {
     let mut sender = sender(0);
-    let payload = vec![in rt.alloc(); 0x5a; 16_385]?;
-    let mut out = vec![in rt.alloc(); 1, 2, 3]?;
+    let payload = granted(&rt, vec![in rt.alloc(); 0x5a; 16_385]);
+    let mut out = granted(&rt, vec![in rt.alloc(); 1, 2, 3]);
     let refused = sender.seal(IPV4, &payload, &mut out);
     same(&rt, refused, Err(EspFault::PayloadSize));
     same(&rt, out.as_slice(), &[1, 2, 3]);
     out.clear();
-    same(&rt, sender.seal(IPV4, &inner(), &mut out)?, 1);
+    same(&rt, sender.seal(IPV4, &inner(), &mut out), Ok(1));
     same(&rt, out.as_slice(), first().as_slice());
-    Ok(())
 }
 
 /// Finds that a sender's next number is its last, after which every payload is refused, however long.
-fn ends_with(rt: &impl Abort, alloc: Global, mut sender: Outbound, most: u64) -> Result<(), Fail> {
-    let long = vec![in alloc; 0x5a; 16_385]?;
+fn ends_with(rt: &impl Abort, alloc: Global, mut sender: Outbound, most: u64) {
+    let long = granted(rt, vec![in alloc; 0x5a; 16_385]);
     let mut out = Vec::new(alloc);
-    same(rt, sender.seal(IPV4, &inner(), &mut out)?, most);
+    same(rt, sender.seal(IPV4, &inner(), &mut out), Ok(most));
     same(rt, out.len(), 48);
     let refused = sender.seal(IPV4, &inner(), &mut out);
     same_at(rt, most, refused, Err(EspFault::Exhausted));
     let refused = sender.seal(IPV4, &long, &mut out);
     same_at(rt, most, refused, Err(EspFault::Exhausted));
     same(rt, out.len(), 48);
-    Ok(())
 }
 
 #[test]
-fn uses_up_the_numbers(rt: HostRuntime) -> Result<(), Fail> {
-    ends_with(&rt, rt.alloc(), sender(4_294_967_294), 4_294_967_295)?;
-    ends_with(&rt, rt.alloc(), extended_sender(u64::MAX - 1), u64::MAX)
+fn uses_up_the_numbers(rt: HostRuntime) {
+    ends_with(&rt, rt.alloc(), sender(4_294_967_294), 4_294_967_295);
+    ends_with(&rt, rt.alloc(), extended_sender(u64::MAX - 1), u64::MAX);
 }
 
 #[test]
-fn goes_on_above_32_bits_if_extended(rt: HostRuntime) -> Result<(), Fail> {
+fn goes_on_above_32_bits_if_extended(rt: HostRuntime) {
     let mut out = Vec::new(rt.alloc());
     let refused = sender(4_294_967_295).seal(IPV4, &inner(), &mut out);
     same(&rt, refused, Err(EspFault::Exhausted));
@@ -128,7 +123,6 @@ fn goes_on_above_32_bits_if_extended(rt: HostRuntime) -> Result<(), Fail> {
         rt.alloc(),
         extended_sender(4_294_967_295),
         4_294_967_296,
-    )?;
+    );
     same(&rt, sealed.len(), 48);
-    Ok(())
 }

@@ -3,7 +3,6 @@ use crate::tests::asserts::{holds, same, same_at};
 use mac::{MacFault, cookie, prf_plus};
 use sha2::{Digest, Sha256};
 use std::process::Abort;
-use std::test::Fail;
 
 const KEY: &[u8] = b"Jefe";
 
@@ -28,32 +27,30 @@ const FIRST: [u8; 224] = [
 ];
 
 // The seed in one part and in several gives the same octets.
-fn expect(rt: &impl Abort, count: usize, wanted: &[u8]) -> Result<(), Fail> {
+fn expect(rt: &impl Abort, count: usize, wanted: &[u8]) {
     assert!(rt; count <= 8160);
     let (front, rest) = SEED.split_at(9);
     let parts: [&[u8]; 3] = [front, b"", rest];
     let mut whole = [0xee; 8160];
     let mut joined = [0xee; 8160];
-    prf_plus(KEY, &[SEED], &mut whole[..count])?;
-    prf_plus(KEY, &parts, &mut joined[..count])?;
+    prf_plus(KEY, &[SEED], &mut whole[..count]).expect(rt, "so many octets");
+    prf_plus(KEY, &parts, &mut joined[..count]).expect(rt, "so many octets");
     same_at(rt, count, &whole[..count], wanted);
     same_at(rt, count, &joined[..count], wanted);
-    Ok(())
 }
 
 #[test]
-fn beginnings_of_one_output(rt: HostRuntime) -> Result<(), Fail> {
+fn beginnings_of_one_output(rt: HostRuntime) {
     for count in [0, 1, 31, 32, 33, 64, 65, 224] {
         assert!(rt; count <= 224);
-        expect(&rt, count, &FIRST[..count])?;
+        expect(&rt, count, &FIRST[..count]);
     }
-    Ok(())
 }
 
 #[test]
-fn all_255_blocks(rt: HostRuntime) -> Result<(), Fail> {
+fn all_255_blocks(rt: HostRuntime) {
     let mut out = [0; 8160];
-    prf_plus(KEY, &[SEED], &mut out)?;
+    prf_plus(KEY, &[SEED], &mut out).expect(&rt, "so many octets");
     holds(&rt, out.starts_with(&FIRST));
     let digest: [u8; 32] = Sha256::digest(&out);
     same(
@@ -65,17 +62,16 @@ fn all_255_blocks(rt: HostRuntime) -> Result<(), Fail> {
             0xad, 0x2e, 0xb4, 0x90,
         ],
     );
-    Ok(())
 }
 
 #[test]
-fn a_key_longer_than_a_block_of_the_hash(rt: HostRuntime) -> Result<(), Fail> {
+fn a_key_longer_than_a_block_of_the_hash(rt: HostRuntime) {
     let mut key = [0; 65];
     for (place, octet) in key.iter_mut().enumerate() {
         *octet = place as u8;
     }
     let mut out = [0; 33];
-    prf_plus(&key, &[SEED], &mut out)?;
+    prf_plus(&key, &[SEED], &mut out).expect(&rt, "so many octets");
     same(
         &rt,
         out,
@@ -85,7 +81,6 @@ fn a_key_longer_than_a_block_of_the_hash(rt: HostRuntime) -> Result<(), Fail> {
             0x16, 0x19, 0x68, 0x9b, 0xd2,
         ],
     );
-    Ok(())
 }
 
 #[test]

@@ -13,14 +13,8 @@ pub fn accept<W: Window>(window: &mut W, n: u64) -> Result<Judgement, ReplayFaul
 }
 
 /// Finds that a number is judged so, and takes it if it is fresh.
-pub fn offer<W: Window>(
-    rt: &impl Abort,
-    window: &mut W,
-    n: u64,
-    judgement: Judgement,
-) -> Result<(), ReplayFault> {
-    same_at(rt, n, accept(window, n)?, judgement);
-    Ok(())
+pub fn offer<W: Window>(rt: &impl Abort, window: &mut W, n: u64, judgement: Judgement) {
+    same_at(rt, n, accept(window, n).expect(rt, "memory"), judgement);
 }
 
 /// Finds that numbers are judged so; none is taken.

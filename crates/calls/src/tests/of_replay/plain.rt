@@ -3,24 +3,21 @@ use crate::tests::asserts::{holds, same};
 use replay::Judgement::{Fresh, Old, Taken, Zero};
 use replay::{PlainWindow, ReplayFault, Window};
 use std::process::Abort;
-use std::test::Fail;
 
 /// Finds that a new window's span moves with the numbers that it takes.
-fn moves(rt: &impl Abort, window: &mut PlainWindow) -> Result<(), ReplayFault> {
+fn moves(rt: &impl Abort, window: &mut PlainWindow) {
     same(rt, (window.size(), window.top()), (64, 0));
-    offer(rt, window, 64, Fresh)?;
+    offer(rt, window, 64, Fresh);
     judges(rt, window, &[(1, Fresh)]);
-    offer(rt, window, 65, Fresh)?;
+    offer(rt, window, 65, Fresh);
     let rows = [(2, Fresh), (1, Old), (65, Taken), (0, Zero), (66, Fresh)];
     judges(rt, window, &rows);
     same(rt, window.top(), 65);
-    Ok(())
 }
 
 #[test]
-fn moves_its_span(rt: HostRuntime) -> Result<(), Fail> {
-    moves(&rt, &mut PlainWindow::new(rt.alloc(), 2))?;
-    Ok(())
+fn moves_its_span(rt: HostRuntime) {
+    moves(&rt, &mut PlainWindow::new(rt.alloc(), 2));
 }
 
 /// How many numbers up to 300 were taken, as far as the window knows.
@@ -35,15 +32,14 @@ fn taken(window: &PlainWindow) -> u32 {
 }
 
 #[test]
-fn knows_no_more_numbers_than_it_spans(rt: HostRuntime) -> Result<(), Fail> {
+fn knows_no_more_numbers_than_it_spans(rt: HostRuntime) {
     let mut window = PlainWindow::new(rt.alloc(), 2);
     for n in 1..=200 {
-        offer(&rt, &mut window, n, Fresh)?;
-        offer(&rt, &mut window, n, Taken)?;
+        offer(&rt, &mut window, n, Fresh);
+        offer(&rt, &mut window, n, Taken);
         holds(&rt, taken(&window) <= 64);
     }
     same(&rt, taken(&window), 64);
-    Ok(())
 }
 
 #[test]

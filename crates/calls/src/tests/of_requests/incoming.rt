@@ -6,7 +6,6 @@ use crate::tests::asserts::{holds_at, same_at};
 use requests::{Incoming, Judgement};
 use std::alloc::Global;
 use std::process::Abort;
-use std::test::Fail;
 
 /// What is said of a number, with the reply as the number that its octets spell.
 fn said(incoming: &Incoming, number: u32) -> Said {
@@ -27,16 +26,15 @@ fn offer(
     plain: &mut PlainIncoming,
     number: u32,
     reply: u32,
-) -> Result<(), Fail> {
+) {
     let judged = plain.judge(number);
     same_at(rt, number, said(incoming, number), judged);
-    let taken = accept(incoming, alloc, number, &reply.to_be_bytes())?;
+    let taken = accept(incoming, alloc, number, &reply.to_be_bytes()).expect(rt, "memory");
     same_at(rt, number, taken, judged == Said::Fresh);
     if taken {
-        plain.take(number, reply)?;
+        plain.take(rt, number, reply);
     }
     same_at(rt, number, said(incoming, number), plain.judge(number));
-    Ok(())
 }
 
 /// Compares what both say of the numbers from this one on.
@@ -55,20 +53,21 @@ fn agree(
     plain: &mut PlainIncoming,
     draws: &mut Draws,
     rounds: u32,
-) -> Result<(), Fail> {
+) {
     for round in 0..rounds {
-        let near = u32::try_from(plain.gap())?.saturating_sub(18);
+        let near = u32::try_from(plain.gap())
+            .expect(rt, "a number of 32 bits")
+            .saturating_sub(18);
         let number = near.saturating_add(draws.below(40));
-        offer(rt, alloc, incoming, plain, number, round)?;
+        offer(rt, alloc, incoming, plain, number, round);
         if round % 16 == 0 {
             same_near(rt, incoming, plain, near);
         }
     }
-    Ok(())
 }
 
 /// A long mixed list at one size.
-fn agree_at(rt: &impl Abort, alloc: Global, size: u8) -> Result<(), Fail> {
+fn agree_at(rt: &impl Abort, alloc: Global, size: u8) {
     let mut incoming = Incoming::new(alloc);
     let mut plain = PlainIncoming::new(alloc);
     if 1 <= size && size <= 16 {
@@ -76,43 +75,37 @@ fn agree_at(rt: &impl Abort, alloc: Global, size: u8) -> Result<(), Fail> {
         plain.size = u32::from(size);
     }
     let mut draws = Draws::new(u64::from(size));
-    agree(rt, alloc, &mut incoming, &mut plain, &mut draws, 600)
+    agree(rt, alloc, &mut incoming, &mut plain, &mut draws, 600);
 }
 
 #[test]
-fn agrees_at_each_size(rt: HostRuntime) -> Result<(), Fail> {
-    agree_at(&rt, rt.alloc(), 1)?;
-    agree_at(&rt, rt.alloc(), 4)?;
-    agree_at(&rt, rt.alloc(), 16)
+fn agrees_at_each_size(rt: HostRuntime) {
+    agree_at(&rt, rt.alloc(), 1);
+    agree_at(&rt, rt.alloc(), 4);
+    agree_at(&rt, rt.alloc(), 16);
 }
 
 #[test]
-fn grows_in_mid_life(rt: HostRuntime) -> Result<(), Fail> {
+fn grows_in_mid_life(rt: HostRuntime) {
     let mut incoming = Incoming::new(rt.alloc());
     let mut plain = PlainIncoming::new(rt.alloc());
     let mut draws = Draws::new(7);
-    agree(&rt, rt.alloc(), &mut incoming, &mut plain, &mut draws, 200)?;
+    agree(&rt, rt.alloc(), &mut incoming, &mut plain, &mut draws, 200);
     incoming.invariants_hold();
     incoming.set_size(16);
     plain.size = 16;
-    agree(&rt, rt.alloc(), &mut incoming, &mut plain, &mut draws, 400)
+    agree(&rt, rt.alloc(), &mut incoming, &mut plain, &mut draws, 400);
 }
 
 /// Takes these numbers one after the other, each of which is to be fresh.
-fn take_all(
-    rt: &impl Abort,
-    alloc: Global,
-    incoming: &mut Incoming,
-    numbers: &[u32],
-) -> Result<(), Fail> {
+fn take_all(rt: &impl Abort, alloc: Global, incoming: &mut Incoming, numbers: &[u32]) {
     for number in numbers {
         holds_at(
             rt,
             number,
-            accept(incoming, alloc, *number, &number.to_be_bytes())?,
+            accept(incoming, alloc, *number, &number.to_be_bytes()).expect(rt, "memory"),
         );
     }
-    Ok(())
 }
 
 /// Compares what is said of some numbers.
@@ -123,12 +116,12 @@ fn all_said(rt: &impl Abort, incoming: &Incoming, rows: &[(u32, Said)]) {
 }
 
 #[test]
-fn a_window_of_four_at_gap_two(rt: HostRuntime) -> Result<(), Fail> {
+fn a_window_of_four_at_gap_two(rt: HostRuntime) {
     let mut incoming = Incoming::new(rt.alloc());
     incoming.set_size(4);
-    take_all(&rt, rt.alloc(), &mut incoming, &[0, 1])?;
+    take_all(&rt, rt.alloc(), &mut incoming, &[0, 1]);
     all_said(&rt, &incoming, &[(6, Said::Outside), (5, Said::Fresh)]);
-    take_all(&rt, rt.alloc(), &mut incoming, &[5])?;
+    take_all(&rt, rt.alloc(), &mut incoming, &[5]);
     all_said(
         &rt,
         &incoming,
@@ -139,27 +132,26 @@ fn a_window_of_four_at_gap_two(rt: HostRuntime) -> Result<(), Fail> {
             (6, Said::Outside),
         ],
     );
-    take_all(&rt, rt.alloc(), &mut incoming, &[2, 3])?;
+    take_all(&rt, rt.alloc(), &mut incoming, &[2, 3]);
     // The gap is 4 now.
     all_said(
         &rt,
         &incoming,
         &[(5, Said::Repeat(5)), (7, Said::Fresh), (8, Said::Outside)],
     );
-    Ok(())
 }
 
 #[test]
-fn a_reply_is_given_up_one_window_behind(rt: HostRuntime) -> Result<(), Fail> {
+fn a_reply_is_given_up_one_window_behind(rt: HostRuntime) {
     let mut incoming = Incoming::new(rt.alloc());
     incoming.set_size(4);
-    take_all(&rt, rt.alloc(), &mut incoming, &[0, 1, 2, 3])?;
+    take_all(&rt, rt.alloc(), &mut incoming, &[0, 1, 2, 3]);
     all_said(
         &rt,
         &incoming,
         &[(0, Said::Repeat(0)), (3, Said::Repeat(3))],
     );
-    take_all(&rt, rt.alloc(), &mut incoming, &[4])?;
+    take_all(&rt, rt.alloc(), &mut incoming, &[4]);
     all_said(
         &rt,
         &incoming,
@@ -169,13 +161,12 @@ fn a_reply_is_given_up_one_window_behind(rt: HostRuntime) -> Result<(), Fail> {
             (4, Said::Repeat(4)),
         ],
     );
-    take_all(&rt, rt.alloc(), &mut incoming, &[8])?;
+    take_all(&rt, rt.alloc(), &mut incoming, &[8]);
     all_said(
         &rt,
         &incoming,
         &[(4, Said::Forgotten), (8, Said::Repeat(8))],
     );
-    Ok(())
 }
 
 #[test]

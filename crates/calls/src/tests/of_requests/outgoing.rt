@@ -6,7 +6,6 @@ use crate::tests::asserts::{holds, same, same_at};
 use requests::{Outgoing, RequestFault};
 use std::alloc::Global;
 use std::process::Abort;
-use std::test::Fail;
 
 /// Issues a request of both, and compares the answers.
 fn issue_both(
@@ -14,7 +13,7 @@ fn issue_both(
     outgoing: &mut Outgoing<u32>,
     plain: &mut PlainOutgoing,
     request: u32,
-) -> Result<(), Fail> {
+) {
     match outgoing.may_issue() {
         Ok(number) => same(rt, u64::from(number), plain.next),
         Err(fault) => same(rt, Some(fault), plain.refusal()),
@@ -23,11 +22,10 @@ fn issue_both(
         Ok(number) => {
             same(rt, u64::from(number), plain.next);
             holds(rt, plain.refusal().is_none());
-            plain.issue(number, request)?;
+            plain.issue(rt, number, request);
         }
         Err(fault) => same(rt, Some(fault), plain.refusal()),
     }
-    Ok(())
 }
 
 /// Compares the outstanding requests, by number and in their order.
@@ -54,13 +52,13 @@ fn replace_both(
     plain: &mut PlainOutgoing,
     number: u32,
     request: u32,
-) -> Result<(), Fail> {
+) {
     let was = plain.outstanding.get(&number).copied();
     same_at(rt, number, replace(outgoing, number, request), was);
     if was.is_some() {
-        plain.outstanding.insert(number, request)?;
+        let replaced: Result<_, _> = plain.outstanding.insert(number, request);
+        replaced.expect(rt, "memory");
     }
-    Ok(())
 }
 
 /// Does one of the three things to both, as the draws have it.
@@ -70,22 +68,23 @@ fn change_both(
     plain: &mut PlainOutgoing,
     draws: &mut Draws,
     round: u32,
-) -> Result<(), Fail> {
-    let near = u32::try_from(plain.next)?.saturating_sub(18);
+) {
+    let near = u32::try_from(plain.next)
+        .expect(rt, "a number of 32 bits")
+        .saturating_sub(18);
     let number = near.saturating_add(draws.below(20));
     match draws.below(4) {
         0 | 1 => issue_both(rt, outgoing, plain, round),
         2 => {
-            let wanted = plain.count(number)?;
+            let wanted = plain.count(rt, number);
             same_at(rt, number, count(outgoing, number), wanted);
-            Ok(())
         }
         _ => replace_both(rt, outgoing, plain, number, round),
     }
 }
 
 /// A long mixed list at one window.
-fn agree_at(rt: &impl Abort, alloc: Global, window: u8) -> Result<(), Fail> {
+fn agree_at(rt: &impl Abort, alloc: Global, window: u8) {
     let mut outgoing: Outgoing<u32> = Outgoing::new(alloc);
     let mut plain = PlainOutgoing::new(alloc);
     if 1 <= window && window <= 16 {
@@ -94,17 +93,16 @@ fn agree_at(rt: &impl Abort, alloc: Global, window: u8) -> Result<(), Fail> {
     }
     let mut draws = Draws::new(u64::from(window));
     for round in 0..400 {
-        change_both(rt, &mut outgoing, &mut plain, &mut draws, round)?;
+        change_both(rt, &mut outgoing, &mut plain, &mut draws, round);
         same_outstanding(rt, &outgoing, &plain);
     }
-    Ok(())
 }
 
 #[test]
-fn agrees_at_each_window(rt: HostRuntime) -> Result<(), Fail> {
-    agree_at(&rt, rt.alloc(), 1)?;
-    agree_at(&rt, rt.alloc(), 4)?;
-    agree_at(&rt, rt.alloc(), 16)
+fn agrees_at_each_window(rt: HostRuntime) {
+    agree_at(&rt, rt.alloc(), 1);
+    agree_at(&rt, rt.alloc(), 4);
+    agree_at(&rt, rt.alloc(), 16);
 }
 
 #[test]

@@ -1,7 +1,9 @@
 //! The peer's requests and the own ones as plain sets and maps, by the rules as they stand in the RFC.
-use requests::{Judgement, RequestFault};
-use std::alloc::{AllocError, Global};
+use crate::tests::asserts::granted;
+use requests::RequestFault;
+use std::alloc::Global;
 use std::collections::{BTreeMap, BTreeSet};
+use std::process::Abort;
 
 /// The least number that a set lacks.
 fn gap(numbers: &BTreeSet<u32>) -> u64 {
@@ -57,16 +59,16 @@ impl PlainIncoming {
         }
     }
 
-    pub fn take(&mut self, number: u32, reply: u32) -> Result<(), AllocError> {
-        self.in_effect.insert(number)?;
-        self.kept.insert(number, reply)?;
-        for passed in self.in_effect.clone()? {
+    pub fn take(&mut self, rt: &impl Abort, number: u32, reply: u32) {
+        self.in_effect.insert(number).expect(rt, "memory");
+        let replaced: Result<_, _> = self.kept.insert(number, reply);
+        replaced.expect(rt, "memory");
+        for passed in granted(rt, self.in_effect.clone()) {
             let end = u64::from(passed).saturating_add(u64::from(self.size));
             if u64::from(number) >= end {
                 let _ = self.kept.remove(&passed);
             }
         }
-        Ok(())
     }
 }
 
@@ -100,17 +102,17 @@ impl PlainOutgoing {
         }
     }
 
-    pub fn issue(&mut self, number: u32, request: u32) -> Result<(), AllocError> {
-        self.outstanding.insert(number, request)?;
+    pub fn issue(&mut self, rt: &impl Abort, number: u32, request: u32) {
+        let replaced: Result<_, _> = self.outstanding.insert(number, request);
+        replaced.expect(rt, "memory");
         self.next = self.next.saturating_add(1);
-        Ok(())
     }
 
-    pub fn count(&mut self, number: u32) -> Result<Option<u32>, AllocError> {
+    pub fn count(&mut self, rt: &impl Abort, number: u32) -> Option<u32> {
         let request = self.outstanding.remove(&number);
         if request.is_some() {
-            self.answered.insert(number)?;
+            self.answered.insert(number).expect(rt, "memory");
         }
-        Ok(request)
+        request
     }
 }

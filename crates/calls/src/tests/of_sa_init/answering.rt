@@ -2,13 +2,13 @@
 ghost use Rattle.sa_init.specs.Fitting.{IsSpelled};
 
 use super::fixture::{FRESH, NONCE, SECRET, SENDER, decoded, ke, nonce, proposal};
-use crate::tests::asserts::{holds, same};
+use crate::tests::asserts::{granted, holds, same};
 use caller::ScriptCaller;
 use mac::hmac;
 use sa_init::laws::accepted_offers_fit;
 use sa_init::{Agreed, Cookies, Judgement, Response, Waiting, answer, judge, read, request};
 use std::alloc::Global;
-use std::test::Fail;
+use std::process::Abort;
 use suite::KeyRecord;
 use wire::{Items, Message, Payload};
 
@@ -23,7 +23,7 @@ const KEYS: [u8; 32] = [
 ];
 
 // The answer to a request that is accepted.
-fn answered(alloc: Global, message: &Message) -> Result<Agreed, Fail>
+fn answered(rt: &impl Abort, alloc: Global, message: &Message) -> Agreed
     requires { IsSpelled message.now }
 {
     accepted_offers_fit();
@@ -31,21 +31,22 @@ fn answered(alloc: Global, message: &Message) -> Result<Agreed, Fail>
     let payloads = message.payloads.as_slice();
     match judge(&ScriptCaller, payloads, &SENDER, &cookies, 0, 0) {
         Judgement::Accepted(offer) => {
-            Ok(answer(alloc, &ScriptCaller, &offer, SENDER.spi_i, &FRESH)?.ok_or("no secret")?)
+            let agreed = answer(alloc, &ScriptCaller, &offer, SENDER.spi_i, &FRESH);
+            agreed.expect(rt, "memory").expect(rt, "a secret")
         }
-        _ => Err("not accepted")?,
+        _ => panic!(rt; "not accepted"),
     }
 }
 
-fn agreed(alloc: Global) -> Result<Agreed, Fail> {
-    let octets = request(alloc, &ScriptCaller, 1, None, &SECRET, &NONCE)?;
-    let message = decoded(alloc, octets.as_slice())?;
-    answered(alloc, &message)
+fn agreed(rt: &impl Abort, alloc: Global) -> Agreed {
+    let octets = request(alloc, &ScriptCaller, 1, None, &SECRET, &NONCE).expect(rt, "memory");
+    let message = decoded(rt, alloc, octets.as_slice());
+    answered(rt, alloc, &message)
 }
 
 #[test]
-fn answers(rt: HostRuntime) -> Result<(), Fail> {
-    let agreed = agreed(rt.alloc())?;
+fn answers(rt: HostRuntime) {
+    let agreed = agreed(&rt, rt.alloc());
     same(&rt, agreed.octets.len(), 148);
     same(&rt, hmac(b"test", &[agreed.octets.as_slice()]), ANSWER);
     let keys = &agreed.record;
@@ -62,12 +63,11 @@ fn answers(rt: HostRuntime) -> Result<(), Fail> {
         ],
     );
     same(&rt, hash, KEYS);
-    Ok(())
 }
 
 // The keys that the initiator reads from an answer.
-fn keys_read(alloc: Global, octets: &[u8], carried: Option<&[u8]>) -> Result<KeyRecord, Fail> {
-    let message = decoded(alloc, octets)?;
+fn keys_read(rt: &impl Abort, alloc: Global, octets: &[u8], carried: Option<&[u8]>) -> KeyRecord {
+    let message = decoded(rt, alloc, octets);
     let (secret, nonce) = (SECRET, NONCE);
     let sent = Waiting {
         spi_i: 1,
@@ -77,29 +77,28 @@ fn keys_read(alloc: Global, octets: &[u8], carried: Option<&[u8]>) -> Result<Key
         cookies_taken: 0,
     };
     match read(alloc, &ScriptCaller, &message, &sent) {
-        Ok(Response::Keys(keys)) => Ok(keys),
-        _ => Err("no keys")?,
+        Ok(Response::Keys(keys)) => keys,
+        _ => panic!(rt; "no keys"),
     }
 }
 
 #[test]
-fn both_ends_have_one_record(rt: HostRuntime) -> Result<(), Fail> {
-    let agreed = agreed(rt.alloc())?;
-    let keys = keys_read(rt.alloc(), agreed.octets.as_slice(), None)?;
+fn both_ends_have_one_record(rt: HostRuntime) {
+    let agreed = agreed(&rt, rt.alloc());
+    let keys = keys_read(&rt, rt.alloc(), agreed.octets.as_slice(), None);
     holds(&rt, keys == agreed.record);
-    Ok(())
 }
 
 #[test]
-fn chooses_the_second_proposal(rt: HostRuntime) -> Result<(), Fail> {
+fn chooses_the_second_proposal(rt: HostRuntime) {
     let alloc = rt.alloc();
     let mut proposals = Items::new(alloc);
-    proposals.push(proposal(alloc, 1, 2)?)?;
-    proposals.push(proposal(alloc, 2, 5)?)?;
+    granted(&rt, proposals.push(proposal(&rt, alloc, 1, 2)));
+    granted(&rt, proposals.push(proposal(&rt, alloc, 2, 5)));
     let mut payloads = Items::new(alloc);
-    payloads.push(Payload::Sa(proposals))?;
-    payloads.push(ke(alloc, 65002)?)?;
-    payloads.push(nonce(alloc)?)?;
+    granted(&rt, payloads.push(Payload::Sa(proposals)));
+    granted(&rt, payloads.push(ke(&rt, alloc, 65002)));
+    granted(&rt, payloads.push(nonce(&rt, alloc)));
     let cookies = Cookies::new(&[0x11; 32]);
     let Judgement::Accepted(offer) = judge(
         &ScriptCaller,
@@ -109,10 +108,9 @@ fn chooses_the_second_proposal(rt: HostRuntime) -> Result<(), Fail> {
         0,
         0,
     ) else {
-        return Err("not accepted")?;
+        panic!(rt; "not accepted");
     };
     same(&rt, (offer.chosen.place, offer.chosen.number), (1, 2));
     same(&rt, offer.public, SECRET.as_slice());
     same(&rt, offer.nonce, NONCE.as_slice());
-    Ok(())
 }

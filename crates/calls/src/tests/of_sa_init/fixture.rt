@@ -1,10 +1,10 @@
 //! The two ends of the tests, and payloads to choose from.
-ghost use Rattle.std.specs.Prelude.{IfOk};
 ghost use Rattle.sa_init.specs.Fitting.{IsSpelled};
 
+use crate::tests::asserts::granted;
 use sa_init::Sender;
 use std::alloc::Global;
-use std::test::Fail;
+use std::process::Abort;
 use suite::Fresh;
 use wire::{Items, Message, Payload, Proposal, Transform, decode_message};
 
@@ -27,10 +27,10 @@ pub const FRESH: Fresh = Fresh {
 /// The group of the caller of scripts.
 pub const GROUP: u16 = 65002;
 
-pub fn decoded(alloc: Global, octets: &[u8]) -> Result<Message, Fail>
-    ensures { IfOk result IsSpelled }
+pub fn decoded(rt: &impl Abort, alloc: Global, octets: &[u8]) -> Message
+    ensures { IsSpelled result }
 {
-    Ok(decode_message(alloc, octets)?)
+    decode_message(alloc, octets).expect(rt, "a message")
 }
 
 fn transform(alloc: Global, kind: u8, id: u16) -> Transform {
@@ -42,41 +42,40 @@ fn transform(alloc: Global, kind: u8, id: u16) -> Transform {
 }
 
 /// A proposal with this pseudorandom function; 5 is the one that is wanted.
-pub fn proposal(alloc: Global, number: u8, prf: u16) -> Result<Proposal, Fail> {
+pub fn proposal(rt: &impl Abort, alloc: Global, number: u8, prf: u16) -> Proposal {
     let mut transforms = Items::new(alloc);
-    transforms.push(transform(alloc, 1, 65001))?;
-    transforms.push(transform(alloc, 2, prf))?;
-    transforms.push(transform(alloc, 3, 12))?;
-    transforms.push(transform(alloc, 4, GROUP))?;
-    Ok(Proposal {
+    granted(rt, transforms.push(transform(alloc, 1, 65001)));
+    granted(rt, transforms.push(transform(alloc, 2, prf)));
+    granted(rt, transforms.push(transform(alloc, 3, 12)));
+    granted(rt, transforms.push(transform(alloc, 4, GROUP)));
+    Proposal {
         number,
         protocol: 1,
         spi: Items::new(alloc),
         transforms,
-    })
+    }
 }
 
-pub fn sa(alloc: Global) -> Result<Payload, Fail> {
+pub fn sa(rt: &impl Abort, alloc: Global) -> Payload {
     let mut proposals = Items::new(alloc);
-    proposals.push(proposal(alloc, 1, 5)?)?;
-    Ok(Payload::Sa(proposals))
+    granted(rt, proposals.push(proposal(rt, alloc, 1, 5)));
+    Payload::Sa(proposals)
 }
 
-pub fn ke(alloc: Global, group: u16) -> Result<Payload, Fail> {
-    Ok(Payload::Ke {
+pub fn ke(rt: &impl Abort, alloc: Global, group: u16) -> Payload {
+    Payload::Ke {
         group,
-        data: Items::from_slice(alloc, &SECRET)?,
-    })
+        data: granted(rt, Items::from_slice(alloc, &SECRET)),
+    }
 }
 
-pub fn nonce(alloc: Global) -> Result<Payload, Fail> {
-    Ok(Payload::Nonce(Items::from_slice(alloc, &NONCE)?))
+pub fn nonce(rt: &impl Abort, alloc: Global) -> Payload {
+    Payload::Nonce(granted(rt, Items::from_slice(alloc, &NONCE)))
 }
 
 /// SA, KE of this group and Nonce, behind what stands before them.
-pub fn push_parts(alloc: Global, payloads: &mut Items<Payload>, group: u16) -> Result<(), Fail> {
-    payloads.push(sa(alloc)?)?;
-    payloads.push(ke(alloc, group)?)?;
-    payloads.push(nonce(alloc)?)?;
-    Ok(())
+pub fn push_parts(rt: &impl Abort, alloc: Global, payloads: &mut Items<Payload>, group: u16) {
+    granted(rt, payloads.push(sa(rt, alloc)));
+    granted(rt, payloads.push(ke(rt, alloc, group)));
+    granted(rt, payloads.push(nonce(rt, alloc)));
 }

@@ -10,7 +10,7 @@ use exchange::Notice;
 use mac::hmac;
 use sa_init::{Cookies, refuse, request};
 use std::alloc::Global;
-use std::test::Fail;
+use std::process::Abort;
 
 const PLAIN: [u8; 32] = [
     0xf4, 0xc1, 0xb5, 0x21, 0xc3, 0x0e, 0x79, 0x5d, 0xd8, 0xfb, 0x92, 0x3a, 0x35, 0x61, 0xaa, 0x6c,
@@ -33,32 +33,30 @@ const COOKIE: [u8; 36] = [
     0x1d, 0xe6, 0xbc, 0x28,
 ];
 
-fn requested(alloc: Global, cookie: Option<&[u8]>) -> Result<([u8; 32], usize), Fail>
+fn requested(rt: &impl Abort, alloc: Global, cookie: Option<&[u8]>) -> ([u8; 32], usize)
     requires { ForSome cookie (λ octets. length octets.now ≤ 64) }
 {
-    let octets = request(alloc, &ScriptCaller, 1, cookie, &SECRET, &NONCE)?;
-    Ok((hmac(b"test", &[octets.as_slice()]), octets.len()))
+    let octets = request(alloc, &ScriptCaller, 1, cookie, &SECRET, &NONCE).expect(rt, "memory");
+    (hmac(b"test", &[octets.as_slice()]), octets.len())
 }
 
 // Without a cookie, and with one.
 #[test]
-fn requests(rt: HostRuntime) -> Result<(), Fail> {
-    same(&rt, requested(rt.alloc(), None)?, (PLAIN, 148));
+fn requests(rt: HostRuntime) {
+    same(&rt, requested(&rt, rt.alloc(), None), (PLAIN, 148));
     same(
         &rt,
-        requested(rt.alloc(), Some(&[5; 36]))?,
+        requested(&rt, rt.alloc(), Some(&[5; 36])),
         (WITH_COOKIE, 192),
     );
-    Ok(())
 }
 
 #[test]
-fn refuses_with_a_cookie(rt: HostRuntime) -> Result<(), Fail> {
+fn refuses_with_a_cookie(rt: HostRuntime) {
     let cookies = Cookies::new(&[0x11; 32]);
     let octets = cookies.make(&NONCE, &[192, 0, 2, 1], 1);
     same(&rt, octets, COOKIE);
-    let answer = refuse(rt.alloc(), 1, &Notice::Cookie { octets })?;
+    let answer = refuse(rt.alloc(), 1, &Notice::Cookie { octets }).expect(&rt, "memory");
     same(&rt, answer.len(), 72);
     same(&rt, hmac(b"test", &[answer.as_slice()]), ASKING);
-    Ok(())
 }

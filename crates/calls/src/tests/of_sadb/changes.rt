@@ -7,7 +7,6 @@ use crate::tests::asserts::{holds, same, same_at};
 use sadb::{State, Table};
 use std::alloc::{AllocError, Global};
 use std::process::Abort;
-use std::test::Fail;
 
 /// A table, and beside it the plain list of the pairs that it is to have.
 #[derive(Drop)]
@@ -26,30 +25,31 @@ impl Both {
         })
     }
 
-    fn install(&mut self, rt: &impl Abort, network: Network) -> Result<(), Fail> {
-        let spi = reserve(&mut self.table)?;
+    fn install(&mut self, rt: &impl Abort, network: Network) {
+        let spi = reserve(&mut self.table).expect(rt, "an SPI");
         let number = spi.number();
         self.plain.give(rt, number);
         self.plain.agrees(rt, &self.table);
-        let pair = pair(self.alloc, number, network).ok_or("no memory")?;
+        let pair = pair(self.alloc, number, network).expect(rt, "memory");
         let serial = install(&mut self.table, spi, pair);
-        Ok(self.plain.install(rt, serial, number, network)?)
+        self.plain
+            .install(rt, serial, number, network)
+            .expect(rt, "memory");
     }
 
-    fn release(&mut self, rt: &impl Abort) -> Result<(), Fail> {
-        let spi = reserve(&mut self.table)?;
+    fn release(&mut self, rt: &impl Abort) {
+        let spi = reserve(&mut self.table).expect(rt, "an SPI");
         self.plain.give(rt, spi.number());
         release(&mut self.table, spi);
-        Ok(())
     }
 
     /// Reserves four SPIs. The third's pair comes first, the second is given up, the first's pair comes last, and the
     /// fourth stays reserved.
-    fn install_out_of_order(&mut self, rt: &impl Abort, network: Network) -> Result<(), Fail> {
-        let first = reserve(&mut self.table)?;
-        let second = reserve(&mut self.table)?;
-        let third = reserve(&mut self.table)?;
-        let fourth = reserve(&mut self.table)?;
+    fn install_out_of_order(&mut self, rt: &impl Abort, network: Network) {
+        let first = reserve(&mut self.table).expect(rt, "an SPI");
+        let second = reserve(&mut self.table).expect(rt, "an SPI");
+        let third = reserve(&mut self.table).expect(rt, "an SPI");
+        let fourth = reserve(&mut self.table).expect(rt, "an SPI");
         assert_ne!(rt; first.number(), second.number());
         assert_ne!(rt; first.number(), third.number());
         assert_ne!(rt; second.number(), third.number());
@@ -58,15 +58,19 @@ impl Both {
         self.plain.give(rt, second.number());
         self.plain.give(rt, later);
         self.plain.give(rt, fourth.number());
-        let pair_of_third = pair(self.alloc, later, network).ok_or("no memory")?;
-        let pair_of_first = pair(self.alloc, number, Network::Every).ok_or("no memory")?;
+        let pair_of_third = pair(self.alloc, later, network).expect(rt, "memory");
+        let pair_of_first = pair(self.alloc, number, Network::Every).expect(rt, "memory");
         let serial = install(&mut self.table, third, pair_of_third);
-        self.plain.install(rt, serial, later, network)?;
+        self.plain
+            .install(rt, serial, later, network)
+            .expect(rt, "memory");
         self.plain.agrees(rt, &self.table);
         release(&mut self.table, second);
         self.plain.agrees(rt, &self.table);
         let serial = install(&mut self.table, first, pair_of_first);
-        Ok(self.plain.install(rt, serial, number, Network::Every)?)
+        self.plain
+            .install(rt, serial, number, Network::Every)
+            .expect(rt, "memory");
     }
 
     fn remove(&mut self, rt: &impl Abort, place: usize) {
@@ -115,15 +119,15 @@ impl Mixed {
 }
 
 #[test]
-fn a_thousand_changes(rt: HostRuntime) -> Result<(), Fail> {
-    let mut both = Both::new(rt.alloc())?;
+fn a_thousand_changes(rt: HostRuntime) {
+    let mut both = Both::new(rt.alloc()).expect(&rt, "memory");
     let mut mixed = Mixed { state: 1 };
     for step in 0..1100 {
         let place = mixed.below(both.plain.entries().len());
         match mixed.below(20) {
-            0..=5 => both.install(&rt, mixed.network())?,
-            6 | 7 => both.install_out_of_order(&rt, mixed.network())?,
-            8 => both.release(&rt)?,
+            0..=5 => both.install(&rt, mixed.network()),
+            6 | 7 => both.install_out_of_order(&rt, mixed.network()),
+            8 => both.release(&rt),
             9..=16 => both.remove(&rt, place),
             _ => both.mark(&rt, place),
         }
@@ -137,12 +141,11 @@ fn a_thousand_changes(rt: HostRuntime) -> Result<(), Fail> {
     holds(&rt, entries.len() > 50);
     holds(&rt, entries.iter().any(|entry| entry.live));
     holds(&rt, entries.iter().any(|entry| !entry.live));
-    Ok(())
 }
 
 // A pair that is Deleting is found by its SPI and by its serial, and carries nothing outward.
 #[test]
-fn the_last_live_pair_carries_a_flow(rt: HostRuntime) -> Result<(), Fail> {
+fn the_last_live_pair_carries_a_flow(rt: HostRuntime) {
     let mut table = Table::new(rt.alloc(), START);
     for (network, wanted) in [
         (Network::Every, 1),
@@ -150,8 +153,8 @@ fn the_last_live_pair_carries_a_flow(rt: HostRuntime) -> Result<(), Fail> {
         (Network::One(2), 3),
         (Network::One(1), 4),
     ] {
-        let spi = reserve(&mut table)?;
-        let pair = pair(rt.alloc(), spi.number(), network).ok_or("no memory")?;
+        let spi = reserve(&mut table).expect(&rt, "an SPI");
+        let pair = pair(rt.alloc(), spi.number(), network).expect(&rt, "memory");
         same(&rt, table.install(spi, pair), wanted);
     }
     for (third, marked, wanted) in [
@@ -167,12 +170,13 @@ fn the_last_live_pair_carries_a_flow(rt: HostRuntime) -> Result<(), Fail> {
             assert!(rt; is_live(&table, serial));
             table.mark(serial);
             holds(&rt, !is_live(&table, serial));
-            let found = with_serial(&table, serial).ok_or("not by its serial")?;
+            let found = with_serial(&table, serial).expect(&rt, "a pair with the serial");
             same(&rt, found.state, State::Deleting);
-            let found = table.inbound(found.inbound.spi()).ok_or("not by its SPI")?;
+            let found = table
+                .inbound(found.inbound.spi())
+                .expect(&rt, "a pair under the SPI");
             same(&rt, found.serial, serial);
         }
         same_at(&rt, third, table.outbound(&flow_to(third)), wanted);
     }
-    Ok(())
 }

@@ -7,7 +7,6 @@ use sadb::laws::{
     mirrors_exist, no_spi_is_given_twice, room_stays,
 };
 use sadb::{Table, TableFault};
-use std::test::Fail;
 
 // Nothing runs here: each law can be called.
 #[test]
@@ -44,9 +43,8 @@ fn prepared(table: &mut Table) -> Result<(u32, u32), TableFault>
 }
 
 #[test]
-fn numbers_that_differ_and_agree(rt: HostRuntime) -> Result<(), Fail> {
+fn numbers_that_differ_and_agree(rt: HostRuntime) {
     let mut table = Table::new(rt.alloc(), START);
-    same(&rt, reserved_twice(&mut table)?, (START, START + 1));
-    same(&rt, prepared(&mut table)?, (START + 2, START + 2));
-    Ok(())
+    same(&rt, reserved_twice(&mut table), Ok((START, START + 1)));
+    same(&rt, prepared(&mut table), Ok((START + 2, START + 2)));
 }

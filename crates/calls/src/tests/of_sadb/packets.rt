@@ -2,12 +2,11 @@
 use super::fixture::{
     KEY, Network, PEER_KEY, START, here, is_for, is_live, is_there, pair_of, receiver, reserve,
 };
-use crate::tests::asserts::{holds, same};
+use crate::tests::asserts::{granted, holds, same};
 use esp::{EspFault, Opened, Outbound};
 use sadb::Table;
 use std::alloc::Global;
 use std::process::Abort;
-use std::test::Fail;
 
 /// The next header of an IPv4 packet.
 const IPV4: u8 = 4;
@@ -48,25 +47,19 @@ impl Ends {
 
     /// Installs a pair at one end and its mirror at the other; answers the serial of both. The near end sealed its last
     /// packet with the number `last`.
-    fn connect(
-        &mut self,
-        rt: &impl Abort,
-        alloc: Global,
-        network: Network,
-        last: u64,
-    ) -> Result<u32, Fail> {
-        let near = reserve(&mut self.near)?;
-        let inbound = receiver(alloc, near.number(), &KEY).ok_or("no memory")?;
-        let far = reserve(&mut self.far)?;
+    fn connect(&mut self, rt: &impl Abort, alloc: Global, network: Network, last: u64) -> u32 {
+        let near = reserve(&mut self.near).expect(rt, "an SPI");
+        let inbound = receiver(alloc, near.number(), &KEY).expect(rt, "memory");
+        let far = reserve(&mut self.far).expect(rt, "an SPI");
         let outbound = Outbound::new(far.number(), &PEER_KEY, false, last);
         let to_near = Outbound::new(near.number(), &KEY, false, 0);
-        let pair = pair_of(alloc, inbound, outbound, here(), network.remote()).ok_or("no memory")?;
+        let pair = pair_of(alloc, inbound, outbound, here(), network.remote()).expect(rt, "memory");
         let serial = self.near.install(near, pair);
 
-        let inbound = receiver(alloc, far.number(), &PEER_KEY).ok_or("no memory")?;
-        let pair = pair_of(alloc, inbound, to_near, network.remote(), here()).ok_or("no memory")?;
+        let inbound = receiver(alloc, far.number(), &PEER_KEY).expect(rt, "memory");
+        let pair = pair_of(alloc, inbound, to_near, network.remote(), here()).expect(rt, "memory");
         same(rt, self.far.install(far, pair), serial);
-        Ok(serial)
+        serial
     }
 }
 
@@ -106,13 +99,14 @@ fn is_opened_once(
     packet: &[u8],
     number: u64,
     payload: &[u8],
-) -> Result<(), Fail> {
-    let opened = open(rt, table, serial, packet)?;
-    same(rt, opened.number, number);
-    same(rt, opened.next, IPV4);
-    same(rt, opened.payload, payload);
+) {
+    let wanted = Opened {
+        number,
+        next: IPV4,
+        payload,
+    };
+    same(rt, open(rt, table, serial, packet), Ok(wanted));
     is_refused(rt, table, serial, packet, EspFault::Replayed);
-    Ok(())
 }
 
 /// Seals a payload by a pair of one table, and finds that the other's opens it once, under this number.
@@ -124,43 +118,47 @@ fn crosses(
     serial: u32,
     number: u64,
     payload: &[u8],
-) -> Result<(), Fail> {
+) {
     let mut packet = Vec::new(alloc);
-    same(rt, seal(rt, from, serial, payload, &mut packet)?, number);
-    is_opened_once(rt, to, serial, &packet, number, payload)
+    same(rt, seal(rt, from, serial, payload, &mut packet), Ok(number));
+    is_opened_once(rt, to, serial, &packet, number, payload);
 }
 
 /// Two tables with a pair and its mirror under the serial 1.
-fn connected(rt: &impl Abort, alloc: Global) -> Result<Ends, Fail> {
+fn connected(rt: &impl Abort, alloc: Global) -> Ends {
     let mut ends = Ends::new(alloc);
-    same(rt, ends.connect(rt, alloc, Network::Every, 0)?, 1);
-    Ok(ends)
+    same(rt, ends.connect(rt, alloc, Network::Every, 0), 1);
+    ends
 }
 
 #[test]
-fn seals_the_packet_of_another_tool(rt: HostRuntime) -> Result<(), Fail> {
-    let mut ends = connected(&rt, rt.alloc())?;
+fn seals_the_packet_of_another_tool(rt: HostRuntime) {
+    let mut ends = connected(&rt, rt.alloc());
     let mut packet = Vec::new(rt.alloc());
-    same(&rt, seal(&rt, &mut ends.far, 1, &inner(), &mut packet)?, 1);
+    same(
+        &rt,
+        seal(&rt, &mut ends.far, 1, &inner(), &mut packet),
+        Ok(1),
+    );
     same(&rt, packet.as_slice(), first().as_slice());
-    is_opened_once(&rt, &mut ends.near, 1, &packet, 1, &inner())
+    is_opened_once(&rt, &mut ends.near, 1, &packet, 1, &inner());
 }
 
 // Numbers of each direction begin anew.
 #[test]
-fn packets_cross_once(rt: HostRuntime) -> Result<(), Fail> {
-    let mut ends = connected(&rt, rt.alloc())?;
-    crosses(&rt, rt.alloc(), &mut ends.far, &mut ends.near, 1, 1, b"abc")?;
-    crosses(&rt, rt.alloc(), &mut ends.far, &mut ends.near, 1, 2, b"")?;
-    crosses(&rt, rt.alloc(), &mut ends.near, &mut ends.far, 1, 1, b"de")
+fn packets_cross_once(rt: HostRuntime) {
+    let mut ends = connected(&rt, rt.alloc());
+    crosses(&rt, rt.alloc(), &mut ends.far, &mut ends.near, 1, 1, b"abc");
+    crosses(&rt, rt.alloc(), &mut ends.far, &mut ends.near, 1, 2, b"");
+    crosses(&rt, rt.alloc(), &mut ends.near, &mut ends.far, 1, 1, b"de");
 }
 
 // A refused packet takes no number: the whole one opens afterwards.
 #[test]
-fn refuses_what_was_damaged(rt: HostRuntime) -> Result<(), Fail> {
-    let mut ends = connected(&rt, rt.alloc())?;
+fn refuses_what_was_damaged(rt: HostRuntime) {
+    let mut ends = connected(&rt, rt.alloc());
     for place in 4..48 {
-        let mut wrong = first().to_vec(rt.alloc())?;
+        let mut wrong = granted(&rt, first().to_vec(rt.alloc()));
         if let Some(octet) = wrong.get_mut(place) {
             *octet ^= 2;
         }
@@ -169,14 +167,14 @@ fn refuses_what_was_damaged(rt: HostRuntime) -> Result<(), Fail> {
     is_refused(&rt, &mut ends.near, 1, &[], EspFault::BadLength);
     is_refused(&rt, &mut ends.near, 1, &[9, 9, 9], EspFault::BadLength);
     is_refused(&rt, &mut ends.near, 1, &[0, 0, 1, 0], EspFault::BadLength);
-    is_opened_once(&rt, &mut ends.near, 1, &first(), 1, &inner())
+    is_opened_once(&rt, &mut ends.near, 1, &first(), 1, &inner());
 }
 
 // Each pair has numbers and a window of its own.
 #[test]
-fn leaves_other_pairs_alone(rt: HostRuntime) -> Result<(), Fail> {
-    let mut ends = connected(&rt, rt.alloc())?;
-    same(&rt, ends.connect(&rt, rt.alloc(), Network::Every, 0)?, 2);
+fn leaves_other_pairs_alone(rt: HostRuntime) {
+    let mut ends = connected(&rt, rt.alloc());
+    same(&rt, ends.connect(&rt, rt.alloc(), Network::Every, 0), 2);
     for number in 1..=3 {
         crosses(
             &rt,
@@ -186,31 +184,31 @@ fn leaves_other_pairs_alone(rt: HostRuntime) -> Result<(), Fail> {
             2,
             number,
             b"abc",
-        )?;
+        );
     }
-    crosses(&rt, rt.alloc(), &mut ends.near, &mut ends.far, 1, 1, b"abc")?;
-    crosses(&rt, rt.alloc(), &mut ends.near, &mut ends.far, 2, 4, b"abc")
+    crosses(&rt, rt.alloc(), &mut ends.near, &mut ends.far, 1, 1, b"abc");
+    crosses(&rt, rt.alloc(), &mut ends.near, &mut ends.far, 2, 4, b"abc");
 }
 
 #[test]
-fn a_deleting_pair_opens(rt: HostRuntime) -> Result<(), Fail> {
-    let mut ends = connected(&rt, rt.alloc())?;
+fn a_deleting_pair_opens(rt: HostRuntime) {
+    let mut ends = connected(&rt, rt.alloc());
     assert!(rt; is_live(&ends.near, 1));
     ends.near.mark(1);
-    crosses(&rt, rt.alloc(), &mut ends.far, &mut ends.near, 1, 1, b"abc")
+    crosses(&rt, rt.alloc(), &mut ends.far, &mut ends.near, 1, 1, b"abc");
 }
 
 #[test]
-fn refuses_to_seal(rt: HostRuntime) -> Result<(), Fail> {
-    let mut ends = connected(&rt, rt.alloc())?;
+fn refuses_to_seal(rt: HostRuntime) {
+    let mut ends = connected(&rt, rt.alloc());
     let most = u64::from(u32::MAX);
-    same(&rt, ends.connect(&rt, rt.alloc(), Network::Every, most)?, 2);
-    let long = vec![in rt.alloc(); 0x5a; 16_385]?;
+    same(&rt, ends.connect(&rt, rt.alloc(), Network::Every, most), 2);
+    let long = granted(&rt, vec![in rt.alloc(); 0x5a; 16_385]);
     let mut out = Vec::new(rt.alloc());
     let refused = seal(&rt, &mut ends.near, 1, &long, &mut out);
     same(&rt, refused, Err(EspFault::PayloadSize));
     let refused = seal(&rt, &mut ends.near, 2, &long, &mut out);
     same(&rt, refused, Err(EspFault::Exhausted));
     holds(&rt, out.is_empty());
-    crosses(&rt, rt.alloc(), &mut ends.near, &mut ends.far, 1, 1, b"abc")
+    crosses(&rt, rt.alloc(), &mut ends.near, &mut ends.far, 1, 1, b"abc");
 }

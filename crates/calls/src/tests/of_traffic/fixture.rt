@@ -8,7 +8,7 @@ use policy::{Action, Entry, Policy};
 use replay::BlockWindow;
 use sadb::{Pair, Spi, Table};
 use std::alloc::Global;
-use std::test::Fail;
+use std::process::Abort;
 use traffic::Arrival;
 
 /// The key of what comes to the near end, and that of what comes to the far one.
@@ -154,11 +154,19 @@ impl Ends {
 }
 
 /// Seals any payload under any next header by a table's first pair.
-pub fn seal(alloc: Global, table: &mut Table, next: u8, payload: &[u8]) -> Result<Vec<u8>, Fail> {
+pub fn seal(
+    rt: &impl Abort,
+    alloc: Global,
+    table: &mut Table,
+    next: u8,
+    payload: &[u8],
+) -> Vec<u8> {
     let mut octets = Vec::new(alloc);
-    let child = table.after(0).ok_or("no pair")?.serial;
-    table.seal(child, next, payload, &mut octets)?;
-    Ok(octets)
+    let child = table.after(0).expect(rt, "a pair").serial;
+    table
+        .seal(child, next, payload, &mut octets)
+        .expect(rt, "a sealed packet");
+    octets
 }
 
 /// The number of the refusal of what came, if it was dropped.

@@ -3,23 +3,16 @@ use super::fixture::{Ends, Networks, ipv4, ipv6, refusal, seal};
 use crate::tests::asserts::same;
 use std::alloc::Global;
 use std::process::Abort;
-use std::test::Fail;
 use traffic::{Arrival, Departure, receive, send};
 
 /// Finds that a packet goes sealed, in so many octets, comes to the other end as it was, and is refused when it is repeated.
-fn crosses(
-    rt: &impl Abort,
-    alloc: Global,
-    networks: Networks,
-    packet: &[u8],
-    length: usize,
-) -> Result<(), Fail> {
-    let mut ends = Ends::connected(alloc, networks, 0).ok_or("no memory")?;
+fn crosses(rt: &impl Abort, alloc: Global, networks: Networks, packet: &[u8], length: usize) {
+    let mut ends = Ends::connected(alloc, networks, 0).expect(rt, "memory");
     let Departure::Sealed {
         child,
         number,
         octets,
-    } = send(alloc, &mut ends.near, &ends.policy, packet)?
+    } = send(alloc, &mut ends.near, &ends.policy, packet).expect(rt, "memory")
     else {
         panic!(rt; "not sealed");
     };
@@ -35,28 +28,20 @@ fn crosses(
         refusal(receive(&mut ends.far, octets.as_slice())),
         Some(16),
     );
-    Ok(())
 }
 
 #[test]
-fn packets_of_both_families_cross_once(rt: HostRuntime) -> Result<(), Fail> {
-    crosses(&rt, rt.alloc(), Networks::ipv4(), &ipv4(), 48)?;
-    crosses(&rt, rt.alloc(), Networks::ipv6(), &ipv6(), 68)
+fn packets_of_both_families_cross_once(rt: HostRuntime) {
+    crosses(&rt, rt.alloc(), Networks::ipv4(), &ipv4(), 48);
+    crosses(&rt, rt.alloc(), Networks::ipv6(), &ipv6(), 68);
 }
 
 /// Finds what comes of a payload under a next header, sealed at the near end. Its number is taken, whatever comes of it.
-fn comes(
-    rt: &impl Abort,
-    alloc: Global,
-    next: u8,
-    payload: &[u8],
-    code: Option<u8>,
-) -> Result<(), Fail> {
-    let mut ends = Ends::connected(alloc, Networks::ipv4(), 0).ok_or("no memory")?;
-    let octets = seal(alloc, &mut ends.near, next, payload)?;
+fn comes(rt: &impl Abort, alloc: Global, next: u8, payload: &[u8], code: Option<u8>) {
+    let mut ends = Ends::connected(alloc, Networks::ipv4(), 0).expect(rt, "memory");
+    let octets = seal(rt, alloc, &mut ends.near, next, payload);
     same(rt, refusal(receive(&mut ends.far, &octets)), code);
     same(rt, refusal(receive(&mut ends.far, &octets)), Some(16));
-    Ok(())
 }
 
 /// A copy of a packet of IPv4 with another octet at a place.
@@ -77,47 +62,46 @@ fn ipv6_with(place: usize, octet: u8) -> [u8; 40] {
 }
 
 #[test]
-fn judges_by_the_next_header_first(rt: HostRuntime) -> Result<(), Fail> {
+fn judges_by_the_next_header_first(rt: HostRuntime) {
     let alloc = rt.alloc();
-    comes(&rt, alloc, 4, &ipv4(), None)?;
-    comes(&rt, alloc, 59, b"", None)?;
-    comes(&rt, alloc, 59, &ipv4_with(12, 11), None)?;
-    comes(&rt, alloc, 6, &ipv4(), Some(21))?;
-    comes(&rt, alloc, 41, &ipv4(), Some(21))?;
-    comes(&rt, alloc, 4, &ipv6(), Some(21))?;
-    comes(&rt, alloc, 4, b"", Some(21))?;
+    comes(&rt, alloc, 4, &ipv4(), None);
+    comes(&rt, alloc, 59, b"", None);
+    comes(&rt, alloc, 59, &ipv4_with(12, 11), None);
+    comes(&rt, alloc, 6, &ipv4(), Some(21));
+    comes(&rt, alloc, 41, &ipv4(), Some(21));
+    comes(&rt, alloc, 4, &ipv6(), Some(21));
+    comes(&rt, alloc, 4, b"", Some(21));
     // A fragment, and one that comes as a packet of IPv6.
-    comes(&rt, alloc, 4, &ipv4_with(6, 0x20), Some(22))?;
-    comes(&rt, alloc, 41, &ipv4_with(6, 0x20), Some(21))?;
+    comes(&rt, alloc, 4, &ipv4_with(6, 0x20), Some(22));
+    comes(&rt, alloc, 41, &ipv4_with(6, 0x20), Some(21));
     // A header of a fragment of IPv6, and one that comes as a packet of IPv4.
-    comes(&rt, alloc, 41, &ipv6_with(6, 44), Some(39))?;
-    comes(&rt, alloc, 4, &ipv6_with(6, 44), Some(21))
+    comes(&rt, alloc, 41, &ipv6_with(6, 44), Some(39));
+    comes(&rt, alloc, 4, &ipv6_with(6, 44), Some(21));
 }
 
 #[test]
-fn judges_by_the_selectors(rt: HostRuntime) -> Result<(), Fail> {
+fn judges_by_the_selectors(rt: HostRuntime) {
     let alloc = rt.alloc();
-    comes(&rt, alloc, 4, &ipv4_with(13, 9), Some(23))?;
-    comes(&rt, alloc, 4, &ipv4_with(17, 9), Some(23))?;
-    comes(&rt, alloc, 41, &ipv6(), Some(23))
+    comes(&rt, alloc, 4, &ipv4_with(13, 9), Some(23));
+    comes(&rt, alloc, 4, &ipv4_with(17, 9), Some(23));
+    comes(&rt, alloc, 41, &ipv6(), Some(23));
 }
 
 #[test]
-fn a_dummy_says_nothing(rt: HostRuntime) -> Result<(), Fail> {
+fn a_dummy_says_nothing(rt: HostRuntime) {
     let alloc = rt.alloc();
-    let mut ends = Ends::connected(alloc, Networks::ipv4(), 0).ok_or("no memory")?;
-    let octets = seal(alloc, &mut ends.near, 59, b"abc")?;
+    let mut ends = Ends::connected(alloc, Networks::ipv4(), 0).expect(&rt, "memory");
+    let octets = seal(&rt, alloc, &mut ends.near, 59, b"abc");
     let dummy = Arrival::Dummy {
         child: 1,
         number: 1,
     };
     same(&rt, receive(&mut ends.far, &octets), dummy);
-    Ok(())
 }
 
 #[test]
-fn what_reaches_no_pair_is_dropped(rt: HostRuntime) -> Result<(), Fail> {
-    let mut ends = Ends::connected(rt.alloc(), Networks::ipv4(), 0).ok_or("no memory")?;
+fn what_reaches_no_pair_is_dropped(rt: HostRuntime) {
+    let mut ends = Ends::connected(rt.alloc(), Networks::ipv4(), 0).expect(&rt, "memory");
     for (packet, code) in [
         (b"".as_slice(), 14),
         (&[0, 0, 32], 14),
@@ -127,5 +111,4 @@ fn what_reaches_no_pair_is_dropped(rt: HostRuntime) -> Result<(), Fail> {
     ] {
         same(&rt, refusal(receive(&mut ends.far, packet)), Some(code));
     }
-    Ok(())
 }

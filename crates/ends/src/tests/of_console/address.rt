@@ -1,9 +1,22 @@
+use crate::tests::asserts::{same, same_at};
 use base::Address;
 use console::{address_text, read_address};
-use std::test::Fail;
+use std::panic::Expect;
+use std::process::Abort;
+
+/// Compares the address that a text is read as.
+fn reads(rt: &impl Abort, text: &str, wanted: Option<Address>) {
+    same_at(rt, text, read_address(text), wanted);
+}
+
+/// Compares what an address is written as.
+fn writes<R: Abort + AllocGlobal>(rt: &R, address: Address, wanted: &str) {
+    let text = address_text(rt.alloc(), address).expect(rt, "memory");
+    same(rt, text.as_str(), wanted);
+}
 
 #[test]
-fn addresses_of_both_families(rt: HostRuntime) -> Result<(), Fail> {
+fn addresses_of_both_families(rt: HostRuntime) {
     let rows = [
         ("10.0.0.255", Address::V4(0x0a00_00ff)),
         (
@@ -16,14 +29,11 @@ fn addresses_of_both_families(rt: HostRuntime) -> Result<(), Fail> {
         ),
     ];
     for (text, address) in rows {
-        assert_eq!(rt; read_address(text), Some(address), "{text}");
-        assert_eq!(rt; address_text(rt.alloc(), address)?.as_str(), text);
+        reads(&rt, text, Some(address));
+        writes(&rt, address, text);
     }
-    let upper = "2001:0DB8:0000:0000:0000:0000:0000:0A01";
-    assert_eq!(rt;
-        read_address(upper),
-        Some(Address::V6(0x2001_0db8_0000_0000_0000_0000_0000_0a01))
-    );
+    let upper = Address::V6(0x2001_0db8_0000_0000_0000_0000_0000_0a01);
+    reads(&rt, "2001:0DB8:0000:0000:0000:0000:0000:0A01", Some(upper));
     let none = [
         "",
         "10.0.0",
@@ -35,7 +45,6 @@ fn addresses_of_both_families(rt: HostRuntime) -> Result<(), Fail> {
         "2001:0db8:0000:0000:0000:0000:0000:0a0g",
     ];
     for text in none {
-        assert_eq!(rt; read_address(text), None, "{text}");
+        reads(&rt, text, None);
     }
-    Ok(())
 }

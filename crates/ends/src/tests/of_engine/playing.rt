@@ -10,9 +10,11 @@ mod two;
 mod two_faults;
 mod two_refusals;
 
+use crate::tests::asserts::{add, joined};
 use engine::play;
+use std::ops::RangeInclusive;
+use std::panic::Expect;
 use std::process::Abort;
-use std::test::Fail;
 
 /// A key of 32 octets 0b.
 const KEY: &str = "0b0b0b0b0b0b0b0b0b0b0b0b0b0b0b0b0b0b0b0b0b0b0b0b0b0b0b0b0b0b0b0b";
@@ -25,19 +27,26 @@ const EXTENDED: &str =
     "one\nsa 256 0b0b0b0b0b0b0b0b0b0b0b0b0b0b0b0b0b0b0b0b0b0b0b0b0b0b0b0b0b0b0b0b 2 yes\n";
 
 /// Plays a script that begins with `start`, and wants what it prints and its exit status.
-fn expect<R: Abort + AllocGlobal>(
-    rt: &R,
-    start: &str,
-    rest: &str,
-    wanted: &str,
-    status: u8,
-) -> Result<(), Fail> {
-    let mut script = String::from_str(rt.alloc(), start)?;
-    script.push_str(rest)?;
+fn expect<R: Abort + AllocGlobal>(rt: &R, start: &str, rest: &str, wanted: &str, status: u8) {
+    let script = joined(rt, start, rest);
     let mut printed = Vec::new(rt.alloc());
     let ended = play(rt.alloc(), &mut script.as_bytes(), &mut printed);
-    let printed = String::from_utf8(printed).map_err(|_| "no text")?;
+    let printed = String::from_utf8(printed).expect(rt, "text");
     assert_eq!(rt; printed.as_str(), wanted, "after {rest:?}");
     assert_eq!(rt; ended, status, "after {rest:?}");
-    Ok(())
+}
+
+/// Lines of such a beginning and end, for each number.
+fn lines<R: Abort + AllocGlobal>(
+    rt: &R,
+    beginning: &str,
+    numbers: RangeInclusive<u32>,
+    end: &str,
+) -> String {
+    let mut lines = String::new(rt.alloc());
+    for number in numbers {
+        let line = format!(in rt.alloc(); "{beginning}{number}{end}\n").expect(rt, "memory");
+        add(rt, &mut lines, line.as_str());
+    }
+    lines
 }

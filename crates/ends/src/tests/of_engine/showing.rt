@@ -1,8 +1,10 @@
 //! Messages shown over readers and writers in memory. They and their lines were written by a Python program of its own.
+use crate::tests::asserts::same;
 use console::MOST_OCTETS;
 use engine::show;
+use std::alloc::Global;
+use std::panic::Expect;
 use std::process::Abort;
-use std::test::Fail;
 
 /// A message with a payload of every type, in either case and with blanks and line ends among its digits.
 const EVERY_TYPE: &str = "\
@@ -101,31 +103,25 @@ const BARE_SHOWN: &str =
     "ike 0102030405060708 1112131415161718\nexchange 255 flags - id 10 length 28\n";
 
 /// Shows the message of a text, and wants what is printed and the exit status.
-fn expect<R: Abort + AllocGlobal>(
-    rt: &R,
-    text: &str,
-    wanted: &str,
-    status: u8,
-) -> Result<(), Fail> {
+fn expect<R: Abort + AllocGlobal>(rt: &R, text: &str, wanted: &str, status: u8) {
     let mut printed = Vec::new(rt.alloc());
     let ended = show(rt.alloc(), &mut text.as_bytes(), &mut printed);
-    let printed = String::from_utf8(printed).map_err(|_| "no text")?;
+    let printed = String::from_utf8(printed).expect(rt, "text");
     assert_eq!(rt; printed.as_str(), wanted, "of {text:?}");
     assert_eq!(rt; ended, status, "of {text:?}");
-    Ok(())
 }
 
 #[test]
-fn messages(rt: HostRuntime) -> Result<(), Fail> {
-    expect(&rt, EVERY_TYPE, EVERY_TYPE_SHOWN, 0)?;
-    expect(&rt, COOKIE, COOKIE_SHOWN, 0)?;
-    expect(&rt, SEALED, SEALED_SHOWN, 0)?;
-    expect(&rt, BOTH_FAMILIES, BOTH_FAMILIES_SHOWN, 0)?;
-    expect(&rt, BARE, BARE_SHOWN, 0)
+fn messages(rt: HostRuntime) {
+    expect(&rt, EVERY_TYPE, EVERY_TYPE_SHOWN, 0);
+    expect(&rt, COOKIE, COOKIE_SHOWN, 0);
+    expect(&rt, SEALED, SEALED_SHOWN, 0);
+    expect(&rt, BOTH_FAMILIES, BOTH_FAMILIES_SHOWN, 0);
+    expect(&rt, BARE, BARE_SHOWN, 0);
 }
 
 #[test]
-fn letters_of_flags(rt: HostRuntime) -> Result<(), Fail> {
+fn letters_of_flags(rt: HostRuntime) {
     let flags = [
         ("00", "-"),
         ("08", "I"),
@@ -139,17 +135,16 @@ fn letters_of_flags(rt: HostRuntime) -> Result<(), Fail> {
     for (octet, letters) in flags {
         let text = format!(in rt.alloc();
             "0102030405060708 0000000000000000 00 20 22 {octet} 00000000 0000001c"
-        )?;
+        ).expect(&rt, "memory");
         let wanted = format!(in rt.alloc();
             "ike 0102030405060708 0000000000000000\nexchange 34 flags {letters} id 0 length 28\n"
-        )?;
-        expect(&rt, text.as_str(), wanted.as_str(), 0)?;
+        ).expect(&rt, "memory");
+        expect(&rt, text.as_str(), wanted.as_str(), 0);
     }
-    Ok(())
 }
 
 #[test]
-fn no_messages(rt: HostRuntime) -> Result<(), Fail> {
+fn no_messages(rt: HostRuntime) {
     let texts = [
         ("", "refused E1"),
         (
@@ -186,15 +181,15 @@ fn no_messages(rt: HostRuntime) -> Result<(), Fail> {
         ),
     ];
     for (text, wanted) in texts {
-        let wanted = format!(in rt.alloc(); "{wanted}\n")?;
-        expect(&rt, text, wanted.as_str(), 1)?;
+        let wanted = format!(in rt.alloc(); "{wanted}\n").expect(&rt, "memory");
+        expect(&rt, text, wanted.as_str(), 1);
     }
-    let long = format!(in rt.alloc(); "{:0>1$}", "", 2 * 3001)?;
-    expect(&rt, long.as_str(), "refused E9\n", 1)
+    let long = format!(in rt.alloc(); "{:0>1$}", "", 2 * 3001).expect(&rt, "memory");
+    expect(&rt, long.as_str(), "refused E9\n", 1);
 }
 
 #[test]
-fn no_digits(rt: HostRuntime) -> Result<(), Fail> {
+fn no_digits(rt: HostRuntime) {
     for text in [
         "0",
         "0g",
@@ -206,23 +201,31 @@ fn no_digits(rt: HostRuntime) -> Result<(), Fail> {
         "\u{e9}\u{e9}",
         "01\u{b}02",
     ] {
-        expect(&rt, text, "refused hex\n", 1)?;
+        expect(&rt, text, "refused hex\n", 1);
     }
-    Ok(())
+}
+
+/// A message behind which blanks stand, so many octets in all.
+fn blanks_to(rt: &impl Abort, alloc: Global, octets: usize) -> Vec<u8> {
+    let mut text = String::from_str(alloc, BARE)
+        .expect(rt, "memory")
+        .into_bytes();
+    text.resize(octets, b' ').expect(rt, "memory");
+    text
+}
+
+/// Shows the message of a text in octets.
+fn expect_shown<R: Abort + AllocGlobal>(rt: &R, text: &[u8], wanted: &str, status: u8) {
+    let mut printed = Vec::new(rt.alloc());
+    let mut reader = text;
+    same(rt, show(rt.alloc(), &mut reader, &mut printed), status);
+    same(rt, printed.as_slice(), wanted.as_bytes());
 }
 
 #[test]
-fn sizes_of_files(rt: HostRuntime) -> Result<(), Fail> {
-    let alloc = rt.alloc();
-    let mut text = String::from_str(alloc, BARE)?.into_bytes();
-    text.resize(MOST_OCTETS, b' ')?;
-    let mut printed = Vec::new(alloc);
-    assert_eq!(rt; show(alloc, &mut text.as_slice(), &mut printed), 0);
-    assert_eq!(rt; printed.as_slice(), BARE_SHOWN.as_bytes());
-
-    text.push(b' ')?;
-    let mut printed = Vec::new(alloc);
-    assert_eq!(rt; show(alloc, &mut text.as_slice(), &mut printed), 1);
-    assert_eq!(rt; printed.as_slice(), b"refused file\n".as_slice());
-    Ok(())
+fn sizes_of_files(rt: HostRuntime) {
+    let mut text = blanks_to(&rt, rt.alloc(), MOST_OCTETS);
+    expect_shown(&rt, text.as_slice(), BARE_SHOWN, 0);
+    text.push(b' ').expect(&rt, "memory");
+    expect_shown(&rt, text.as_slice(), "refused file\n", 1);
 }

@@ -1,12 +1,14 @@
 //! Deletions that no script writes (RFC 7296, sections 1.4.1, 2.5, 2.21.3 and 3.11).
 use super::sealing::{INFORMATIONAL, INVALID_SYNTAX, NOTIFY, Sent, asked, counted};
-use super::{Side, agree, established, sent};
+use super::{Side, agreed_twice, established, sent};
+use crate::tests::asserts::{add, holds, same};
 use base::Items;
 use gateway::End;
 use ike::{Demand, IkeInput};
 use samples::fresh;
 use std::alloc::Global;
-use std::test::Fail;
+use std::panic::Expect;
+use std::process::Abort;
 
 /// The type of a Delete.
 const DELETE: u8 = 42;
@@ -29,124 +31,113 @@ const NOWHERE: u32 = 263;
 /// The SPI under which A receives by its first child: those of its children are counted from it.
 const FIRST: u32 = 4096;
 
+/// The length of a Delete of ESP that names so many SPIs.
+fn length(rt: &impl Abort, count: u16) -> u16 {
+    let named = count.checked_mul(4).expect(rt, "a length of 16 bits");
+    named.checked_add(8).expect(rt, "a length of 16 bits")
+}
+
 /// A Delete of ESP that names an SPI so many times.
-fn deletion(alloc: Global, spi: u32, count: u16) -> Result<Vec<u8>, Fail> {
-    let length = count.checked_mul(4).ok_or("too long")?;
-    let length = length.checked_add(8).ok_or("too long")?;
+fn deletion(rt: &impl Abort, alloc: Global, spi: u32, count: u16) -> Vec<u8> {
     let mut octets = Vec::new(alloc);
-    octets.extend_from_slice(&[0, 0])?;
-    octets.extend_from_slice(&length.to_be_bytes())?;
-    octets.extend_from_slice(&[3, 4])?;
-    octets.extend_from_slice(&count.to_be_bytes())?;
+    add(rt, &mut octets, &[0, 0]);
+    add(rt, &mut octets, &length(rt, count).to_be_bytes());
+    add(rt, &mut octets, &[3, 4]);
+    add(rt, &mut octets, &count.to_be_bytes());
     for _ in 0..count {
-        octets.extend_from_slice(&spi.to_be_bytes())?;
+        add(rt, &mut octets, &spi.to_be_bytes());
     }
-    Ok(octets)
+    octets
 }
 
 /// As many SPIs as one message may name, and one more: INVALID_SYNTAX, which closes.
 #[test]
-fn how_many_are_named(rt: HostRuntime) -> Result<(), Fail> {
+fn how_many_are_named(rt: HostRuntime) {
     let alloc = rt.alloc();
-    let (mut b, key) = established(alloc)?;
-    let most = deletion(alloc, NOWHERE, 512)?;
-    let said = asked(alloc, &mut b, delete(2), &most, &key)?;
-    assert_eq!(rt; said, Some((49, false)));
-    let more = deletion(alloc, NOWHERE, 513)?;
-    let said = asked(alloc, &mut b, delete(3), &more, &key)?;
-    assert_eq!(rt; said, Some((57, true)));
-    assert!(rt; b.table.after(0).is_none());
-    Ok(())
+    let mut b = established(&rt, alloc);
+    let most = deletion(&rt, alloc, NOWHERE, 512);
+    let said = asked(&rt, alloc, &mut b, delete(2), &most);
+    same(&rt, said, Some((49, false)));
+    let more = deletion(&rt, alloc, NOWHERE, 513);
+    let said = asked(&rt, alloc, &mut b, delete(3), &more);
+    same(&rt, said, Some((57, true)));
+    holds(&rt, b.table.after(0).is_none());
 }
 
 /// Beside a payload that is not known and critical nothing is deleted.
 #[test]
-fn beside_a_critical_payload(rt: HostRuntime) -> Result<(), Fail> {
+fn beside_a_critical_payload(rt: HostRuntime) {
     let alloc = rt.alloc();
-    let (mut b, key) = established(alloc)?;
+    let mut b = established(&rt, alloc);
     let both = [UNKNOWN, 0, 0, 12, 3, 4, 0, 1, 0, 0, 0x10, 0, 0, 0x80, 0, 4];
-    let said = asked(alloc, &mut b, delete(2), &both, &key)?;
-    assert_eq!(rt; said, Some((58, false)));
-    assert!(rt; b.table.after(0).is_some());
+    let said = asked(&rt, alloc, &mut b, delete(2), &both);
+    same(&rt, said, Some((58, false)));
+    holds(&rt, b.table.after(0).is_some());
     // Alone it is.
-    let alone = deletion(alloc, FIRST, 1)?;
-    let said = asked(alloc, &mut b, delete(3), &alone, &key)?;
-    assert_eq!(rt; said, Some((61, false)));
-    assert!(rt; b.table.after(0).is_none());
-    Ok(())
+    let alone = deletion(&rt, alloc, FIRST, 1);
+    let said = asked(&rt, alloc, &mut b, delete(3), &alone);
+    same(&rt, said, Some((61, false)));
+    holds(&rt, b.table.after(0).is_none());
 }
 
 /// A child that is named twice goes once, and is named once in the answer.
 #[test]
-fn named_twice(rt: HostRuntime) -> Result<(), Fail> {
+fn named_twice(rt: HostRuntime) {
     let alloc = rt.alloc();
-    let (mut b, key) = established(alloc)?;
-    let twice = deletion(alloc, FIRST, 2)?;
-    let said = asked(alloc, &mut b, delete(2), &twice, &key)?;
-    assert_eq!(rt; said, Some((61, false)));
-    assert!(rt; b.table.after(0).is_none());
-    Ok(())
-}
-
-/// B, with two associations, and A's key of the first one.
-fn established_twice(alloc: Global) -> Result<(Side, [u8; 32]), Fail> {
-    let mut a = Side::new(alloc, End::A)?;
-    let mut b = Side::new(alloc, End::B)?;
-    agree(alloc, &mut a, &mut b, 1)?;
-    agree(alloc, &mut a, &mut b, 3)?;
-    let key = b.ike.keys_of(1).ok_or("no keys")?.sk_ai;
-    Ok((b, key))
+    let mut b = established(&rt, alloc);
+    let twice = deletion(&rt, alloc, FIRST, 2);
+    let said = asked(&rt, alloc, &mut b, delete(2), &twice);
+    same(&rt, said, Some((61, false)));
+    holds(&rt, b.table.after(0).is_none());
 }
 
 /// Under one association the child of another is not deleted.
 #[test]
-fn of_another_association(rt: HostRuntime) -> Result<(), Fail> {
+fn of_another_association(rt: HostRuntime) {
     let alloc = rt.alloc();
-    let (mut b, key) = established_twice(alloc)?;
-    let other = deletion(alloc, FIRST + 1, 1)?;
-    let said = asked(alloc, &mut b, delete(2), &other, &key)?;
-    assert_eq!(rt; said, Some((49, false)));
-    assert!(rt; b.table.after(0).is_some());
-    assert!(rt; b.table.after(1).is_some());
-    Ok(())
+    let mut b = Side::new(&rt, alloc, End::B);
+    agreed_twice(&rt, alloc, &mut b);
+    let other = deletion(&rt, alloc, FIRST + 1, 1);
+    let said = asked(&rt, alloc, &mut b, delete(2), &other);
+    same(&rt, said, Some((49, false)));
+    holds(&rt, b.table.after(0).is_some());
+    holds(&rt, b.table.after(1).is_some());
 }
 
 /// B asks something, which goes out as its first request.
-fn ask(alloc: Global, b: &mut Side, what: Demand) -> Result<Items<u8>, Fail> {
+fn ask(rt: &impl Abort, alloc: Global, b: &mut Side, what: Demand) -> Items<u8> {
     let fresh = fresh(41);
     let order = IkeInput::Order {
         what,
         fresh: &fresh,
     };
-    sent(b.step(alloc, &order)?)
+    sent(rt, b.step(rt, alloc, &order))
 }
 
 /// INVALID_SYNTAX in an answer closes, whatever was asked.
 #[test]
-fn told_bad_syntax(rt: HostRuntime) -> Result<(), Fail> {
+fn told_bad_syntax(rt: HostRuntime) {
     let alloc = rt.alloc();
-    let (mut b, key) = established(alloc)?;
-    let _ = ask(alloc, &mut b, Demand::Probe { ike: 1 })?;
+    let mut b = established(&rt, alloc);
+    ask(&rt, alloc, &mut b, Demand::Probe { ike: 1 });
     let notice = Sent {
         exchange: INFORMATIONAL,
         number: 0,
         first: NOTIFY,
     };
-    let said = counted(alloc, &mut b, notice, &INVALID_SYNTAX, &key)?;
-    assert_eq!(rt; said, Some((None, true)));
-    assert!(rt; b.table.after(0).is_none());
-    Ok(())
+    let said = counted(&rt, alloc, &mut b, notice, &INVALID_SYNTAX);
+    same(&rt, said, Some((None, true)));
+    holds(&rt, b.table.after(0).is_none());
 }
 
 /// An answer that is not in the grammar counts as one: the child goes.
 #[test]
-fn answered_out_of_the_grammar(rt: HostRuntime) -> Result<(), Fail> {
+fn answered_out_of_the_grammar(rt: HostRuntime) {
     let alloc = rt.alloc();
-    let (mut b, key) = established(alloc)?;
-    let _ = ask(alloc, &mut b, Demand::DeleteChild { child: 1 })?;
-    assert!(rt; b.table.after(0).is_some());
-    let said = counted(alloc, &mut b, delete(0), &[0, 0, 0], &key)?;
-    assert_eq!(rt; said, Some((None, false)));
-    assert!(rt; b.table.after(0).is_none());
-    Ok(())
+    let mut b = established(&rt, alloc);
+    ask(&rt, alloc, &mut b, Demand::DeleteChild { child: 1 });
+    holds(&rt, b.table.after(0).is_some());
+    let said = counted(&rt, alloc, &mut b, delete(0), &[0, 0, 0]);
+    same(&rt, said, Some((None, false)));
+    holds(&rt, b.table.after(0).is_none());
 }

@@ -1,12 +1,12 @@
 //! Packets of IPv6, policies over their addresses, and offers that have both families.
 use super::narrowing::{every, narrows};
 use super::policies::{ALL_PORTS, HERE, PROTECT, THERE, decision, fault_of};
+use crate::tests::asserts::{holds, same};
 use base::{Address, Family, Range, Selector};
 use policy::{
     Action, Decision, Direction, Entry, Flow, InnerFault, PolicyFault, Ports, covers, inner,
 };
 use std::process::Abort;
-use std::test::Fail;
 
 /// 2001:db8::a01 and 2001:db8::b01, and the networks 2001:db8::a00 to ::aff and 2001:db8::b00 to ::bff that they lie in.
 const SOURCE: u128 = 0x2001_0db8_0000_0000_0000_0000_0000_0a01;
@@ -55,18 +55,18 @@ fn flow(protocol: u8) -> Flow {
 }
 
 fn refuses(rt: &impl Abort, octets: &[u8], fault: InnerFault) {
-    assert_eq!(rt; inner(octets), Err(fault));
+    same(rt, inner(octets), Err(fault));
 }
 
 #[test]
 fn has_the_flow_of_an_ipv6_packet(rt: HostRuntime) {
-    assert_eq!(rt; inner(&header(59, 0)), Ok(flow(59)));
-    assert_eq!(rt; flow(59).family(), Family::V6);
+    same(&rt, inner(&header(59, 0)), Ok(flow(59)));
+    same(&rt, flow(59).family(), Family::V6);
     // The traffic class and the flow label, behind the version, are not looked at.
     let mut marked = header(59, 0);
     marked[0] = 0x6f;
     marked[1] = 0xff;
-    assert_eq!(rt; inner(&marked), Ok(flow(59)));
+    same(&rt, inner(&marked), Ok(flow(59)));
 }
 
 #[test]
@@ -76,20 +76,21 @@ fn refuses_extension_headers(rt: HostRuntime) {
         match number {
             0 | 43 | 44 | 51 | 60 => refuses(&rt, &octets, InnerFault::ExtensionHeader),
             6 | 17 => refuses(&rt, &octets, InnerFault::BadInner),
-            _ => assert_eq!(rt; inner(&octets), Ok(flow(number))),
+            _ => same(&rt, inner(&octets), Ok(flow(number))),
         }
     }
 }
 
 #[test]
-fn wants_a_whole_ipv6_header(rt: HostRuntime) -> Result<(), Fail> {
+fn wants_a_whole_ipv6_header(rt: HostRuntime) {
     let mut packet = Vec::new(rt.alloc());
-    packet.extend_from_slice(&header(59, 0))?;
+    packet
+        .extend_from_slice(&header(59, 0))
+        .expect(&rt, "memory");
     for length in [39, 20, 1] {
         packet.truncate(length);
         refuses(&rt, packet.as_slice(), InnerFault::BadInner);
     }
-    Ok(())
 }
 
 #[test]
@@ -102,30 +103,33 @@ fn wants_the_payload_length_of_an_ipv6_packet(rt: HostRuntime) {
 }
 
 #[test]
-fn reads_ports_behind_the_ipv6_header(rt: HostRuntime) -> Result<(), Fail> {
+fn reads_ports_behind_the_ipv6_header(rt: HostRuntime) {
     let ports = Some(Ports {
         source: 0x1234,
         target: 443,
     });
     for protocol in [6, 17] {
         let mut packet = Vec::new(rt.alloc());
-        packet.extend_from_slice(&header(protocol, 4))?;
-        packet.extend_from_slice(&[0x12, 0x34, 0x01, 0xbb])?;
+        packet
+            .extend_from_slice(&header(protocol, 4))
+            .expect(&rt, "memory");
+        packet
+            .extend_from_slice(&[0x12, 0x34, 0x01, 0xbb])
+            .expect(&rt, "memory");
         let wanted = Flow {
             ports,
             ..flow(protocol)
         };
-        assert_eq!(rt; inner(packet.as_slice()), Ok(wanted));
+        same(&rt, inner(packet.as_slice()), Ok(wanted));
         packet.truncate(43);
         let short = packet.as_mut_slice();
         short[5] = 3;
         refuses(&rt, short, InnerFault::BadInner);
     }
-    Ok(())
 }
 
 #[test]
-fn reads_ipv6_packets_of_up_to_16384_octets(rt: HostRuntime) -> Result<(), Fail> {
+fn reads_ipv6_packets_of_up_to_16384_octets(rt: HostRuntime) {
     for (length, payload, answer) in [
         (16_384, [0x3f, 0xd8], Ok(flow(59))),
         (16_385, [0x3f, 0xd9], Err(InnerFault::BadInner)),
@@ -134,15 +138,14 @@ fn reads_ipv6_packets_of_up_to_16384_octets(rt: HostRuntime) -> Result<(), Fail>
         octets[4] = payload[0];
         octets[5] = payload[1];
         let mut packet = Vec::new(rt.alloc());
-        packet.extend_from_slice(&octets)?;
-        packet.resize(length, 0)?;
-        assert_eq!(rt; inner(packet.as_slice()), answer);
+        packet.extend_from_slice(&octets).expect(&rt, "memory");
+        packet.resize(length, 0).expect(&rt, "memory");
+        same(&rt, inner(packet.as_slice()), answer);
     }
-    Ok(())
 }
 
 #[test]
-fn an_entry_between_families_is_at_fault(rt: HostRuntime) -> Result<(), Fail> {
+fn an_entry_between_families_is_at_fault(rt: HostRuntime) {
     let mixed = Entry {
         remote: THERE_6,
         ..PROTECT
@@ -156,14 +159,13 @@ fn an_entry_between_families_is_at_fault(rt: HostRuntime) -> Result<(), Fail> {
         ([PROTECT, PROTECT_6, mixed], 2),
         ([PROTECT_6, exchanged, mixed], 1),
     ] {
-        let fault = fault_of(rt.alloc(), &entries)?;
-        assert_eq!(rt; fault, Some(PolicyFault::BadEntry { index }));
+        let fault = fault_of(&rt, rt.alloc(), &entries);
+        same(&rt, fault, Some(PolicyFault::BadEntry { index }));
     }
-    Ok(())
 }
 
 #[test]
-fn decides_by_the_entry_of_the_family(rt: HostRuntime) -> Result<(), Fail> {
+fn decides_by_the_entry_of_the_family(rt: HostRuntime) {
     let everything = Entry {
         local: Range::V4(0, u32::MAX),
         remote: Range::V4(0, u32::MAX),
@@ -180,10 +182,9 @@ fn decides_by_the_entry_of_the_family(rt: HostRuntime) -> Result<(), Fail> {
         (flow(58), Direction::Inward, Decision::Discard),
         (answer, Direction::Inward, Decision::Protect),
     ] {
-        let answer = decision(rt.alloc(), &[everything, PROTECT_6], &flow, direction)?;
-        assert_eq!(rt; answer, wanted);
+        let answer = decision(&rt, rt.alloc(), &[everything, PROTECT_6], &flow, direction);
+        same(&rt, answer, wanted);
     }
-    Ok(())
 }
 
 #[test]
@@ -201,24 +202,24 @@ fn covers_by_the_selectors_of_the_family(rt: HostRuntime) {
         (&[four, six], &[four, six], true),
     ];
     for (from, to, wanted) in rows {
-        assert_eq!(rt; covers(from, to, &low), wanted);
+        same(&rt, covers(from, to, &low), wanted);
     }
 }
 
 #[test]
-fn narrows_an_offer_of_both_families_to_the_family_of_the_entry(
-    rt: HostRuntime,
-) -> Result<(), Fail> {
+fn narrows_an_offer_of_both_families_to_the_family_of_the_entry(rt: HostRuntime) {
     let initiator = [every(THERE), every(THERE_6)];
     let responder = [every(HERE_6), every(HERE)];
     for (entry, there, here) in [(PROTECT, THERE, HERE), (PROTECT_6, THERE_6, HERE_6)] {
         let there = [every(there)];
         let here = [every(here)];
         let offered = (initiator.as_slice(), responder.as_slice());
-        assert!(rt; narrows(rt.alloc(), &[entry], offered, Some((&there, &here)))?);
+        holds(
+            &rt,
+            narrows(&rt, rt.alloc(), &[entry], offered, Some((&there, &here))),
+        );
         // Sides of one family each, and not the same.
         let offered = (&initiator[..1], &responder[..1]);
-        assert!(rt; narrows(rt.alloc(), &[entry], offered, None)?);
+        holds(&rt, narrows(&rt, rt.alloc(), &[entry], offered, None));
     }
-    Ok(())
 }

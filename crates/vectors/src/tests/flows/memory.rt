@@ -1,7 +1,8 @@
 //! What a refused growth leaves: these pass at either answer.
 use super::narrowing::every;
-use super::policies::{HERE, PROTECT, THERE, policy};
-use base::Range;
+use super::policies::{HERE, PROTECT, THERE};
+use crate::tests::asserts::{holds, same};
+use base::{Items, Range};
 use policy::{NarrowFault, Policy, narrow};
 use std::alloc::Global;
 use std::test::Fail;
@@ -20,9 +21,9 @@ fn is_narrowed_or_wants_memory(alloc: Global, policy: &Policy) -> bool {
 
 #[test]
 fn want_of_memory_is_the_only_refusal_of_what_is_acceptable(rt: HostRuntime) -> Result<(), Fail> {
-    let policy = policy(rt.alloc(), &[PROTECT])?;
+    let policy = Policy::new(Items::from_slice(rt.alloc(), &[PROTECT])?)?;
     for _ in 0..4 {
-        assert!(rt; is_narrowed_or_wants_memory(rt.alloc(), &policy));
+        holds(&rt, is_narrowed_or_wants_memory(rt.alloc(), &policy));
         // Where nothing is acceptable, want of memory is never the answer.
         let refused = narrow(
             rt.alloc(),
@@ -30,7 +31,7 @@ fn want_of_memory_is_the_only_refusal_of_what_is_acceptable(rt: HostRuntime) -> 
             &[],
             &policy,
         );
-        assert_eq!(rt; refused.err(), Some(NarrowFault::Unacceptable));
+        same(&rt, refused.err(), Some(NarrowFault::Unacceptable));
     }
     Ok(())
 }

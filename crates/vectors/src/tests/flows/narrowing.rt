@@ -1,9 +1,10 @@
 //! Offers and what they are narrowed to.
 use super::policies::{HERE, PROTECT, THERE, policy};
+use crate::tests::asserts::holds;
 use base::{Range, Selector};
 use policy::{Action, Entry, NarrowFault, narrow};
 use std::alloc::Global;
-use std::test::Fail;
+use std::process::Abort;
 
 /// All ports of every protocol between these addresses.
 pub fn every(addresses: Range) -> Selector {
@@ -31,45 +32,44 @@ type Sides<'a> = (&'a [Selector], &'a [Selector]);
 
 /// Whether a policy of these entries narrows an offer to this answer, or refuses it where there is none.
 pub fn narrows(
+    rt: &impl Abort,
     alloc: Global,
     entries: &[Entry],
     (initiator, responder): Sides,
     wanted: Option<Sides>,
-) -> Result<bool, Fail> {
-    let policy = policy(alloc, entries)?;
-    Ok(
-        match (narrow(alloc, initiator, responder, &policy), wanted) {
-            (Ok(narrowed), Some(wanted)) => {
-                narrowed.initiator.as_slice() == wanted.0
-                    && narrowed.responder.as_slice() == wanted.1
-            }
-            (Err(fault), None) => fault == NarrowFault::Unacceptable,
-            _ => false,
-        },
-    )
+) -> bool {
+    let policy = policy(rt, alloc, entries);
+    match (narrow(alloc, initiator, responder, &policy), wanted) {
+        (Ok(narrowed), Some(wanted)) => {
+            narrowed.initiator.as_slice() == wanted.0 && narrowed.responder.as_slice() == wanted.1
+        }
+        (Err(fault), None) => fault == NarrowFault::Unacceptable,
+        _ => false,
+    }
 }
 
 #[test]
-fn narrows_to_the_local_side(rt: HostRuntime) -> Result<(), Fail> {
+fn narrows_to_the_local_side(rt: HostRuntime) {
     let entry = Entry {
         local: Range::V4(0x0a00_0080, 0x0a00_01ff),
         ..PROTECT
     };
     let there = [every(THERE)];
     let common = [every(Range::V4(0x0a00_0080, 0x0a00_00ff))];
-    assert!(rt;
+    holds(
+        &rt,
         narrows(
+            &rt,
             rt.alloc(),
             &[entry],
             (&there, &[every(HERE)]),
-            Some((&there, &common))
-        )?
+            Some((&there, &common)),
+        ),
     );
-    Ok(())
 }
 
 #[test]
-fn entries_that_do_not_protect_are_not_chosen(rt: HostRuntime) -> Result<(), Fail> {
+fn entries_that_do_not_protect_are_not_chosen(rt: HostRuntime) {
     let protect = Entry {
         local: FIRST_HERE,
         ..PROTECT
@@ -79,14 +79,25 @@ fn entries_that_do_not_protect_are_not_chosen(rt: HostRuntime) -> Result<(), Fai
     for action in [Action::Bypass, Action::Discard] {
         let other = Entry { action, ..PROTECT };
         let wanted: Sides = (&there, &[every(FIRST_HERE)]);
-        assert!(rt; narrows(rt.alloc(), &[other, protect], (&there, &here), Some(wanted))?);
-        assert!(rt; narrows(rt.alloc(), &[other], (&there, &here), None)?);
+        holds(
+            &rt,
+            narrows(
+                &rt,
+                rt.alloc(),
+                &[other, protect],
+                (&there, &here),
+                Some(wanted),
+            ),
+        );
+        holds(
+            &rt,
+            narrows(&rt, rt.alloc(), &[other], (&there, &here), None),
+        );
     }
-    Ok(())
 }
 
 #[test]
-fn the_entry_that_holds_the_first_selectors_comes_first(rt: HostRuntime) -> Result<(), Fail> {
+fn the_entry_that_holds_the_first_selectors_comes_first(rt: HostRuntime) {
     let half = Entry {
         local: Range::V4(0x0a00_0000, 0x0a00_007f),
         ..PROTECT
@@ -99,13 +110,21 @@ fn the_entry_that_holds_the_first_selectors_comes_first(rt: HostRuntime) -> Resu
     let rows: [&[Selector]; 2] = [&[every(HERE)], &[every(HERE), ELSEWHERE]];
     for offered in rows {
         let wanted: Sides = (&there, &[every(HERE)]);
-        assert!(rt; narrows(rt.alloc(), &[half, whole], (&there, offered), Some(wanted))?);
+        holds(
+            &rt,
+            narrows(
+                &rt,
+                rt.alloc(),
+                &[half, whole],
+                (&there, offered),
+                Some(wanted),
+            ),
+        );
     }
-    Ok(())
 }
 
 #[test]
-fn narrows_protocol_and_ports(rt: HostRuntime) -> Result<(), Fail> {
+fn narrows_protocol_and_ports(rt: HostRuntime) {
     let web = Entry {
         protocol: 6,
         local_ports: (443, 443),
@@ -124,9 +143,17 @@ fn narrows_protocol_and_ports(rt: HostRuntime) -> Result<(), Fail> {
     let rows: [&[Selector]; 2] = [&[every(HERE)], &[every(HERE), ELSEWHERE]];
     for offered in rows {
         let wanted: Sides = (&[tcp], &[https]);
-        assert!(rt; narrows(rt.alloc(), &[web], (&[every(THERE)], offered), Some(wanted))?);
+        holds(
+            &rt,
+            narrows(
+                &rt,
+                rt.alloc(),
+                &[web],
+                (&[every(THERE)], offered),
+                Some(wanted),
+            ),
+        );
     }
-    Ok(())
 }
 
 /// A selector of ICMP with some of its ports alone, which no flow of it has.
@@ -138,7 +165,7 @@ const POINTLESS: Selector = Selector {
 };
 
 #[test]
-fn leaves_out_what_has_no_points(rt: HostRuntime) -> Result<(), Fail> {
+fn leaves_out_what_has_no_points(rt: HostRuntime) {
     let there = [every(THERE)];
     let here = [every(HERE)];
     let wanted: Sides = (&there, &here);
@@ -155,34 +182,33 @@ fn leaves_out_what_has_no_points(rt: HostRuntime) -> Result<(), Fail> {
         ((&there, &[POINTLESS, every(HERE)]), Some(wanted)),
     ];
     for (offered, wanted) in rows {
-        assert!(rt; narrows(rt.alloc(), &[PROTECT], offered, wanted)?);
+        holds(&rt, narrows(&rt, rt.alloc(), &[PROTECT], offered, wanted));
     }
-    Ok(())
 }
 
 #[test]
-fn an_empty_list_is_not_acceptable(rt: HostRuntime) -> Result<(), Fail> {
+fn an_empty_list_is_not_acceptable(rt: HostRuntime) {
     let rows: [Sides; 3] = [(&[], &[]), (&[every(THERE)], &[]), (&[], &[every(HERE)])];
     for offered in rows {
-        assert!(rt; narrows(rt.alloc(), &[PROTECT], offered, None)?);
+        holds(&rt, narrows(&rt, rt.alloc(), &[PROTECT], offered, None));
     }
-    Ok(())
 }
 
 #[test]
-fn keeps_the_offered_order(rt: HostRuntime) -> Result<(), Fail> {
+fn keeps_the_offered_order(rt: HostRuntime) {
     let there = [every(THERE)];
     let last = every(Range::V4(0x0a00_00ff, 0x0a00_0100));
     let first = every(Range::V4(0x0a00_0000, 0x0a00_0001));
     let cut = every(Range::V4(0x0a00_00ff, 0x0a00_00ff));
     let wanted: Sides = (&there, &[cut, first, cut]);
-    assert!(rt;
+    holds(
+        &rt,
         narrows(
+            &rt,
             rt.alloc(),
             &[PROTECT],
             (&there, &[last, first, last]),
-            Some(wanted)
-        )?
+            Some(wanted),
+        ),
     );
-    Ok(())
 }

@@ -1,5 +1,6 @@
 //! What an initiator asks of an answer to its offer.
 use super::policies::PROTECT;
+use crate::tests::asserts::holds;
 use base::{Range, Selector};
 use policy::{Entry, are_inside};
 
@@ -24,7 +25,8 @@ fn all_are(inside: bool, rows: &[(&[Selector], &[Selector])]) -> bool {
 fn an_answer_lies_inside_its_offer(rt: HostRuntime) {
     let offered = [PROTECT.local_side(), PROTECT.remote_side()];
     let web = WEB.local_side();
-    assert!(rt;
+    holds(
+        &rt,
         all_are(
             true,
             &[
@@ -32,9 +34,10 @@ fn an_answer_lies_inside_its_offer(rt: HostRuntime) {
                 (&[PROTECT.remote_side()], &offered),
                 (&[web], &offered),
             ],
-        )
+        ),
     );
-    assert!(rt;
+    holds(
+        &rt,
         all_are(
             false,
             &[
@@ -44,7 +47,7 @@ fn an_answer_lies_inside_its_offer(rt: HostRuntime) {
                 (&[web, PROTECT.local_side()], &[web]),
                 (&[web], &[PROTECT.remote_side()]),
             ],
-        )
+        ),
     );
 }
 
@@ -65,8 +68,12 @@ fn an_answer_without_points_or_across_two_offered_is_not_inside(rt: HostRuntime)
         at(Range::V4(0x0a00_0080, 0x0a00_00ff)),
     ];
     let six = at(Range::V6(0x0a00_0000, 0x0a00_00ff));
-    assert!(rt; all_are(true, &[(&halves, &[whole]), (&[whole, six], &[six, whole])]));
-    assert!(rt;
+    holds(
+        &rt,
+        all_are(true, &[(&halves, &[whole]), (&[whole, six], &[six, whole])]),
+    );
+    holds(
+        &rt,
         all_are(
             false,
             &[
@@ -75,6 +82,6 @@ fn an_answer_without_points_or_across_two_offered_is_not_inside(rt: HostRuntime)
                 (&[whole], &halves),
                 (&[six], &[whole]),
             ],
-        )
+        ),
     );
 }

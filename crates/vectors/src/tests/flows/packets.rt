@@ -1,9 +1,10 @@
 //! The flow of a packet, and each refusal at its edge.
+use crate::tests::asserts::{granted, holds};
 use crate::tests::none_differs;
 use base::Address;
 use policy::{Flow, InnerFault, Ports, inner};
 use std::alloc::Global;
-use std::test::Fail;
+use std::process::Abort;
 
 /// A packet of ICMP from 10.0.0.1 to 10.1.0.1 that is a header alone.
 pub const ICMP: [u8; 20] = [
@@ -242,21 +243,21 @@ fn a_bad_packet_is_no_fragment_and_a_fragment_needs_no_ports(rt: HostRuntime) {
 
 /// What is read of the header, with this total length, before as many octets 00 as make the packet so long.
 fn read_long(
+    rt: &impl Abort,
     alloc: Global,
     length: usize,
     total: [u8; 2],
-) -> Result<Result<Flow, InnerFault>, Fail> {
-    let mut packet = [0x45, 0x00].to_vec(alloc)?;
-    packet.extend_from_slice(&total)?;
-    packet.extend_from_slice(&ICMP[4..])?;
-    packet.resize(length, 0)?;
-    Ok(inner(packet.as_slice()))
+) -> Result<Flow, InnerFault> {
+    let mut packet = granted(rt, [0x45, 0x00].to_vec(alloc));
+    granted(rt, packet.extend_from_slice(&total));
+    granted(rt, packet.extend_from_slice(&ICMP[4..]));
+    granted(rt, packet.resize(length, 0));
+    inner(packet.as_slice())
 }
 
 #[test]
-fn reads_up_to_16384_octets(rt: HostRuntime) -> Result<(), Fail> {
-    let longest = read_long(rt.alloc(), 16_384, [0x40, 0x00])?;
-    let longer = read_long(rt.alloc(), 16_385, [0x40, 0x01])?;
-    assert!(rt; longest == Ok(ICMP_FLOW) && longer == REFUSED);
-    Ok(())
+fn reads_up_to_16384_octets(rt: HostRuntime) {
+    let longest = read_long(&rt, rt.alloc(), 16_384, [0x40, 0x00]);
+    let longer = read_long(&rt, rt.alloc(), 16_385, [0x40, 0x01]);
+    holds(&rt, longest == Ok(ICMP_FLOW) && longer == REFUSED);
 }

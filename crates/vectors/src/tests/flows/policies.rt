@@ -1,9 +1,10 @@
 //! Policies and their decisions.
 use super::packets::{ICMP, ICMP_FLOW};
+use crate::tests::asserts::{granted, holds, same};
 use base::{Items, Range, Selector};
 use policy::{Action, Decision, Direction, Entry, Flow, Policy, PolicyFault, Ports, covers, inner};
 use std::alloc::Global;
-use std::test::Fail;
+use std::process::Abort;
 
 pub const ALL_PORTS: (u16, u16) = (0, 65535);
 
@@ -23,18 +24,19 @@ pub const PROTECT: Entry = Entry {
 };
 
 /// A policy of these entries, of which none is at fault.
-pub fn policy(alloc: Global, entries: &[Entry]) -> Result<Policy, Fail> {
-    Ok(Policy::new(Items::from_slice(alloc, entries)?)?)
+pub fn policy(rt: &impl Abort, alloc: Global, entries: &[Entry]) -> Policy {
+    Policy::new(granted(rt, Items::from_slice(alloc, entries))).expect(rt, "a policy")
 }
 
 /// What a policy of these entries decides of a flow.
 pub fn decision(
+    rt: &impl Abort,
     alloc: Global,
     entries: &[Entry],
     flow: &Flow,
     direction: Direction,
-) -> Result<Decision, Fail> {
-    Ok(policy(alloc, entries)?.decide(flow, direction))
+) -> Decision {
+    policy(rt, alloc, entries).decide(flow, direction)
 }
 
 /// An entry for ICMP alone.
@@ -45,8 +47,8 @@ const DISCARD_ICMP: Entry = Entry {
 };
 
 #[test]
-fn the_first_entry_decides(rt: HostRuntime) -> Result<(), Fail> {
-    let flow = inner(&ICMP)?;
+fn the_first_entry_decides(rt: HostRuntime) {
+    let flow = inner(&ICMP).expect(&rt, "a flow");
     let rows: [(&[Entry], Decision); 4] = [
         (&[DISCARD_ICMP, PROTECT], Decision::Discard),
         (&[PROTECT, DISCARD_ICMP], Decision::Protect),
@@ -55,17 +57,15 @@ fn the_first_entry_decides(rt: HostRuntime) -> Result<(), Fail> {
         (&[TCP], Decision::Discard),
     ];
     for (entries, wanted) in rows {
-        let answer = decision(rt.alloc(), entries, &flow, Direction::Outward)?;
-        assert_eq!(rt; answer, wanted);
+        let answer = decision(&rt, rt.alloc(), entries, &flow, Direction::Outward);
+        same(&rt, answer, wanted);
     }
-    Ok(())
 }
 
 #[test]
-fn keeps_the_order_of_entries(rt: HostRuntime) -> Result<(), Fail> {
-    let kept = policy(rt.alloc(), &[PROTECT, DISCARD_ICMP])?;
-    assert_eq!(rt; kept.entries(), [PROTECT, DISCARD_ICMP].as_slice());
-    Ok(())
+fn keeps_the_order_of_entries(rt: HostRuntime) {
+    let kept = policy(&rt, rt.alloc(), &[PROTECT, DISCARD_ICMP]);
+    same(&rt, kept.entries(), [PROTECT, DISCARD_ICMP].as_slice());
 }
 
 /// An entry for TCP alone.
@@ -75,7 +75,7 @@ const TCP: Entry = Entry {
 };
 
 #[test]
-fn exchanges_the_sides_inward(rt: HostRuntime) -> Result<(), Fail> {
+fn exchanges_the_sides_inward(rt: HostRuntime) {
     let bypass = Entry {
         action: Action::Bypass,
         ..PROTECT
@@ -91,14 +91,13 @@ fn exchanges_the_sides_inward(rt: HostRuntime) -> Result<(), Fail> {
         (answer, Direction::Inward, Decision::Bypass),
         (answer, Direction::Outward, Decision::Discard),
     ] {
-        let answer = decision(rt.alloc(), &[bypass], &flow, direction)?;
-        assert_eq!(rt; answer, wanted);
+        let answer = decision(&rt, rt.alloc(), &[bypass], &flow, direction);
+        same(&rt, answer, wanted);
     }
-    Ok(())
 }
 
 /// What the entry for web servers on the remote side decides of a flow outward between these ports, and of its answer.
-fn decisions_of_web(alloc: Global, source: u16, target: u16) -> Result<[Decision; 2], Fail> {
+fn decisions_of_web(rt: &impl Abort, alloc: Global, source: u16, target: u16) -> [Decision; 2] {
     let web = Entry {
         remote_ports: (443, 443),
         ..TCP
@@ -117,27 +116,27 @@ fn decisions_of_web(alloc: Global, source: u16, target: u16) -> Result<[Decision
             target: source,
         }),
     };
-    let policy = policy(alloc, &[web])?;
-    Ok([
+    let policy = policy(rt, alloc, &[web]);
+    [
         policy.decide(&flow, Direction::Outward),
         policy.decide(&answer, Direction::Inward),
-    ])
+    ]
 }
 
 #[test]
-fn compares_the_ports_of_each_side(rt: HostRuntime) -> Result<(), Fail> {
+fn compares_the_ports_of_each_side(rt: HostRuntime) {
     for (source, target, wanted) in [
         (50_000, 443, Decision::Protect),
         (50_000, 442, Decision::Discard),
         (50_000, 444, Decision::Discard),
         (443, 50_000, Decision::Discard),
     ] {
-        assert_eq!(rt;
-            decisions_of_web(rt.alloc(), source, target)?,
-            [wanted, wanted]
+        same(
+            &rt,
+            decisions_of_web(&rt, rt.alloc(), source, target),
+            [wanted, wanted],
         );
     }
-    Ok(())
 }
 
 /// All points of IPv4.
@@ -161,30 +160,30 @@ fn a_flow_without_ports_wants_the_range_of_all_ports(rt: HostRuntime) {
             end_port,
             ..ALL
         };
-        assert!(rt; !covers_icmp(&[some], &[ALL]));
-        assert!(rt; !covers_icmp(&[ALL], &[some]));
-        assert!(rt; covers_icmp(&[some, ALL], &[ALL, some]));
+        holds(&rt, !covers_icmp(&[some], &[ALL]));
+        holds(&rt, !covers_icmp(&[ALL], &[some]));
+        holds(&rt, covers_icmp(&[some, ALL], &[ALL, some]));
     }
 }
 
 #[test]
 fn an_empty_list_covers_nothing(rt: HostRuntime) {
-    assert!(rt; covers_icmp(&[ALL], &[ALL]));
-    assert!(rt; !covers_icmp(&[], &[ALL]));
-    assert!(rt; !covers_icmp(&[ALL], &[]));
+    holds(&rt, covers_icmp(&[ALL], &[ALL]));
+    holds(&rt, !covers_icmp(&[], &[ALL]));
+    holds(&rt, !covers_icmp(&[ALL], &[]));
 }
 
 /// How many entries a policy of so many has, or why there is none.
-fn length_of_policy(alloc: Global, count: usize) -> Result<Result<usize, PolicyFault>, Fail> {
-    let entries = Items::from_vec(vec![in alloc; PROTECT; count]?);
-    Ok(match Policy::new(entries) {
+fn length_of_policy(rt: &impl Abort, alloc: Global, count: usize) -> Result<usize, PolicyFault> {
+    let entries = Items::from_vec(granted(rt, vec![in alloc; PROTECT; count]));
+    match Policy::new(entries) {
         Ok(policy) => Ok(policy.entries().len()),
         Err(fault) => Err(fault),
-    })
+    }
 }
 
 #[test]
-fn a_policy_has_256_entries_at_most(rt: HostRuntime) -> Result<(), Fail> {
+fn a_policy_has_256_entries_at_most(rt: HostRuntime) {
     let refused = Err(PolicyFault::BadEntry { index: 256 });
     for (count, wanted) in [
         (255, Ok(255)),
@@ -192,14 +191,13 @@ fn a_policy_has_256_entries_at_most(rt: HostRuntime) -> Result<(), Fail> {
         (257, refused),
         (300, refused),
     ] {
-        assert_eq!(rt; length_of_policy(rt.alloc(), count)?, wanted);
+        same(&rt, length_of_policy(&rt, rt.alloc(), count), wanted);
     }
-    Ok(())
 }
 
 /// The entry at fault in a list, if one is.
-pub fn fault_of(alloc: Global, entries: &[Entry]) -> Result<Option<PolicyFault>, Fail> {
-    Ok(Policy::new(Items::from_slice(alloc, entries)?).err())
+pub fn fault_of(rt: &impl Abort, alloc: Global, entries: &[Entry]) -> Option<PolicyFault> {
+    Policy::new(granted(rt, Items::from_slice(alloc, entries))).err()
 }
 
 /// Entries of which each has one range whose start lies above its end.
@@ -223,28 +221,26 @@ const REVERSED: [Entry; 4] = [
 ];
 
 #[test]
-fn names_the_first_entry_at_fault(rt: HostRuntime) -> Result<(), Fail> {
+fn names_the_first_entry_at_fault(rt: HostRuntime) {
     for bad in REVERSED {
         for (entries, index) in [
             ([bad, PROTECT, PROTECT], 0),
             ([PROTECT, bad, bad], 1),
             ([PROTECT, PROTECT, bad], 2),
         ] {
-            let fault = fault_of(rt.alloc(), &entries)?;
-            assert_eq!(rt; fault, Some(PolicyFault::BadEntry { index }));
+            let fault = fault_of(&rt, rt.alloc(), &entries);
+            same(&rt, fault, Some(PolicyFault::BadEntry { index }));
         }
     }
-    Ok(())
 }
 
 #[test]
-fn ranges_of_one_are_in_order(rt: HostRuntime) -> Result<(), Fail> {
+fn ranges_of_one_are_in_order(rt: HostRuntime) {
     let narrow = Entry {
         local: Range::V4(1, 1),
         remote_ports: (7, 7),
         ..PROTECT
     };
-    let narrow = policy(rt.alloc(), &[narrow])?;
-    assert_eq!(rt; narrow.entries().len(), 1);
-    Ok(())
+    let narrow = policy(&rt, rt.alloc(), &[narrow]);
+    same(&rt, narrow.entries().len(), 1);
 }

@@ -3,11 +3,11 @@ use super::plain::{
     ADDRESSES, PORTS, PROTOCOLS, SELECTORS, any_holds, holds, selector_of, some_point,
 };
 use super::policies::policy;
+use crate::tests::asserts::{holds_at, same_at};
 use base::{Address, Range, Selector};
 use policy::{Action, Entry, Flow, NarrowFault, Point, Ports, covers, narrow};
 use std::alloc::Global;
 use std::process::Abort;
-use std::test::Fail;
 
 /// All points of the family of an address.
 fn all(address: Address) -> Selector {
@@ -52,15 +52,17 @@ fn covers_a_point(rt: &impl Abort, selector: &Selector, point: Point) {
         }),
     };
     let held = holds(selector, &point);
-    assert_eq!(rt;
+    same_at(
+        rt,
+        (selector, point),
         covers(&[*selector], &[all(point.address)], &flow),
         held,
-        "{selector:?} {point:?}"
     );
-    assert_eq!(rt;
+    same_at(
+        rt,
+        (selector, point),
         covers(&[all(point.address)], &[*selector], &flow),
         held,
-        "{selector:?} {point:?}"
     );
 }
 
@@ -177,40 +179,39 @@ enum Outcome {
 
 /// Narrows an offer, and compares the answer with that of the plain search.
 fn judge(
+    rt: &impl Abort,
     alloc: Global,
     entries: &[Entry],
     initiator: &[Selector],
     responder: &[Selector],
-) -> Result<Outcome, Fail> {
-    let policy = policy(alloc, entries)?;
-    Ok(
-        match (
-            narrow(alloc, initiator, responder, &policy),
-            chosen(entries, initiator, responder),
-        ) {
-            (Ok(narrowed), Some(entry)) => {
-                if is_narrowed(
-                    &entry.remote_side(),
-                    initiator,
-                    narrowed.initiator.as_slice(),
-                ) && is_narrowed(
-                    &entry.local_side(),
-                    responder,
-                    narrowed.responder.as_slice(),
-                ) {
-                    Outcome::Accepted
-                } else {
-                    Outcome::Wrong
-                }
+) -> Outcome {
+    let policy = policy(rt, alloc, entries);
+    match (
+        narrow(alloc, initiator, responder, &policy),
+        chosen(entries, initiator, responder),
+    ) {
+        (Ok(narrowed), Some(entry)) => {
+            if is_narrowed(
+                &entry.remote_side(),
+                initiator,
+                narrowed.initiator.as_slice(),
+            ) && is_narrowed(
+                &entry.local_side(),
+                responder,
+                narrowed.responder.as_slice(),
+            ) {
+                Outcome::Accepted
+            } else {
+                Outcome::Wrong
             }
-            (Err(NarrowFault::Unacceptable), None) => Outcome::Refused,
-            _ => Outcome::Wrong,
-        },
-    )
+        }
+        (Err(NarrowFault::Unacceptable), None) => Outcome::Refused,
+        _ => Outcome::Wrong,
+    }
 }
 
 /// The case of a number: three entries, and an offer of two selectors on each side.
-fn outcome_of(alloc: Global, number: u32) -> Result<Outcome, Fail> {
+fn outcome_of(rt: &impl Abort, alloc: Global, number: u32) -> Outcome {
     let entries = [
         entry_of(&mixed(number, 1), &mixed(number, 2), Action::Protect),
         entry_of(&mixed(number, 3), &mixed(number, 4), Action::Bypass),
@@ -218,19 +219,18 @@ fn outcome_of(alloc: Global, number: u32) -> Result<Outcome, Fail> {
     ];
     let initiator = [mixed(number, 7), mixed(number, 8)];
     let responder = [mixed(number, 9), mixed(number, 10)];
-    judge(alloc, &entries, &initiator, &responder)
+    judge(rt, alloc, &entries, &initiator, &responder)
 }
 
 #[test]
-fn narrows_to_what_the_points_say(rt: HostRuntime) -> Result<(), Fail> {
+fn narrows_to_what_the_points_say(rt: HostRuntime) {
     let mut accepted = 0u32;
     for number in 0..2000 {
-        let outcome = outcome_of(rt.alloc(), number)?;
-        assert!(rt; outcome != Outcome::Wrong, "at {number}");
+        let outcome = outcome_of(&rt, rt.alloc(), number);
+        holds_at(&rt, number, outcome != Outcome::Wrong);
         if outcome == Outcome::Accepted {
             accepted = accepted.saturating_add(1);
         }
     }
-    assert!(rt; accepted > 100, "{accepted} were accepted");
-    Ok(())
+    holds_at(&rt, accepted, accepted > 100);
 }

@@ -1,6 +1,7 @@
+use crate::tests::asserts::{granted, holds};
 use crate::tests::none_differs;
-use std::alloc::{AllocError, Global};
-use std::test::Fail;
+use std::alloc::Global;
+use std::process::Abort;
 use suite::{Chosen, Wanted, choose};
 use wire::{Attribute, Items, Payload, Proposal, Transform, decode_chain};
 
@@ -48,25 +49,26 @@ const FIRST_EXTENDED: Option<Chosen> = Some(Chosen {
 });
 
 /// What is chosen of the payload's proposals.
-fn of_payload(alloc: Global, octets: &[u8], wanted: &Wanted) -> Result<Option<Chosen>, Fail> {
-    let payloads = decode_chain(alloc, 33, octets)?;
+fn of_payload(rt: &impl Abort, alloc: Global, octets: &[u8], wanted: &Wanted) -> Option<Chosen> {
+    let payloads = decode_chain(alloc, 33, octets).expect(rt, "payloads");
     match payloads.as_slice() {
-        [Payload::Sa(proposals)] => Ok(choose(proposals.as_slice(), wanted)),
-        _ => Ok(None),
+        [Payload::Sa(proposals)] => choose(proposals.as_slice(), wanted),
+        _ => None,
     }
 }
 
 fn first_payload_differing(
+    rt: &impl Abort,
     alloc: Global,
     octets: &[u8],
     rows: &[(Wanted, Option<Chosen>)],
-) -> Result<Option<usize>, Fail> {
+) -> Option<usize> {
     for (place, (wanted, answer)) in rows.iter().enumerate() {
-        if of_payload(alloc, octets, wanted)? != *answer {
-            return Ok(Some(place));
+        if of_payload(rt, alloc, octets, wanted) != *answer {
+            return Some(place);
         }
     }
-    Ok(None)
+    None
 }
 
 const OF_ESP: [(Wanted, Option<Chosen>); 3] = [(ESP, FIRST), (ESP_EXTENDED, FIRST), (IKE, None)];
@@ -78,12 +80,11 @@ const OF_IKE: [(Wanted, Option<Chosen>); 3] = [
 ];
 
 #[test]
-fn payloads_of_both_kinds(rt: HostRuntime) -> Result<(), Fail> {
-    let of_esp = first_payload_differing(rt.alloc(), &OFFERED_ESP, &OF_ESP)?;
+fn payloads_of_both_kinds(rt: HostRuntime) {
+    let of_esp = first_payload_differing(&rt, rt.alloc(), &OFFERED_ESP, &OF_ESP);
     none_differs(&rt, of_esp);
-    let of_ike = first_payload_differing(rt.alloc(), &OFFERED_IKE, &OF_IKE)?;
+    let of_ike = first_payload_differing(&rt, rt.alloc(), &OFFERED_IKE, &OF_IKE);
     none_differs(&rt, of_ike);
-    Ok(())
 }
 
 /// A transform by its type and its ID.
@@ -99,32 +100,39 @@ const ANOTHER_PRF: [Part; 4] = [(1, 65001), (2, 2), (3, 12), (4, 65002)];
 
 /// Transforms without attributes, but for these at the one of a place.
 fn transforms(
+    rt: &impl Abort,
     alloc: Global,
     parts: &[Part],
     place: usize,
     values: &[(u16, u16)],
-) -> Result<Items<Transform>, AllocError> {
+) -> Items<Transform> {
     let mut transforms = Items::new(alloc);
     for (at, (kind, id)) in parts.iter().enumerate() {
-        let attributes = attributes(alloc, if at == place { values } else { &[] })?;
-        transforms.push(Transform {
-            kind: *kind,
-            id: *id,
-            attributes,
-        })?;
+        let attributes = attributes(rt, alloc, if at == place { values } else { &[] });
+        granted(
+            rt,
+            transforms.push(Transform {
+                kind: *kind,
+                id: *id,
+                attributes,
+            }),
+        );
     }
-    Ok(transforms)
+    transforms
 }
 
-fn attributes(alloc: Global, values: &[(u16, u16)]) -> Result<Items<Attribute>, AllocError> {
+fn attributes(rt: &impl Abort, alloc: Global, values: &[(u16, u16)]) -> Items<Attribute> {
     let mut attributes = Items::new(alloc);
     for (kind, value) in values {
-        attributes.push(Attribute::Short {
-            kind: *kind,
-            value: *value,
-        })?;
+        granted(
+            rt,
+            attributes.push(Attribute::Short {
+                kind: *kind,
+                value: *value,
+            }),
+        );
     }
-    Ok(attributes)
+    attributes
 }
 
 /// The transforms of a proposal, as a table names them.
@@ -152,39 +160,40 @@ const RIGHT_IKE: Offer = Offer::FirstOfIke(4);
 
 const RIGHT_ESP: Offer = Offer::FirstOfEsp(3);
 
-fn offered(alloc: Global, offer: Offer) -> Result<Items<Transform>, AllocError> {
+fn offered(rt: &impl Abort, alloc: Global, offer: Offer) -> Items<Transform> {
     match offer {
-        Offer::Ike(place, value) => transforms(alloc, &PARTS_OF_IKE[..4], place, &[value]),
+        Offer::Ike(place, value) => transforms(rt, alloc, &PARTS_OF_IKE[..4], place, &[value]),
         Offer::IkeWithTwo(place, values) => {
-            transforms(alloc, &PARTS_OF_IKE[..4], place, &values)
+            transforms(rt, alloc, &PARTS_OF_IKE[..4], place, &values)
         }
-        Offer::FirstOfIke(count) => transforms(alloc, &PARTS_OF_IKE[..count.min(5)], 0, &[]),
-        Offer::AnotherPrf => transforms(alloc, &ANOTHER_PRF, 0, &[]),
-        Offer::Mixed => transforms(alloc, &MIXED_PARTS, 1, &[(14, 256)]),
-        Offer::Esp(place) => transforms(alloc, &PARTS_OF_ESP[..3], place, &[(14, 128)]),
-        Offer::FirstOfEsp(count) => transforms(alloc, &PARTS_OF_ESP[..count.min(4)], 0, &[]),
-        Offer::Extension(id) => transforms(alloc, &[(1, 11), (3, 12), (5, id)], 0, &[]),
+        Offer::FirstOfIke(count) => transforms(rt, alloc, &PARTS_OF_IKE[..count.min(5)], 0, &[]),
+        Offer::AnotherPrf => transforms(rt, alloc, &ANOTHER_PRF, 0, &[]),
+        Offer::Mixed => transforms(rt, alloc, &MIXED_PARTS, 1, &[(14, 256)]),
+        Offer::Esp(place) => transforms(rt, alloc, &PARTS_OF_ESP[..3], place, &[(14, 128)]),
+        Offer::FirstOfEsp(count) => transforms(rt, alloc, &PARTS_OF_ESP[..count.min(4)], 0, &[]),
+        Offer::Extension(id) => transforms(rt, alloc, &[(1, 11), (3, 12), (5, id)], 0, &[]),
         Offer::Extensions(one, other) => {
-            transforms(alloc, &[(1, 11), (3, 12), (5, one), (5, other)], 0, &[])
+            transforms(rt, alloc, &[(1, 11), (3, 12), (5, one), (5, other)], 0, &[])
         }
     }
 }
 
 fn proposal(
+    rt: &impl Abort,
     alloc: Global,
     number: u8,
     protocol: u8,
     spi: &[u8],
     offer: Offer,
-) -> Result<Proposal, AllocError> {
-    let transforms = offered(alloc, offer)?;
-    let spi = Items::from_slice(alloc, spi)?;
-    Ok(Proposal {
+) -> Proposal {
+    let transforms = offered(rt, alloc, offer);
+    let spi = granted(rt, Items::from_slice(alloc, spi));
+    Proposal {
         number,
         protocol,
         spi,
         transforms,
-    })
+    }
 }
 
 /// What is offered in one proposal of number 1, what is wanted, and what is chosen.
@@ -192,18 +201,19 @@ type Row = (Offer, Wanted, Option<Chosen>);
 
 /// The first row of which another proposal is chosen, where they have this protocol and this SPI.
 fn first_differing(
+    rt: &impl Abort,
     alloc: Global,
     protocol: u8,
     spi: &[u8],
     rows: &[Row],
-) -> Result<Option<usize>, AllocError> {
+) -> Option<usize> {
     for (place, (offer, wanted, answer)) in rows.iter().enumerate() {
-        let proposals = [proposal(alloc, 1, protocol, spi, *offer)?];
+        let proposals = [proposal(rt, alloc, 1, protocol, spi, *offer)];
         if choose(&proposals, wanted) != *answer {
-            return Ok(Some(place));
+            return Some(place);
         }
     }
-    Ok(None)
+    None
 }
 
 const ROWS_OF_IKE: [Row; 20] = [
@@ -242,9 +252,8 @@ const ROWS_OF_IKE: [Row; 20] = [
 ];
 
 #[test]
-fn one_of_each_type_and_the_key_length_for_ike(rt: HostRuntime) -> Result<(), Fail> {
-    none_differs(&rt, first_differing(rt.alloc(), 1, &[], &ROWS_OF_IKE)?);
-    Ok(())
+fn one_of_each_type_and_the_key_length_for_ike(rt: HostRuntime) {
+    none_differs(&rt, first_differing(&rt, rt.alloc(), 1, &[], &ROWS_OF_IKE));
 }
 
 const ROWS_OF_ESP: [Row; 13] = [
@@ -267,29 +276,29 @@ const ROWS_OF_ESP: [Row; 13] = [
 ];
 
 #[test]
-fn one_of_each_type_and_extended_numbers_for_esp(rt: HostRuntime) -> Result<(), Fail> {
+fn one_of_each_type_and_extended_numbers_for_esp(rt: HostRuntime) {
     none_differs(
         &rt,
-        first_differing(rt.alloc(), 3, &[0, 0, 1, 0], &ROWS_OF_ESP)?,
+        first_differing(&rt, rt.alloc(), 3, &[0, 0, 1, 0], &ROWS_OF_ESP),
     );
-    Ok(())
 }
 
 /// The first protocol and SPI, filled up to 8 octets behind its length, with which the offer is chosen otherwise.
 fn first_spi_differing(
+    rt: &impl Abort,
     alloc: Global,
     offer: Offer,
     wanted: Wanted,
     rows: &[(u8, usize, [u8; 8], bool)],
-) -> Result<Option<usize>, AllocError> {
+) -> Option<usize> {
     for (place, (protocol, length, spi, right)) in rows.iter().enumerate() {
         let spi = &spi[..(*length).min(8)];
-        let proposals = [proposal(alloc, 1, *protocol, spi, offer)?];
+        let proposals = [proposal(rt, alloc, 1, *protocol, spi, offer)];
         if choose(&proposals, &wanted).is_some() != *right {
-            return Ok(Some(place));
+            return Some(place);
         }
     }
-    Ok(None)
+    None
 }
 
 const SPIS_OF_ESP: [(u8, usize, [u8; 8], bool); 7] = [
@@ -307,25 +316,27 @@ const SPIS_OF_ESP: [(u8, usize, [u8; 8], bool); 7] = [
 const SPIS_OF_IKE: [(u8, usize, [u8; 8], bool); 2] = [(3, 0, [0; 8], false), (1, 8, [0; 8], false)];
 
 #[test]
-fn spis_and_protocols(rt: HostRuntime) -> Result<(), Fail> {
+fn spis_and_protocols(rt: HostRuntime) {
     none_differs(
         &rt,
-        first_spi_differing(rt.alloc(), RIGHT_ESP, ESP, &SPIS_OF_ESP)?,
+        first_spi_differing(&rt, rt.alloc(), RIGHT_ESP, ESP, &SPIS_OF_ESP),
     );
     none_differs(
         &rt,
-        first_spi_differing(rt.alloc(), RIGHT_IKE, IKE, &SPIS_OF_IKE)?,
+        first_spi_differing(&rt, rt.alloc(), RIGHT_IKE, IKE, &SPIS_OF_IKE),
     );
-    Ok(())
 }
 
 /// What is chosen of proposals of these numbers.
-fn of_several(alloc: Global, offers: &[(u8, Offer)]) -> Result<Option<Chosen>, AllocError> {
+fn of_several(rt: &impl Abort, alloc: Global, offers: &[(u8, Offer)]) -> Option<Chosen> {
     let mut proposals = Items::new(alloc);
     for (number, offer) in offers {
-        proposals.push(proposal(alloc, *number, 1, &[], *offer)?)?;
+        granted(
+            rt,
+            proposals.push(proposal(rt, alloc, *number, 1, &[], *offer)),
+        );
     }
-    Ok(choose(proposals.as_slice(), &IKE))
+    choose(proposals.as_slice(), &IKE)
 }
 
 fn chosen(place: usize, number: u8) -> Option<Chosen> {
@@ -339,50 +350,57 @@ fn chosen(place: usize, number: u8) -> Option<Chosen> {
 const THREE: [(u8, Offer); 3] = [(1, Offer::AnotherPrf), (2, RIGHT_IKE), (3, RIGHT_IKE)];
 
 #[test]
-fn the_first_that_is_acceptable(rt: HostRuntime) -> Result<(), Fail> {
-    let of_three = of_several(rt.alloc(), &THREE)?;
-    let of_none = of_several(rt.alloc(), &[])?;
-    let of_one = of_several(rt.alloc(), &[(7, RIGHT_IKE)])?;
-    assert!(rt; of_three == chosen(1, 2) && of_none == None && of_one == chosen(0, 7));
-    Ok(())
+fn the_first_that_is_acceptable(rt: HostRuntime) {
+    let of_three = of_several(&rt, rt.alloc(), &THREE);
+    let of_none = of_several(&rt, rt.alloc(), &[]);
+    let of_one = of_several(&rt, rt.alloc(), &[(7, RIGHT_IKE)]);
+    holds(
+        &rt,
+        of_three == chosen(1, 2) && of_none == None && of_one == chosen(0, 7),
+    );
 }
 
 // A proposal like the right one, whose key length of 256 bits has the long form.
-fn of_the_long_form(alloc: Global) -> Result<Proposal, AllocError> {
+fn of_the_long_form(rt: &impl Abort, alloc: Global) -> Proposal {
     let mut transforms = Items::new(alloc);
-    transforms.push(long_transform(alloc)?)?;
+    granted(rt, transforms.push(long_transform(rt, alloc)));
     for (kind, id) in [(2, 5), (3, 12), (4, 65002)] {
         let attributes = Items::new(alloc);
-        transforms.push(Transform {
-            kind,
-            id,
-            attributes,
-        })?;
+        granted(
+            rt,
+            transforms.push(Transform {
+                kind,
+                id,
+                attributes,
+            }),
+        );
     }
-    Ok(Proposal {
+    Proposal {
         number: 1,
         protocol: 1,
         spi: Items::new(alloc),
         transforms,
-    })
+    }
 }
 
-fn long_transform(alloc: Global) -> Result<Transform, AllocError> {
+fn long_transform(rt: &impl Abort, alloc: Global) -> Transform {
     let mut attributes = Items::new(alloc);
-    attributes.push(Attribute::Long {
-        kind: 14,
-        value: Items::from_slice(alloc, &[1, 0])?,
-    })?;
-    Ok(Transform {
+    granted(
+        rt,
+        attributes.push(Attribute::Long {
+            kind: 14,
+            value: granted(rt, Items::from_slice(alloc, &[1, 0])),
+        }),
+    );
+    Transform {
         kind: 1,
         id: 65001,
         attributes,
-    })
+    }
 }
 
 #[test]
-fn no_attribute_of_the_long_form(rt: HostRuntime) -> Result<(), Fail> {
-    let proposals = [of_the_long_form(rt.alloc())?];
-    assert!(rt; choose(&proposals, &IKE_WITH_KEY_LENGTH).is_none());
-    Ok(())
+fn no_attribute_of_the_long_form(rt: HostRuntime) {
+    let proposals = [of_the_long_form(&rt, rt.alloc())];
+    holds(&rt, choose(&proposals, &IKE_WITH_KEY_LENGTH).is_none());
 }

@@ -1,5 +1,6 @@
 // Expected values are those of Python's modules `hmac` and `hashlib`.
 use super::counted;
+use crate::tests::asserts::{holds, same};
 use suite::{KeyRecord, Keys, Nonce, child_keys, ike_keys};
 
 const SPI_I: u64 = 0x0102_0304_0506_0708;
@@ -55,50 +56,52 @@ const SEVEN_KEYS: [[u8; 32]; 7] = [
 #[test]
 fn keys_of_children_and_of_integrity(rt: HostRuntime) {
     let record = record();
-    assert!(rt; record.sk_d == SEVEN_KEYS[0]);
-    assert!(rt; record.sk_ai == SEVEN_KEYS[1]);
-    assert!(rt; record.sk_ar == SEVEN_KEYS[2]);
+    holds(&rt, record.sk_d == SEVEN_KEYS[0]);
+    holds(&rt, record.sk_ai == SEVEN_KEYS[1]);
+    holds(&rt, record.sk_ar == SEVEN_KEYS[2]);
 }
 
 #[test]
 fn keys_of_encryption(rt: HostRuntime) {
     let record = record();
-    assert!(rt; record.sk_ei == SEVEN_KEYS[3]);
-    assert!(rt; record.sk_er == SEVEN_KEYS[4]);
+    holds(&rt, record.sk_ei == SEVEN_KEYS[3]);
+    holds(&rt, record.sk_er == SEVEN_KEYS[4]);
 }
 
 #[test]
 fn keys_of_proofs(rt: HostRuntime) {
     let record = record();
-    assert!(rt; record.sk_pi == SEVEN_KEYS[5]);
-    assert!(rt; record.sk_pr == SEVEN_KEYS[6]);
+    holds(&rt, record.sk_pi == SEVEN_KEYS[5]);
+    holds(&rt, record.sk_pr == SEVEN_KEYS[6]);
 }
 
 #[test]
 fn spis_and_nonces_are_kept(rt: HostRuntime) {
     let record = record();
     let nonce: [u8; 256] = counted();
-    assert_eq!(rt; (record.spi_i, record.spi_r), (SPI_I, SPI_R));
-    assert_eq!(rt; record.nonce_i.as_slice(), [0x11; 16].as_slice());
-    assert_eq!(rt; record.nonce_r.as_slice(), nonce.as_slice());
+    same(&rt, (record.spi_i, record.spi_r), (SPI_I, SPI_R));
+    same(&rt, record.nonce_i.as_slice(), [0x11; 16].as_slice());
+    same(&rt, record.nonce_r.as_slice(), nonce.as_slice());
 }
 
 #[test]
 fn keys_of_each_direction(rt: HostRuntime) {
     let record = record();
-    assert_eq!(rt;
+    same(
+        &rt,
         record.initiator_keys(),
         Keys {
             encryption: record.sk_ei,
             integrity: record.sk_ai,
-        }
+        },
     );
-    assert_eq!(rt;
+    same(
+        &rt,
         record.responder_keys(),
         Keys {
             encryption: record.sk_er,
             integrity: record.sk_ar,
-        }
+        },
     );
 }
 
@@ -119,12 +122,12 @@ const CHILD_KEYS: [[u8; 32]; 2] = [
 fn keys_of_a_child(rt: HostRuntime) {
     let nonce: [u8; 256] = counted();
     let keys = child_keys(&record().sk_d, &[0x11; 16], &nonce);
-    assert_eq!(rt; keys, CHILD_KEYS);
+    same(&rt, keys, CHILD_KEYS);
 }
 
 #[test]
 fn equal_records(rt: HostRuntime) {
-    assert_eq!(rt; record(), record());
+    same(&rt, record(), record());
     assert_ne!(rt;
         ike_keys(&[1; 32], &[2; 16], &[3; 16], 4, 5),
         ike_keys(&[1; 32], &[2; 16], &[3; 16], 4, 6)
@@ -133,6 +136,6 @@ fn equal_records(rt: HostRuntime) {
 
 #[test]
 fn equal_nonces(rt: HostRuntime) {
-    assert_eq!(rt; Nonce::new(&[9; 17]), Nonce::new(&[9; 17]));
+    same(&rt, Nonce::new(&[9; 17]), Nonce::new(&[9; 17]));
     assert_ne!(rt; Nonce::new(&[0; 17]), Nonce::new(&[0; 18]));
 }

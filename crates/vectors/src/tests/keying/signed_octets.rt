@@ -1,6 +1,6 @@
 // The expected octets are those of Python's module `hmac`.
 use super::counted;
-use std::test::Fail;
+use crate::tests::asserts::{granted, holds, same};
 use suite::{SuiteFault, proof_octets};
 
 const APPENDED: [u8; 77] = [
@@ -18,9 +18,9 @@ const LONG_IDENTITY: [u8; 32] = [
 ];
 
 #[test]
-fn appends_what_is_proved(rt: HostRuntime) -> Result<(), Fail> {
+fn appends_what_is_proved(rt: HostRuntime) {
     let mut out = Vec::new(rt.alloc());
-    out.push(0xee)?;
+    granted(&rt, out.push(0xee));
     proof_octets(
         b"first message",
         &[0x22; 32],
@@ -28,28 +28,25 @@ fn appends_what_is_proved(rt: HostRuntime) -> Result<(), Fail> {
         2,
         b"a.example",
         &mut out,
-    )?;
-    let (before, appended) = out.as_slice().split_first().ok_or("empty")?;
-    assert_eq!(rt; *before, 0xee);
-    assert_eq!(rt; appended, APPENDED.as_slice());
-    Ok(())
+    )
+    .expect(&rt, "memory");
+    let (before, appended) = out.as_slice().split_first().expect(&rt, "octets");
+    same(&rt, *before, 0xee);
+    same(&rt, appended, APPENDED.as_slice());
 }
 
 #[test]
-fn appends_a_long_message_the_longest_nonce_and_a_long_identity(
-    rt: HostRuntime,
-) -> Result<(), Fail> {
+fn appends_a_long_message_the_longest_nonce_and_a_long_identity(rt: HostRuntime) {
     let message: [u8; 1500] = counted();
     let nonce: [u8; 256] = counted();
     let identity: [u8; 100] = counted();
     let mut out = Vec::new(rt.alloc());
-    proof_octets(&message, &nonce, &[0x33; 32], 2, &identity, &mut out)?;
+    proof_octets(&message, &nonce, &[0x33; 32], 2, &identity, &mut out).expect(&rt, "memory");
     let mut expected = Vec::new(rt.alloc());
     for part in [message.as_slice(), &nonce, &LONG_IDENTITY] {
-        expected.extend_from_slice(part)?;
+        granted(&rt, expected.extend_from_slice(part));
     }
-    assert_eq!(rt; out, expected);
-    Ok(())
+    same(&rt, out, expected);
 }
 
 // Passes whether an allocation fails or not.
@@ -57,15 +54,14 @@ fn appends_a_long_message_the_longest_nonce_and_a_long_identity(
 fn a_refusal_leaves_out_as_it_was(rt: HostRuntime) {
     let mut out = Vec::new(rt.alloc());
     match proof_octets(b"first", &[0x22; 32], &[0x33; 32], 2, b"a", &mut out) {
-        Ok(()) => assert_eq!(rt; out.len(), 69),
-        Err(SuiteFault::Memory) => assert!(rt; out.is_empty()),
+        Ok(()) => same(&rt, out.len(), 69),
+        Err(SuiteFault::Memory) => holds(&rt, out.is_empty()),
     }
 }
 
 #[test]
-fn names_the_fault(rt: HostRuntime) -> Result<(), Fail> {
-    assert_eq!(rt; SuiteFault::Memory.code(), 10);
-    let text = format!(in rt.alloc(); "{}", SuiteFault::Memory)?;
-    assert_eq!(rt; text.as_str(), "E10: no memory");
-    Ok(())
+fn names_the_fault(rt: HostRuntime) {
+    same(&rt, SuiteFault::Memory.code(), 10);
+    let text = format!(in rt.alloc(); "{}", SuiteFault::Memory).expect(&rt, "memory");
+    same(&rt, text.as_str(), "E10: no memory");
 }

@@ -1,30 +1,31 @@
 //! What is encoded, and what has no spelling.
 use super::*;
+use crate::tests::asserts::{granted, same};
 
-fn octets(alloc: Global, value: u8, count: usize) -> Result<Items<u8>, Fail> {
-    Ok(Items::from_vec(vec![in alloc; value; count]?))
+fn octets(rt: &impl Abort, alloc: Global, value: u8, count: usize) -> Items<u8> {
+    Items::from_vec(granted(rt, vec![in alloc; value; count]))
 }
 
-fn message(alloc: Global, payload: Payload) -> Result<Message, Fail> {
+fn message(rt: &impl Abort, alloc: Global, payload: Payload) -> Message {
     let mut payloads = Items::new(alloc);
-    payloads.push(payload)?;
-    Ok(Message {
+    granted(rt, payloads.push(payload));
+    Message {
         header: header(),
         payloads,
-    })
+    }
 }
 
 /// What the payload alone is encoded as and read again, or why not.
-fn trip(alloc: Global, payload: Payload) -> Result<Refusal, Fail> {
-    let message = message(alloc, payload)?;
+fn trip(rt: &impl Abort, alloc: Global, payload: Payload) -> Refusal {
+    let message = message(rt, alloc, payload);
     let mut out = Vec::new(alloc);
     if let Err(fault) = encode_message(&message, &mut out) {
-        return Ok((fault.code(), fault.offset()));
+        return (fault.code(), fault.offset());
     }
     match decode_message(alloc, &out) {
-        Ok(read) if read == message => Ok((0, None)),
-        Ok(_) => Err(Fail::from("another message is read")),
-        Err(fault) => Ok((fault.code(), fault.offset())),
+        Ok(read) if read == message => (0, None),
+        Ok(_) => panic!(rt; "another message is read"),
+        Err(fault) => (fault.code(), fault.offset()),
     }
 }
 
@@ -91,123 +92,138 @@ const SELECTOR: Selector = Selector {
     addresses: Range::V4(1, 1),
 };
 
-fn selectors(alloc: Global, count: usize) -> Result<Items<Selector>, Fail> {
-    Ok(Items::from_vec(vec![in alloc; SELECTOR; count]?))
+fn selectors(rt: &impl Abort, alloc: Global, count: usize) -> Items<Selector> {
+    Items::from_vec(granted(rt, vec![in alloc; SELECTOR; count]))
 }
 
-fn deletion(alloc: Global, protocol: u8, count: usize) -> Result<Payload, Fail> {
-    let spis = Items::from_vec(vec![in alloc; 256u32; count]?);
-    Ok(Payload::Delete { protocol, spis })
+fn deletion(rt: &impl Abort, alloc: Global, protocol: u8, count: usize) -> Payload {
+    let spis = Items::from_vec(granted(rt, vec![in alloc; 256u32; count]));
+    Payload::Delete { protocol, spis }
 }
 
-fn payload(alloc: Global, sample: Sample) -> Result<Payload, Fail> {
+fn payload(rt: &impl Abort, alloc: Global, sample: Sample) -> Payload {
     match sample {
-        Sample::Octets(kind, count) => Ok(with_octets(kind, octets(alloc, 5, count)?)),
-        Sample::TsI(count) => Ok(Payload::TsI(selectors(alloc, count)?)),
-        Sample::TsR(count) => Ok(Payload::TsR(selectors(alloc, count)?)),
-        Sample::Unknown(kind) => Ok(Payload::Unknown {
+        Sample::Octets(kind, count) => with_octets(kind, octets(rt, alloc, 5, count)),
+        Sample::TsI(count) => Payload::TsI(selectors(rt, alloc, count)),
+        Sample::TsR(count) => Payload::TsR(selectors(rt, alloc, count)),
+        Sample::Unknown(kind) => Payload::Unknown {
             kind,
             critical: true,
-            data: octets(alloc, 5, 3)?,
-        }),
-        Sample::Notify(count) => Ok(Payload::Notify {
+            data: octets(rt, alloc, 5, 3),
+        },
+        Sample::Notify(count) => Payload::Notify {
             protocol: 0,
-            spi: octets(alloc, 5, count)?,
+            spi: octets(rt, alloc, 5, count),
             kind: 1,
             data: Items::new(alloc),
-        }),
-        Sample::Deletion(protocol, count) => deletion(alloc, protocol, count),
-        _ => association(alloc, sample),
+        },
+        Sample::Deletion(protocol, count) => deletion(rt, alloc, protocol, count),
+        _ => association(rt, alloc, sample),
     }
 }
 
-fn association(alloc: Global, sample: Sample) -> Result<Payload, Fail> {
+fn association(rt: &impl Abort, alloc: Global, sample: Sample) -> Payload {
     match sample {
         Sample::Proposal(size, count) => {
-            alone(alloc, proposal(alloc, 1, size, transforms(alloc, count)?)?)
+            alone(
+                rt,
+                alloc,
+                proposal(rt, alloc, 1, size, transforms(rt, alloc, count)),
+            )
         }
         Sample::Short(kind) => {
             let attribute = Attribute::Short { kind, value: 128 };
-            alone(alloc, attributed(alloc, attribute)?)
+            alone(rt, alloc, attributed(rt, alloc, attribute))
         }
         Sample::Long(kind) => {
-            let value = octets(alloc, 5, 3)?;
-            alone(alloc, attributed(alloc, Attribute::Long { kind, value })?)
+            let value = octets(rt, alloc, 5, 3);
+            alone(
+                rt,
+                alloc,
+                attributed(rt, alloc, Attribute::Long { kind, value }),
+            )
         }
-        Sample::Numbered(one, other) => numbered(alloc, &[one, other]),
-        _ => numbered(alloc, &[]),
+        Sample::Numbered(one, other) => numbered(rt, alloc, &[one, other]),
+        _ => numbered(rt, alloc, &[]),
     }
 }
 
 /// A security association of this proposal.
-fn alone(alloc: Global, proposal: Proposal) -> Result<Payload, Fail> {
+fn alone(rt: &impl Abort, alloc: Global, proposal: Proposal) -> Payload {
     let mut proposals = Items::new(alloc);
-    proposals.push(proposal)?;
-    Ok(Payload::Sa(proposals))
+    granted(rt, proposals.push(proposal));
+    Payload::Sa(proposals)
 }
 
 /// A security association of proposals with these numbers.
-fn numbered(alloc: Global, numbers: &[u8]) -> Result<Payload, Fail> {
+fn numbered(rt: &impl Abort, alloc: Global, numbers: &[u8]) -> Payload {
     let mut proposals = Items::new(alloc);
     for number in numbers {
-        let proposal = proposal(alloc, *number, 4, transforms(alloc, 20)?)?;
-        proposals.push(proposal)?;
+        let proposal = proposal(rt, alloc, *number, 4, transforms(rt, alloc, 20));
+        granted(rt, proposals.push(proposal));
     }
-    Ok(Payload::Sa(proposals))
+    Payload::Sa(proposals)
 }
 
 /// A proposal of this number, with an SPI of so many octets.
 fn proposal(
+    rt: &impl Abort,
     alloc: Global,
     number: u8,
     size: usize,
     transforms: Items<Transform>,
-) -> Result<Proposal, Fail> {
-    let spi = octets(alloc, 5, size)?;
-    Ok(Proposal {
+) -> Proposal {
+    let spi = octets(rt, alloc, 5, size);
+    Proposal {
         number,
         protocol: 3,
         spi,
         transforms,
-    })
+    }
 }
 
-fn transforms(alloc: Global, count: usize) -> Result<Items<Transform>, Fail> {
+fn transforms(rt: &impl Abort, alloc: Global, count: usize) -> Items<Transform> {
     let mut transforms = Items::new(alloc);
     for _ in 0..count {
-        transforms.push(Transform {
-            kind: 1,
-            id: 11,
-            attributes: Items::new(alloc),
-        })?;
+        granted(
+            rt,
+            transforms.push(Transform {
+                kind: 1,
+                id: 11,
+                attributes: Items::new(alloc),
+            }),
+        );
     }
-    Ok(transforms)
+    transforms
 }
 
 /// A proposal with one transform, which has this attribute.
-fn attributed(alloc: Global, attribute: Attribute) -> Result<Proposal, Fail> {
+fn attributed(rt: &impl Abort, alloc: Global, attribute: Attribute) -> Proposal {
     let mut attributes = Items::new(alloc);
-    attributes.push(attribute)?;
+    granted(rt, attributes.push(attribute));
     let mut transforms = Items::new(alloc);
-    transforms.push(Transform {
-        kind: 1,
-        id: 11,
-        attributes,
-    })?;
-    proposal(alloc, 1, 0, transforms)
+    granted(
+        rt,
+        transforms.push(Transform {
+            kind: 1,
+            id: 11,
+            attributes,
+        }),
+    );
+    proposal(rt, alloc, 1, 0, transforms)
 }
 
 /// A payload, and the number and the offset of its refusal.
 type Row = (Sample, u8, Option<usize>);
 
 /// The first row whose payload alone, encoded and read again, is refused otherwise than it says.
-fn first_differing(alloc: Global, rows: &[Row]) -> Result<Option<usize>, Fail> {
+fn first_differing(rt: &impl Abort, alloc: Global, rows: &[Row]) -> Option<usize> {
     for (place, (sample, code, offset)) in rows.iter().enumerate() {
-        if trip(alloc, payload(alloc, *sample)?)? != (*code, *offset) {
-            return Ok(Some(place));
+        if trip(rt, alloc, payload(rt, alloc, *sample)) != (*code, *offset) {
+            return Some(place);
         }
     }
-    Ok(None)
+    None
 }
 
 // For each type the most that has too few, the least, the most, and the least that has too many.
@@ -242,9 +258,8 @@ const LIMITS: [Row; 26] = [
 ];
 
 #[test]
-fn limits(rt: HostRuntime) -> Result<(), Fail> {
-    none_differs(&rt, first_differing(rt.alloc(), &LIMITS)?);
-    Ok(())
+fn limits(rt: HostRuntime) {
+    none_differs(&rt, first_differing(&rt, rt.alloc(), &LIMITS));
 }
 
 const SPELLINGS: [Row; 16] = [
@@ -270,9 +285,8 @@ const SPELLINGS: [Row; 16] = [
 ];
 
 #[test]
-fn payloads_without_a_spelling(rt: HostRuntime) -> Result<(), Fail> {
-    none_differs(&rt, first_differing(rt.alloc(), &SPELLINGS)?);
-    Ok(())
+fn payloads_without_a_spelling(rt: HostRuntime) {
+    none_differs(&rt, first_differing(&rt, rt.alloc(), &SPELLINGS));
 }
 
 const PROPOSALS: [Row; 14] = [
@@ -296,42 +310,38 @@ const PROPOSALS: [Row; 14] = [
 ];
 
 #[test]
-fn limits_and_numbers_of_proposals(rt: HostRuntime) -> Result<(), Fail> {
-    none_differs(&rt, first_differing(rt.alloc(), &PROPOSALS)?);
-    Ok(())
+fn limits_and_numbers_of_proposals(rt: HostRuntime) {
+    none_differs(&rt, first_differing(&rt, rt.alloc(), &PROPOSALS));
 }
 
 /// Why a message is not encoded. What stood in the output has to stay.
-fn refusal_of(alloc: Global, message: &Message) -> Result<Refusal, Fail> {
-    let mut out = [1, 2].to_vec(alloc)?;
+fn refusal_of(rt: &impl Abort, alloc: Global, message: &Message) -> Refusal {
+    let mut out = granted(rt, [1, 2].to_vec(alloc));
     let answer = refusal(encode_message(message, &mut out));
-    if out.as_slice() == [1, 2].as_slice() {
-        Ok(answer)
-    } else {
-        Err(Fail::from("octets are left behind"))
-    }
+    same(rt, out.as_slice(), [1, 2].as_slice());
+    answer
 }
 
 /// The payload behind a nonce of 20 octets with its header.
-fn behind(alloc: Global, payload: Payload) -> Result<Message, Fail> {
-    let nonce = octets(alloc, 5, 16)?;
-    let mut behind = message(alloc, Payload::Nonce(nonce))?;
-    behind.payloads.push(payload)?;
-    Ok(behind)
+fn behind(rt: &impl Abort, alloc: Global, payload: Payload) -> Message {
+    let nonce = octets(rt, alloc, 5, 16);
+    let mut behind = message(rt, alloc, Payload::Nonce(nonce));
+    granted(rt, behind.payloads.push(payload));
+    behind
 }
 
-fn refusal_behind(alloc: Global, sample: Sample) -> Result<Refusal, Fail> {
-    let message = behind(alloc, payload(alloc, sample)?)?;
-    refusal_of(alloc, &message)
+fn refusal_behind(rt: &impl Abort, alloc: Global, sample: Sample) -> Refusal {
+    let message = behind(rt, alloc, payload(rt, alloc, sample));
+    refusal_of(rt, alloc, &message)
 }
 
-fn first_differing_behind(alloc: Global, rows: &[Row]) -> Result<Option<usize>, Fail> {
+fn first_differing_behind(rt: &impl Abort, alloc: Global, rows: &[Row]) -> Option<usize> {
     for (place, (sample, code, offset)) in rows.iter().enumerate() {
-        if refusal_behind(alloc, *sample)? != (*code, *offset) {
-            return Ok(Some(place));
+        if refusal_behind(rt, alloc, *sample) != (*code, *offset) {
+            return Some(place);
         }
     }
-    Ok(None)
+    None
 }
 
 const BEHIND: [Row; 5] = [
@@ -344,41 +354,53 @@ const BEHIND: [Row; 5] = [
 ];
 
 #[test]
-fn unspelled_behind_others(rt: HostRuntime) -> Result<(), Fail> {
-    none_differs(&rt, first_differing_behind(rt.alloc(), &BEHIND)?);
-    Ok(())
+fn unspelled_behind_others(rt: HostRuntime) {
+    none_differs(&rt, first_differing_behind(&rt, rt.alloc(), &BEHIND));
 }
 
 /// An encrypted payload that is not the last, behind 20 octets.
-fn late(alloc: Global) -> Result<Message, Fail> {
-    let mut late = message(alloc, Payload::Nonce(octets(alloc, 5, 16)?))?;
-    late.payloads.push(Payload::Sealed {
-        first: 0,
-        body: Items::new(alloc),
-    })?;
-    late.payloads.push(Payload::Nonce(octets(alloc, 5, 16)?))?;
-    Ok(late)
+fn late(rt: &impl Abort, alloc: Global) -> Message {
+    let mut late = message(rt, alloc, Payload::Nonce(octets(rt, alloc, 5, 16)));
+    granted(
+        rt,
+        late.payloads.push(Payload::Sealed {
+            first: 0,
+            body: Items::new(alloc),
+        }),
+    );
+    granted(
+        rt,
+        late.payloads.push(Payload::Nonce(octets(rt, alloc, 5, 16))),
+    );
+    late
 }
 
 /// A payload without a spelling behind octet 3000.
-fn far(alloc: Global) -> Result<Message, Fail> {
+fn far(rt: &impl Abort, alloc: Global) -> Message {
     let mut far = message(
+        rt,
         alloc,
         Payload::Skipped {
             kind: SkippedKind::Eap,
-            data: octets(alloc, 5, 4000)?,
+            data: octets(rt, alloc, 5, 4000),
         },
-    )?;
-    far.payloads.push(Payload::Nonce(octets(alloc, 5, 15)?))?;
-    Ok(far)
+    );
+    granted(
+        rt,
+        far.payloads.push(Payload::Nonce(octets(rt, alloc, 5, 15))),
+    );
+    far
 }
 
 #[test]
-fn failed_encoding(rt: HostRuntime) -> Result<(), Fail> {
-    assert_eq!(rt; refusal_of(rt.alloc(), &late(rt.alloc())?)?, (4, Some(48)));
-    let mut far = far(rt.alloc())?;
-    assert_eq!(rt; refusal_of(rt.alloc(), &far)?, (7, Some(4032)));
+fn failed_encoding(rt: HostRuntime) {
+    same(
+        &rt,
+        refusal_of(&rt, rt.alloc(), &late(&rt, rt.alloc())),
+        (4, Some(48)),
+    );
+    let mut far = far(&rt, rt.alloc());
+    same(&rt, refusal_of(&rt, rt.alloc(), &far), (7, Some(4032)));
     far.header.minor = 16;
-    assert_eq!(rt; refusal_of(rt.alloc(), &far)?, (3, None));
-    Ok(())
+    same(&rt, refusal_of(&rt, rt.alloc(), &far), (3, None));
 }

@@ -1,12 +1,13 @@
 //! Each limit and each rule of a payload's inside, where it is read.
 use super::*;
+use crate::tests::asserts::{granted, holds, same_at};
 use wire::laws;
 use wire::numbers::{
     AUTH_TYPE, DELETE_TYPE, ID_I_TYPE, ID_R_TYPE, KE_TYPE, NONCE_TYPE, NOTIFY_TYPE, SA_TYPE,
 };
 
 #[test]
-fn lengths_of_data(rt: HostRuntime) -> Result<(), Fail> {
+fn lengths_of_data(rt: HostRuntime) {
     let alloc = rt.alloc();
     let field = (8, Some(4));
     // octets before the data are part of the body
@@ -32,27 +33,27 @@ fn lengths_of_data(rt: HostRuntime) -> Result<(), Fail> {
         (NOTIFY_TYPE, 3, field),
         (NOTIFY_TYPE, 4, field),
     ] {
-        let body = vec![in alloc; 1u8; count]?;
-        let answer = refusal_of_body(alloc, kind, &body)?;
-        assert!(rt; answer == wanted, "{count} octets of type {kind}");
+        let body = granted(&rt, vec![in alloc; 1u8; count]);
+        let answer = refusal_of_body(&rt, alloc, kind, &body);
+        same_at(&rt, (count, kind), answer, wanted);
     }
-    Ok(())
 }
 
 /// What is said of a deletion of this protocol with this size and count of SPIs, and so many octets behind them.
 fn refusal_of_deletion(
+    rt: &impl Abort,
     alloc: Global,
     [protocol, size, count, octets]: [u8; 4],
-) -> Result<Refusal, Fail> {
-    let mut body = [protocol, size, 0, count].to_vec(alloc)?;
+) -> Refusal {
+    let mut body = granted(rt, [protocol, size, 0, count].to_vec(alloc));
     for _ in 0..octets {
-        body.push(7)?;
+        granted(rt, body.push(7));
     }
-    refusal_of_body(alloc, DELETE_TYPE, &body)
+    refusal_of_body(rt, alloc, DELETE_TYPE, &body)
 }
 
 #[test]
-fn sizes_of_deleted_spis(rt: HostRuntime) -> Result<(), Fail> {
+fn sizes_of_deleted_spis(rt: HostRuntime) {
     for (row, wanted) in [
         ([1, 0, 0, 0], 0),
         ([1, 0, 1, 0], 8),
@@ -66,24 +67,23 @@ fn sizes_of_deleted_spis(rt: HostRuntime) -> Result<(), Fail> {
         ([0, 0, 0, 0], 8),
         ([4, 4, 1, 4], 8),
     ] {
-        let (code, _) = refusal_of_deletion(rt.alloc(), row)?;
-        assert!(rt; code == wanted, "{row:?}");
+        let (code, _) = refusal_of_deletion(&rt, rt.alloc(), row);
+        same_at(&rt, row, code, wanted);
     }
-    Ok(())
 }
 
 /// What is said of two proposals with these numbers.
-fn refusal_of_numbers(alloc: Global, one: u8, other: u8) -> Result<Refusal, Fail> {
-    let mut body = ESP_PROPOSAL[4..].to_vec(alloc)?;
-    body.extend_from_slice(&ESP_PROPOSAL[4..])?;
+fn refusal_of_numbers(rt: &impl Abort, alloc: Global, one: u8, other: u8) -> Refusal {
+    let mut body = granted(rt, ESP_PROPOSAL[4..].to_vec(alloc));
+    granted(rt, body.extend_from_slice(&ESP_PROPOSAL[4..]));
     set(&mut body, 0, 2);
     set(&mut body, 4, one);
     set(&mut body, 40, other);
-    refusal_of_body(alloc, SA_TYPE, &body)
+    refusal_of_body(rt, alloc, SA_TYPE, &body)
 }
 
 #[test]
-fn numbers_of_proposals(rt: HostRuntime) -> Result<(), Fail> {
+fn numbers_of_proposals(rt: HostRuntime) {
     for (one, other, wanted) in [
         (1, 2, (0, None)),
         (0, 1, (5, Some(4))),
@@ -92,13 +92,13 @@ fn numbers_of_proposals(rt: HostRuntime) -> Result<(), Fail> {
         (2, 1, (5, Some(4))),
         (2, 3, (5, Some(4))),
     ] {
-        assert!(rt;
-            refusal_of_numbers(rt.alloc(), one, other)? == wanted,
-            "{one}, {other}"
-        );
+        let answer = refusal_of_numbers(&rt, rt.alloc(), one, other);
+        same_at(&rt, (one, other), answer, wanted);
     }
-    assert!(rt; refusal_of_body(rt.alloc(), SA_TYPE, &[])? == (5, Some(4)));
-    Ok(())
+    holds(
+        &rt,
+        refusal_of_body(&rt, rt.alloc(), SA_TYPE, &[]) == (5, Some(4)),
+    );
 }
 
 #[test]

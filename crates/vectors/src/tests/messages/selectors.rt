@@ -1,5 +1,6 @@
 //! Traffic selectors of both families, read and written. The octets come from a program of another language.
 use super::*;
+use crate::tests::asserts::{granted, holds, same, same_at};
 use wire::numbers::{SELECTOR_LIMIT, TS_I_TYPE, TS_R_TYPE};
 
 const BOTH_FAMILIES: [u8; 104] = [
@@ -52,35 +53,36 @@ fn both_families() -> [Selector; 3] {
 }
 
 #[test]
-fn families_are_read(rt: HostRuntime) -> Result<(), Fail> {
+fn families_are_read(rt: HostRuntime) {
     let read = decode_chain(rt.alloc(), TS_R_TYPE, &BOTH_FAMILIES)
         .ok()
-        .ok_or("selectors")?;
+        .expect(&rt, "selectors");
     let [Payload::TsR(selectors)] = read.as_slice() else {
-        return Err(Fail::from("another payload is read"));
+        panic!(rt; "another payload is read");
     };
-    assert_eq!(rt; selectors.as_slice(), both_families().as_slice());
-    Ok(())
+    same(&rt, selectors.as_slice(), both_families().as_slice());
 }
 
 /// A message of these selectors of the initiator.
-fn message_of(alloc: Global, selectors: &[Selector]) -> Result<Message, Fail> {
+fn message_of(rt: &impl Abort, alloc: Global, selectors: &[Selector]) -> Message {
     let mut payloads = Items::new(alloc);
-    payloads.push(Payload::TsI(Items::from_slice(alloc, selectors)?))?;
-    Ok(Message {
+    granted(
+        rt,
+        payloads.push(Payload::TsI(granted(rt, Items::from_slice(alloc, selectors)))),
+    );
+    Message {
         header: header(),
         payloads,
-    })
+    }
 }
 
 #[test]
-fn families_are_written(rt: HostRuntime) -> Result<(), Fail> {
-    let message = message_of(rt.alloc(), &both_families())?;
+fn families_are_written(rt: HostRuntime) {
+    let message = message_of(&rt, rt.alloc(), &both_families());
     let mut out = Vec::new(rt.alloc());
-    encode_message(&message, &mut out)?;
-    assert_eq!(rt; out.len(), 132);
-    assert!(rt; out.as_slice().ends_with(&BOTH_FAMILIES));
-    Ok(())
+    encode_message(&message, &mut out).expect(&rt, "a spelling");
+    same(&rt, out.len(), 132);
+    holds(&rt, out.as_slice().ends_with(&BOTH_FAMILIES));
 }
 
 const IPV4_CHANGES: [Change; 10] = [
@@ -110,55 +112,53 @@ const IPV6_CHANGES: [Change; 7] = [
 ];
 
 #[test]
-fn malformed_selectors(rt: HostRuntime) -> Result<(), Fail> {
+fn malformed_selectors(rt: HostRuntime) {
     let alloc = rt.alloc();
     let reading = Reading::Body(TS_I_TYPE);
     none_differs(
         &rt,
-        first_change_differing(alloc, reading, &IPV4_RANGE, &IPV4_CHANGES)?,
+        first_change_differing(&rt, alloc, reading, &IPV4_RANGE, &IPV4_CHANGES),
     );
     let reading = Reading::Body(TS_R_TYPE);
     none_differs(
         &rt,
-        first_change_differing(alloc, reading, &IPV6_RANGE, &IPV6_CHANGES)?,
+        first_change_differing(&rt, alloc, reading, &IPV6_RANGE, &IPV6_CHANGES),
     );
-    Ok(())
 }
 
 /// The body of a payload of so many selectors.
-fn repeated(alloc: Global, count: u8) -> Result<Vec<u8>, Fail> {
-    let mut body = [count, 0, 0, 0].to_vec(alloc)?;
+fn repeated(rt: &impl Abort, alloc: Global, count: u8) -> Vec<u8> {
+    let mut body = granted(rt, [count, 0, 0, 0].to_vec(alloc));
     for _ in 0..count {
-        body.extend_from_slice(&IPV4_RANGE[4..])?;
+        granted(rt, body.extend_from_slice(&IPV4_RANGE[4..]));
     }
-    Ok(body)
+    body
 }
 
 #[test]
-fn numbers_of_selectors(rt: HostRuntime) -> Result<(), Fail> {
+fn numbers_of_selectors(rt: HostRuntime) {
     for (count, wanted) in [
         (0, (6, Some(4))),
         (1, (0, None)),
         (16, (0, None)),
         (17, (6, Some(4))),
     ] {
-        let body = repeated(rt.alloc(), count)?;
-        let answer = refusal_of_body(rt.alloc(), TS_I_TYPE, &body)?;
-        assert!(rt; answer == wanted, "{count}");
+        let body = repeated(&rt, rt.alloc(), count);
+        let answer = refusal_of_body(&rt, rt.alloc(), TS_I_TYPE, &body);
+        same_at(&rt, count, answer, wanted);
     }
-    assert_eq!(rt; SELECTOR_LIMIT, 16);
-    Ok(())
+    same(&rt, SELECTOR_LIMIT, 16);
 }
 
 /// Why a message of one selector is not written.
-fn refusal_of_one(alloc: Global, selector: Selector) -> Result<Refusal, Fail> {
-    let message = message_of(alloc, &[selector])?;
+fn refusal_of_one(rt: &impl Abort, alloc: Global, selector: Selector) -> Refusal {
+    let message = message_of(rt, alloc, &[selector]);
     let mut out = Vec::new(alloc);
-    Ok(refusal(encode_message(&message, &mut out)))
+    refusal(encode_message(&message, &mut out))
 }
 
 #[test]
-fn starts_above_ends_are_not_written(rt: HostRuntime) -> Result<(), Fail> {
+fn starts_above_ends_are_not_written(rt: HostRuntime) {
     for (unordered, wanted) in [
         (selector(0, 10, 10, Range::V4(5, 5)), (0, None)),
         (selector(0, 11, 10, Range::V4(5, 5)), (6, Some(28))),
@@ -166,10 +166,7 @@ fn starts_above_ends_are_not_written(rt: HostRuntime) -> Result<(), Fail> {
         (selector(0, 10, 10, Range::V6(5, 5)), (0, None)),
         (selector(0, 10, 10, Range::V6(6, 5)), (6, Some(28))),
     ] {
-        assert!(rt;
-            refusal_of_one(rt.alloc(), unordered)? == wanted,
-            "{unordered:?}"
-        );
+        let answer = refusal_of_one(&rt, rt.alloc(), unordered);
+        same_at(&rt, unordered, answer, wanted);
     }
-    Ok(())
 }

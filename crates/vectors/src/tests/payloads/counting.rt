@@ -1,10 +1,11 @@
+use crate::tests::asserts::{granted, holds, same, same_at};
 use base::{Items, Range, Selector};
 use exchange::{
     deletes_association, esp_spis, has_ke, names_more_than, offers_ike, only, only_auth, only_id_i,
     only_id_r, only_ke, only_nonce, only_sa, only_ts_i, only_ts_r, unknown_critical,
 };
-use std::alloc::{AllocError, Global};
-use std::test::Fail;
+use std::alloc::Global;
+use std::process::Abort;
 use wire::{Payload, Proposal};
 
 const SIDE: Selector = Selector {
@@ -36,63 +37,72 @@ enum Sample {
     TsR(&'static [Selector]),
 }
 
-fn payload(alloc: Global, sample: Sample) -> Result<Payload, AllocError> {
-    Ok(match sample {
+fn payload(rt: &impl Abort, alloc: Global, sample: Sample) -> Payload {
+    match sample {
         Sample::Unknown(kind, critical) => Payload::Unknown {
             kind,
             critical,
             data: Items::new(alloc),
         },
-        Sample::Nonce(octet) => Payload::Nonce(Items::from_slice(alloc, &[octet; 16])?),
+        Sample::Nonce(octet) => Payload::Nonce(Items::from_slice(alloc, &[octet; 16]).expect(
+            rt, "memory",
+        )),
         Sample::Deletion(protocol, spis) => Payload::Delete {
             protocol,
-            spis: Items::from_slice(alloc, spis)?,
+            spis: granted(rt, Items::from_slice(alloc, spis)),
         },
-        Sample::Sa => Payload::Sa(proposals(alloc)?),
+        Sample::Sa => Payload::Sa(proposals(rt, alloc)),
         Sample::Ke(group, octet) => Payload::Ke {
             group,
-            data: Items::from_slice(alloc, &[octet])?,
+            data: granted(rt, Items::from_slice(alloc, &[octet])),
         },
         Sample::IdI(kind, octet) => Payload::IdI {
             kind,
-            data: Items::from_slice(alloc, &[octet])?,
+            data: granted(rt, Items::from_slice(alloc, &[octet])),
         },
         Sample::IdR(kind, octet) => Payload::IdR {
             kind,
-            data: Items::from_slice(alloc, &[octet])?,
+            data: granted(rt, Items::from_slice(alloc, &[octet])),
         },
         Sample::Auth(method, octet) => Payload::Auth {
             method,
-            data: Items::from_slice(alloc, &[octet])?,
+            data: granted(rt, Items::from_slice(alloc, &[octet])),
         },
-        Sample::TsI(selectors) => Payload::TsI(Items::from_slice(alloc, selectors)?),
-        Sample::TsR(selectors) => Payload::TsR(Items::from_slice(alloc, selectors)?),
-    })
+        Sample::TsI(selectors) => Payload::TsI(Items::from_slice(alloc, selectors).expect(
+            rt, "memory",
+        )),
+        Sample::TsR(selectors) => Payload::TsR(Items::from_slice(alloc, selectors).expect(
+            rt, "memory",
+        )),
+    }
 }
 
 /// One empty proposal.
-fn proposals(alloc: Global) -> Result<Items<Proposal>, AllocError> {
+fn proposals(rt: &impl Abort, alloc: Global) -> Items<Proposal> {
     let mut proposals = Items::new(alloc);
-    proposals.push(Proposal {
-        number: 7,
-        protocol: 3,
-        spi: Items::new(alloc),
-        transforms: Items::new(alloc),
-    })?;
-    Ok(proposals)
+    granted(
+        rt,
+        proposals.push(Proposal {
+            number: 7,
+            protocol: 3,
+            spi: Items::new(alloc),
+            transforms: Items::new(alloc),
+        }),
+    );
+    proposals
 }
 
-fn payloads(alloc: Global, samples: &[Sample]) -> Result<Items<Payload>, AllocError> {
+fn payloads(rt: &impl Abort, alloc: Global, samples: &[Sample]) -> Items<Payload> {
     let mut payloads = Items::new(alloc);
     for sample in samples {
-        payloads.push(payload(alloc, *sample)?)?;
+        granted(rt, payloads.push(payload(rt, alloc, *sample)));
     }
-    Ok(payloads)
+    payloads
 }
 
 // RFC 7296, section 2.5: the first unknown payload that is marked decides.
 #[test]
-fn the_first_unknown_critical(rt: HostRuntime) -> Result<(), Fail> {
+fn the_first_unknown_critical(rt: HostRuntime) {
     let rows: [(&[Sample], Option<u8>); 3] = [
         (&[Sample::Unknown(200, false), Sample::Nonce(1)], None),
         (
@@ -107,28 +117,31 @@ fn the_first_unknown_critical(rt: HostRuntime) -> Result<(), Fail> {
         (&[], None),
     ];
     for (samples, wanted) in rows {
-        let payloads = payloads(rt.alloc(), samples)?;
-        assert_eq!(rt; unknown_critical(payloads.as_slice()), wanted);
+        let payloads = payloads(&rt, rt.alloc(), samples);
+        same(&rt, unknown_critical(payloads.as_slice()), wanted);
     }
-    Ok(())
 }
 
 #[test]
-fn only_where_alone_of_its_type(rt: HostRuntime) -> Result<(), Fail> {
+fn only_where_alone_of_its_type(rt: HostRuntime) {
     let rows: [(u8, bool); 3] = [(40, true), (200, true), (41, false)];
-    let payloads = payloads(rt.alloc(), &[Sample::Unknown(200, true), Sample::Nonce(1)])?;
+    let payloads = payloads(
+        &rt,
+        rt.alloc(),
+        &[Sample::Unknown(200, true), Sample::Nonce(1)],
+    );
     for (kind, is_found) in rows {
-        assert_eq!(rt;
+        same_at(
+            &rt,
+            kind,
             only(payloads.as_slice(), kind).is_some(),
             is_found,
-            "type {kind}"
         );
     }
-    Ok(())
 }
 
 #[test]
-fn a_nonce_where_alone_of_its_type(rt: HostRuntime) -> Result<(), Fail> {
+fn a_nonce_where_alone_of_its_type(rt: HostRuntime) {
     let rows: [(&[Sample], Option<&[u8]>); 4] = [
         (
             &[Sample::Unknown(200, true), Sample::Nonce(1)],
@@ -147,10 +160,9 @@ fn a_nonce_where_alone_of_its_type(rt: HostRuntime) -> Result<(), Fail> {
         (&[Sample::Unknown(40, false)], None),
     ];
     for (samples, wanted) in rows {
-        let payloads = payloads(rt.alloc(), samples)?;
-        assert_eq!(rt; only_nonce(payloads.as_slice()), wanted);
+        let payloads = payloads(&rt, rt.alloc(), samples);
+        same(&rt, only_nonce(payloads.as_slice()), wanted);
     }
-    Ok(())
 }
 
 /// One payload of each of these types, told apart by what it holds.
@@ -191,12 +203,11 @@ fn has_each(payloads: &[Payload]) -> bool {
 }
 
 #[test]
-fn each_type_by_itself(rt: HostRuntime) -> Result<(), Fail> {
-    let payloads = payloads(rt.alloc(), &ONE_OF_EACH)?;
-    assert!(rt; has_each(payloads.as_slice()));
-    let nonce = [payload(rt.alloc(), Sample::Nonce(1))?];
-    assert!(rt; !has_ke(&nonce));
-    Ok(())
+fn each_type_by_itself(rt: HostRuntime) {
+    let payloads = payloads(&rt, rt.alloc(), &ONE_OF_EACH);
+    holds(&rt, has_each(payloads.as_slice()));
+    let nonce = [payload(&rt, rt.alloc(), Sample::Nonce(1))];
+    holds(&rt, !has_ke(&nonce));
 }
 
 /// How many proposals and selectors of each side are found.
@@ -209,10 +220,9 @@ fn counts(payloads: &[Payload]) -> [usize; 3] {
 }
 
 #[test]
-fn lists_by_themselves(rt: HostRuntime) -> Result<(), Fail> {
-    let payloads = payloads(rt.alloc(), &ONE_OF_EACH)?;
-    assert!(rt; counts(payloads.as_slice()) == [1, 1, 2]);
-    Ok(())
+fn lists_by_themselves(rt: HostRuntime) {
+    let payloads = payloads(&rt, rt.alloc(), &ONE_OF_EACH);
+    holds(&rt, counts(payloads.as_slice()) == [1, 1, 2]);
 }
 
 const CHILDREN: [Sample; 4] = [
@@ -224,38 +234,35 @@ const CHILDREN: [Sample; 4] = [
 
 // RFC 7296, section 1.4.1.
 #[test]
-fn what_is_deleted(rt: HostRuntime) -> Result<(), Fail> {
+fn what_is_deleted(rt: HostRuntime) {
     let all = [Sample::Deletion(3, &[5]), Sample::Deletion(1, &[])];
     let rows: [(&[Sample], bool); 2] = [(&CHILDREN, false), (&all, true)];
     for (samples, wanted) in rows {
-        let payloads = payloads(rt.alloc(), samples)?;
-        assert_eq!(rt; deletes_association(payloads.as_slice()), wanted);
+        let payloads = payloads(&rt, rt.alloc(), samples);
+        same(&rt, deletes_association(payloads.as_slice()), wanted);
     }
-    Ok(())
 }
 
 #[test]
-fn which_spis_are_deleted(rt: HostRuntime) -> Result<(), Fail> {
-    let payloads = payloads(rt.alloc(), &CHILDREN)?;
-    let spis = esp_spis(rt.alloc(), payloads.as_slice())?;
-    assert_eq!(rt; spis.as_slice(), [5, 6, 5].as_slice());
+fn which_spis_are_deleted(rt: HostRuntime) {
+    let payloads = payloads(&rt, rt.alloc(), &CHILDREN);
+    let spis = esp_spis(rt.alloc(), payloads.as_slice()).expect(&rt, "memory");
+    same(&rt, spis.as_slice(), [5, 6, 5].as_slice());
     // Those of AH count too.
-    assert!(rt; names_more_than(payloads.as_slice(), 3));
-    assert!(rt; !names_more_than(payloads.as_slice(), 4));
-    Ok(())
+    holds(&rt, names_more_than(payloads.as_slice(), 3));
+    holds(&rt, !names_more_than(payloads.as_slice(), 4));
 }
 
 #[test]
-fn many_spis(rt: HostRuntime) -> Result<(), Fail> {
+fn many_spis(rt: HostRuntime) {
     let alloc = rt.alloc();
     let mut spis = Items::new(alloc);
     for spi in 0..740 {
-        spis.push(spi)?;
+        granted(&rt, spis.push(spi));
     }
-    let wanted = spis.clone()?;
+    let wanted = granted(&rt, spis.clone());
     let many = [Payload::Delete { protocol: 3, spis }];
-    assert_eq!(rt; esp_spis(alloc, &many)?, wanted);
-    assert_eq!(rt; names_more_than(&many, 739), true);
-    assert_eq!(rt; names_more_than(&many, 740), false);
-    Ok(())
+    same(&rt, esp_spis(alloc, &many).expect(&rt, "memory"), wanted);
+    same(&rt, names_more_than(&many, 739), true);
+    same(&rt, names_more_than(&many, 740), false);
 }

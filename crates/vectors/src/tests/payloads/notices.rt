@@ -1,15 +1,16 @@
+use crate::tests::asserts::{granted, holds_at, same};
 use exchange::{Notice, asked_cookie, has_invalid_syntax, leading_cookie, returned_cookie};
-use std::alloc::{AllocError, Global};
-use std::test::Fail;
+use std::alloc::Global;
+use std::process::Abort;
 use wire::{Items, Payload};
 
-fn notice(alloc: Global, kind: u16, data: &[u8]) -> Result<Payload, AllocError> {
-    Ok(Payload::Notify {
+fn notice(rt: &impl Abort, alloc: Global, kind: u16, data: &[u8]) -> Payload {
+    Payload::Notify {
         protocol: 3,
-        spi: Items::from_slice(alloc, &[1])?,
+        spi: granted(rt, Items::from_slice(alloc, &[1])),
         kind,
-        data: Items::from_slice(alloc, data)?,
-    })
+        data: granted(rt, Items::from_slice(alloc, data)),
+    }
 }
 
 /// Whether a notice has this number and these octets, and no protocol and no SPI.
@@ -27,7 +28,7 @@ fn is_notice(payload: &Payload, number: u16, octets: &[u8]) -> bool {
 
 // RFC 7296, section 3.10.1.
 #[test]
-fn numbers_and_data(rt: HostRuntime) -> Result<(), Fail> {
+fn numbers_and_data(rt: HostRuntime) {
     let critical = Notice::UnsupportedCriticalPayload { kind: 200 };
     let cookie = Notice::Cookie { octets: [5; 36] };
     let expected: [(Notice, u16, &[u8]); 7] = [
@@ -40,11 +41,10 @@ fn numbers_and_data(rt: HostRuntime) -> Result<(), Fail> {
         (cookie, 16390, &[5; 36]),
     ];
     for (sent, number, octets) in expected {
-        assert_eq!(rt; sent.number(), number);
-        let payload = sent.payload(rt.alloc())?;
-        assert!(rt; is_notice(&payload, number, octets), "notice {number}");
+        same(&rt, sent.number(), number);
+        let payload = granted(&rt, sent.payload(rt.alloc()));
+        holds_at(&rt, number, is_notice(&payload, number, octets));
     }
-    Ok(())
 }
 
 /// A payload, as a table names it.
@@ -55,24 +55,24 @@ enum Sample {
     Notice(u16, &'static [u8]),
 }
 
-fn payload(alloc: Global, sample: Sample) -> Result<Payload, AllocError> {
+fn payload(rt: &impl Abort, alloc: Global, sample: Sample) -> Payload {
     match sample {
-        Sample::Nonce => Ok(Payload::Nonce(Items::from_slice(alloc, &[1; 16])?)),
-        Sample::Notice(number, data) => notice(alloc, number, data),
+        Sample::Nonce => Payload::Nonce(granted(rt, Items::from_slice(alloc, &[1; 16]))),
+        Sample::Notice(number, data) => notice(rt, alloc, number, data),
     }
 }
 
-fn payloads(alloc: Global, samples: &[Sample]) -> Result<Items<Payload>, AllocError> {
+fn payloads(rt: &impl Abort, alloc: Global, samples: &[Sample]) -> Items<Payload> {
     let mut payloads = Items::new(alloc);
     for sample in samples {
-        payloads.push(payload(alloc, *sample)?)?;
+        granted(rt, payloads.push(payload(rt, alloc, *sample)));
     }
-    Ok(payloads)
+    payloads
 }
 
 // RFC 7296, section 2.6: 1 to 64 octets, at the first place of a request, alone in an answer.
 #[test]
-fn cookies(rt: HostRuntime) -> Result<(), Fail> {
+fn cookies(rt: HostRuntime) {
     let rows: [(&[Sample], Option<&[u8]>, Option<&[u8]>); 7] = [
         (
             &[Sample::Notice(16390, &[7; 64]), Sample::Nonce],
@@ -87,30 +87,27 @@ fn cookies(rt: HostRuntime) -> Result<(), Fail> {
         (&[], None, None),
     ];
     for (samples, leading, asked) in rows {
-        let payloads = payloads(rt.alloc(), samples)?;
-        assert_eq!(rt; leading_cookie(payloads.as_slice()), leading);
-        assert_eq!(rt; asked_cookie(payloads.as_slice()), asked);
+        let payloads = payloads(&rt, rt.alloc(), samples);
+        same(&rt, leading_cookie(payloads.as_slice()), leading);
+        same(&rt, asked_cookie(payloads.as_slice()), asked);
     }
-    Ok(())
 }
 
 #[test]
-fn a_cookie_is_brought_back(rt: HostRuntime) -> Result<(), Fail> {
-    let back = [returned_cookie(rt.alloc(), &[0xaa, 0xbb])?];
-    assert_eq!(rt; leading_cookie(&back), Some([0xaa, 0xbb].as_slice()));
-    Ok(())
+fn a_cookie_is_brought_back(rt: HostRuntime) {
+    let back = [granted(&rt, returned_cookie(rt.alloc(), &[0xaa, 0xbb]))];
+    same(&rt, leading_cookie(&back), Some([0xaa, 0xbb].as_slice()));
 }
 
 #[test]
-fn invalid_syntax(rt: HostRuntime) -> Result<(), Fail> {
+fn invalid_syntax(rt: HostRuntime) {
     let rows: [(&[Sample], bool); 3] = [
         (&[Sample::Notice(14, &[])], false),
         (&[Sample::Notice(14, &[]), Sample::Notice(7, &[1])], true),
         (&[], false),
     ];
     for (samples, wanted) in rows {
-        let payloads = payloads(rt.alloc(), samples)?;
-        assert_eq!(rt; has_invalid_syntax(payloads.as_slice()), wanted);
+        let payloads = payloads(&rt, rt.alloc(), samples);
+        same(&rt, has_invalid_syntax(payloads.as_slice()), wanted);
     }
-    Ok(())
 }

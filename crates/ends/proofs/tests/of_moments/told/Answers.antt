@@ -12,7 +12,7 @@ none_at (x ∷ xs) zero a none there = let same : x ≡ a = cc in subst HoldsNoS
 none_at (x ∷ xs) (suc place) a none there = none_at xs place a none.1 there
 
 pub tick-requires : goal.tick-requires
-tick-requires c =
+tick-requires g c =
     let none = subst (λ (all : List Association). AllByRecursion HoldsNoSpi all) c.as_slice.ensures.value (recursion_from_All HoldsNoSpi c.as_slice.result.now (c.if-not-none_waits_for_child.ensures {u = tt})) in
     record {
       reserved = λ place a there.

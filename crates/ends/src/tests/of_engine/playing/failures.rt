@@ -1,9 +1,8 @@
 //! Reads, writes and growths that fail.
-use super::PLAIN;
+use crate::tests::asserts::same;
 use engine::play;
 use std::alloc::Global;
 use std::io::{Error, ErrorKind, Read, Result, Write};
-use std::test::Fail;
 
 const SCRIPT: &[u8] =
     b"one\nsa 256 0b0b0b0b0b0b0b0b0b0b0b0b0b0b0b0b0b0b0b0b0b0b0b0b0b0b0b0b0b0b0b0b 2 no\nseal 4 c0ffee\ndeliver 1\ndeliver 1\nprint 1\ndamage 1 8 80\n";
@@ -93,8 +92,8 @@ fn a_slow_reader_is_read_to_its_end(rt: HostRuntime) {
         is_interrupted: false,
     };
     let mut printed = Vec::new(rt.alloc());
-    assert_eq!(rt; play(rt.alloc(), &mut reader, &mut printed), 0);
-    assert_eq!(rt; printed.as_slice(), PRINTED);
+    same(&rt, play(rt.alloc(), &mut reader, &mut printed), 0);
+    same(&rt, printed.as_slice(), PRINTED);
 }
 
 #[test]
@@ -106,8 +105,8 @@ fn a_failed_read_refuses_the_file(rt: HostRuntime) {
             is_interrupted: false,
         };
         let mut printed = Vec::new(rt.alloc());
-        assert_eq!(rt; play(rt.alloc(), &mut reader, &mut printed), 1);
-        assert_eq!(rt; printed.as_slice(), b"refused file\n".as_slice());
+        same(&rt, play(rt.alloc(), &mut reader, &mut printed), 1);
+        same(&rt, printed.as_slice(), b"refused file\n".as_slice());
     }
 }
 
@@ -116,21 +115,21 @@ fn after_a_failed_write_nothing_is_printed(rt: HostRuntime) {
     for room in 0..PRINTED.len() {
         for gives_up in [false, true] {
             let mut writer = Narrow::new(rt.alloc(), room, gives_up);
-            assert_eq!(rt; play(rt.alloc(), &mut &SCRIPT[..], &mut writer), 1);
-            assert_eq!(rt; writer.written.as_slice(), &PRINTED[..room]);
+            same(&rt, play(rt.alloc(), &mut &SCRIPT[..], &mut writer), 1);
+            same(&rt, writer.written.as_slice(), &PRINTED[..room]);
         }
     }
     let mut writer = Narrow::new(rt.alloc(), PRINTED.len(), false);
-    assert_eq!(rt; play(rt.alloc(), &mut &SCRIPT[..], &mut writer), 0);
-    assert_eq!(rt; writer.written.as_slice(), PRINTED);
+    same(&rt, play(rt.alloc(), &mut &SCRIPT[..], &mut writer), 0);
+    same(&rt, writer.written.as_slice(), PRINTED);
 }
 
 #[test]
 fn a_refusal_that_is_not_written(rt: HostRuntime) {
     for room in 0..14 {
         let mut writer = Narrow::new(rt.alloc(), room, false);
-        assert_eq!(rt; play(rt.alloc(), &mut &b"three"[..], &mut writer), 1);
-        assert_eq!(rt; writer.written.as_slice(), &b"line 1 refused\n"[..room]);
+        same(&rt, play(rt.alloc(), &mut &b"three"[..], &mut writer), 1);
+        same(&rt, writer.written.as_slice(), &b"line 1 refused\n"[..room]);
     }
 }
 

@@ -1,6 +1,5 @@
 //! Scripts of kind `two` in which a further child is asked for (RFC 7296, sections 1.3 and 1.3.1).
 use super::two::{ESTABLISH, ESTABLISHED, OPENING, expect_two};
-use std::test::Fail;
 
 /// A protects a second network behind B, which B doesn't.
 const OPENING_WIDER: &str =
@@ -10,7 +9,7 @@ const OPENING_WIDER: &str =
     entry B protect 0 10.1.0.0-10.1.0.255 0-65535 10.0.0.0-10.0.0.255 0-65535\n";
 
 #[test]
-fn children(rt: HostRuntime) -> Result<(), Fail> {
+fn children(rt: HostRuntime) {
     let rows = [
         // The newer child carries what goes out; the request again is answered by the same octets.
         (
@@ -71,13 +70,12 @@ fn children(rt: HostRuntime) -> Result<(), Fail> {
         ),
     ];
     for (rest, wanted) in rows {
-        expect_two(&rt, [OPENING, ESTABLISH, rest], [ESTABLISHED, wanted])?;
+        expect_two(&rt, [OPENING, ESTABLISH, rest], [ESTABLISHED, wanted]);
     }
-    Ok(())
 }
 
 #[test]
-fn refusals(rt: HostRuntime) -> Result<(), Fail> {
+fn refusals(rt: HostRuntime) {
     // What the peer doesn't protect is refused by it, what this end doesn't is not asked for.
     expect_two(
         &rt,
@@ -92,7 +90,7 @@ fn refusals(rt: HostRuntime) -> Result<(), Fail> {
             reply 8 length 173\ncounted ike 1 child 2\npair 1 ike 1 in 00001000 out 00002000 live\n\
             pair 2 ike 1 in 00001002 out 00002001 live\n",
         ],
-    )?;
+    );
     // None is asked for before the association is established, or once it is closed.
     expect_two(
         &rt,
@@ -106,12 +104,12 @@ fn refusals(rt: HostRuntime) -> Result<(), Fail> {
             "reply 4 length 194\ncounted ike 1 child 1\nrequest 5 ike 1 length 57\nreply 6 length 49\nclosed ike 1\nrefused E32\n\
             refused E35\n",
         ],
-    )
+    );
 }
 
 /// With numbers of 32 bits the offer is shorter.
 #[test]
-fn without_extended_numbers(rt: HostRuntime) -> Result<(), Fail> {
+fn without_extended_numbers(rt: HostRuntime) {
     expect_two(
         &rt,
         [
@@ -123,5 +121,5 @@ fn without_extended_numbers(rt: HostRuntime) -> Result<(), Fail> {
             "request 1 ike 1 length 148\nreply 2 length 148\nrequest 3 ike 1 length 194\nreply 4 length 194\ncounted ike 1 child 1\n",
             "request 5 ike 1 length 173\nreply 6 length 173\ncounted ike 1 child 2\n",
         ],
-    )
+    );
 }

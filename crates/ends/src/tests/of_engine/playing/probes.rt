@@ -1,15 +1,15 @@
 //! Scripts of kind `two` with requests under keys and with moments.
-use super::expect;
 use super::two::{ESTABLISH, ESTABLISHED, OPENING, OPENING_APART, expect_two};
+use super::{expect, lines};
+use crate::tests::asserts::{add, joined, repeated};
 use std::process::Abort;
-use std::test::Fail;
 
 /// What an association and its first child print where both ends have a window of four.
 pub const ESTABLISHED_WIDE: &str =
     "request 1 ike 1 length 148\nreply 2 length 148\nrequest 3 ike 1 length 214\nreply 4 length 206\ncounted ike 1 child 1\n";
 
 #[test]
-fn repeats(rt: HostRuntime) -> Result<(), Fail> {
+fn repeats(rt: HostRuntime) {
     let rows = [
         (
             "probe A 1\ndeliver 5\ndeliver 5\nsame 6 7\ndeliver 6\ndeliver 6\nprobe A 1\ndeliver 8\ndeliver 5\n",
@@ -30,7 +30,7 @@ fn repeats(rt: HostRuntime) -> Result<(), Fail> {
         ("probe A 2\nprobe B 0\n", "refused E28\nrefused E28\n"),
     ];
     for (rest, wanted) in rows {
-        expect_two(&rt, [OPENING, ESTABLISH, rest], [ESTABLISHED, wanted])?;
+        expect_two(&rt, [OPENING, ESTABLISH, rest], [ESTABLISHED, wanted]);
     }
     // An association without its child asks as well.
     expect_two(
@@ -40,7 +40,7 @@ fn repeats(rt: HostRuntime) -> Result<(), Fail> {
             "request 1 ike 1 length 148\nreply 2 length 148\nrequest 3 ike 1 length 202\nreply 4 length 114\ncounted ike 1\n",
             "request 5 ike 1 length 49\n",
         ],
-    )?;
+    );
     // It does not before it is established.
     expect_two(
         &rt,
@@ -49,11 +49,11 @@ fn repeats(rt: HostRuntime) -> Result<(), Fail> {
             "request 1 ike 1 length 148\nrefused E32\nreply 2 length 148\nrefused E32\n",
             "",
         ],
-    )
+    );
 }
 
 #[test]
-fn windows(rt: HostRuntime) -> Result<(), Fail> {
+fn windows(rt: HostRuntime) {
     expect_two(
         &rt,
         [
@@ -70,7 +70,7 @@ fn windows(rt: HostRuntime) -> Result<(), Fail> {
             reply 9 length 49\ncounted ike 1\nrefused E35\nreply 10 length 49\nrepeat 11 length 49\nsame yes\ncounted ike 1\n\
             request 12 ike 1 length 49\nreply 13 length 49\ndropped E30\nreply 14 length 49\ndropped E31\n",
         ],
-    )?;
+    );
     // A keeps four replies: B may have four requests under way, and A one.
     expect_two(
         &rt,
@@ -85,11 +85,11 @@ fn windows(rt: HostRuntime) -> Result<(), Fail> {
             "request 5 ike 1 length 49\nrequest 6 ike 1 length 49\nrequest 7 ike 1 length 49\nrequest 8 ike 1 length 49\nrefused E35\n\
             request 9 ike 1 length 49\nrefused E35\nreply 10 length 49\nreply 11 length 49\n",
         ],
-    )
+    );
 }
 
 #[test]
-fn moments(rt: HostRuntime) -> Result<(), Fail> {
+fn moments(rt: HostRuntime) {
     let rows = [
         (
             "start A 0\ntick A 999\ntick A 1000\ntick A 2999\ntick A 3000\ntick A 7000\ntick A 15000\ntick A 31000\ntick A 47000\n\
@@ -126,28 +126,45 @@ fn moments(rt: HostRuntime) -> Result<(), Fail> {
         ),
     ];
     for (script, wanted) in rows {
-        expect_two(&rt, [OPENING, script, ""], [wanted, ""])?;
+        expect_two(&rt, [OPENING, script, ""], [wanted, ""]);
     }
-    Ok(())
+}
+
+/// A gateway whose peer asked whether it is there, and was answered.
+fn asked<R: Abort + AllocGlobal>(rt: &R) -> String {
+    let opened = joined(rt, "two\n", OPENING);
+    let established = joined(rt, opened.as_str(), ESTABLISH);
+    joined(rt, established.as_str(), "probe A 1\ndeliver 5\n")
+}
+
+/// What that prints, and a thousand answers more.
+fn answered<R: Abort + AllocGlobal>(rt: &R) -> String {
+    let mut printed = joined(
+        rt,
+        ESTABLISHED,
+        "request 5 ike 1 length 49\nreply 6 length 49\n",
+    );
+    let repeats = lines(rt, "repeat ", 7..=1006, " length 49");
+    add(rt, &mut printed, repeats.as_str());
+    printed
 }
 
 /// A request that comes a thousand times after its reply is answered by the same octets each time, and the table stays as it is.
 #[test]
-fn storms(rt: HostRuntime) -> Result<(), Fail> {
-    let alloc = rt.alloc();
-    let mut start = String::from_str(alloc, "two\n")?;
-    start.push_str(OPENING)?;
-    start.push_str(ESTABLISH)?;
-    start.push_str("probe A 1\ndeliver 5\n")?;
-    let mut script = String::new(alloc);
-    let mut wanted = String::from_str(alloc, ESTABLISHED)?;
-    wanted.push_str("request 5 ike 1 length 49\nreply 6 length 49\n")?;
-    for place in 7..1007 {
-        script.push_str("deliver 5\n")?;
-        let line = format!(in alloc; "repeat {place} length 49\n")?;
-        wanted.push_str(line.as_str())?;
-    }
-    script.push_str("same 6 7\nsame 6 1006\ntable B\n")?;
-    wanted.push_str("same yes\nsame yes\npair 1 ike 1 in 00002000 out 00001000 live\n")?;
-    expect(&rt, start.as_str(), script.as_str(), wanted.as_str(), 0)
+fn storms(rt: HostRuntime) {
+    let mut script = repeated(&rt, "deliver 5\n", 1000);
+    add(&rt, &mut script, "same 6 7\nsame 6 1006\ntable B\n");
+    let mut wanted = answered(&rt);
+    add(
+        &rt,
+        &mut wanted,
+        "same yes\nsame yes\npair 1 ike 1 in 00002000 out 00001000 live\n",
+    );
+    expect(
+        &rt,
+        asked(&rt).as_str(),
+        script.as_str(),
+        wanted.as_str(),
+        0,
+    );
 }

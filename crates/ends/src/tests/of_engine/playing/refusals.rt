@@ -1,8 +1,10 @@
 //! Lines that are refused.
 use super::{EXTENDED, KEY, PLAIN, expect};
+use crate::tests::asserts::{joined, same};
 use console::MOST_OCTETS;
 use engine::play;
-use std::test::Fail;
+use std::panic::Expect;
+use std::process::Abort;
 
 /// First lines that name no kind, parted by bars.
 const KINDS: &str =
@@ -25,35 +27,33 @@ const DIRECTIVES: &str =
     sa|one|sa 256 0b0b0b0b0b0b0b0b0b0b0b0b0b0b0b0b0b0b0b0b0b0b0b0b0b0b0b0b0b0b0b0b 2 no";
 
 #[test]
-fn first_lines(rt: HostRuntime) -> Result<(), Fail> {
+fn first_lines(rt: HostRuntime) {
     for kind in KINDS.split('|') {
-        expect(&rt, kind, "", "line 1 refused\n", 1)?;
+        expect(&rt, kind, "", "line 1 refused\n", 1);
     }
-    Ok(())
 }
 
 #[test]
-fn terms(rt: HostRuntime) -> Result<(), Fail> {
+fn terms(rt: HostRuntime) {
     for terms in TERMS.split('|') {
-        let line = terms.replace(rt.alloc(), "K", KEY)?;
-        expect(&rt, "one\n\n", line.as_str(), "line 3 refused\n", 1)?;
+        let line = terms.replace(rt.alloc(), "K", KEY).expect(&rt, "memory");
+        expect(&rt, "one\n\n", line.as_str(), "line 3 refused\n", 1);
     }
-    Ok(())
 }
 
 #[test]
-fn directives(rt: HostRuntime) -> Result<(), Fail> {
+fn directives(rt: HostRuntime) {
     for line in DIRECTIVES.split('|') {
         let rest = format!(in rt.alloc();
             "seal 4 00\n# the next one is refused\n{line}\nseal 4 00\n"
-        )?;
+        ).expect(&rt, "memory");
         expect(
             &rt,
             PLAIN,
             rest.as_str(),
             "sealed 1 number 1 length 28\nline 5 refused\n",
             1,
-        )?;
+        );
     }
     expect(
         &rt,
@@ -61,23 +61,28 @@ fn directives(rt: HostRuntime) -> Result<(), Fail> {
         "sender 18446744073709551616",
         "line 3 refused\n",
         1,
-    )
+    );
+}
+
+/// A script behind which a comment stands, so many octets in all.
+fn comment_to<R: Abort + AllocGlobal>(rt: &R, octets: usize) -> Vec<u8> {
+    let mut script = joined(rt, PLAIN, "sender 6\n").into_bytes();
+    script.resize(octets, b'#').expect(rt, "memory");
+    script
+}
+
+/// Plays a script in octets.
+fn expect_played<R: Abort + AllocGlobal>(rt: &R, script: &[u8], wanted: &str, status: u8) {
+    let mut printed = Vec::new(rt.alloc());
+    let mut reader = script;
+    same(rt, play(rt.alloc(), &mut reader, &mut printed), status);
+    same(rt, printed.as_slice(), wanted.as_bytes());
 }
 
 #[test]
-fn sizes_of_files(rt: HostRuntime) -> Result<(), Fail> {
-    let alloc = rt.alloc();
-    let mut script = String::from_str(alloc, PLAIN)?;
-    script.push_str("sender 6\n")?;
-    let mut octets = script.into_bytes();
-    octets.resize(MOST_OCTETS, b'#')?;
-    let mut printed = Vec::new(alloc);
-    assert_eq!(rt; play(alloc, &mut octets.as_slice(), &mut printed), 0);
-    assert_eq!(rt; printed.as_slice(), b"done\n".as_slice());
-
-    octets.push(b'#')?;
-    let mut printed = Vec::new(alloc);
-    assert_eq!(rt; play(alloc, &mut octets.as_slice(), &mut printed), 1);
-    assert_eq!(rt; printed.as_slice(), b"refused file\n".as_slice());
-    Ok(())
+fn sizes_of_files(rt: HostRuntime) {
+    let mut octets = comment_to(&rt, MOST_OCTETS);
+    expect_played(&rt, octets.as_slice(), "done\n", 0);
+    octets.push(b'#').expect(&rt, "memory");
+    expect_played(&rt, octets.as_slice(), "refused file\n", 1);
 }

@@ -1,7 +1,7 @@
 //! Scripts of kind `two`.
 use super::expect;
+use std::panic::Expect;
 use std::process::Abort;
-use std::test::Fail;
 
 /// Each end protects all traffic between its own network and the other's.
 pub const OPENING: &str =
@@ -41,18 +41,14 @@ const NINE_BEGUN: &str =
     request 19 ike 9 length 192\n";
 
 /// Plays a script, in three parts behind its first line, and wants what it prints, in two parts.
-pub fn expect_two<R: Abort + AllocGlobal>(
-    rt: &R,
-    script: [&str; 3],
-    wanted: [&str; 2],
-) -> Result<(), Fail> {
-    let script = script.concat(rt.alloc())?;
-    let wanted = wanted.concat(rt.alloc())?;
-    expect(rt, "two\n", script.as_str(), wanted.as_str(), 0)
+pub fn expect_two<R: Abort + AllocGlobal>(rt: &R, script: [&str; 3], wanted: [&str; 2]) {
+    let script = script.concat(rt.alloc()).expect(rt, "memory");
+    let wanted = wanted.concat(rt.alloc()).expect(rt, "memory");
+    expect(rt, "two\n", script.as_str(), wanted.as_str(), 0);
 }
 
 #[test]
-fn establishments(rt: HostRuntime) -> Result<(), Fail> {
+fn establishments(rt: HostRuntime) {
     // What stands before it, the entries, the lengths of datagrams 3 and 4, and what is made at A.
     let rows = [
         ("", OPENING, (202, 194), "ike 1 child 1"),
@@ -77,14 +73,13 @@ fn establishments(rt: HostRuntime) -> Result<(), Fail> {
     for (terms, entries, (request, reply), made) in rows {
         let wanted = format!(in rt.alloc();
             "request 1 ike 1 length 148\nreply 2 length 148\nrequest 3 ike 1 length {request}\nreply 4 length {reply}\ncounted {made}\n"
-        )?;
-        expect_two(&rt, [terms, entries, ESTABLISH], [wanted.as_str(), ""])?;
+        ).expect(&rt, "memory");
+        expect_two(&rt, [terms, entries, ESTABLISH], [wanted.as_str(), ""]);
     }
-    Ok(())
 }
 
 #[test]
-fn after_an_establishment(rt: HostRuntime) -> Result<(), Fail> {
+fn after_an_establishment(rt: HostRuntime) {
     let rows = [
         (
             "table A\ntable B\n",
@@ -111,13 +106,12 @@ fn after_an_establishment(rt: HostRuntime) -> Result<(), Fail> {
         ),
     ];
     for (rest, wanted) in rows {
-        expect_two(&rt, [OPENING, ESTABLISH, rest], [ESTABLISHED, wanted])?;
+        expect_two(&rt, [OPENING, ESTABLISH, rest], [ESTABLISHED, wanted]);
     }
-    Ok(())
 }
 
 #[test]
-fn before_an_establishment(rt: HostRuntime) -> Result<(), Fail> {
+fn before_an_establishment(rt: HostRuntime) {
     let rows = [
         (
             "out A 4500001400000000400100000a0000010a010001\ntable A\n",
@@ -135,7 +129,7 @@ fn before_an_establishment(rt: HostRuntime) -> Result<(), Fail> {
         ),
     ];
     for (script, wanted) in rows {
-        expect_two(&rt, [OPENING, script, ""], [wanted, ""])?;
+        expect_two(&rt, [OPENING, script, ""], [wanted, ""]);
     }
     let bypass = "entry A bypass 1 10.0.0.0-10.0.0.255 0-65535 10.1.0.0-10.1.0.255 0-65535\n";
     expect_two(
@@ -149,11 +143,11 @@ fn before_an_establishment(rt: HostRuntime) -> Result<(), Fail> {
             "clear 4500001400000000400100000a0000010a010001\n",
             "clear 4500001400000000400100000a0100010a000001\n",
         ],
-    )
+    );
 }
 
 #[test]
-fn packets_of_ipv6(rt: HostRuntime) -> Result<(), Fail> {
+fn packets_of_ipv6(rt: HostRuntime) {
     let rest = "out A 6000000000003b4020010db800000000000000000000\
         0a0120010db8000000000000000000000b01\ndeliver 5\n\
         out A 6000000000002c4020010db8000000000000000000000a0120010db8000000000000000000000b01\n\
@@ -167,11 +161,11 @@ fn packets_of_ipv6(rt: HostRuntime) -> Result<(), Fail> {
             up child 1 number 1 6000000000003b4020010db8000000000000000000000a0120010db8000000000000000000000b01\n\
             dropped E39\ndiscarded\n",
         ],
-    )
+    );
 }
 
 #[test]
-fn cookies(rt: HostRuntime) -> Result<(), Fail> {
+fn cookies(rt: HostRuntime) {
     let rows = [
         (
             "damage 19 71 01\ndeliver 19\n",
@@ -188,7 +182,6 @@ fn cookies(rt: HostRuntime) -> Result<(), Fail> {
         ),
     ];
     for (rest, wanted) in rows {
-        expect_two(&rt, [OPENING, NINE, rest], [NINE_BEGUN, wanted])?;
+        expect_two(&rt, [OPENING, NINE, rest], [NINE_BEGUN, wanted]);
     }
-    Ok(())
 }

@@ -1,9 +1,11 @@
 //! What two gateways refuse or drop, and the notices that they send. The check values of packets were computed with Python's `hmac`,
 //! from keys by RFC 7296, sections 2.14 and 2.17.
+use super::lines;
 use super::two::{ESTABLISH, ESTABLISHED, OPENING, expect_two};
-use std::alloc::{AllocError, Global};
+use crate::tests::asserts::{add, joined, repeated};
 use std::ops::RangeInclusive;
-use std::test::Fail;
+use std::panic::Expect;
+use std::process::Abort;
 
 /// No messages: another length field, another version, a payload that isn't there, a proposal of number 0, a selector of the ports
 /// 65535 to 0, a nonce of 15 octets, a public value of none.
@@ -16,12 +18,12 @@ const UNREAD: &str = "raw B ike 000000000000000100000000000000000020220800000000
     raw B ike 0000000000000001000000000000000022202208000000000000002400000008fdea0000\n";
 
 #[test]
-fn unread_messages(rt: HostRuntime) -> Result<(), Fail> {
+fn unread_messages(rt: HostRuntime) {
     let wanted =
         "dropped E2\ndropped E3\ndropped E4\ndropped E5\ndropped E6\ndropped E7\ndropped E8\n";
-    expect_two(&rt, [OPENING, UNREAD, ""], [wanted, ""])?;
-    let long = format!(in rt.alloc(); "raw B ike {:0>1$}\n", "", 6002)?;
-    expect_two(&rt, [OPENING, long.as_str(), ""], ["dropped E9\n", ""])
+    expect_two(&rt, [OPENING, UNREAD, ""], [wanted, ""]);
+    let long = format!(in rt.alloc(); "raw B ike {:0>1$}\n", "", 6002).expect(&rt, "memory");
+    expect_two(&rt, [OPENING, long.as_str(), ""], ["dropped E9\n", ""]);
 }
 
 /// The first exchange: another number, another cipher, a payload of type 200 that is critical, the refusal at A, and the request as
@@ -46,12 +48,12 @@ const SECOND_PRINTED: &str =
     reply 7 length 194\ndropped E32\ndropped E31\ncounted ike 1 child 1\ndropped E31\n";
 
 #[test]
-fn unfit_messages(rt: HostRuntime) -> Result<(), Fail> {
+fn unfit_messages(rt: HostRuntime) {
     expect_two(
         &rt,
         [OPENING, FIRST, SECOND],
         [FIRST_PRINTED, SECOND_PRINTED],
-    )
+    );
 }
 
 /// Packets by A's child: with wrong padding, and again; a dummy; of TCP alone; of IPv4 as of IPv6; a fragment; from another source;
@@ -78,12 +80,12 @@ const CARRIED_PRINTED: &str = "dropped E19\n\
     up child 1 number 8 4500001400000000400100000a0000010a010001\n";
 
 #[test]
-fn packets_that_carry_something_else(rt: HostRuntime) -> Result<(), Fail> {
+fn packets_that_carry_something_else(rt: HostRuntime) {
     expect_two(
         &rt,
         [OPENING, ESTABLISH, CARRIED],
         [ESTABLISHED, CARRIED_PRINTED],
-    )
+    );
 }
 
 /// A fragment, and a packet with an extension header, either way.
@@ -93,118 +95,124 @@ const UNPROTECTED: &str =
     in A 600000000000004020010db8000000000000000000000a0120010db8000000000000000000000b01\nin A 45\n";
 
 #[test]
-fn unprotected_packets(rt: HostRuntime) -> Result<(), Fail> {
+fn unprotected_packets(rt: HostRuntime) {
     let wanted = "dropped E22\ndropped E22\ndropped E39\ndropped E39\ndropped E21\n";
-    expect_two(&rt, [OPENING, UNPROTECTED, ""], [wanted, ""])
+    expect_two(&rt, [OPENING, UNPROTECTED, ""], [wanted, ""]);
+}
+
+/// What 66 packets print that A seals, numbers 1 to 66 in datagrams 5 to 70.
+fn sealed<R: Abort + AllocGlobal>(rt: &R) -> String {
+    let mut lines = String::new(rt.alloc());
+    for number in 1..=66 {
+        let line = format!(in rt.alloc();
+            "sealed {} child 1 number {number} length 48\n",
+            number + 4
+        ).expect(rt, "memory");
+        add(rt, &mut lines, line.as_str());
+    }
+    lines
 }
 
 // Without extended numbers 66 packets are sent. Behind the last one the 64 numbers from 3 on are known of.
 #[test]
-fn old_numbers(rt: HostRuntime) -> Result<(), Fail> {
-    let mut script = String::from_str(rt.alloc(), ESTABLISH)?;
-    let mut wanted = String::from_str(
-        rt.alloc(),
+fn old_numbers(rt: HostRuntime) {
+    let packets = repeated(&rt, "out A 4500001400000000400100000a0000010a010001\n", 66);
+    let mut script = joined(&rt, ESTABLISH, packets.as_str());
+    add(&rt, &mut script, "deliver 70\ndeliver 6\ndeliver 7\n");
+    let mut wanted = joined(
+        &rt,
         "request 1 ike 1 length 148\nreply 2 length 148\nrequest 3 ike 1 length 194\nreply 4 length 194\ncounted ike 1 child 1\n",
-    )?;
-    for number in 1..=66 {
-        script.push_str("out A 4500001400000000400100000a0000010a010001\n")?;
-        let line = format!(in rt.alloc();
-            "sealed {} child 1 number {number} length 48\n",
-            number + 4
-        )?;
-        wanted.push_str(line.as_str())?;
-    }
-    script.push_str("deliver 70\ndeliver 6\ndeliver 7\n")?;
-    wanted.push_str(
+        sealed(&rt).as_str(),
+    );
+    add(
+        &rt,
+        &mut wanted,
         "up child 1 number 66 4500001400000000400100000a0000010a010001\ndropped E15\nup child 1 number 3 4500001400000000400100000a0000010a010001\n",
-    )?;
+    );
     expect_two(
         &rt,
         ["extended no\n", OPENING, script.as_str()],
         [wanted.as_str(), ""],
-    )
+    );
+}
+
+/// The requests by these associations, as the datagrams of their serials and so many more.
+fn requests<R: Abort + AllocGlobal>(
+    rt: &R,
+    serials: RangeInclusive<u32>,
+    more: u32,
+    length: u32,
+) -> String {
+    let mut lines = String::new(rt.alloc());
+    for serial in serials {
+        let place = serial.saturating_add(more);
+        let line = format!(in rt.alloc(); "request {place} ike {serial} length {length}\n").expect(
+            rt, "memory",
+        );
+        add(rt, &mut lines, line.as_str());
+    }
+    lines
 }
 
 #[test]
-fn an_end_holds_128_associations(rt: HostRuntime) -> Result<(), Fail> {
-    let mut script = String::new(rt.alloc());
-    let mut wanted = String::new(rt.alloc());
-    for serial in 1..=128 {
-        script.push_str("start A 0\n")?;
-        let line = format!(in rt.alloc(); "request {serial} ike {serial} length 148\n")?;
-        wanted.push_str(line.as_str())?;
-    }
+fn an_end_holds_128_associations(rt: HostRuntime) {
+    let script = repeated(&rt, "start A 0\n", 128);
+    let wanted = requests(&rt, 1..=128, 0, 148);
     expect_two(
         &rt,
         [OPENING, script.as_str(), "start A 0\n"],
         [wanted.as_str(), "refused E25\n"],
-    )
+    );
 }
 
-/// Lines of such a beginning and end, for each number.
-fn lines(
-    alloc: Global,
-    beginning: &str,
-    numbers: RangeInclusive<u32>,
-    end: &str,
-) -> Result<String, AllocError> {
-    let mut lines = String::new(alloc);
-    for number in numbers {
-        let line = format!(in alloc; "{beginning}{number}{end}\n")?;
-        lines.push_str(line.as_str())?;
-    }
-    Ok(lines)
+/// 33 requests, of which 25 are asked for a cookie. All bring it.
+fn begun<R: Abort + AllocGlobal>(rt: &R) -> String {
+    let mut script = repeated(rt, "start A 0\n", 33);
+    add(rt, &mut script, lines(rt, "deliver ", 1..=33, "").as_str());
+    add(rt, &mut script, lines(rt, "deliver ", 42..=66, "").as_str());
+    add(rt, &mut script, lines(rt, "deliver ", 67..=91, "").as_str());
+    script
 }
 
-/// The requests by these associations, as the datagrams of their serials and so many more.
-fn requests(
-    alloc: Global,
-    serials: RangeInclusive<u32>,
-    more: u32,
-    length: u32,
-) -> Result<String, AllocError> {
-    let mut lines = String::new(alloc);
-    for serial in serials {
-        let place = serial.saturating_add(more);
-        let line = format!(in alloc; "request {place} ike {serial} length {length}\n")?;
-        lines.push_str(line.as_str())?;
-    }
-    Ok(lines)
+/// What that prints until the last one.
+fn begun_printed<R: Abort + AllocGlobal>(rt: &R) -> String {
+    let mut printed = requests(rt, 1..=33, 0, 148);
+    add(
+        rt,
+        &mut printed,
+        lines(rt, "reply ", 34..=41, " length 148").as_str(),
+    );
+    add(
+        rt,
+        &mut printed,
+        lines(rt, "reply ", 42..=66, " length 72").as_str(),
+    );
+    add(rt, &mut printed, requests(rt, 9..=33, 58, 192).as_str());
+    add(
+        rt,
+        &mut printed,
+        lines(rt, "reply ", 92..=115, " length 148").as_str(),
+    );
+    printed
 }
 
-// 33 requests, of which 25 are asked for a cookie. All bring it, and the last one finds 32 associations half open.
+// The last one finds 32 associations half open.
 #[test]
-fn half_open_associations(rt: HostRuntime) -> Result<(), Fail> {
-    let alloc = rt.alloc();
-    let mut script = String::new(alloc);
-    let mut wanted = String::new(alloc);
-    for _ in 0..33 {
-        script.push_str("start A 0\n")?;
-    }
-    wanted.push_str(requests(alloc, 1..=33, 0, 148)?.as_str())?;
-    script.push_str(lines(alloc, "deliver ", 1..=33, "")?.as_str())?;
-    wanted.push_str(lines(alloc, "reply ", 34..=41, " length 148")?.as_str())?;
-    wanted.push_str(lines(alloc, "reply ", 42..=66, " length 72")?.as_str())?;
-    script.push_str(lines(alloc, "deliver ", 42..=66, "")?.as_str())?;
-    wanted.push_str(requests(alloc, 9..=33, 58, 192)?.as_str())?;
-    script.push_str(lines(alloc, "deliver ", 67..=91, "")?.as_str())?;
-    wanted.push_str(lines(alloc, "reply ", 92..=115, " length 148")?.as_str())?;
+fn half_open_associations(rt: HostRuntime) {
+    let script = begun(&rt);
+    let wanted = begun_printed(&rt);
     expect_two(
         &rt,
         [OPENING, script.as_str(), ""],
         [wanted.as_str(), "dropped E34\n"],
-    )
+    );
 }
 
 // An end that holds 128 associations begins no more (E25), and makes none of a request that comes (E34).
 #[test]
-fn associations_held(rt: HostRuntime) -> Result<(), Fail> {
-    let alloc = rt.alloc();
-    let mut script = String::new(alloc);
-    for _ in 0..129 {
-        script.push_str("start B 0\n")?;
-    }
-    let wanted = requests(alloc, 1..=128, 0, 148)?;
+fn associations_held(rt: HostRuntime) {
+    let script = repeated(&rt, "start B 0\n", 129);
+    let wanted = requests(&rt, 1..=128, 0, 148);
     expect_two(
         &rt,
         [OPENING, script.as_str(), "start A 0\ndeliver 129\n"],
@@ -212,5 +220,5 @@ fn associations_held(rt: HostRuntime) -> Result<(), Fail> {
             wanted.as_str(),
             "refused E25\nrequest 129 ike 1 length 148\ndropped E34\n",
         ],
-    )
+    );
 }

@@ -1,6 +1,6 @@
 //! Lines of scripts of kind `two` that are refused.
 use super::expect;
-use std::test::Fail;
+use crate::tests::asserts::{joined, repeated};
 
 /// First directives that set nothing up, parted by bars.
 const TERMS: &str =
@@ -36,15 +36,14 @@ const DIRECTIVES: &str =
     probe|probe A|probe A -1|probe C 1|probe A 1 1|probe A 4294967296|tick|tick A|tick A -1|tick C 1|tick A 1 1|tick A 18446744073709551616";
 
 #[test]
-fn terms_of_gateways(rt: HostRuntime) -> Result<(), Fail> {
+fn terms_of_gateways(rt: HostRuntime) {
     for line in TERMS.split('|') {
-        expect(&rt, "two\n\n", line, "line 3 refused\n", 1)?;
+        expect(&rt, "two\n\n", line, "line 3 refused\n", 1);
     }
-    Ok(())
 }
 
 #[test]
-fn directives_of_gateways(rt: HostRuntime) -> Result<(), Fail> {
+fn directives_of_gateways(rt: HostRuntime) {
     let start =
         "two\nentry A protect 0 10.0.0.0-10.0.0.255 0-65535 10.1.0.0-10.1.0.255 0-65535\nstart A 0\n# the next one is refused\n";
     for line in DIRECTIVES.split('|') {
@@ -54,13 +53,12 @@ fn directives_of_gateways(rt: HostRuntime) -> Result<(), Fail> {
             line,
             "request 1 ike 1 length 148\nline 5 refused\n",
             1,
-        )?;
+        );
     }
-    Ok(())
 }
 
 #[test]
-fn what_ends_the_opening_lines(rt: HostRuntime) -> Result<(), Fail> {
+fn what_ends_the_opening_lines(rt: HostRuntime) {
     let rows = [
         ("window A 4\nextended no\n", "line 3 refused\n"),
         ("extended no\nextended no\n", "line 3 refused\n"),
@@ -69,7 +67,7 @@ fn what_ends_the_opening_lines(rt: HostRuntime) -> Result<(), Fail> {
         ("table B\nextended no\n", "empty\nline 3 refused\n"),
     ];
     for (rest, wanted) in rows {
-        expect(&rt, "two\n", rest, wanted, 1)?;
+        expect(&rt, "two\n", rest, wanted, 1);
     }
     expect(
         &rt,
@@ -77,19 +75,17 @@ fn what_ends_the_opening_lines(rt: HostRuntime) -> Result<(), Fail> {
         "",
         "",
         0,
-    )
+    );
 }
 
+/// An entry for one packet alone.
+const ENTRY: &str =
+    "entry B discard 6 0.0.0.0-0.0.0.0 1-1 255.255.255.255-255.255.255.255 65535-65535\n";
+
 #[test]
-fn an_end_has_256_entries(rt: HostRuntime) -> Result<(), Fail> {
-    let mut script = String::from_str(rt.alloc(), "two\n")?;
-    for _ in 0..256 {
-        script.push_str(
-            "entry B discard 6 0.0.0.0-0.0.0.0 1-1 255.255.255.255-255.255.255.255 65535-65535\n",
-        )?;
-    }
-    expect(&rt, script.as_str(), "table B\n", "empty\n", 0)?;
-    let one_more =
-        "entry B discard 6 0.0.0.0-0.0.0.0 1-1 255.255.255.255-255.255.255.255 65535-65535\n";
-    expect(&rt, script.as_str(), one_more, "line 258 refused\n", 1)
+fn an_end_has_256_entries(rt: HostRuntime) {
+    let entries = repeated(&rt, ENTRY, 256);
+    let script = joined(&rt, "two\n", entries.as_str());
+    expect(&rt, script.as_str(), "table B\n", "empty\n", 0);
+    expect(&rt, script.as_str(), ENTRY, "line 258 refused\n", 1);
 }
