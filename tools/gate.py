@@ -57,7 +57,7 @@ def main():
     costs, ended, start = {}, threading.Event(), time.time()
     watcher = threading.Thread(target=watch, args=(costs, ended))
     watcher.start()
-    status = subprocess.run(["rt", "ci"], cwd=ROOT).returncode
+    status = subprocess.run(["rt", "ci", "--anew"], cwd=ROOT).returncode
     ended.set()
     watcher.join()
     table(costs)
