@@ -1,12 +1,12 @@
 pub mod NumberLemmas
 pub mod HistoryLemmas
-pub mod ContentsLemmas
-pub mod OpeningLemmas
-pub mod SealingLemmas
-pub mod SealingLaws
-pub mod LayingLemmas
-pub mod AheadLemmas
-pub mod GroupLemmas
+mod ContentsLemmas
+mod OpeningLemmas
+mod SealingLemmas
+mod SealingLaws
+mod LayingLemmas
+mod AheadLemmas
+mod GroupLemmas
 pub mod PacketLemmas
-pub mod WorkedLemmas
+mod WorkedLemmas
 pub mod Runs

@@ -1,5 +1,5 @@
-pub mod LaneLemmas
-pub mod MessageLemmas
-pub mod AbsorbingLemmas
-pub mod TaggingLemmas
-pub mod BatchLemmas
+mod LaneLemmas
+mod MessageLemmas
+mod AbsorbingLemmas
+mod TaggingLemmas
+mod BatchLemmas

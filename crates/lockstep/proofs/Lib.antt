@@ -4,5 +4,5 @@ mod MoveLemmas
 mod RunLemmas
 mod PromiseLemmas
 mod WorkedLemmas
-pub mod KeyLemmas
+mod KeyLemmas
 mod PartyLemmas

@@ -1,4 +1,4 @@
 pub mod HmacLemmas
-pub mod KeyMaterialLemmas
+mod KeyMaterialLemmas
 mod Rfc4231
 mod MaterialLemmas

@@ -1,7 +1,7 @@
-pub mod DeterminedTicks
-pub mod DueLemmas
-pub mod EntryLemmas
-pub mod HeldLemmas
-pub mod PassingLemmas
+mod DeterminedTicks
+mod DueLemmas
+mod EntryLemmas
+mod HeldLemmas
+mod PassingLemmas
 mod HoldLemmas
 mod TimelyLemmas

@@ -15,7 +15,7 @@ use Rattle.policy.specs.declared.entry.Action.{Action}
 use Rattle.policy.specs.declared.entry.Action.TheVariants.{Protect, Discard}
 use Rattle.policy.specs.declared.policy.Direction.{Direction}
 use Rattle.policy.specs.declared.policy.Direction.TheVariants.{Outward, Inward}
-use Rattle.policy.specs.Points.{FitsFields, HoldsPoint, IsNonempty, Meets, IsCommonPart}
+use Rattle.policy.specs.Points.{FitsSelectorFields, HoldsPoint, IsNonempty, Meets, IsCommonPart}
 use Rattle.policy.specs.Decisions.{HoldsFlow, IsDecision, local_side, remote_side}
 use Rattle.policy.specs.Packets.{ArePorts, IsFlowOf, IsInnerRefusal, IsIpv4Packet, IsIpv6Packet, LacksPorts, ipv4_content, ipv4_protocol, ipv6_content, next_header}
 use Rattle.policy.specs.Entries.{IsFirstEntryAtFault, IsSoundEntry, IsSoundPolicy}
@@ -214,7 +214,7 @@ chosen_meets entries i r k e (inl first) = (first_meets (remote_side e) i first.
 chosen_meets entries i r k e (inr (_, some)) = (some.holds.remote, some.holds.local)
 
 -- a selector that has a point and whose numbers fit
-sendable_one : (s : Selector) → FitsFields s → IsNonempty (HoldsPoint s) → IsSendableSelector s
+sendable_one : (s : Selector) → FitsSelectorFields s → IsNonempty (HoldsPoint s) → IsSendableSelector s
 sendable_one s fits some = record { fields = fits; ports = ordered_ports s some.point some.inside; addresses = (ends_of_point s some.point some.inside).0 }
 
 sendable_each : (side : Selector) (offered answer : List Selector) → IsNarrowed side offered answer → (k : ℕ) (s : Selector) → slice_get answer k ≡ Some s → IsSendableSelector s
@@ -234,7 +234,7 @@ answers_sendable entries i r answer_i answer_r few_i few_r n =
 
 -- first selectors that some entry protects whole
 
-first_kept : (side first : Selector) (others answer : List Selector) → FitsFields first → HoldsFirst side (first ∷ others) → IsNarrowed side (first ∷ others) answer → slice_get answer 0 ≡ Some first
+first_kept : (side first : Selector) (others answer : List Selector) → FitsSelectorFields first → HoldsFirst side (first ∷ others) → IsNarrowed side (first ∷ others) answer → slice_get answer 0 ≡ Some first
 first_kept side first others answer fits holds (inl kept) =
     let same : first ≡ kept.part = same_selector first kept.part fits kept.common.fields holds.0
     (λ p held. (kept.common.points p).1 (held, holds.1 p held))
@@ -248,7 +248,7 @@ chosen_first entries i r k l e d there fits (inl first) = first.holds
 chosen_first entries i r k l e d there fits (inr (none, _)) = absurd (none l d there fits)
 
 pub first_choices : (entries : List Entry) (place : ℕ) (e : Entry) (first_i first_r : Selector) (i r answer_i answer_r : List Selector)
-    → slice_get entries place ≡ Some e → FitsFirst (first_i ∷ i) (first_r ∷ r) e → FitsFields first_i → FitsFields first_r
+    → slice_get entries place ≡ Some e → FitsFirst (first_i ∷ i) (first_r ∷ r) e → FitsSelectorFields first_i → FitsSelectorFields first_r
     → IsNarrowing entries (first_i ∷ i) (first_r ∷ r) answer_i answer_r → (slice_get answer_i 0 ≡ Some first_i) × (slice_get answer_r 0 ≡ Some first_r)
 first_choices entries place e first_i first_r i r answer_i answer_r there fits fields_i fields_r n =
     let chosen = chosen_first entries (first_i ∷ i) (first_r ∷ r) n.place place n.entry e there fits n.chosen in

@@ -7,7 +7,7 @@ use Rattle.base.specs.Addresses.{AreApart, HoldsAddress, IsAddress, IsCommonRang
 use Rattle.base.specs.declared.address.Address.{Address}
 use Rattle.base.specs.declared.address.Range.{Range}
 use Rattle.policy.specs.declared.point.Point.{Point}
-use Rattle.policy.specs.Points.{FitsFields, HasPorts, IsPortOf, FitsProtocol, FitsPort, HoldsPoint, IsNonempty, LiesIn, Meets, IsCommonPart}
+use Rattle.policy.specs.Points.{FitsSelectorFields, HasPorts, IsPortOf, FitsProtocol, FitsPort, HoldsPoint, IsNonempty, LiesIn, Meets, IsCommonPart}
 use Rattle.policy.specs.Narrowing.{HoldsFirst}
 use Rattle.policy.specs.Ends.{HasFittingPort, IsCommonProtocol, HaveNoCommonProtocol}
 use Rattle.policy.proofs.RangeLemmas.{end_fits, end_held, end_of, family_held, ordered_by, same_range, start_fits, start_held, start_of, within_by_ends, within_holds}
@@ -29,12 +29,12 @@ held_at s protocol address port small held can = record {
 }
 
 -- the protocols and ports that points of a selector may have, by cases: some port, or none
-pub some_port : (s : Selector) → FitsFields s → HasFittingPort s.protocol s.start_port s.end_port → (protocol : ℕ) × (port : Option ℕ) × CanHave s protocol port
+pub some_port : (s : Selector) → FitsSelectorFields s → HasFittingPort s.protocol s.start_port s.end_port → (protocol : ℕ) × (port : Option ℕ) × CanHave s protocol port
 some_port s fits (inl (inl any, ordered)) = let small = fits.start_port in (6, Some s.start_port, record { small = omega arith; wanted = inl any; kind = (inl refl, small); range = (omega arith, ordered) })
 some_port s fits (inl (inr ports, ordered)) = let small = fits.start_port in (s.protocol, Some s.start_port, record { small = fits.protocol; wanted = inr refl; kind = (ports, small); range = (omega arith, ordered) })
 some_port s fits (inr (other, none, start, end)) = (s.protocol, None, record { small = fits.protocol; wanted = inr refl; kind = none; range = (start, end) })
 
-pub has_point : (s : Selector) → FitsFields s → IsOrdered s.addresses → HasFittingPort s.protocol s.start_port s.end_port → IsNonempty (HoldsPoint s)
+pub has_point : (s : Selector) → FitsSelectorFields s → IsOrdered s.addresses → HasFittingPort s.protocol s.start_port s.end_port → IsNonempty (HoldsPoint s)
 has_point s fits ordered port =
     let some = some_port s fits port in
     record {
@@ -91,7 +91,7 @@ both_ports t (inr six) (inl any) = any
 both_ports t (inr six) (inr seventeen) = absurd (omega arith)
 
 -- a protocol of ports that a selector may have, and what its points of any fitting port say
-module _ (s t : Selector) (fits : FitsFields s) (inside : LiesIn (HoldsPoint s) (HoldsPoint t)) (ordered : IsOrdered s.addresses) where
+module _ (s t : Selector) (fits : FitsSelectorFields s) (inside : LiesIn (HoldsPoint s) (HoldsPoint t)) (ordered : IsOrdered s.addresses) where
   held_first : (protocol : ℕ) (port : Option ℕ) → CanHave s protocol port → HoldsPoint t (record { protocol = protocol; address = start_of s.addresses; port = port })
   held_first protocol port can = inside _ (held_at s protocol (start_of s.addresses) port (start_fits s.addresses fits.addresses) (start_held s.addresses ordered) can)
 
@@ -136,7 +136,7 @@ module _ (s t : Selector) (fits : FitsFields s) (inside : LiesIn (HoldsPoint s) 
         end_port = omega (arith, here.port.1);
       }
 
-pub lies_in_ends : (s t : Selector) → FitsFields s → IsNonempty (HoldsPoint s) → LiesIn (HoldsPoint s) (HoldsPoint t) → EndsLieIn s t
+pub lies_in_ends : (s t : Selector) → FitsSelectorFields s → IsNonempty (HoldsPoint s) → LiesIn (HoldsPoint s) (HoldsPoint t) → EndsLieIn s t
 lies_in_ends s t fits some inside =
     let ends = ends_of_point s some.point some.inside in
     ends_lie_in s t fits inside ends.0 ends.1
@@ -186,7 +186,7 @@ module _ (s t : Selector) (protocol : ℕ) (addresses : Range) (byte : protocol 
         port = ports_from_both s.start_port s.end_port t.start_port t.end_port p.port one.port two.port;
       }
 
-  part_fits : FitsFields (part_of s t protocol addresses)
+  part_fits : FitsSelectorFields (part_of s t protocol addresses)
   unfolding part_of
   part_fits =
       let start_port = fits.start in
@@ -258,7 +258,7 @@ fits_both s t (inl any) (inl other) = other ∙ sym any
 fits_both s t (inl any) (inr same) = same
 fits_both s t (inr same) back = sym same
 
-pub same_selector : (s t : Selector) → FitsFields s → FitsFields t → IsNonempty (HoldsPoint s) → LiesIn (HoldsPoint s) (HoldsPoint t) → LiesIn (HoldsPoint t) (HoldsPoint s) → s ≡ t
+pub same_selector : (s t : Selector) → FitsSelectorFields s → FitsSelectorFields t → IsNonempty (HoldsPoint s) → LiesIn (HoldsPoint s) (HoldsPoint t) → LiesIn (HoldsPoint t) (HoldsPoint s) → s ≡ t
 same_selector s t fits fits_t some inside back =
     let ends = lies_in_ends s t fits some inside in
     let other = lies_in_ends t s fits_t (record { point = some.point; inside = inside some.point some.inside }) back in

@@ -9,7 +9,7 @@ use Rattle.policy.specs.declared.entry.Entry.{Entry}
 use Rattle.policy.specs.declared.entry.Action.TheVariants.{Protect}
 use Rattle.policy.specs.declared.fault.NarrowFault.{NarrowFault}
 use Rattle.policy.specs.declared.fault.NarrowFault.TheVariants.{Unacceptable, Memory}
-use Rattle.policy.specs.Points.{FitsFields, HoldsPoint, HoldsAny, IsPortRange, IsNonempty, LiesIn, Meets, IsCommonPart}
+use Rattle.policy.specs.Points.{FitsSelectorFields, HoldsPoint, HoldsAny, IsPortRange, IsNonempty, LiesIn, Meets, IsCommonPart}
 use Rattle.policy.specs.Decisions.{local_side, remote_side}
 
 -- a side holds the whole of the first selector offered, which has a point
@@ -112,12 +112,16 @@ pub record LieInsidePolicy (entries : List Entry) (answer_i answer_r : List Sele
 -- a payload of traffic selectors can carry it (RFC 7296 section 3.13.1): its fields have room for the numbers, and no range ends
 -- before it starts
 pub record IsSendableSelector (s : Selector) : Type 0 where
-  pub fields : FitsFields s
+  pub fields : FitsSelectorFields s
   pub ports : IsPortRange s.start_port s.end_port
   pub addresses : IsOrdered s.addresses
 
--- a payload of traffic selectors can carry the list (RFC 7296 section 3.13): 1 to 16 of them, a limit of this implementation
+-- How many selectors a message carries at most, a limit of this implementation, which `wire` has too.
+abbrev pub SELECTOR_LIMIT : ℕ
+SELECTOR_LIMIT = 16
+
+-- a payload of traffic selectors can carry the list (RFC 7296 section 3.13)
 pub record AreSendable (ss : List Selector) : Type 0 where
   pub some : 1 ≤ length ss
-  pub few : length ss ≤ 16
+  pub few : length ss ≤ SELECTOR_LIMIT
   pub each : (k : ℕ) (s : Selector) → slice_get ss k ≡ Some s → IsSendableSelector s

@@ -62,7 +62,7 @@ pub record Meets (A B : Point → Type 0) : Type 0 where
   pub in_other : B point
 
 -- the numbers of a selector are those that its fields can have
-pub record FitsFields (s : Selector) : Type 0 where
+pub record FitsSelectorFields (s : Selector) : Type 0 where
   pub protocol : s.protocol < 2 ^ 8
   pub start_port : s.start_port < 2 ^ 16
   pub end_port : s.end_port < 2 ^ 16
@@ -72,4 +72,4 @@ pub record FitsFields (s : Selector) : Type 0 where
 pub record IsCommonPart (A B : Point → Type 0) (common : Selector) : Type 0 where
   pub points : (p : Point) → HoldsPoint common p ↔ (A p × B p)
   pub some : IsNonempty (HoldsPoint common)
-  pub fields : FitsFields common
+  pub fields : FitsSelectorFields common

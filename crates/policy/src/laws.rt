@@ -13,9 +13,9 @@ ghost use Rattle.policy.specs.declared.flow.Flow.{Flow};
 ghost use Rattle.policy.specs.declared.policy.Direction.{Direction};
 ghost use Rattle.policy.specs.Decisions.{IsDecision};
 ghost use Rattle.policy.specs.Entries.{IsFirstEntryAtFault, IsSoundPolicy};
-ghost use Rattle.policy.specs.Narrowing.{AnswersOffer, AreSendable, FitsFirst, IsNarrowing, IsNarrowRefusal, LieInsidePolicy};
+ghost use Rattle.policy.specs.Narrowing.{SELECTOR_LIMIT, AnswersOffer, AreSendable, FitsFirst, IsNarrowing, IsNarrowRefusal, LieInsidePolicy};
 ghost use Rattle.policy.specs.Packets.{IsFlowOf, IsInnerRefusal};
-ghost use Rattle.policy.specs.Points.{FitsFields, HoldsPoint, Meets};
+ghost use Rattle.policy.specs.Points.{FitsSelectorFields, HoldsPoint, Meets};
 
 /// A selector of IPv4 addresses and one of IPv6 addresses have no common point.
 pub fn families_are_apart()
@@ -63,7 +63,7 @@ pub fn narrowing_is_determined()
 /// that a message can carry.
 pub fn answers_can_be_sent()
     ensures { (entries : List Entry) (i r answer_i answer_r : List Selector)
-        → length i ≤ 16 → length r ≤ 16 → IsNarrowing entries i r answer_i answer_r
+        → length i ≤ SELECTOR_LIMIT → length r ≤ SELECTOR_LIMIT → IsNarrowing entries i r answer_i answer_r
         → AreSendable answer_i × AreSendable answer_r }
 {}
 
@@ -83,7 +83,7 @@ pub fn first_choices_are_kept()
     ensures { (entries : List Entry) (place : ℕ) (e : Entry) (first_i first_r : Selector)
         (i r answer_i answer_r : List Selector)
         → slice_get entries place ≡ Some e → FitsFirst (first_i ∷ i) (first_r ∷ r) e
-        → FitsFields first_i → FitsFields first_r
+        → FitsSelectorFields first_i → FitsSelectorFields first_r
         → IsNarrowing entries (first_i ∷ i) (first_r ∷ r) answer_i answer_r
         → (slice_get answer_i 0 ≡ Some first_i) × (slice_get answer_r 0 ≡ Some first_r) }
 {}

@@ -1,4 +1,4 @@
-pub mod BlockCountLemmas
-pub mod BlockLemmas
-pub mod JudgementLemmas
-pub mod PlainLemmas
+mod BlockCountLemmas
+mod BlockLemmas
+mod JudgementLemmas
+mod PlainLemmas

@@ -17,7 +17,7 @@ use Rattle.policy.specs.Decisions.{Covers}
 use Rattle.sadb.specs.declared.pair.State.TheVariants.{Live}
 use Rattle.sadb.specs.Database.{IsAfter, Carries, IsOutbound}
 use Rattle.sadb.specs.Numbered.{numbered}
-use Rattle.sadb.specs.Storage.{PairsBySerial, key_at, key_of, at_key, serial_of, shown_pairs, IsIndexed}
+use Rattle.sadb.specs.Storage.{PairsBySerial, slab_key_at, key_of, at_key, serial_of, shown_pairs, IsIndexed}
 use Rattle.sadb.proofs.NumberedLemmas.{numbered_at, numbered_below, numbered_inserts, numbered_removes, inserted_same, EndsAt}
 
 -- an option with its value, if it has one
@@ -27,7 +27,7 @@ cases_option (Some x) = inr (x, refl)
 
 -- the pair of the serial i + 1
 abbrev pair_at : List (Option ℕ) → Slab Pair → ℕ → Option Pair
-pair_at keys slab i = at_key slab (key_at keys i)
+pair_at keys slab i = at_key slab (slab_key_at keys i)
 
 ends : (keys : List (Option ℕ)) (slab : Slab Pair) → EndsAt (pair_at keys slab) (length keys)
 ends keys slab j past = ap (at_key slab) (get_or_past keys j None past)
@@ -40,14 +40,14 @@ shown_at keys slab (suc i) =
     ap (map.get (shown_pairs keys slab)) same ∙ numbered_at 1 (pair_at keys slab) (length keys) (ends keys slab) i
 
 -- the key of the serial index + 1 is in the list
-in_range : (keys : List (Option ℕ)) (index key : ℕ) → key_at keys index ≡ Some key → index < length keys
+in_range : (keys : List (Option ℕ)) (index key : ℕ) → slab_key_at keys index ≡ Some key → index < length keys
 in_range keys index key at = grind (arith, get_or_past)
 
 -- a pair with its serial, the index of its key, and that key
 pub record Found (keys : List (Option ℕ)) (slab : Slab Pair) (serial index key : ℕ) (pair : Pair) : Type 0 where
   pub next : serial ≡ index + 1
   pub within : index < length keys
-  pub at : key_at keys index ≡ Some key
+  pub at : slab_key_at keys index ≡ Some key
   pub there : get slab key ≡ Some pair
 
 pub record Stands (keys : List (Option ℕ)) (slab : Slab Pair) (serial : ℕ) (pair : Pair) : Type 0 where
@@ -58,7 +58,7 @@ pub record Stands (keys : List (Option ℕ)) (slab : Slab Pair) (serial : ℕ) (
 found_at_key : (keys : List (Option ℕ)) (slab : Slab Pair) (serial : ℕ) (pair : Pair) → at_key slab (key_of keys serial) ≡ Some pair → Stands keys slab serial pair
 found_at_key keys slab zero pair there = absurd (cc)
 found_at_key keys slab (suc index) pair there =
-    elim (cases_option (key_at keys index)) [
+    elim (cases_option (slab_key_at keys index)) [
       | inl none ↦ (let nothing : None ≡ Some pair = sym (ap (at_key slab) none) ∙ there in absurd (cc))
       | inr some ↦
           record {
@@ -84,16 +84,16 @@ own_serial keys slab serial index key pair by_serial f =
     same ∙ sym f.next
 
 -- two places with one key are one index
-one_index : (keys : List (Option ℕ)) (slab : Slab Pair) (index other key : ℕ) → IsIndexed keys slab → key_at keys index ≡ Some key → key_at keys other ≡ Some key → index ≡ other
+one_index : (keys : List (Option ℕ)) (slab : Slab Pair) (index other key : ℕ) → IsIndexed keys slab → slab_key_at keys index ≡ Some key → slab_key_at keys other ≡ Some key → index ≡ other
 one_index keys slab index other key by_serial at at_other =
     let both : Some (index + 1) ≡ Some (other + 1) = sym (by_serial.there index key at) ∙ by_serial.there other key at_other in
     let same : index + 1 ≡ other + 1 = cc in
     omega arith
 
 -- what stands at the key of another index is as it was
-others_kept : (keys : List (Option ℕ)) (old new : Slab Pair) (index key : ℕ) (slot : Option Pair) → IsIndexed keys old → key_at keys index ≡ Some key → Updates old new key slot → (other : ℕ) → other ≢ index → pair_at keys new other ≡ pair_at keys old other
+others_kept : (keys : List (Option ℕ)) (old new : Slab Pair) (index key : ℕ) (slot : Option Pair) → IsIndexed keys old → slab_key_at keys index ≡ Some key → Updates old new key slot → (other : ℕ) → other ≢ index → pair_at keys new other ≡ pair_at keys old other
 others_kept keys old new index key slot by_serial at updates other apart =
-    elim (cases_option (key_at keys other)) [
+    elim (cases_option (slab_key_at keys other)) [
       | inl none ↦ ap (at_key new) none ∙ sym (ap (at_key old) none)
       | inr some ↦
           ap (at_key new) some.1
@@ -167,17 +167,17 @@ module _ (keys : List (Option ℕ)) (old new : Slab Pair) (key : ℕ) (pair : Pa
   abbrev longer : List (Option ℕ)
   longer = keys ++ Some key ∷ []
 
-  key_before : (i : ℕ) → i < length keys → key_at longer i ≡ key_at keys i
+  key_before : (i : ℕ) → i < length keys → slab_key_at longer i ≡ slab_key_at keys i
   key_before i within = get_or_append_left keys (Some key ∷ []) None i within
 
-  key_here : key_at longer (length keys) ≡ Some key
+  key_here : slab_key_at longer (length keys) ≡ Some key
   key_here = get_or-append_seam keys (Some key) [] None
 
-  key_past : (i : ℕ) → length keys + 1 ≤ i → key_at longer i ≡ None
+  key_past : (i : ℕ) → length keys + 1 ≤ i → slab_key_at longer i ≡ None
   key_past i past = get_or_past longer i None (omega (arith, length_push keys (Some key)))
 
   -- no index had this key
-  fresh : (i k : ℕ) → key_at keys i ≡ Some k → k ≢ key
+  fresh : (i k : ℕ) → slab_key_at keys i ≡ Some k → k ≢ key
   fresh i k at same =
       let nothing : None ≡ Some (i + 1) = sym (ap (λ x. serial_of (get old x)) same ∙ ap serial_of vacant) ∙ by_serial.there i k at in
       absurd (cc)
@@ -186,7 +186,7 @@ module _ (keys : List (Option ℕ)) (old new : Slab Pair) (key : ℕ) (pair : Pa
   pair_before i apart =
       elim (cases_lt i (length keys)) [
         | inl before ↦
-            elim (cases_option (key_at keys i)) [
+            elim (cases_option (slab_key_at keys i)) [
               | inl none ↦ ap (at_key new) (key_before i before ∙ none) ∙ sym (ap (at_key old) none)
               | inr some ↦ ap (at_key new) (key_before i before ∙ some.1) ∙ updates.others some.0 (fresh i some.0 some.1) ∙ sym (ap (at_key old) some.1)
             ]
@@ -211,11 +211,11 @@ module _ (keys : List (Option ℕ)) (old new : Slab Pair) (key : ℕ) (pair : Pa
       ap map.len shown_added ∙ map.len-insert nat_cmp_total (shown_pairs keys old) (length keys + 1) pair
       ∙ ap (λ b. cond b (map.len (shown_pairs keys old)) (map.len (shown_pairs keys old) + 1)) (ap is_some new_serial)
 
-  there_added : pair.serial ≡ length keys + 1 → (i k : ℕ) → key_at longer i ≡ Some k → serial_of (get new k) ≡ Some (i + 1)
+  there_added : pair.serial ≡ length keys + 1 → (i k : ℕ) → slab_key_at longer i ≡ Some k → serial_of (get new k) ≡ Some (i + 1)
   there_added numbered i k at =
       elim (cases_eq i (length keys)) [
         | inl here ↦
-            (let both : Some key ≡ Some k = sym key_here ∙ sym (ap (key_at longer) here) ∙ at in
+            (let both : Some key ≡ Some k = sym key_here ∙ sym (ap (slab_key_at longer) here) ∙ at in
             let same : k ≡ key = cc in
             ap (λ x. serial_of (get new x)) same ∙ ap serial_of updates.changed ∙ ap (λ (x : ℕ). Some x) (numbered ∙ sym (ap (λ (x : ℕ). x + 1) here)))
         | inr apart ↦
@@ -254,10 +254,10 @@ module _ (keys : List (Option ℕ)) (old new : Slab Pair) (serial index key : �
   abbrev cleared : List (Option ℕ)
   cleared = set keys index None
 
-  key_gone : key_at cleared index ≡ None
+  key_gone : slab_key_at cleared index ≡ None
   key_gone = get_or-set_same keys index None None f.within
 
-  key_kept : (i : ℕ) → i ≢ index → key_at cleared i ≡ key_at keys i
+  key_kept : (i : ℕ) → i ≢ index → slab_key_at cleared i ≡ slab_key_at keys i
   key_kept i apart = get_or-set_other keys index i None None apart
 
   pair_kept : (i : ℕ) → i ≢ index → pair_at cleared new i ≡ pair_at keys old i
@@ -277,10 +277,10 @@ module _ (keys : List (Option ℕ)) (old new : Slab Pair) (serial index key : �
       ap map.len shown_removed ∙ map.len-remove nat_cmp_total (shown_pairs keys old) serial
       ∙ ap (λ b. cond b (map.len (shown_pairs keys old) - 1) (map.len (shown_pairs keys old))) there
 
-  there_removed : (i k : ℕ) → key_at cleared i ≡ Some k → serial_of (get new k) ≡ Some (i + 1)
+  there_removed : (i k : ℕ) → slab_key_at cleared i ≡ Some k → serial_of (get new k) ≡ Some (i + 1)
   there_removed i k at =
       elim (cases_eq i index) [
-        | inl here ↦ (let nothing : None ≡ Some k = sym key_gone ∙ sym (ap (key_at cleared) here) ∙ at in absurd (cc))
+        | inl here ↦ (let nothing : None ≡ Some k = sym key_gone ∙ sym (ap (slab_key_at cleared) here) ∙ at in absurd (cc))
         | inr apart ↦
             (let was = sym (key_kept i apart) ∙ at in
             ap serial_of (updates.others k (λ same. apart (one_index keys old i index key by_serial (was ∙ ap (λ (x : ℕ). Some x) same) f.at)))
@@ -297,7 +297,7 @@ module _ (keys : List (Option ℕ)) (old new : Slab Pair) (serial index key : �
       kept : k ≢ key → (n : ℕ) → key_of keys n ≡ Some k → key_of cleared n ≡ Some k
       kept apart zero was = was
       kept apart (suc i) was =
-          key_kept i (λ here. (let both : Some k ≡ Some key = sym was ∙ ap (key_at keys) here ∙ f.at in apart (cc))) ∙ was
+          key_kept i (λ here. (let both : Some k ≡ Some key = sym was ∙ ap (slab_key_at keys) here ∙ f.at in apart (cc))) ∙ was
 
   pub by_serial_removed : slab_len new + 1 ≡ slab_len old → IsIndexed cleared new
   by_serial_removed counted =
@@ -334,7 +334,7 @@ module _ (keys : List (Option ℕ)) (slab : Slab Pair) (pairs : map.FinMap nat_c
 
 pub by_serial_empty : (keys : List (Option ℕ)) (slab : Slab Pair) → keys ≡ [] → slab.slots ≡ [] → IsIndexed keys slab
 by_serial_empty keys slab no_keys no_slots =
-    let no_key : (i : ℕ) → key_at keys i ≡ None = λ i. ap (λ (ks : List (Option ℕ)). key_at ks i) no_keys in
+    let no_key : (i : ℕ) → slab_key_at keys i ≡ None = λ i. ap (λ (ks : List (Option ℕ)). slab_key_at ks i) no_keys in
     let no_pair : (k : ℕ) → get slab k ≡ None = λ k. ap (λ (slots : List (Option Pair)). get_or slots k None) no_slots in
     record {
       there = λ i k at. (let nothing : None ≡ Some k = sym (no_key i) ∙ at in absurd (cc));

@@ -30,12 +30,12 @@ by_serial_code =
     code_by (ℕ × (map.FinMap nat_cmp Pair × ℕ)) (coded× coded_ℕ (coded× (map.code coded_ℕ pair_code) coded_ℕ)) (λ s. (s.next, (s.pairs, s.room))) (λ c. record { next = c.0; pairs = c.1.0; room = c.1.1 }) (λ _. refl)
 
 -- the slab's key of the pair of the serial i + 1
-abbrev pub key_at : List (Option ℕ) → ℕ → Option ℕ
-key_at keys i = slice_index_or keys i None
+abbrev pub slab_key_at : List (Option ℕ) → ℕ → Option ℕ
+slab_key_at keys i = slice_index_or keys i None
 
 abbrev pub key_of : List (Option ℕ) → ℕ → Option ℕ
 key_of keys zero = None
-key_of keys (suc i) = key_at keys i
+key_of keys (suc i) = slab_key_at keys i
 
 abbrev pub at_key : Slab Pair → Option ℕ → Option Pair
 at_key slab None = None
@@ -51,11 +51,11 @@ spi_of (Some pair) = Some pair.inbound.association.spi
 
 -- the pairs of a slab by their serials
 abbrev pub shown_pairs : List (Option ℕ) → Slab Pair → map.FinMap nat_cmp Pair
-shown_pairs keys slab = numbered 1 (λ i. at_key slab (key_at keys i)) (length keys)
+shown_pairs keys slab = numbered 1 (λ i. at_key slab (slab_key_at keys i)) (length keys)
 
 -- what holds of the slab and the index by serial: each leads to the other
 pub record IsIndexed (keys : List (Option ℕ)) (slab : Slab Pair) : Type 0 where
-  pub there : (i key : ℕ) → key_at keys i ≡ Some key → serial_of (get slab key) ≡ Some (i + 1)
+  pub there : (i key : ℕ) → slab_key_at keys i ≡ Some key → serial_of (get slab key) ≡ Some (i + 1)
   pub back : (key serial : ℕ) → serial_of (get slab key) ≡ Some serial → key_of keys serial ≡ Some key
   pub counted : slab_len slab ≡ map.len (shown_pairs keys slab)
   pub windows : (key : ℕ) (pair : Pair) → get slab key ≡ Some pair → IsSoundWindow pair.inbound.window

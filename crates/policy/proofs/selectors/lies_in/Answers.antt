@@ -1,6 +1,6 @@
 use Rattle.std.proofs.Common.{arith, subst}
 use Rattle.base.specs.Addresses.{FitsRange}
-use Rattle.policy.specs.Points.{FitsFields}
+use Rattle.policy.specs.Points.{FitsSelectorFields}
 use Rattle.policy.proofs.PointLemmas.{lies_in, lies_in_ends}
 use Rattle.policy.proofs.selectors.lies_in.Goals as goal
 use Rattle.policy.proofs.selectors.lies_in.Goals.{then-fits_protocol, else-fits_protocol}
@@ -9,7 +9,7 @@ pub returns-then-lies_in : goal.returns-then-lies_in
 returns-then-lies_in c =
     let s = c.args.selector.now in
     let t = c.args.other.now in
-    let fits : FitsFields s = record { protocol = omega arith; start_port = omega arith; end_port = omega arith; addresses = subst FitsRange c.range_of-addresses.ensures.same c.range_of-addresses.ensures.fits } in
+    let fits : FitsSelectorFields s = record { protocol = omega arith; start_port = omega arith; end_port = omega arith; addresses = subst FitsRange c.range_of-addresses.ensures.same c.range_of-addresses.ensures.fits } in
     elim c.if-fits_protocol.branch [
       | then-fits_protocol w ↦ (
         λ yes. lies_in s t (omega arith) (record {
@@ -31,7 +31,7 @@ pub returns-else-lies_in : goal.returns-else-lies_in
 returns-else-lies_in c =
     let s = c.args.selector.now in
     let t = c.args.other.now in
-    let fits : FitsFields s = record { protocol = omega arith; start_port = omega arith; end_port = omega arith; addresses = subst FitsRange c.range_of-addresses.ensures.same c.range_of-addresses.ensures.fits } in
+    let fits : FitsSelectorFields s = record { protocol = omega arith; start_port = omega arith; end_port = omega arith; addresses = subst FitsRange c.range_of-addresses.ensures.same c.range_of-addresses.ensures.fits } in
     elim c.if-fits_protocol.branch [
       | then-fits_protocol w ↦ (
         λ yes. absurd (cc),
