@@ -12,7 +12,7 @@ use Rattle.suite.specs.declared.choice.Chosen.{Chosen}
 use Rattle.suite.specs.declared.choice.Wanted.{Wanted}
 use Rattle.suite.specs.declared.choice.Wanted.TheVariants.{Esp}
 use Rattle.exchange.specs.Counting.{only_sa}
-use Rattle.exchange.specs.Offers.{answer_of, answered_transforms, offer_of, AcceptsAnswer, IsAcceptableAnswer, IsTakenFrom}
+use Rattle.suite.specs.Offers.{answer_of, answered_transforms, offer_of, AcceptsAnswer, IsAcceptableAnswer, IsTakenFrom}
 use Rattle.exchange.specs.declared.child.ChildPayloads.{ChildPayloads}
 use Rattle.exchange.specs.declared.headers.Role.TheVariants.{Initiator, Responder}
 use Rattle.policy.specs.Narrowing.{AnswersOffer, IsNarrowing, LieInsidePolicy}

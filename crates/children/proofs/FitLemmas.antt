@@ -14,7 +14,7 @@ use Rattle.wire.specs.declared.proposal.Proposal.{Proposal}
 use Rattle.wire.specs.declared.proposal.Transform.{Transform}
 use Rattle.suite.specs.Choice.{without_attributes}
 use Rattle.suite.specs.declared.choice.Wanted.TheVariants.{Esp}
-use Rattle.exchange.specs.Offers.{answered_transforms, offered_transforms}
+use Rattle.suite.specs.Offers.{answered_transforms, offered_transforms}
 use Rattle.exchange.specs.declared.child.ChildPayloads.{ChildPayloads}
 use Rattle.policy.specs.Narrowing.{AreSendable, IsNarrowing, IsSendableSelector}
 use Rattle.policy.specs.declared.entry.Entry.{Entry}

@@ -30,55 +30,23 @@ use Rattle.children.specs.declared.responding.Response.TheVariants as response
 use Rattle.children.specs.declared.setting.Setting.{Setting}
 use Rattle.children.proofs.TermLemmas.{same_numbers, same_terms}
 
--- two numbers of which neither is below the other
-one_number : (a b : ℕ) → ¬ (a < b) → ¬ (b < a) → a ≡ b
-one_number a b one two =
-    elim (leb_tells a b) [
-      | inl (_, upward) ↦ elim (leb_tells b a) [
-        | inl (_, downward) ↦ omega arith
-        | inr (_, below) ↦ absurd (one (omega arith))
-      ]
-      | inr (_, above) ↦ absurd (two (omega arith))
-    ]
-
 same_item : {X : Type 0} (xs : List X) (k l : ℕ) (x y : X) → slice_get xs k ≡ Some x → slice_get xs l ≡ Some y → k ≡ l → x ≡ y
 same_item xs k l x y here there same = cc
 
-one_first : (w : Wanted) (kind : ℕ) (ts : List Transform) (s t : Transform) → IsFirstAcceptable w kind ts s → IsFirstAcceptable w kind ts t → s ≡ t
-one_first w kind ts s t x y =
-    same_item ts x.place y.place s t x.here y.here
-    (one_number x.place y.place (λ below. y.first x.place s below x.here x.acceptable) (λ below. x.first y.place t below y.here y.acceptable))
-
-one_place : (w : Wanted) (ps : List Proposal) (a b : Chosen) → IsChosenProposal w ps a → IsChosenProposal w ps b → a.place ≡ b.place
-one_place w ps a b x y =
-    one_number a.place b.place (λ below. y.first a.place x.proposal below x.here x.acceptable) (λ below. x.first b.place y.proposal below y.here y.acceptable)
-
-one_proposal : (w : Wanted) (ps : List Proposal) (a b : Chosen) (x : IsChosenProposal w ps a) (y : IsChosenProposal w ps b) → x.proposal ≡ y.proposal
-one_proposal w ps a b x y = same_item ps a.place b.place x.proposal y.proposal x.here y.here (one_place w ps a b x y)
-
-abbrev choice : ℕ → ℕ → Bool → Chosen
-choice p n e = record { place = p; number = n; extended = e }
-
-same_choice : (a b : Chosen) → a.place ≡ b.place → a.number ≡ b.number → a.extended ≡ b.extended → a ≡ b
-same_choice a b p n e =
-    ap (λ (x : ℕ). choice x a.number a.extended) p ∙ ap (λ (x : ℕ). choice b.place x a.extended) n ∙ ap (λ (x : Bool). choice b.place b.number x) e
-
-one_choice : (allowed : Bool) (ps : List Proposal) (a b : Chosen) → IsChosenProposal (Esp allowed) ps a → IsChosenProposal (Esp allowed) ps b → a ≡ b
-one_choice allowed ps a b x y =
-    let same : x.proposal ≡ y.proposal = one_proposal (Esp allowed) ps a b x y in
-    let numbers = subst (λ (p : Proposal). IsFirstAcceptable (Esp allowed) 5 p.transforms (sequence_numbers b.extended)) (sym same) y.numbers in
-    same_choice a b (one_place (Esp allowed) ps a b x y)
-    (x.number ∙ ap (λ (p : Proposal). p.number) same ∙ sym y.number)
-    (same_numbers a.extended b.extended (one_first (Esp allowed) 5 x.proposal.transforms (sequence_numbers a.extended) (sequence_numbers b.extended) x.numbers numbers))
+-- what the law of choices says
+abbrev pub OneChoice : Type 0
+OneChoice = (wanted : Wanted) (ps : List Proposal) (a b : Chosen) → IsChosenProposal wanted ps a → IsChosenProposal wanted ps b → a ≡ b
 
 abbrev pub OneNarrowing : Type 0
 OneNarrowing = (entries : List Entry) (i r answer_i answer_r other_i other_r : List Selector) → IsNarrowing entries i r answer_i answer_r → IsNarrowing entries i r other_i other_r
     → (answer_i ≡ other_i) × (answer_r ≡ other_r)
 
-pub one_made : OneNarrowing → (setting : Setting) (extended : Bool) (entries : List Entry) (table : Database) (offer : ChildPayloads) (a b : Made) → IsMadeChild setting extended entries table offer a → IsMadeChild setting extended entries table offer b → a ≡ b
-one_made narrow setting extended entries table offer a b x y =
-    let chosen : x.chosen ≡ y.chosen = one_choice extended offer.proposals x.chosen y.chosen x.due.choice y.due.choice in
-    let proposal = one_proposal (Esp extended) offer.proposals x.chosen y.chosen x.due.choice y.due.choice in
+pub one_made : OneChoice → OneNarrowing → (setting : Setting) (extended : Bool) (entries : List Entry) (table : Database) (offer : ChildPayloads) (a b : Made) → IsMadeChild setting extended entries table offer a → IsMadeChild setting extended entries table offer b → a ≡ b
+one_made choose narrow setting extended entries table offer a b x y =
+    let chosen : x.chosen ≡ y.chosen = choose (Esp extended) offer.proposals x.chosen y.chosen x.due.choice y.due.choice in
+    let p = x.due.choice in
+    let q = y.due.choice in
+    let proposal : p.proposal ≡ q.proposal = same_item offer.proposals x.chosen.place y.chosen.place p.proposal q.proposal p.here q.here (ap (λ (c : Chosen). c.place) chosen) in
     let lists = narrow entries offer.ts_i offer.ts_r x.terms.ts_i x.terms.ts_r y.terms.ts_i y.terms.ts_r x.due.narrowed y.due.narrowed in
     let terms : x.terms ≡ y.terms =
     same_terms x.terms y.terms
@@ -135,11 +103,11 @@ not_refused setting extended entries t o made InvalidSyntax m x = x
 not_refused setting extended entries t o made AuthenticationFailed m x = x
 not_refused setting extended entries t o made (Cookie octets) m x = x
 
-pub one_response : OneNarrowing → (setting : Setting) (extended : Bool) (entries : List Entry) (table : Database) (offer : ChildPayloads) (a b : Response) → IsChildResponse setting extended entries table offer a → IsChildResponse setting extended entries table offer b → a ≡ b
-one_response narrow setting extended entries table offer (response.Made a) (response.Made b) x y = ap (λ (m : Made). response.Made m) (one_made narrow setting extended entries table offer a b x y)
-one_response narrow setting extended entries table offer (response.Made a) (response.Refused n) x y = absurd (not_refused setting extended entries table offer a n x y)
-one_response narrow setting extended entries table offer (response.Refused m) (response.Made b) x y = absurd (not_refused setting extended entries table offer b m y x)
-one_response narrow setting extended entries table offer (response.Refused m) (response.Refused n) x y = ap (λ (k : Notice). response.Refused k) (one_refusal extended entries table offer m n x y)
+pub one_response : OneChoice → OneNarrowing → (setting : Setting) (extended : Bool) (entries : List Entry) (table : Database) (offer : ChildPayloads) (a b : Response) → IsChildResponse setting extended entries table offer a → IsChildResponse setting extended entries table offer b → a ≡ b
+one_response choose narrow setting extended entries table offer (response.Made a) (response.Made b) x y = ap (λ (m : Made). response.Made m) (one_made choose narrow setting extended entries table offer a b x y)
+one_response choose narrow setting extended entries table offer (response.Made a) (response.Refused n) x y = absurd (not_refused setting extended entries table offer a n x y)
+one_response choose narrow setting extended entries table offer (response.Refused m) (response.Made b) x y = absurd (not_refused setting extended entries table offer b m y x)
+one_response choose narrow setting extended entries table offer (response.Refused m) (response.Refused n) x y = ap (λ (k : Notice). response.Refused k) (one_refusal extended entries table offer m n x y)
 
 same_first : (a b : Proposal) → Some (a ∷ []) ≡ Some (b ∷ []) → a ≡ b
 same_first a b is = cc
@@ -147,13 +115,13 @@ same_first a b is = cc
 same_list : {X : Type 0} (a b : List X) → Some a ≡ Some b → a ≡ b
 same_list a b is = cc
 
-pub one_accepted : (setting : Setting) (asked : Asked) (answer : List Payload) (a b : Pair) → IsAcceptedChild setting asked answer a → IsAcceptedChild setting asked answer b → a ≡ b
-one_accepted setting asked answer a b x y =
+pub one_accepted : OneChoice → (setting : Setting) (asked : Asked) (answer : List Payload) (a b : Pair) → IsAcceptedChild setting asked answer a → IsAcceptedChild setting asked answer b → a ≡ b
+one_accepted choose setting asked answer a b x y =
     let d = x.due in
     let f = y.due in
     let proposal : x.due.proposal ≡ y.due.proposal = same_first x.due.proposal y.due.proposal (sym x.due.sa ∙ y.due.sa) in
     let other = subst (λ (p : Proposal). IsChosenProposal (Esp asked.extended) (p ∷ []) y.due.chosen) (sym proposal) y.due.accepted.choice in
-    let chosen : x.due.chosen ≡ y.due.chosen = one_choice asked.extended (x.due.proposal ∷ []) x.due.chosen y.due.chosen x.due.accepted.choice other in
+    let chosen : x.due.chosen ≡ y.due.chosen = choose (Esp asked.extended) (x.due.proposal ∷ []) x.due.chosen y.due.chosen x.due.accepted.choice other in
     let terms : x.terms ≡ y.terms =
     same_terms x.terms y.terms
     (x.due.own ∙ sym y.due.own)

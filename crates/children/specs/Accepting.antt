@@ -6,7 +6,7 @@ use Rattle.wire.specs.declared.proposal.Proposal.{Proposal}
 use Rattle.suite.specs.declared.choice.Chosen.{Chosen}
 use Rattle.suite.specs.declared.choice.Wanted.TheVariants.{Esp}
 use Rattle.exchange.specs.Counting.{only_sa, only_ts_i, only_ts_r}
-use Rattle.exchange.specs.Offers.{AcceptsAnswer}
+use Rattle.suite.specs.Offers.{AcceptsAnswer}
 use Rattle.exchange.specs.declared.headers.Role.TheVariants.{Initiator}
 use Rattle.policy.specs.Narrowing.{AnswersOffer}
 use Rattle.sadb.specs.declared.pair.Pair.{Pair}

@@ -8,7 +8,7 @@ use Rattle.wire.specs.declared.proposal.Proposal.{Proposal}
 use Rattle.suite.specs.declared.choice.Wanted.TheVariants.{Esp}
 use Rattle.exchange.specs.Children.{child_payloads}
 use Rattle.exchange.specs.Counting.{only_sa, only_ts_i, only_ts_r}
-use Rattle.exchange.specs.Offers.{offer_of}
+use Rattle.suite.specs.Offers.{offer_of}
 use Rattle.exchange.specs.declared.child.ChildPayloads.{ChildPayloads}
 use Rattle.children.specs.declared.asking.Asked.{Asked}
 

@@ -6,7 +6,7 @@ use Rattle.suite.specs.Choice.{IsAcceptableProposal, IsChosenProposal}
 use Rattle.suite.specs.declared.choice.Chosen.{Chosen}
 use Rattle.suite.specs.declared.choice.Wanted.{Wanted}
 use Rattle.suite.specs.declared.choice.Wanted.TheVariants.{Esp}
-use Rattle.exchange.specs.Offers.{answer_of, IsTakenFrom}
+use Rattle.suite.specs.Offers.{answer_of, IsTakenFrom}
 use Rattle.exchange.specs.declared.child.ChildPayloads.{ChildPayloads}
 use Rattle.exchange.specs.declared.headers.Role.TheVariants.{Responder}
 use Rattle.exchange.specs.declared.notices.Notice.{Notice}

@@ -15,7 +15,7 @@ use suite::Wanted;
 use wire::Payload;
 
 /// The initiator's pair by an answer (RFC 7296, sections 2.7 and 2.9), `None` where the answer is not acceptable. An acceptable
-/// one has one SA payload, which [`exchange::accept`] accepts by whether extended sequence numbers were asked for, and one
+/// one has one SA payload, which [`suite::accept`] accepts by whether extended sequence numbers were asked for, and one
 /// payload of selectors for each side, which are not empty and lie inside those offered. The pair receives under its own SPI
 /// with the responder's key, and sends under the answer's with the initiator's.
 ///
@@ -49,7 +49,7 @@ fn accepted_terms<'a>(answer: &'a [Payload], asked: &Asked) -> Option<Agreed<'a>
         extended: asked.extended,
     };
     let proposals = only_sa(answer)?;
-    let chosen = exchange::accept(proposals, &wanted)?;
+    let chosen = suite::accept(proposals, &wanted)?;
     let ts_i = only_ts_i(answer)?;
     let ts_r = only_ts_r(answer)?;
     if !are_inside(ts_i, &[asked.local]) || !are_inside(ts_r, &[asked.remote]) {

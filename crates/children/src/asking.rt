@@ -3,9 +3,9 @@ ghost use Rattle.std.specs.Prelude.{◌≡◌, ◌∷◌, [], IfOk};
 ghost use Rattle.children.specs.Asking.{child_request};
 
 use base::{Items, Selector};
-use exchange::{ChildPayloads, offer};
+use exchange::ChildPayloads;
 use std::alloc::{AllocError, Global};
-use suite::Wanted;
+use suite::{Wanted, offer};
 
 /// What an initiator asks for, by [`ask`], and what it takes the answer by ([`accept`](crate::accept)).
 #[derive(Clone, Copy, Debug, PartialEq, Eq)]

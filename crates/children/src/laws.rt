@@ -26,9 +26,10 @@ ghost use Rattle.children.specs.declared.responding.Made.{Made};
 ghost use Rattle.children.specs.declared.responding.Response.{Response};
 ghost use Rattle.children.specs.declared.setting.Setting.{Setting};
 
-use exchange::laws::{ends_agree, what_counts_fits};
+use exchange::laws::what_counts_fits;
 use policy::laws::{answers_can_be_sent, answers_lie_inside, narrowing_is_determined};
 use sadb::laws::later_tables_are_determined;
+use suite::laws::{choices_are_determined, ends_agree};
 
 /// The pairs that the two ends have of the child of one request, which offered one proposal, and its reply mirror each other:
 /// what one sends the other receives, under one SPI and one key, and what is local to one is remote to the other. Does nothing.
@@ -121,6 +122,7 @@ pub fn answers_are_determined()
     ensures accepted { (setting : Setting) (asked : Asked) (answer : List Payload) (a b : Pair)
         → IsAcceptedChild setting asked answer a → IsAcceptedChild setting asked answer b → a ≡ b }
 {
+    choices_are_determined();
     narrowing_is_determined();
 }
 
@@ -130,7 +132,8 @@ pub fn payloads_fit()
         → FitMessages (child_request asked) }
     ensures answered { (setting : Setting) (extended : Bool) (entries : List Entry) (table : Database)
         (offer : ChildPayloads) (made : Made)
-        → FitsFields (Sa offer.proposals) → length offer.ts_i ≤ 16 → length offer.ts_r ≤ 16
+        → FitsFields (Sa offer.proposals) → length offer.ts_i ≤ SELECTOR_LIMIT
+        → length offer.ts_r ≤ SELECTOR_LIMIT
         → IsMadeChild setting extended entries table offer made → FitMessages made.payloads }
 {
     answers_can_be_sent();

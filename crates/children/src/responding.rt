@@ -11,11 +11,11 @@ use crate::asking::lone;
 use crate::making::{Agreed, make_pair, spi_of};
 use crate::{MemoryFault, Setting};
 use base::Items;
-use exchange::{ChildOffer, ChildPayloads, Notice, Role, answer};
+use exchange::{ChildOffer, ChildPayloads, Notice, Role};
 use policy::{NarrowFault, Narrowed, Policy, narrow};
 use sadb::{Pair, Table, TableFault};
 use std::alloc::{AllocError, Global};
-use suite::{Chosen, Wanted, choose};
+use suite::{Chosen, Wanted, answer, choose};
 use wire::Proposal;
 
 /// The answer to an offer.

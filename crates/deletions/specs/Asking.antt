@@ -5,6 +5,7 @@ use Rattle.wire.specs.Numbers.{ESP_PROTOCOL, IKE_PROTOCOL}
 use Rattle.wire.specs.Sizes.{size_of, FitsFields}
 use Rattle.wire.specs.declared.payload.Payload.{Payload}
 use Rattle.wire.specs.declared.payload.Payload.TheVariants.{Delete}
+use Rattle.exchange.specs.Sealed.{PAYLOADS_LIMIT}
 
 -- associations of ESP are named by the SPIs under which their sender receives (section 3.11)
 abbrev pub esp_deletion : List ℕ → List Payload
@@ -21,4 +22,4 @@ association_deletion = Delete IKE_PROTOCOL [] ∷ []
 -- payloads that have what their fields allow, and few enough octets for a message that is sealed (section 3.14)
 pub record CanBeSent (payloads : List Payload) : Type 0 where
   pub fields : AllByRecursion FitsFields payloads
-  pub short : sum_by size_of payloads ≤ 2840
+  pub short : sum_by size_of payloads ≤ PAYLOADS_LIMIT

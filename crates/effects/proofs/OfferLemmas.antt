@@ -16,7 +16,7 @@ use Rattle.suite.specs.declared.fresh.Fresh.{Fresh}
 use Rattle.suite.specs.declared.key_record.KeyRecord.{KeyRecord}
 use Rattle.suite.specs.declared.keys.Keys.{Keys}
 use Rattle.suite.specs.declared.sealer.Cipher.{Cipher}
-use Rattle.exchange.specs.Offers.{answer_of, answered_transforms, count_of_kind, IsTakenFrom}
+use Rattle.suite.specs.Offers.{answer_of, answered_transforms, count_of_kind, IsTakenFrom}
 use Rattle.exchange.specs.declared.sealed.Plain.{Plain}
 use Rattle.sadb.specs.Database.{Database}
 use Rattle.sa_init.specs.Cookies.{CookieSecrets}

@@ -11,7 +11,7 @@ use Rattle.suite.specs.declared.key_record.KeyRecord.{KeyRecord}
 use Rattle.suite.specs.declared.keys.Keys.{Keys}
 use Rattle.exchange.specs.Counting.{only_sa}
 use Rattle.exchange.specs.Headers.{keys_of}
-use Rattle.exchange.specs.Offers.{count_of_kind}
+use Rattle.suite.specs.Offers.{count_of_kind}
 use Rattle.exchange.specs.Sealed.{IsSealed}
 use Rattle.exchange.specs.declared.sealed.Plain.{Plain}
 use Rattle.association.specs.Phases.{keys_in}

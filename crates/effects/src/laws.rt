@@ -83,8 +83,7 @@ use children::laws::{
 use create_child::laws::what_is_answered_is_given_back;
 use deletions::laws::removals_are_determined;
 use exchange::laws::{
-    ciphers_tell_lengths, ends_agree, sealed_messages_are_determined, sealed_messages_open,
-    what_counts_fits,
+    ciphers_tell_lengths, sealed_messages_are_determined, sealed_messages_open, what_counts_fits,
 };
 use further::laws::{
     further_children_are_determined, further_children_keep_to_their_offers,
@@ -96,7 +95,7 @@ use requests::laws::{
 };
 use sadb::laws::later_tables_are_determined;
 use suite::Sealer;
-use suite::laws::derived_keys_are_keys;
+use suite::laws::{derived_keys_are_keys, ends_agree};
 use wire::laws::{octets_spell_one_message, plain_spellings_are_determined, what_is_read_fits};
 
 /// The SPIs that are reserved for an association's children stay reserved as long as the association holds them.

@@ -1,6 +1,4 @@
 mod SealedLemmas
 mod CountingLemmas
-mod OfferLemmas
-mod LawLemmas
 mod FittingLemmas
 mod DeterminedSealing

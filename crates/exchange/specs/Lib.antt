@@ -3,5 +3,4 @@ pub mod Sealed
 pub mod Counting
 pub mod Notices
 pub mod Deletions
-pub mod Offers
 pub mod Children

@@ -5,6 +5,7 @@ use Rattle.wire.specs.Parts.{IsZero}
 use Rattle.base.specs.Octets.{AreOctets}
 use Rattle.wire.specs.Payloads.{SpellsPayloads, SpellsChain}
 use Rattle.wire.specs.Messages.{Spells, SpellsPlainly}
+use Rattle.wire.specs.Numbers.{HEADER_LENGTH, MESSAGE_LIMIT, SEALED_TYPE}
 use Rattle.wire.specs.Refusals.{IsEncodingFaultOf}
 use Rattle.wire.specs.declared.fault.WireFault.{WireFault}
 use Rattle.wire.specs.declared.fault.WireFault.TheVariants.{TooLong}
@@ -14,9 +15,21 @@ use Rattle.wire.specs.declared.payload.Payload.TheVariants.{Sealed}
 use Rattle.suite.specs.declared.keys.Keys.{Keys}
 use Rattle.exchange.specs.declared.sealed.Plain.{Plain}
 
+-- The octets of the header and of the encrypted payload's header behind it; and how many a message in clear may have, so that with
+-- that header and the 128 octets that a cipher adds at most it has no more than a message may have.
+abbrev pub HEAD_LENGTH : ℕ
+HEAD_LENGTH = 32
+
+abbrev pub CLEAR_LIMIT : ℕ
+CLEAR_LIMIT = 2868
+
+-- how many the payloads of such a message may have
+abbrev pub PAYLOADS_LIMIT : ℕ
+PAYLOADS_LIMIT = 2840
+
 -- What a cipher covers beside the body, and doesn't seal: the message's header and the header of its encrypted payload.
 abbrev pub head_of : List ℕ → List ℕ
-head_of b = take 32 b
+head_of b = take HEAD_LENGTH b
 
 -- The payloads of the message, spelled with zeros in all that is reserved, are sealed as the body of the one payload of a
 -- message with the same header.
@@ -36,25 +49,30 @@ pub record TellsLength (body_of : Keys → List ℕ → List ℕ → List ℕ �
 -- header, before a body of so many octets.
 abbrev pub sealed_head : List ℕ → ℕ → List ℕ
 sealed_head clear body =
-    take 16 clear ++ 46 ∷ take 7 (drop 17 clear) ++ big_bytes 4 (32 + body) ++ slice_index clear 16 ∷ 0 ∷ big_bytes 2 (4 + body)
+    take 16 clear ++ SEALED_TYPE ∷ take 7 (drop 17 clear) ++ big_bytes 4 (HEAD_LENGTH + body) ++ slice_index clear 16 ∷ 0 ∷ big_bytes 2 (4 + body)
 
 -- the message in clear, with its payloads as the body of an encrypted one
 abbrev pub sealed_octets : (Keys → List ℕ → List ℕ → List ℕ → List ℕ) → (ℕ → ℕ) → Keys → List ℕ → List ℕ → List ℕ
 sealed_octets body_of sealed_size keys fresh clear =
-    let head = sealed_head clear (sealed_size (length clear - 28)) in
-    head ++ body_of keys head (drop 28 clear) fresh
+    let head = sealed_head clear (sealed_size (length clear - HEADER_LENGTH)) in
+    head ++ body_of keys head (drop HEADER_LENGTH clear) fresh
 
--- The message has a spelling, in clear so short that it fits 3000 octets once it is sealed: then an encrypted payload's header
--- stands in it, and the cipher adds at most 128 octets.
+-- the message has a spelling, in clear so short that it fits a message once it is sealed
 pub record CanBeSealed (m : Message) : Type 0 where
   pub clear : List ℕ
   pub spelled : SpellsPlainly m clear
-  pub few : length clear ≤ 2868
+  pub few : length clear ≤ CLEAR_LIMIT
+
+-- the message has a spelling, which is too long once it is sealed
+pub record IsTooLongSealed (sealed_size : ℕ → ℕ) (m : Message) : Type 0 where
+  pub clear : List ℕ
+  pub spelled : SpellsPlainly m clear
+  pub many : MESSAGE_LIMIT < HEAD_LENGTH + sealed_size (length clear - HEADER_LENGTH)
 
 -- Why a message isn't sealed: as it would be refused in clear, or because it is too long once it is sealed.
 abbrev pub IsSealingFaultOf : (ℕ → ℕ) → Message → WireFault → Type 0
 IsSealingFaultOf sealed_size m f =
-    IsEncodingFaultOf m f ⊎ ((f ≡ TooLong) × (clear : List ℕ) × SpellsPlainly m clear × (3000 < 32 + sealed_size (length clear - 28)))
+    IsEncodingFaultOf m f ⊎ ((f ≡ TooLong) × IsTooLongSealed sealed_size m)
 
 -- the first type and the body of an encrypted payload
 abbrev pub body_in : Payload → Option Plain

@@ -6,9 +6,6 @@ ghost use Rattle.base.specs.Octets.{AreOctets};
 ghost use Rattle.suite.specs.Sealing.{AreKeys};
 ghost use Rattle.suite.specs.declared.keys.Keys.{Keys};
 ghost use Rattle.wire.specs.declared.proposal.Proposal.{Proposal};
-ghost use Rattle.suite.specs.declared.choice.Chosen.{Chosen};
-ghost use Rattle.suite.specs.declared.choice.Wanted.{Wanted};
-ghost use Rattle.suite.specs.Choice.{wanted_protocol, ChoosesNumbers, HasSpi, IsAcceptableProposal, IsChosenProposal};
 ghost use Rattle.wire.specs.Sizes.{size_of, FitsHeaderFields, FitsFields};
 ghost use Rattle.wire.specs.declared.message.Message.{Message};
 ghost use Rattle.base.specs.declared.selector.Selector.{Selector};
@@ -17,51 +14,22 @@ ghost use Rattle.wire.specs.declared.payload.Payload.TheVariants.{Sa, TsI, TsR};
 ghost use Rattle.exchange.specs.Counting.{only_sa, only_ts_i, only_ts_r};
 ghost use Rattle.exchange.specs.Notices.{asked_cookie, payload_of_notice, FitsNotice};
 ghost use Rattle.exchange.specs.declared.notices.Notice.{Notice};
-ghost use Rattle.exchange.specs.Sealed.{CanBeSealed, IsSealed, OpensAgain, TellsLength};
-ghost use Rattle.exchange.specs.Offers.{answer_of, offer_of, IsAcceptableAnswer, IsTakenFrom};
+ghost use Rattle.exchange.specs.Sealed.{PAYLOADS_LIMIT, CanBeSealed, IsSealed, OpensAgain, TellsLength};
 
 use suite::Sealer;
 use wire::laws::{
     messages_that_fit_are_spelled, plain_spellings_are_determined, plain_spellings_are_spellings,
 };
 
-/// What is offered is acceptable to an end that wants the same. What answers a proposal of number 1 is an answer to the one who
-/// wanted the same, with the sequence numbers that were chosen. Does nothing.
-pub fn offers_are_answered()
-    ensures offers { (wanted : Wanted) (spi : List ℕ) → HasSpi wanted spi
-        → IsAcceptableProposal wanted (offer_of wanted spi) }
-    ensures answers { (wanted : Wanted) (proposals : List Proposal) (chosen : Chosen) (spi : List ℕ)
-        → HasSpi wanted spi
-        → IsChosenProposal wanted proposals chosen → chosen.number ≡ 1
-        → IsAcceptableAnswer wanted (answer_of wanted chosen spi) }
-    ensures numbers { (wanted : Wanted) (proposals : List Proposal) (chosen : Chosen) (spi : List ℕ)
-        → IsChosenProposal wanted proposals chosen
-        → ChoosesNumbers wanted (answer_of wanted chosen spi).transforms chosen.extended }
-{}
-
 /// A message whose payloads have what their fields allow, and have at most 2840 octets together, can be sent: sealing it is
 /// refused for memory alone. Does nothing.
 pub fn short_messages_can_be_sent()
     ensures { (m : Message) → FitsHeaderFields m.header → AllByRecursion FitsFields m.payloads
-        → sum_by size_of m.payloads ≤ 2840
+        → sum_by size_of m.payloads ≤ PAYLOADS_LIMIT
         → CanBeSealed m }
 {
     messages_that_fit_are_spelled();
 }
-
-/// What is chosen of an end's offer is answered by an answer to it, with the sequence numbers that were chosen, also where the
-/// two ends want differently. Does nothing.
-pub fn ends_agree()
-    ensures answers { (ours theirs : Wanted) (spi answer : List ℕ) (chosen : Chosen) → HasSpi ours answer
-        → IsChosenProposal theirs (offer_of ours spi ∷ []) chosen
-        → IsAcceptableAnswer ours (answer_of theirs chosen answer) }
-    ensures numbers { (ours theirs : Wanted) (spi answer : List ℕ) (chosen : Chosen)
-        → IsChosenProposal theirs (offer_of ours spi ∷ []) chosen
-        → ChoosesNumbers ours (answer_of theirs chosen answer).transforms chosen.extended }
-    ensures taken { (wanted : Wanted) (proposals : List Proposal) (chosen : Chosen) (spi : List ℕ)
-        → IsChosenProposal wanted proposals chosen
-        → IsTakenFrom proposals chosen.place (answer_of wanted chosen spi) }
-{}
 
 /// Of payloads that have what their fields allow, those that count have it. Does nothing.
 pub fn what_counts_fits()

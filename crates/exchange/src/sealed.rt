@@ -2,11 +2,12 @@
 ghost use Rattle.std.specs.Prelude.{◌≡◌, ◌≢◌, ◌<◌, ◌≤◌, ◌+◌, ◌-◌, ◌++◌, ◌∷◌, [], List, ℕ, Ok, None, Some, length, OnOk, OnErr, IfErr, IfOk, IsOk};
 ghost use Rattle.base.specs.Octets.{Appends};
 ghost use Rattle.wire.specs.Messages.{Spells};
+ghost use Rattle.wire.specs.Numbers.{HEADER_LENGTH, MESSAGE_LIMIT};
 ghost use Rattle.wire.specs.Payloads.{SpellsChain};
 ghost use Rattle.wire.specs.declared.message.Message.{Message};
 ghost use Rattle.wire.specs.declared.payload.Payload.{Payload};
 ghost use Rattle.suite.specs.declared.keys.Keys.{Keys};
-ghost use Rattle.exchange.specs.Sealed.{plain_of_message, lone_body, sealed_head, sealed_octets, IsSealed, IsSealingFaultOf, CanBeSealed};
+ghost use Rattle.exchange.specs.Sealed.{HEAD_LENGTH, plain_of_message, lone_body, sealed_head, sealed_octets, IsSealed, IsSealingFaultOf, CanBeSealed};
 
 use std::alloc::{AllocError, Global};
 use suite::{Keys, Sealer};
@@ -63,12 +64,13 @@ fn sealed_octets<S: Sealer>(
     clear: &[u8],
     fresh: &[u8; 16],
 ) -> Result<Vec<u8>, WireFault>
-    requires { 28 ≤ length clear.now }
+    requires { HEADER_LENGTH ≤ length clear.now }
     ensures made { IfOk result
         (λ whole. whole.items ≡ sealed_octets S.body_of S.sealed_size keys.now fresh.now clear.now) }
-    ensures short { IsOk result → 32 + S.sealed_size (length clear.now - 28) ≤ 3000 }
-    ensures refused { IfErr result (λ f. f ≢ WireFault.Memory
-        → (f ≡ WireFault.TooLong) × (3000 < 32 + S.sealed_size (length clear.now - 28))) }
+    ensures short { IsOk result
+        → HEAD_LENGTH + S.sealed_size (length clear.now - HEADER_LENGTH) ≤ MESSAGE_LIMIT }
+    ensures refused { IfErr result (λ f. f ≢ WireFault.Memory → (f ≡ WireFault.TooLong)
+        × (MESSAGE_LIMIT < HEAD_LENGTH + S.sealed_size (length clear.now - HEADER_LENGTH))) }
 {
     let length = sealer.sealed_len(clear.len() - HEADER_LENGTH);
     if length > MESSAGE_LIMIT - HEAD_LENGTH {
@@ -84,8 +86,8 @@ fn sealed_octets<S: Sealer>(
 // What stands before a body of so many octets: the header of the message in clear, with another type of the first payload and
 // another length, and the header of the encrypted payload.
 fn sealed_head(alloc: Global, clear: &[u8], body: usize) -> Result<Vec<u8>, AllocError>
-    requires header { 28 ≤ length clear.now }
-    requires short { 32 + body ≤ 3000 }
+    requires header { HEADER_LENGTH ≤ length clear.now }
+    requires short { HEAD_LENGTH + body ≤ MESSAGE_LIMIT }
     ensures { IfOk result (λ head. head.items ≡ sealed_head clear.now body) }
 {
     let mut head = Vec::with_capacity(alloc, HEAD_LENGTH)?;

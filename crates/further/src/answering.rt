@@ -1,5 +1,6 @@
 //! The answer to a request for a further child.
 ghost use Rattle.std.specs.Prelude.{◌≡◌, IfOk};
+ghost use Rattle.exchange.specs.Sealed.{PAYLOADS_LIMIT};
 ghost use Rattle.auth.specs.Fitting.{FitWithin};
 ghost use Rattle.further.specs.Answering.{further_answer, FitsAnswer};
 
@@ -22,7 +23,7 @@ pub fn answer_payloads(
 ) -> Result<Items<Payload>, AllocError>
     requires { FitsAnswer answer }
     ensures payloads { IfOk result (λ payloads. payloads ≡ further_answer answer nonce.now) }
-    ensures fits { IfOk result (FitWithin 2840) }
+    ensures fits { IfOk result (FitWithin PAYLOADS_LIMIT) }
 {
     match answer {
         ChildAnswer::Payloads(child) => further_payloads(alloc, child, nonce),

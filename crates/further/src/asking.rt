@@ -1,5 +1,6 @@
 //! The request for a further child.
 ghost use Rattle.std.specs.Prelude.{◌≡◌, IfOk};
+ghost use Rattle.exchange.specs.Sealed.{PAYLOADS_LIMIT};
 ghost use Rattle.auth.specs.Fitting.{FitWithin};
 ghost use Rattle.children.specs.Asking.{child_request};
 ghost use Rattle.policy.specs.Narrowing.{IsSendableSelector};
@@ -22,7 +23,7 @@ pub fn ask(alloc: Global, asked: &Asked, nonce: &[u8; 32]) -> Result<Items<Paylo
     requires remote { IsSendableSelector asked.now.remote }
     ensures payloads { IfOk result
         (λ payloads. payloads ≡ further_payloads (child_request asked.now) nonce.now) }
-    ensures fits { IfOk result (FitWithin 2840) }
+    ensures fits { IfOk result (FitWithin PAYLOADS_LIMIT) }
 {
     payloads_fit();
     further_payloads(alloc, children::ask(alloc, asked)?, nonce)

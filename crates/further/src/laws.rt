@@ -12,6 +12,7 @@ ghost use Rattle.exchange.specs.Counting.{only_sa, only_ts_i, only_ts_r};
 ghost use Rattle.exchange.specs.declared.headers.Role.TheVariants.{Initiator, Responder};
 ghost use Rattle.exchange.specs.declared.notices.Notice.{Notice};
 ghost use Rattle.exchange.specs.declared.sealed.Plain.{Plain};
+ghost use Rattle.exchange.specs.Sealed.{PAYLOADS_LIMIT};
 ghost use Rattle.policy.specs.Narrowing.{AnswersOffer, IsSendableSelector, LieInsidePolicy};
 ghost use Rattle.sadb.specs.Contents.{table_content};
 ghost use Rattle.sadb.specs.Database.{Database};
@@ -199,9 +200,9 @@ pub fn further_refusals_are_told()
 pub fn what_is_sent_fits()
     ensures request { (asked : Asked) (nonce : Octets) → IsSendableSelector asked.local
         → IsSendableSelector asked.remote
-        → FitsFields (Nonce nonce) → FitWithin 2840 (further_payloads (child_request asked) nonce) }
+        → FitsFields (Nonce nonce) → FitWithin PAYLOADS_LIMIT (further_payloads (child_request asked) nonce) }
     ensures answer { (answer : ChildAnswer) (nonce : Octets) → FitsAnswer answer
-        → FitsFields (Nonce nonce) → FitWithin 2840 (further_answer answer nonce) }
+        → FitsFields (Nonce nonce) → FitWithin PAYLOADS_LIMIT (further_answer answer nonce) }
 {
     notices_fit();
     payloads_fit();

@@ -3,6 +3,7 @@ ghost use Rattle.std.specs.Prelude.{◌≡◌, IfOk};
 ghost use Rattle.base.specs.Octets.{AreOctets};
 ghost use Rattle.wire.specs.Sizes.{FitsFields};
 ghost use Rattle.wire.specs.declared.payload.Payload.TheVariants.{Nonce};
+ghost use Rattle.exchange.specs.Sealed.{PAYLOADS_LIMIT};
 ghost use Rattle.auth.specs.Fitting.{FitWithin};
 ghost use Rattle.children.specs.Asking.{FitMessages};
 ghost use Rattle.further.specs.Payloads.{further_payloads};
@@ -20,7 +21,7 @@ pub fn further_payloads(
 ) -> Result<Items<Payload>, AllocError>
     requires { FitMessages child }
     ensures payloads { IfOk result (λ payloads. payloads ≡ further_payloads child nonce.now) }
-    ensures fits { IfOk result (FitWithin 2840) }
+    ensures fits { IfOk result (FitWithin PAYLOADS_LIMIT) }
 {
     nonce_fits(nonce);
     let ChildPayloads {

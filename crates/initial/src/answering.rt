@@ -1,7 +1,7 @@
 //! The answer to IKE_AUTH.
 ghost use Rattle.std.specs.Prelude.{◌≡◌, ◌≤◌, IfOk, IfErr};
 ghost use Rattle.exchange.specs.Headers.{keys_of};
-ghost use Rattle.exchange.specs.Sealed.{CanBeSealed, IsSealed};
+ghost use Rattle.exchange.specs.Sealed.{PAYLOADS_LIMIT, CanBeSealed, IsSealed};
 ghost use Rattle.requests.specs.Incoming.{IsFreshRequest};
 ghost use Rattle.sadb.specs.Database.{IsAsBefore};
 ghost use Rattle.association.specs.Closing.{HoldsReserved};
@@ -165,7 +165,7 @@ fn make_content<C: Proof>(
         (C.own_method setup.now.caller.now) (C.proof_of setup.now.caller.now)
         (setup_of setup.now) half_open.now decision) }
     ensures outcome { IfOk result (λ content. content.outcome ≡ outcome_of decision) }
-    ensures fits { IfOk result (λ content. FitWithin 2840 content.payloads) }
+    ensures fits { IfOk result (λ content. FitWithin PAYLOADS_LIMIT content.payloads) }
 {
     match decision {
         Decision::Refused(notice) => {
@@ -199,7 +199,7 @@ fn accepting<C: Proof>(
     ensures payloads { IfOk result (λ payloads. payloads ≡ auth_answer
         (C.own_method setup.now.caller.now) (C.proof_of setup.now.caller.now)
         setup.now.config.now.own.identity (own_proving half_open.now) child setup.now.config.now.window) }
-    ensures fits { IfOk result (FitWithin 2840) }
+    ensures fits { IfOk result (FitWithin PAYLOADS_LIMIT) }
 {
     what_is_sent_fits();
     let proving = Proving::of(Role::Responder, &half_open.keys, half_open.reply.as_slice());

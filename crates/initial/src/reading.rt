@@ -2,7 +2,7 @@
 ghost use Rattle.std.specs.Prelude.{◌≡◌, ◌≤◌, ◌<◌, IfOk, IfErr, length};
 ghost use Rattle.wire.specs.Messages.{Spells, SpellsPlainly};
 ghost use Rattle.exchange.specs.Headers.{keys_of};
-ghost use Rattle.exchange.specs.Sealed.{IsSealed};
+ghost use Rattle.exchange.specs.Sealed.{PAYLOADS_LIMIT, IsSealed};
 ghost use Rattle.requests.specs.Outgoing.{IsOutstanding};
 ghost use Rattle.sa_init.specs.Reading.{waiting_view};
 ghost use Rattle.initial.specs.Configs.{setup_of, IsConfig};
@@ -205,7 +205,7 @@ fn identity_payloads<C: Proof>(
         (C.proof_of setup.now.caller.now) setup.now.config.now.own.identity
         (proving_of Initiator keys.now first.now)
         (child_request (asked_of child.now)) setup.now.config.now.window) }
-    ensures fits { IfOk result (FitWithin 2840) }
+    ensures fits { IfOk result (FitWithin PAYLOADS_LIMIT) }
 {
     payloads_fit();
     what_is_sent_fits();

@@ -12,7 +12,7 @@ use Rattle.suite.specs.declared.choice.Wanted.{Wanted}
 use Rattle.suite.specs.declared.fresh.Fresh.{Fresh}
 use Rattle.suite.specs.declared.key_record.KeyRecord.{KeyRecord}
 use Rattle.suite.specs.declared.sealer.Cipher.{Cipher}
-use Rattle.exchange.specs.Offers.{answer_of, offer_of, IsAcceptableAnswer}
+use Rattle.suite.specs.Offers.{answer_of, offer_of, IsAcceptableAnswer}
 use Rattle.sa_init.specs.Agreement.{IsAnswer}
 use Rattle.sa_init.specs.Judging.{OfferView}
 use Rattle.sa_init.specs.Messages.{answer_message, ike_wanted}

@@ -7,6 +7,7 @@ use Rattle.wire.specs.declared.payload.Payload.{Payload}
 use Rattle.wire.specs.declared.proposal.Proposal.{Proposal}
 use Rattle.suite.specs.Choice.{IsAcceptableProposal, IsChosenProposal}
 use Rattle.suite.specs.declared.choice.Chosen.{Chosen}
+use Rattle.suite.specs.declared.choice.Wanted.{Wanted}
 use Rattle.suite.specs.declared.sealer.Cipher.{Cipher}
 use Rattle.exchange.specs.Counting.{unknown_critical}
 use Rattle.exchange.specs.declared.notices.Notice.TheVariants.{UnsupportedCriticalPayload, InvalidSyntax, NoProposalChosen, AuthenticationFailed, NoAdditionalSas, TsUnacceptable, Cookie}
@@ -17,27 +18,9 @@ use Rattle.sa_init.specs.Parts.{PartsView}
 use Rattle.sa_init.specs.declared.judging.Sender.{Sender}
 use Rattle.sa_init.proofs.PartLemmas.{same_parts}
 
-same_item : (ps : List Proposal) (k l : ℕ) (p q : Proposal) → slice_get ps k ≡ Some p → slice_get ps l ≡ Some q → k ≡ l → p ≡ q
-same_item ps k l p q here there same = cc
-
-one_place : (cipher : Cipher) (group : ℕ) (ps : List Proposal) (a b : Chosen) → IsChosenProposal (ike_wanted cipher group) ps a → IsChosenProposal (ike_wanted cipher group) ps b → a.place ≡ b.place
-one_place cipher group ps a b x y =
-    elim (cases_order a.place b.place) [
-      | inl same ↦ same
-      | inr apart ↦ elim apart [
-        | inl below ↦ absurd (y.first a.place x.proposal below x.here x.acceptable)
-        | inr above ↦ absurd (x.first b.place y.proposal above y.here y.acceptable)
-      ]
-    ]
-
--- one proposal is chosen, if any
-one_choice : (cipher : Cipher) (group : ℕ) (ps : List Proposal) (a b : Chosen) → IsChosenProposal (ike_wanted cipher group) ps a → IsChosenProposal (ike_wanted cipher group) ps b → a ≡ b
-one_choice cipher group ps a b x y =
-    let place : a.place ≡ b.place = one_place cipher group ps a b x y in
-    let same : x.proposal ≡ y.proposal = same_item ps a.place b.place x.proposal y.proposal x.here y.here place in
-    let number : a.number ≡ b.number = x.number ∙ ap (λ (p : Proposal). p.number) same ∙ sym y.number in
-    let extended : a.extended ≡ b.extended = x.numbers ∙ sym y.numbers in
-    (λ i. record { place = place i; number = number i; extended = extended i })
+-- what the law of choices says
+abbrev pub OneChoice : Type 0
+OneChoice = (wanted : Wanted) (ps : List Proposal) (a b : Chosen) → IsChosenProposal wanted ps a → IsChosenProposal wanted ps b → a ≡ b
 
 -- what holds of all of a list holds at a place
 all_at : (P : Proposal → Type 0) (ps : List Proposal) (place : ℕ) (p : Proposal) → All P ps → slice_get ps place ≡ Some p → P p
@@ -85,79 +68,79 @@ one_cookie : (secrets : CookieSecrets) (sender : Sender) (h : ℕ) (ps : List Pa
 one_cookie secrets sender h ps a b x y =
     x.made ∙ ap (λ (p : PartsView). new_cookie secrets p.nonce sender.address sender.spi_i) (whole_same ps x.parts y.parts x.whole y.whole) ∙ sym y.made
 
-one_offer : (cipher : Cipher) (group : ℕ) (secrets : CookieSecrets) (sender : Sender) (h held : ℕ) (ps : List Payload) (a b : OfferView)
+one_offer : OneChoice → (cipher : Cipher) (group : ℕ) (secrets : CookieSecrets) (sender : Sender) (h held : ℕ) (ps : List Payload) (a b : OfferView)
     → IsAccepted cipher group secrets sender h held ps a → IsAccepted cipher group secrets sender h held ps b → a ≡ b
-one_offer cipher group secrets sender h held ps a b x y =
+one_offer choose cipher group secrets sender h held ps a b x y =
     let same : x.parts ≡ y.parts = whole_same ps x.parts y.parts x.considered.heard.whole y.considered.heard.whole in
     let choice = subst (λ (p : PartsView). IsSuited cipher group p a.chosen) same x.suited in
-    let chosen : a.chosen ≡ b.chosen = one_choice cipher group y.parts.proposals a.chosen b.chosen choice.choice y.suited.choice in
+    let chosen : a.chosen ≡ b.chosen = choose (ike_wanted cipher group) y.parts.proposals a.chosen b.chosen choice.choice y.suited.choice in
     let public : a.public ≡ b.public = x.value ∙ ap (λ (p : PartsView). p.public) same ∙ sym y.value in
     let nonce : a.nonce ≡ b.nonce = x.ni ∙ ap (λ (p : PartsView). p.nonce) same ∙ sym y.ni in
     (λ i. record { chosen = chosen i; public = public i; nonce = nonce i })
 
-pub determined : (cipher : Cipher) (group : ℕ) (secrets : CookieSecrets) (sender : Sender) (h held : ℕ) (ps : List Payload) (one other : JudgementView)
+pub determined : OneChoice → (cipher : Cipher) (group : ℕ) (secrets : CookieSecrets) (sender : Sender) (h held : ℕ) (ps : List Payload) (one other : JudgementView)
     → IsJudgement cipher group secrets sender h held ps one → IsJudgement cipher group secrets sender h held ps other → one ≡ other
-determined cipher group secrets sender h held ps (Answered (UnsupportedCriticalPayload kind)) (Answered (UnsupportedCriticalPayload other)) x y = ap (λ (n : ℕ). Answered (UnsupportedCriticalPayload n)) (let same : kind ≡ other = cc in same)
-determined cipher group secrets sender h held ps (Answered (UnsupportedCriticalPayload kind)) Incomplete x y = absurd (critical_known ps kind x y.known)
-determined cipher group secrets sender h held ps (Answered (UnsupportedCriticalPayload kind)) (Answered (Cookie octets)) x y = absurd (critical_known ps kind x y.whole.known)
-determined cipher group secrets sender h held ps (Answered (UnsupportedCriticalPayload kind)) Full x y = absurd (critical_known ps kind x y.heard.whole.known)
-determined cipher group secrets sender h held ps (Answered (UnsupportedCriticalPayload kind)) (Answered NoProposalChosen) x y = absurd (critical_known ps kind x y.considered.heard.whole.known)
-determined cipher group secrets sender h held ps (Answered (UnsupportedCriticalPayload kind)) (Accepted offer) x y = absurd (critical_known ps kind x y.considered.heard.whole.known)
-determined cipher group secrets sender h held ps (Answered (UnsupportedCriticalPayload kind)) (Answered InvalidSyntax) x y = absurd y
-determined cipher group secrets sender h held ps (Answered (UnsupportedCriticalPayload kind)) (Answered AuthenticationFailed) x y = absurd y
-determined cipher group secrets sender h held ps (Answered (UnsupportedCriticalPayload kind)) (Answered NoAdditionalSas) x y = absurd y
-determined cipher group secrets sender h held ps (Answered (UnsupportedCriticalPayload kind)) (Answered TsUnacceptable) x y = absurd y
-determined cipher group secrets sender h held ps Incomplete (Answered (UnsupportedCriticalPayload kind)) x y = absurd (critical_known ps kind y x.known)
-determined cipher group secrets sender h held ps Incomplete Incomplete x y = refl
-determined cipher group secrets sender h held ps Incomplete (Answered (Cookie octets)) x y = absurd (incomplete_apart ps y.parts x y.whole)
-determined cipher group secrets sender h held ps Incomplete Full x y = absurd (incomplete_apart ps y.parts x y.heard.whole)
-determined cipher group secrets sender h held ps Incomplete (Answered NoProposalChosen) x y = absurd (incomplete_apart ps y.parts x y.considered.heard.whole)
-determined cipher group secrets sender h held ps Incomplete (Accepted offer) x y = absurd (incomplete_apart ps y.parts x y.considered.heard.whole)
-determined cipher group secrets sender h held ps Incomplete (Answered InvalidSyntax) x y = absurd y
-determined cipher group secrets sender h held ps Incomplete (Answered AuthenticationFailed) x y = absurd y
-determined cipher group secrets sender h held ps Incomplete (Answered NoAdditionalSas) x y = absurd y
-determined cipher group secrets sender h held ps Incomplete (Answered TsUnacceptable) x y = absurd y
-determined cipher group secrets sender h held ps (Answered (Cookie octets)) (Answered (UnsupportedCriticalPayload kind)) x y = absurd (critical_known ps kind y x.whole.known)
-determined cipher group secrets sender h held ps (Answered (Cookie octets)) Incomplete x y = absurd (incomplete_apart ps x.parts y x.whole)
-determined cipher group secrets sender h held ps (Answered (Cookie octets)) (Answered (Cookie other)) x y = ap (λ (o : Octets). Answered (Cookie o)) (one_cookie secrets sender h ps octets other x y)
-determined cipher group secrets sender h held ps (Answered (Cookie octets)) Full x y = absurd (cookie_apart secrets sender h ps octets y.parts x y.heard)
-determined cipher group secrets sender h held ps (Answered (Cookie octets)) (Answered NoProposalChosen) x y = absurd (cookie_apart secrets sender h ps octets y.parts x y.considered.heard)
-determined cipher group secrets sender h held ps (Answered (Cookie octets)) (Accepted offer) x y = absurd (cookie_apart secrets sender h ps octets y.parts x y.considered.heard)
-determined cipher group secrets sender h held ps (Answered (Cookie octets)) (Answered InvalidSyntax) x y = absurd y
-determined cipher group secrets sender h held ps (Answered (Cookie octets)) (Answered AuthenticationFailed) x y = absurd y
-determined cipher group secrets sender h held ps (Answered (Cookie octets)) (Answered NoAdditionalSas) x y = absurd y
-determined cipher group secrets sender h held ps (Answered (Cookie octets)) (Answered TsUnacceptable) x y = absurd y
-determined cipher group secrets sender h held ps Full (Answered (UnsupportedCriticalPayload kind)) x y = absurd (critical_known ps kind y x.heard.whole.known)
-determined cipher group secrets sender h held ps Full Incomplete x y = absurd (incomplete_apart ps x.parts y x.heard.whole)
-determined cipher group secrets sender h held ps Full (Answered (Cookie octets)) x y = absurd (cookie_apart secrets sender h ps octets x.parts y x.heard)
-determined cipher group secrets sender h held ps Full Full x y = refl
-determined cipher group secrets sender h held ps Full (Answered NoProposalChosen) x y = absurd (room_apart secrets sender h held ps y.parts x y.considered)
-determined cipher group secrets sender h held ps Full (Accepted offer) x y = absurd (room_apart secrets sender h held ps y.parts x y.considered)
-determined cipher group secrets sender h held ps Full (Answered InvalidSyntax) x y = absurd y
-determined cipher group secrets sender h held ps Full (Answered AuthenticationFailed) x y = absurd y
-determined cipher group secrets sender h held ps Full (Answered NoAdditionalSas) x y = absurd y
-determined cipher group secrets sender h held ps Full (Answered TsUnacceptable) x y = absurd y
-determined cipher group secrets sender h held ps (Answered NoProposalChosen) (Answered (UnsupportedCriticalPayload kind)) x y = absurd (critical_known ps kind y x.considered.heard.whole.known)
-determined cipher group secrets sender h held ps (Answered NoProposalChosen) Incomplete x y = absurd (incomplete_apart ps x.parts y x.considered.heard.whole)
-determined cipher group secrets sender h held ps (Answered NoProposalChosen) (Answered (Cookie octets)) x y = absurd (cookie_apart secrets sender h ps octets x.parts y x.considered.heard)
-determined cipher group secrets sender h held ps (Answered NoProposalChosen) Full x y = absurd (room_apart secrets sender h held ps x.parts y x.considered)
-determined cipher group secrets sender h held ps (Answered NoProposalChosen) (Answered NoProposalChosen) x y = refl
-determined cipher group secrets sender h held ps (Answered NoProposalChosen) (Accepted offer) x y = absurd (choice_apart cipher group secrets sender h held ps offer x y)
-determined cipher group secrets sender h held ps (Answered NoProposalChosen) (Answered InvalidSyntax) x y = absurd y
-determined cipher group secrets sender h held ps (Answered NoProposalChosen) (Answered AuthenticationFailed) x y = absurd y
-determined cipher group secrets sender h held ps (Answered NoProposalChosen) (Answered NoAdditionalSas) x y = absurd y
-determined cipher group secrets sender h held ps (Answered NoProposalChosen) (Answered TsUnacceptable) x y = absurd y
-determined cipher group secrets sender h held ps (Accepted offer) (Answered (UnsupportedCriticalPayload kind)) x y = absurd (critical_known ps kind y x.considered.heard.whole.known)
-determined cipher group secrets sender h held ps (Accepted offer) Incomplete x y = absurd (incomplete_apart ps x.parts y x.considered.heard.whole)
-determined cipher group secrets sender h held ps (Accepted offer) (Answered (Cookie octets)) x y = absurd (cookie_apart secrets sender h ps octets x.parts y x.considered.heard)
-determined cipher group secrets sender h held ps (Accepted offer) Full x y = absurd (room_apart secrets sender h held ps x.parts y x.considered)
-determined cipher group secrets sender h held ps (Accepted offer) (Answered NoProposalChosen) x y = absurd (choice_apart cipher group secrets sender h held ps offer y x)
-determined cipher group secrets sender h held ps (Accepted offer) (Accepted other) x y = ap (λ (o : OfferView). Accepted o) (one_offer cipher group secrets sender h held ps offer other x y)
-determined cipher group secrets sender h held ps (Accepted offer) (Answered InvalidSyntax) x y = absurd y
-determined cipher group secrets sender h held ps (Accepted offer) (Answered AuthenticationFailed) x y = absurd y
-determined cipher group secrets sender h held ps (Accepted offer) (Answered NoAdditionalSas) x y = absurd y
-determined cipher group secrets sender h held ps (Accepted offer) (Answered TsUnacceptable) x y = absurd y
-determined cipher group secrets sender h held ps (Answered InvalidSyntax) other x y = absurd x
-determined cipher group secrets sender h held ps (Answered AuthenticationFailed) other x y = absurd x
-determined cipher group secrets sender h held ps (Answered NoAdditionalSas) other x y = absurd x
-determined cipher group secrets sender h held ps (Answered TsUnacceptable) other x y = absurd x
+determined choose cipher group secrets sender h held ps (Answered (UnsupportedCriticalPayload kind)) (Answered (UnsupportedCriticalPayload other)) x y = ap (λ (n : ℕ). Answered (UnsupportedCriticalPayload n)) (let same : kind ≡ other = cc in same)
+determined choose cipher group secrets sender h held ps (Answered (UnsupportedCriticalPayload kind)) Incomplete x y = absurd (critical_known ps kind x y.known)
+determined choose cipher group secrets sender h held ps (Answered (UnsupportedCriticalPayload kind)) (Answered (Cookie octets)) x y = absurd (critical_known ps kind x y.whole.known)
+determined choose cipher group secrets sender h held ps (Answered (UnsupportedCriticalPayload kind)) Full x y = absurd (critical_known ps kind x y.heard.whole.known)
+determined choose cipher group secrets sender h held ps (Answered (UnsupportedCriticalPayload kind)) (Answered NoProposalChosen) x y = absurd (critical_known ps kind x y.considered.heard.whole.known)
+determined choose cipher group secrets sender h held ps (Answered (UnsupportedCriticalPayload kind)) (Accepted offer) x y = absurd (critical_known ps kind x y.considered.heard.whole.known)
+determined choose cipher group secrets sender h held ps (Answered (UnsupportedCriticalPayload kind)) (Answered InvalidSyntax) x y = absurd y
+determined choose cipher group secrets sender h held ps (Answered (UnsupportedCriticalPayload kind)) (Answered AuthenticationFailed) x y = absurd y
+determined choose cipher group secrets sender h held ps (Answered (UnsupportedCriticalPayload kind)) (Answered NoAdditionalSas) x y = absurd y
+determined choose cipher group secrets sender h held ps (Answered (UnsupportedCriticalPayload kind)) (Answered TsUnacceptable) x y = absurd y
+determined choose cipher group secrets sender h held ps Incomplete (Answered (UnsupportedCriticalPayload kind)) x y = absurd (critical_known ps kind y x.known)
+determined choose cipher group secrets sender h held ps Incomplete Incomplete x y = refl
+determined choose cipher group secrets sender h held ps Incomplete (Answered (Cookie octets)) x y = absurd (incomplete_apart ps y.parts x y.whole)
+determined choose cipher group secrets sender h held ps Incomplete Full x y = absurd (incomplete_apart ps y.parts x y.heard.whole)
+determined choose cipher group secrets sender h held ps Incomplete (Answered NoProposalChosen) x y = absurd (incomplete_apart ps y.parts x y.considered.heard.whole)
+determined choose cipher group secrets sender h held ps Incomplete (Accepted offer) x y = absurd (incomplete_apart ps y.parts x y.considered.heard.whole)
+determined choose cipher group secrets sender h held ps Incomplete (Answered InvalidSyntax) x y = absurd y
+determined choose cipher group secrets sender h held ps Incomplete (Answered AuthenticationFailed) x y = absurd y
+determined choose cipher group secrets sender h held ps Incomplete (Answered NoAdditionalSas) x y = absurd y
+determined choose cipher group secrets sender h held ps Incomplete (Answered TsUnacceptable) x y = absurd y
+determined choose cipher group secrets sender h held ps (Answered (Cookie octets)) (Answered (UnsupportedCriticalPayload kind)) x y = absurd (critical_known ps kind y x.whole.known)
+determined choose cipher group secrets sender h held ps (Answered (Cookie octets)) Incomplete x y = absurd (incomplete_apart ps x.parts y x.whole)
+determined choose cipher group secrets sender h held ps (Answered (Cookie octets)) (Answered (Cookie other)) x y = ap (λ (o : Octets). Answered (Cookie o)) (one_cookie secrets sender h ps octets other x y)
+determined choose cipher group secrets sender h held ps (Answered (Cookie octets)) Full x y = absurd (cookie_apart secrets sender h ps octets y.parts x y.heard)
+determined choose cipher group secrets sender h held ps (Answered (Cookie octets)) (Answered NoProposalChosen) x y = absurd (cookie_apart secrets sender h ps octets y.parts x y.considered.heard)
+determined choose cipher group secrets sender h held ps (Answered (Cookie octets)) (Accepted offer) x y = absurd (cookie_apart secrets sender h ps octets y.parts x y.considered.heard)
+determined choose cipher group secrets sender h held ps (Answered (Cookie octets)) (Answered InvalidSyntax) x y = absurd y
+determined choose cipher group secrets sender h held ps (Answered (Cookie octets)) (Answered AuthenticationFailed) x y = absurd y
+determined choose cipher group secrets sender h held ps (Answered (Cookie octets)) (Answered NoAdditionalSas) x y = absurd y
+determined choose cipher group secrets sender h held ps (Answered (Cookie octets)) (Answered TsUnacceptable) x y = absurd y
+determined choose cipher group secrets sender h held ps Full (Answered (UnsupportedCriticalPayload kind)) x y = absurd (critical_known ps kind y x.heard.whole.known)
+determined choose cipher group secrets sender h held ps Full Incomplete x y = absurd (incomplete_apart ps x.parts y x.heard.whole)
+determined choose cipher group secrets sender h held ps Full (Answered (Cookie octets)) x y = absurd (cookie_apart secrets sender h ps octets x.parts y x.heard)
+determined choose cipher group secrets sender h held ps Full Full x y = refl
+determined choose cipher group secrets sender h held ps Full (Answered NoProposalChosen) x y = absurd (room_apart secrets sender h held ps y.parts x y.considered)
+determined choose cipher group secrets sender h held ps Full (Accepted offer) x y = absurd (room_apart secrets sender h held ps y.parts x y.considered)
+determined choose cipher group secrets sender h held ps Full (Answered InvalidSyntax) x y = absurd y
+determined choose cipher group secrets sender h held ps Full (Answered AuthenticationFailed) x y = absurd y
+determined choose cipher group secrets sender h held ps Full (Answered NoAdditionalSas) x y = absurd y
+determined choose cipher group secrets sender h held ps Full (Answered TsUnacceptable) x y = absurd y
+determined choose cipher group secrets sender h held ps (Answered NoProposalChosen) (Answered (UnsupportedCriticalPayload kind)) x y = absurd (critical_known ps kind y x.considered.heard.whole.known)
+determined choose cipher group secrets sender h held ps (Answered NoProposalChosen) Incomplete x y = absurd (incomplete_apart ps x.parts y x.considered.heard.whole)
+determined choose cipher group secrets sender h held ps (Answered NoProposalChosen) (Answered (Cookie octets)) x y = absurd (cookie_apart secrets sender h ps octets x.parts y x.considered.heard)
+determined choose cipher group secrets sender h held ps (Answered NoProposalChosen) Full x y = absurd (room_apart secrets sender h held ps x.parts y x.considered)
+determined choose cipher group secrets sender h held ps (Answered NoProposalChosen) (Answered NoProposalChosen) x y = refl
+determined choose cipher group secrets sender h held ps (Answered NoProposalChosen) (Accepted offer) x y = absurd (choice_apart cipher group secrets sender h held ps offer x y)
+determined choose cipher group secrets sender h held ps (Answered NoProposalChosen) (Answered InvalidSyntax) x y = absurd y
+determined choose cipher group secrets sender h held ps (Answered NoProposalChosen) (Answered AuthenticationFailed) x y = absurd y
+determined choose cipher group secrets sender h held ps (Answered NoProposalChosen) (Answered NoAdditionalSas) x y = absurd y
+determined choose cipher group secrets sender h held ps (Answered NoProposalChosen) (Answered TsUnacceptable) x y = absurd y
+determined choose cipher group secrets sender h held ps (Accepted offer) (Answered (UnsupportedCriticalPayload kind)) x y = absurd (critical_known ps kind y x.considered.heard.whole.known)
+determined choose cipher group secrets sender h held ps (Accepted offer) Incomplete x y = absurd (incomplete_apart ps x.parts y x.considered.heard.whole)
+determined choose cipher group secrets sender h held ps (Accepted offer) (Answered (Cookie octets)) x y = absurd (cookie_apart secrets sender h ps octets x.parts y x.considered.heard)
+determined choose cipher group secrets sender h held ps (Accepted offer) Full x y = absurd (room_apart secrets sender h held ps x.parts y x.considered)
+determined choose cipher group secrets sender h held ps (Accepted offer) (Answered NoProposalChosen) x y = absurd (choice_apart cipher group secrets sender h held ps offer y x)
+determined choose cipher group secrets sender h held ps (Accepted offer) (Accepted other) x y = ap (λ (o : OfferView). Accepted o) (one_offer choose cipher group secrets sender h held ps offer other x y)
+determined choose cipher group secrets sender h held ps (Accepted offer) (Answered InvalidSyntax) x y = absurd y
+determined choose cipher group secrets sender h held ps (Accepted offer) (Answered AuthenticationFailed) x y = absurd y
+determined choose cipher group secrets sender h held ps (Accepted offer) (Answered NoAdditionalSas) x y = absurd y
+determined choose cipher group secrets sender h held ps (Accepted offer) (Answered TsUnacceptable) x y = absurd y
+determined choose cipher group secrets sender h held ps (Answered InvalidSyntax) other x y = absurd x
+determined choose cipher group secrets sender h held ps (Answered AuthenticationFailed) other x y = absurd x
+determined choose cipher group secrets sender h held ps (Answered NoAdditionalSas) other x y = absurd x
+determined choose cipher group secrets sender h held ps (Answered TsUnacceptable) other x y = absurd x

@@ -12,7 +12,7 @@ use Rattle.wire.specs.declared.proposal.Proposal.{Proposal}
 use Rattle.suite.specs.Nonces.{IsNonce}
 use Rattle.suite.specs.declared.sealer.Cipher.{Cipher}
 use Rattle.exchange.specs.Counting.{lone_item, nonce_in, only, sa_in}
-use Rattle.exchange.specs.Offers.{IsAcceptableAnswer}
+use Rattle.suite.specs.Offers.{IsAcceptableAnswer}
 use Rattle.sa_init.specs.Fitting.{IsSpelled}
 use Rattle.sa_init.specs.Messages.{ike_wanted}
 use Rattle.sa_init.specs.Parts.{HasParts, PartsView}

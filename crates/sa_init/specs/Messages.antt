@@ -14,7 +14,7 @@ use Rattle.exchange.specs.declared.headers.Role.TheVariants.{Initiator, Responde
 use Rattle.exchange.specs.declared.notices.Notice.{Notice}
 use Rattle.exchange.specs.Headers.{sent_header}
 use Rattle.exchange.specs.Notices.{payload_of_notice, returned_cookie}
-use Rattle.exchange.specs.Offers.{answer_of, offer_of}
+use Rattle.suite.specs.Offers.{answer_of, offer_of}
 
 -- what an association is to have by the caller's cipher and group
 abbrev pub ike_wanted : Cipher → ℕ → Wanted

@@ -8,7 +8,7 @@ use Rattle.suite.specs.declared.choice.Chosen.{Chosen}
 use Rattle.suite.specs.declared.key_record.KeyRecord.{KeyRecord}
 use Rattle.suite.specs.declared.sealer.Cipher.{Cipher}
 use Rattle.exchange.specs.Notices.{asked_cookie}
-use Rattle.exchange.specs.Offers.{AcceptsAnswer}
+use Rattle.suite.specs.Offers.{AcceptsAnswer}
 use Rattle.sa_init.specs.Messages.{ike_wanted}
 use Rattle.sa_init.specs.Parts.{HasParts, PartsView}
 use Rattle.sa_init.specs.declared.response.Response.{Response}

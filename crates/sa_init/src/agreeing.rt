@@ -14,13 +14,7 @@ pub fn wanted_by<C: Sealer + Agreement>(caller: &C) -> Wanted
     ensures same { result ≡ ike_wanted C.cipher C.group_number }
     ensures fits { FitsTransforms C.cipher C.group_number }
 {
-    let cipher = caller.transform();
-    let group = caller.group();
-    Wanted::Ike {
-        encr: cipher.id,
-        key_length: cipher.key_length,
-        group,
-    }
+    Wanted::ike(caller)
 }
 
 /// SA, KE and Nonce, behind the payloads before them. An error is for want of memory alone.

@@ -73,7 +73,7 @@ fn answer_message<C: Sealer + Agreement>(
     ensures fits { IfOk result FitsMessage }
 {
     let mut payloads = Items::new(alloc);
-    let proposal = exchange::answer(alloc, &wanted_by(caller), &offer.chosen, &[])?;
+    let proposal = suite::answer(alloc, &wanted_by(caller), &offer.chosen, &[])?;
     push_agreeing(
         alloc,
         caller,

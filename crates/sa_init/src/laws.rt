@@ -7,7 +7,7 @@ ghost use Rattle.wire.specs.declared.payload.Payload.{Payload};
 ghost use Rattle.wire.specs.declared.proposal.Proposal.{Proposal};
 ghost use Rattle.suite.specs.Callers.{IsSecret};
 ghost use Rattle.suite.specs.Choice.{IsChosenProposal};
-ghost use Rattle.exchange.specs.Offers.{offer_of};
+ghost use Rattle.suite.specs.Offers.{offer_of};
 ghost use Rattle.sa_init.specs.Messages.{ike_wanted};
 ghost use Rattle.suite.specs.Nonces.{IsNonce};
 ghost use Rattle.suite.specs.declared.fresh.Fresh.{Fresh};
@@ -23,8 +23,8 @@ ghost use Rattle.sa_init.specs.declared.answers.Agreed.{Agreed};
 ghost use Rattle.sa_init.specs.declared.judging.Sender.{Sender};
 ghost use Rattle.sa_init.specs.declared.response.Response.{Response};
 
-use exchange::laws::ends_agree;
 use suite::Agreement;
+use suite::laws::{choices_are_determined, ends_agree};
 use wire::laws::{
     octets_spell_one_message, plain_spellings_are_determined, plain_spellings_are_spellings,
 };
@@ -53,7 +53,9 @@ pub fn judgements_are_determined()
         (payloads : List Payload) (one other : JudgementView)
         → IsJudgement cipher group secrets sender half_open held payloads one
         → IsJudgement cipher group secrets sender half_open held payloads other → one ≡ other }
-{}
+{
+    choices_are_determined();
+}
 
 /// While many associations are half open, nothing is accepted but with a right cookie; and nothing where there is no room. Does
 /// nothing.

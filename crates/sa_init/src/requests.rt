@@ -8,9 +8,9 @@ ghost use Rattle.sa_init.specs.Messages.{cookie_payloads, request_message};
 use crate::agreeing::{push_agreeing, wanted_by};
 use crate::encoding::{octets_fit, octets_of};
 use base::Items;
-use exchange::{Role, offer, returned_cookie, sent_header};
+use exchange::{Role, returned_cookie, sent_header};
 use std::alloc::{AllocError, Global};
-use suite::{Agreement, Sealer};
+use suite::{Agreement, Sealer, offer};
 use wire::numbers::IKE_SA_INIT;
 use wire::{Message, Payload};
 

@@ -8,9 +8,9 @@ ghost use Rattle.sa_init.specs.Reading.{waiting_view, AsksCookie, IsAcceptance, 
 use crate::encoding::nonce_fits;
 use crate::laws::spelled_parts_fit;
 use crate::parts::{Parts, parts_of};
-use exchange::{accept, asked_cookie};
+use exchange::asked_cookie;
 use std::alloc::{AllocError, Global};
-use suite::{Agreement, KeyRecord, Sealer, Wanted, ike_keys};
+use suite::{Agreement, KeyRecord, Sealer, Wanted, accept, ike_keys};
 use wire::Message;
 
 /// So many cookies an initiator brings back at most, one after the other.

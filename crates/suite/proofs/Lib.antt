@@ -1,2 +1,5 @@
 mod ChoiceLemmas
+mod DeterminedChoices
 mod KeyLemmas
+mod OfferLaws
+mod OfferLemmas

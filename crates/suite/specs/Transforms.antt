@@ -1,13 +1,14 @@
--- The numbers of protocols, transforms and attributes that are understood here (RFC 7296, section 3.3). Code has the same names in
--- `transforms`.
+-- The numbers of protocols, transforms and attributes that are understood here (RFC 7296, section 3.3), those of the format by their
+-- short names. Code has the same names in `transforms`.
 use Rattle.std.specs.Prelude.{ℕ}
+use Rattle.wire.specs.Numbers.{ENCRYPTION_TRANSFORM, ESP_PROTOCOL, GROUP_TRANSFORM, IKE_PROTOCOL, INTEGRITY_TRANSFORM, PRF_TRANSFORM, SEQUENCE_NUMBERS_TRANSFORM}
 
 -- Protocols (section 3.3.1).
 abbrev pub IKE : ℕ
-IKE = 1
+IKE = IKE_PROTOCOL
 
 abbrev pub ESP : ℕ
-ESP = 3
+ESP = ESP_PROTOCOL
 
 -- The SPIs up to 255 are reserved (RFC 4303, section 2.1).
 abbrev pub FIRST_SPI : ℕ
@@ -15,19 +16,19 @@ FIRST_SPI = 256
 
 -- Types of transforms (section 3.3.2).
 abbrev pub ENCR : ℕ
-ENCR = 1
+ENCR = ENCRYPTION_TRANSFORM
 
 abbrev pub PRF : ℕ
-PRF = 2
+PRF = PRF_TRANSFORM
 
 abbrev pub INTEG : ℕ
-INTEG = 3
+INTEG = INTEGRITY_TRANSFORM
 
 abbrev pub GROUP : ℕ
-GROUP = 4
+GROUP = GROUP_TRANSFORM
 
 abbrev pub ESN : ℕ
-ESN = 5
+ESN = SEQUENCE_NUMBERS_TRANSFORM
 
 -- Encryption: none (RFC 2410).
 abbrev pub ENCR_NULL : ℕ

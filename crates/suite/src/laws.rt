@@ -1,7 +1,12 @@
 //! What follows from the definitions alone. No function here does anything.
-ghost use Rattle.std.specs.Prelude.{List, ℕ};
+ghost use Rattle.std.specs.Prelude.{◌≡◌, List, ℕ, ◌∷◌, []};
+ghost use Rattle.wire.specs.declared.proposal.Proposal.{Proposal};
+ghost use Rattle.suite.specs.Choice.{ChoosesNumbers, HasSpi, IsAcceptableProposal, IsChosenProposal};
 ghost use Rattle.suite.specs.Keys.{ike_keys, initiator_keys, responder_keys};
+ghost use Rattle.suite.specs.Offers.{answer_of, offer_of, IsAcceptableAnswer, IsTakenFrom};
 ghost use Rattle.suite.specs.Sealing.{AreKeys};
+ghost use Rattle.suite.specs.declared.choice.Chosen.{Chosen};
+ghost use Rattle.suite.specs.declared.choice.Wanted.{Wanted};
 
 use mac::laws::key_material_is_octets;
 
@@ -15,3 +20,37 @@ pub fn derived_keys_are_keys()
 {
     key_material_is_octets();
 }
+
+/// Of a list of proposals one at most is chosen, with one number and one answer on sequence numbers (RFC 7296, section 2.7).
+pub fn choices_are_determined()
+    ensures { (wanted : Wanted) (proposals : List Proposal) (one other : Chosen)
+        → IsChosenProposal wanted proposals one → IsChosenProposal wanted proposals other → one ≡ other }
+{}
+
+/// What is offered is acceptable to an end that wants the same. What answers a proposal of number 1 is an answer to the one who
+/// wanted the same, with the sequence numbers that were chosen.
+pub fn offers_are_answered()
+    ensures offers { (wanted : Wanted) (spi : List ℕ) → HasSpi wanted spi
+        → IsAcceptableProposal wanted (offer_of wanted spi) }
+    ensures answers { (wanted : Wanted) (proposals : List Proposal) (chosen : Chosen) (spi : List ℕ)
+        → HasSpi wanted spi
+        → IsChosenProposal wanted proposals chosen → chosen.number ≡ 1
+        → IsAcceptableAnswer wanted (answer_of wanted chosen spi) }
+    ensures numbers { (wanted : Wanted) (proposals : List Proposal) (chosen : Chosen) (spi : List ℕ)
+        → IsChosenProposal wanted proposals chosen
+        → ChoosesNumbers wanted (answer_of wanted chosen spi).transforms chosen.extended }
+{}
+
+/// What is chosen of an end's offer is answered by an answer to it, with the sequence numbers that were chosen, also where the
+/// two ends want differently.
+pub fn ends_agree()
+    ensures answers { (ours theirs : Wanted) (spi answer : List ℕ) (chosen : Chosen) → HasSpi ours answer
+        → IsChosenProposal theirs (offer_of ours spi ∷ []) chosen
+        → IsAcceptableAnswer ours (answer_of theirs chosen answer) }
+    ensures numbers { (ours theirs : Wanted) (spi answer : List ℕ) (chosen : Chosen)
+        → IsChosenProposal theirs (offer_of ours spi ∷ []) chosen
+        → ChoosesNumbers ours (answer_of theirs chosen answer).transforms chosen.extended }
+    ensures taken { (wanted : Wanted) (proposals : List Proposal) (chosen : Chosen) (spi : List ℕ)
+        → IsChosenProposal wanted proposals chosen
+        → IsTakenFrom proposals chosen.place (answer_of wanted chosen spi) }
+{}

@@ -1,28 +1,34 @@
-//! Numbers of protocols, transforms and attributes (RFC 7296, section 3.3), of those that are understood here.
+//! Numbers of protocols, transforms and attributes (RFC 7296, section 3.3), of those that are understood here;
+//! those of the format, which [`wire::numbers`] has too, by their short names.
+
+use wire::numbers::{
+    ENCRYPTION_TRANSFORM, ESP_PROTOCOL, GROUP_TRANSFORM, IKE_PROTOCOL, INTEGRITY_TRANSFORM,
+    PRF_TRANSFORM, SEQUENCE_NUMBERS_TRANSFORM,
+};
 
 /// Protocol: an IKE association (section 3.3.1).
-pub const IKE: u8 = 1;
+pub const IKE: u8 = IKE_PROTOCOL;
 
 /// Protocol: an ESP association.
-pub const ESP: u8 = 3;
+pub const ESP: u8 = ESP_PROTOCOL;
 
 /// The least SPI of ESP: those up to 255 are reserved (RFC 4303, section 2.1).
 pub const FIRST_SPI: u32 = 256;
 
 /// Type of transform: encryption (section 3.3.2).
-pub const ENCR: u8 = 1;
+pub const ENCR: u8 = ENCRYPTION_TRANSFORM;
 
 /// Type of transform: pseudorandom function.
-pub const PRF: u8 = 2;
+pub const PRF: u8 = PRF_TRANSFORM;
 
 /// Type of transform: integrity.
-pub const INTEG: u8 = 3;
+pub const INTEG: u8 = INTEGRITY_TRANSFORM;
 
 /// Type of transform: Diffie-Hellman group.
-pub const GROUP: u8 = 4;
+pub const GROUP: u8 = GROUP_TRANSFORM;
 
 /// Type of transform: sequence numbers.
-pub const ESN: u8 = 5;
+pub const ESN: u8 = SEQUENCE_NUMBERS_TRANSFORM;
 
 /// Encryption: none (RFC 2410).
 pub const ENCR_NULL: u16 = 11;

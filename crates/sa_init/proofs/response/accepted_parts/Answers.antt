@@ -1,7 +1,7 @@
 use Rattle.std.proofs.Common.{rules, ◌≡◌, ◌∷◌, [], subst}
 use Rattle.wire.specs.declared.proposal.Proposal.{Proposal}
 use Rattle.suite.specs.declared.choice.Wanted.{Wanted}
-use Rattle.exchange.specs.Offers.{IsAcceptableAnswer}
+use Rattle.suite.specs.Offers.{IsAcceptableAnswer}
 use Rattle.sa_init.specs.Parts.{parts_view}
 use Rattle.sa_init.proofs.PartLemmas.{refused_by_answer}
 use Rattle.sa_init.proofs.response.accepted_parts.Goals as goal

@@ -1,11 +1,11 @@
 // The octets are those of RFC 7296, section 3.3, written out.
 use crate::tests::asserts::{granted, holds, same};
 use crate::tests::none_differs;
-use exchange::laws::{ends_agree, offers_are_answered};
-use exchange::{accept, answer, offer, offers_ike};
+use exchange::offers_ike;
 use std::alloc::Global;
 use std::process::Abort;
-use suite::{Chosen, Wanted, choose};
+use suite::laws::{ends_agree, offers_are_answered};
+use suite::{Chosen, Wanted, accept, answer, choose, offer};
 use wire::{Flags, Header, Items, Message, Payload, Proposal, encode_message};
 
 const IKE: Wanted = Wanted::Ike {

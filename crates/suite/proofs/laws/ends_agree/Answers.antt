@@ -1,6 +1,6 @@
 use Rattle.std.proofs.Common.{sym}
-use Rattle.exchange.proofs.LawLemmas.{answer_agreed, answer_taken, numbers_agreed}
-use Rattle.exchange.proofs.laws.ends_agree.Goals as goal
+use Rattle.suite.proofs.OfferLaws.{answer_agreed, answer_taken, numbers_agreed}
+use Rattle.suite.proofs.laws.ends_agree.Goals as goal
 
 pub returns-clause-answers : goal.returns-clause-answers
 returns-clause-answers c = λ ours theirs spi answer chosen form found. answer_agreed ours theirs spi answer chosen form found

@@ -1,7 +1,7 @@
 use Rattle.std.proofs.Common.{◌≡◌, ◌∷◌, [], ◌∙◌, sym, ap, arith}
 use Rattle.wire.specs.declared.proposal.Proposal.{Proposal}
-use Rattle.exchange.proofs.OfferLemmas.{accepted_by, refused_by, list_of_one}
-use Rattle.exchange.proofs.offers.accept.Goals as goal
+use Rattle.suite.proofs.OfferLemmas.{accepted_by, refused_by, list_of_one}
+use Rattle.suite.proofs.offers.accept.Goals as goal
 
 pub returns-in-len1 : goal.returns-in-len1
 returns-in-len1 c =

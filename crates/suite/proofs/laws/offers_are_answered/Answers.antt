@@ -1,5 +1,5 @@
-use Rattle.exchange.proofs.LawLemmas.{offer_acceptable, answer_is, numbers_kept}
-use Rattle.exchange.proofs.laws.offers_are_answered.Goals as goal
+use Rattle.suite.proofs.OfferLaws.{offer_acceptable, answer_is, numbers_kept}
+use Rattle.suite.proofs.laws.offers_are_answered.Goals as goal
 
 pub returns-clause-offers : goal.returns-clause-offers
 returns-clause-offers c = λ wanted spi form. offer_acceptable wanted spi form

@@ -8,7 +8,7 @@ use Rattle.wire.specs.declared.proposal.Transform.{Transform}
 use Rattle.suite.specs.declared.choice.Chosen.{Chosen}
 use Rattle.suite.specs.declared.choice.Wanted.{Wanted}
 use Rattle.suite.specs.Choice.{kinds, IsAcceptableProposal, IsChosenProposal}
-use Rattle.exchange.specs.Offers.{count_of_kind, AcceptsAnswer, IsAcceptableAnswer}
+use Rattle.suite.specs.Offers.{count_of_kind, AcceptsAnswer, IsAcceptableAnswer}
 
 -- each type once
 abbrev pub OneEach : List Transform → List ℕ → Type 0

@@ -7,8 +7,8 @@ use Rattle.suite.specs.declared.choice.Chosen.{Chosen}
 use Rattle.suite.specs.declared.choice.Wanted.{Wanted}
 use Rattle.suite.specs.declared.choice.Wanted.TheVariants.{Ike, Esp}
 use Rattle.suite.specs.Choice.{acceptable_transforms, key_length_attribute, kinds, sequence_numbers, without_attributes, ChoosesNumbers, HasSpi, IsAcceptableProposal, IsAcceptableTransform, IsChosenProposal, IsFirstAcceptable}
-use Rattle.exchange.proofs.OfferLemmas.{one_item}
-use Rattle.exchange.specs.Offers.{answer_of, answered_transforms, count_of_kind, offer_of, offered_transforms, IsAcceptableAnswer}
+use Rattle.suite.proofs.OfferLemmas.{one_item}
+use Rattle.suite.specs.Offers.{answer_of, answered_transforms, count_of_kind, offer_of, offered_transforms, IsAcceptableAnswer}
 
 All-nil : {X : Type 0} (P : X → Type 0) → All P []
 All-nil P = λ k d below. absurd (omega arith)

@@ -3,15 +3,16 @@ ghost use Rattle.std.specs.Prelude.{◌≡◌, ◌==◌, ◌++◌, ◌∷◌, []
 ghost use Rattle.std.specs.List.{list_all};
 ghost use Rattle.wire.specs.declared.proposal.Proposal.{Proposal};
 ghost use Rattle.wire.specs.declared.proposal.Transform.{Transform};
+ghost use Rattle.suite.specs.Transforms.{ENCR};
 ghost use Rattle.suite.specs.Choice.{kinds, key_length_attribute, wanted_protocol, without_attributes, HasSpi, IsAcceptableProposal, IsChosenProposal};
-ghost use Rattle.exchange.specs.Offers.{answer_of, count_of_kind, fixed_transforms, offer_of, AcceptsAnswer, IsAcceptableAnswer};
+ghost use Rattle.suite.specs.Offers.{answer_of, count_of_kind, fixed_transforms, offer_of, AcceptsAnswer, IsAcceptableAnswer};
 
-use std::alloc::{AllocError, Global};
-use suite::transforms::{
+use crate::transforms::{
     AUTH_HMAC_SHA2_256_128, ENCR, ENCR_NULL, ESN, EXTENSION, GROUP, INTEG, KEY_LENGTH,
     NO_EXTENSION, PRF, PRF_HMAC_SHA2_256,
 };
-use suite::{Chosen, Wanted, choose};
+use crate::{Chosen, Wanted, choose};
+use std::alloc::{AllocError, Global};
 use wire::{Attribute, Items, Proposal, Transform};
 
 // The number of the one proposal that an end offers (section 3.3.1).
@@ -147,7 +148,7 @@ fn fixed(alloc: Global, wanted: &Wanted) -> Result<Items<Transform>, AllocError>
 
 fn cipher(alloc: Global, id: u16, key_length: Option<u16>) -> Result<Transform, AllocError>
     ensures { IfOk result (λ transform. transform ≡ record {
-      kind = 1;
+      kind = ENCR;
       id = id;
       attributes = key_length_attribute key_length;
     }) }

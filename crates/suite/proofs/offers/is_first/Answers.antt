@@ -1,9 +1,9 @@
 use Rattle.std.proofs.Common.{rules, ◌≡◌, ◌∙◌, ◌==◌, sym}
 use Rattle.std.specs.List.{list_all}
 use Rattle.suite.specs.Choice.{kinds}
-use Rattle.exchange.specs.Offers.{count_of_kind}
-use Rattle.exchange.proofs.OfferLemmas.{one_each_holds, one_each_passes}
-use Rattle.exchange.proofs.offers.is_first.Goals as goal
+use Rattle.suite.specs.Offers.{count_of_kind}
+use Rattle.suite.proofs.OfferLemmas.{one_each_holds, one_each_passes}
+use Rattle.suite.proofs.offers.is_first.Goals as goal
 
 pub returns-then-proposal-eq-OFFERED : goal.returns-then-proposal-eq-OFFERED
 returns-then-proposal-eq-OFFERED c =
