@@ -1,5 +1,4 @@
 //! What is sent, and the order of what is refused (RFC 7296, sections 1.3.1, 2.5, 2.21.3 and 3.10.1).
-ghost use Rattle.std.specs.Prelude.{IfOk};
 ghost use Rattle.auth.specs.Proofs.{IsIdentity};
 ghost use Rattle.initial.specs.Configs.{IsConfig};
 ghost use Rattle.policy.specs.Narrowing.{IsSendableSelector};
@@ -15,9 +14,9 @@ use exchange::{Notice, Plain, Role, sent_header};
 use initial::{Config, EndConfig, Setup};
 use policy::{Action, Entry, Policy};
 use sadb::{Pair, Table};
-use std::alloc::{AllocError, Global};
+use std::alloc::Global;
+use std::panic::Expect;
 use std::process::Abort;
-use std::test::Fail;
 use suite::{Fresh, KeyRecord, ike_keys};
 use wire::{Message, Payload, Proposal, Transform, encode_message};
 
@@ -57,52 +56,66 @@ fn asked(extended: bool) -> Asked
     }
 }
 
-fn lone<T: Drop>(alloc: Global, item: T) -> Result<Items<T>, AllocError> {
+fn add<T: Drop>(rt: &impl Abort, items: &mut Items<T>, item: T) {
+    items.push(item).expect(rt, "memory");
+}
+
+fn lone<T: Drop>(rt: &impl Abort, alloc: Global, item: T) -> Items<T> {
     let mut items = Items::new(alloc);
-    items.push(item)?;
-    Ok(items)
+    add(rt, &mut items, item);
+    items
+}
+
+fn octets(rt: &impl Abort, alloc: Global, octets: &[u8]) -> Items<u8> {
+    Items::from_slice(alloc, octets).expect(rt, "memory")
 }
 
 // A proposal of ENCR_NULL and AUTH_HMAC_SHA2_256_128, with numbers of 32 bits (RFC 7296, section 3.3.2).
-fn proposals(alloc: Global, protocol: u8) -> Result<Items<Proposal>, AllocError> {
+fn proposals(rt: &impl Abort, alloc: Global, protocol: u8) -> Items<Proposal> {
     let mut transforms = Items::new(alloc);
     for (kind, id) in &[(1, 11), (3, 12), (5, 0)] {
-        transforms.push(Transform {
+        let transform = Transform {
             kind: *kind,
             id: *id,
             attributes: Items::new(alloc),
-        })?;
+        };
+        add(rt, &mut transforms, transform);
     }
     let proposal = Proposal {
         number: 1,
         protocol,
-        spi: Items::from_slice(alloc, &[1, 2, 3, 4])?,
+        spi: octets(rt, alloc, &[1, 2, 3, 4]),
         transforms,
     };
-    lone(alloc, proposal)
+    lone(rt, alloc, proposal)
 }
 
-fn nonce(alloc: Global) -> Result<Payload, AllocError> {
-    Ok(Payload::Nonce(Items::from_slice(alloc, &[9; 32])?))
+fn nonce(rt: &impl Abort, alloc: Global) -> Payload {
+    Payload::Nonce(octets(rt, alloc, &[9; 32]))
 }
 
 // The four payloads that make a further child.
-fn message(alloc: Global, protocol: u8) -> Result<Items<Payload>, AllocError> {
-    message_between(alloc, protocol, near(), far())
+fn message(rt: &impl Abort, alloc: Global, protocol: u8) -> Items<Payload> {
+    message_between(rt, alloc, protocol, near(), far())
 }
 
 fn message_between(
+    rt: &impl Abort,
     alloc: Global,
     protocol: u8,
     ts_i: Selector,
     ts_r: Selector,
-) -> Result<Items<Payload>, AllocError> {
+) -> Items<Payload> {
     let mut payloads = Items::new(alloc);
-    payloads.push(Payload::Sa(proposals(alloc, protocol)?))?;
-    payloads.push(nonce(alloc)?)?;
-    payloads.push(Payload::TsI(lone(alloc, ts_i)?))?;
-    payloads.push(Payload::TsR(lone(alloc, ts_r)?))?;
-    Ok(payloads)
+    add(
+        rt,
+        &mut payloads,
+        Payload::Sa(proposals(rt, alloc, protocol)),
+    );
+    add(rt, &mut payloads, nonce(rt, alloc));
+    add(rt, &mut payloads, Payload::TsI(lone(rt, alloc, ts_i)));
+    add(rt, &mut payloads, Payload::TsR(lone(rt, alloc, ts_r)));
+    payloads
 }
 
 fn unknown(alloc: Global) -> Payload {
@@ -123,63 +136,62 @@ fn rekeying(alloc: Global) -> Payload {
     }
 }
 
-fn key_exchange(alloc: Global) -> Result<Payload, AllocError> {
-    Ok(Payload::Ke {
+fn key_exchange(rt: &impl Abort, alloc: Global) -> Payload {
+    Payload::Ke {
         group: 1,
-        data: Items::from_slice(alloc, &[1])?,
-    })
+        data: octets(rt, alloc, &[1]),
+    }
 }
 
 // The type of the notice that refuses these payloads with those behind them, 0 where none does.
 fn refusal(
+    rt: &impl Abort,
     mut payloads: Items<Payload>,
     others: Items<Payload>,
     deleting: bool,
-) -> Result<u16, AllocError> {
+) -> u16 {
     for payload in others.into_vec() {
-        payloads.push(payload)?;
+        add(rt, &mut payloads, payload);
     }
-    Ok(match judge(payloads.as_slice(), deleting) {
+    match judge(payloads.as_slice(), deleting) {
         Judgement::Refused(notice) => notice.number(),
         Judgement::Asked(_) => 0,
-    })
+    }
 }
 
-fn identity(alloc: Global, last: u8) -> Result<Identity, AllocError>
-    ensures { IfOk result IsIdentity }
+fn identity(rt: &impl Abort, alloc: Global, last: u8) -> Identity
+    ensures { IsIdentity result }
 {
-    Ok(Identity {
+    Identity {
         kind: 1,
-        data: Items::from_slice(alloc, &[192, 0, 2, last])?,
-    })
+        data: Items::from_slice(alloc, &[192, 0, 2, last]).expect(rt, "memory"),
+    }
 }
 
-fn end(alloc: Global, last: u8) -> Result<EndConfig, AllocError>
-    ensures { IfOk result (λ end. IsIdentity end.identity) }
+fn end(rt: &impl Abort, alloc: Global, last: u8) -> EndConfig
+    ensures { IsIdentity result.identity }
 {
-    Ok(EndConfig {
-        identity: identity(alloc, last)?,
+    EndConfig {
+        identity: identity(rt, alloc, last),
         address: [192, 0, 2, last],
-    })
+    }
 }
 
-fn config(alloc: Global) -> Result<Config, AllocError>
-    ensures { IfOk result IsConfig }
+fn config(rt: &impl Abort, alloc: Global) -> Config
+    ensures { IsConfig result }
 {
-    let own = end(alloc, 2)?;
-    let peer = end(alloc, 1)?;
-    Ok(Config {
-        own,
-        peer,
+    Config {
+        own: end(rt, alloc, 2),
+        peer: end(rt, alloc, 1),
         extended: true,
         blocks: 2,
         cookie_secret: [0; 32],
         window: 1,
-    })
+    }
 }
 
 // The responder's: it protects what goes between 10.1.0.0/24 and 10.0.0.0/24.
-fn policy(alloc: Global) -> Result<Policy, Fail> {
+fn policy(rt: &impl Abort, alloc: Global) -> Policy {
     let entry = Entry {
         protocol: 0,
         local: Range::V4(0x0a01_0000, 0x0a01_00ff),
@@ -188,11 +200,11 @@ fn policy(alloc: Global) -> Result<Policy, Fail> {
         remote_ports: (0, 65535),
         action: Action::Protect,
     };
-    Ok(Policy::new(Items::from_slice(alloc, &[entry])?)?)
+    Policy::new(lone(rt, alloc, entry)).expect(rt, "a policy")
 }
 
 // The payloads as a message of CREATE_CHILD_SA spells them.
-fn plain(alloc: Global, payloads: Items<Payload>) -> Result<Plain, Fail> {
+fn plain(rt: &impl Abort, alloc: Global, payloads: Items<Payload>) -> Plain {
     let first = match payloads.as_slice() {
         [payload, ..] => payload.number(),
         [] => 0,
@@ -201,28 +213,27 @@ fn plain(alloc: Global, payloads: Items<Payload>) -> Result<Plain, Fail> {
         header: sent_header(4, 5, 36, Role::Initiator, false, 2),
         payloads,
     };
-    let mut octets = Vec::new(alloc);
-    encode_message(&message, &mut octets)?;
-    if octets.len() < 28 {
-        return Err("no header")?;
-    }
-    Ok(Plain {
+    let mut whole = Vec::new(alloc);
+    encode_message(&message, &mut whole).expect(rt, "a message");
+    let behind = whole.get(28..).expect(rt, "a header");
+    Plain {
         first,
-        octets: Items::from_slice(alloc, &octets[28..])?,
-    })
+        octets: octets(rt, alloc, behind),
+    }
 }
 
 // What the responder decides, with a nonce of its own.
 fn decided(
+    rt: &impl Abort,
     alloc: Global,
     table: &mut Table,
     plain: &Plain,
     deleting: bool,
-) -> Result<Decision, Fail>
-    ensures { IfOk result FitsFurtherDecision }
+) -> Decision
+    ensures { FitsFurtherDecision result }
 {
-    let config = config(alloc)?;
-    let policy = policy(alloc)?;
+    let config = config(rt, alloc);
+    let policy = policy(rt, alloc);
     let fresh = Fresh {
         spi: 0,
         nonce: [7; 32],
@@ -236,35 +247,35 @@ fn decided(
         fresh: &fresh,
         moment: 0,
     };
-    Ok(decide(alloc, &setup, table, 1, &keys(), deleting, plain)?)
+    decide(alloc, &setup, table, 1, &keys(), deleting, plain).expect(rt, "memory")
 }
 
 // The type of the notice, 0 where a child is made, and whether it closes.
-fn told(alloc: Global, plain: &Plain, deleting: bool) -> Result<(u16, bool), Fail> {
+fn told(rt: &impl Abort, alloc: Global, plain: &Plain, deleting: bool) -> (u16, bool) {
     let mut table = Table::new(alloc, 4096);
-    let decision = decided(alloc, &mut table, plain, deleting)?;
+    let decision = decided(rt, alloc, &mut table, plain, deleting);
     let closes = decision.is_closing();
-    Ok(match decision {
+    match decision {
         Decision::Refused(notice) => (notice.number(), closes),
         Decision::Made(_) => (0, closes),
-    })
+    }
 }
 
 // What is not in the grammar; a request while this end deletes; one for AH; one for flows that are not protected.
-fn decisions(alloc: Global) -> Result<[(u16, bool); 4], Fail> {
+fn decisions(rt: &impl Abort, alloc: Global) -> [(u16, bool); 4] {
     let unread = Plain {
         first: 41,
-        octets: Items::from_slice(alloc, &[0])?,
+        octets: octets(rt, alloc, &[0]),
     };
-    let whole = plain(alloc, message(alloc, 3)?)?;
-    let of_ah = plain(alloc, message(alloc, 2)?)?;
-    let turned = plain(alloc, message_between(alloc, 3, far(), near())?)?;
-    Ok([
-        told(alloc, &unread, false)?,
-        told(alloc, &whole, true)?,
-        told(alloc, &of_ah, false)?,
-        told(alloc, &turned, false)?,
-    ])
+    let whole = plain(rt, alloc, message(rt, alloc, 3));
+    let of_ah = plain(rt, alloc, message(rt, alloc, 2));
+    let turned = plain(rt, alloc, message_between(rt, alloc, 3, far(), near()));
+    [
+        told(rt, alloc, &unread, false),
+        told(rt, alloc, &whole, true),
+        told(rt, alloc, &of_ah, false),
+        told(rt, alloc, &turned, false),
+    ]
 }
 
 // Finds a pair of these SPIs, inward and outward, and of one selector of each side.
@@ -276,66 +287,70 @@ fn is_pair(rt: &impl Abort, pair: &Pair, spis: (u32, u32), local: Selector, remo
 
 // From the request to both pairs, with memory enough.
 #[test]
-fn a_child_at_both_ends(rt: HostRuntime) -> Result<(), Fail> {
+fn a_child_at_both_ends(rt: HostRuntime) {
     let alloc = rt.alloc();
     let mut table = Table::new(alloc, 4096);
-    let request = plain(alloc, ask(alloc, &asked(true), &[9; 32])?)?;
+    let asking = ask(alloc, &asked(true), &[9; 32]).expect(&rt, "memory");
+    let request = plain(&rt, alloc, asking);
     assert_eq!(rt; request.octets.len(), 132);
-    let decision = decided(alloc, &mut table, &request, false)?;
+    let decision = decided(&rt, alloc, &mut table, &request, false);
     assert!(rt; !decision.is_closing());
     let (answer, responders) = decision.into_parts();
-    let reply = plain(alloc, answer_payloads(alloc, answer, &[7; 32])?)?;
+    let answering = answer_payloads(alloc, answer, &[7; 32]).expect(&rt, "memory");
+    let reply = plain(&rt, alloc, answering);
     assert_eq!(rt; reply.octets.len(), 124);
-    let Conclusion::Made(initiators) = concluded(alloc, &reply, true)? else {
-        return Err("no child")?;
-    };
+    let initiators = child_of(&rt, alloc, &reply);
     is_pair(&rt, &initiators, (0x0102_0304, 4096), near(), far());
-    let responders = responders.ok_or("no pair")?;
+    let responders = responders.expect(&rt, "a pair");
     is_pair(&rt, &responders, (4096, 0x0102_0304), far(), near());
-    Ok(())
+}
+
+// The initiator's pair by the answer.
+fn child_of(rt: &impl Abort, alloc: Global, reply: &Plain) -> Pair {
+    let made = match concluded(alloc, reply, true) {
+        Ok(Conclusion::Made(pair)) => Some(pair),
+        _ => None,
+    };
+    made.expect(rt, "a child")
 }
 
 #[test]
-fn what_is_sent(rt: HostRuntime) -> Result<(), Fail> {
+fn what_is_sent(rt: HostRuntime) {
     let alloc = rt.alloc();
-    let wanted = message(alloc, 3)?;
-    let payloads = ask(alloc, &asked(false), &[9; 32])?;
+    let wanted = message(&rt, alloc, 3);
+    let payloads = ask(alloc, &asked(false), &[9; 32]).expect(&rt, "memory");
     assert_eq!(rt; payloads.as_slice(), wanted.as_slice());
     let notice = ChildAnswer::Notice(Notice::TsUnacceptable);
-    let payloads = answer_payloads(alloc, notice, &[9; 32])?;
-    let refused = lone(alloc, Notice::TsUnacceptable.payload(alloc)?)?;
-    assert_eq!(rt; payloads.as_slice(), refused.as_slice());
-    Ok(())
+    let payloads = answer_payloads(alloc, notice, &[9; 32]).expect(&rt, "memory");
+    let refused = Notice::TsUnacceptable.payload(alloc).expect(&rt, "memory");
+    assert_eq!(rt; payloads.as_slice(), [refused].as_slice());
 }
 
 // Each of these is a payload more, or a circumstance, for which a request is refused before those above it are looked at.
 #[test]
-fn what_is_refused_first(rt: HostRuntime) -> Result<(), Fail> {
+fn what_is_refused_first(rt: HostRuntime) {
     let alloc = rt.alloc();
+    let whole = || message(&rt, alloc, 3);
+    let of_ike = || message(&rt, alloc, 1);
     let none = || Items::new(alloc);
-    assert_eq!(rt; refusal(message(alloc, 3)?, none(), false)?, 0);
-    assert_eq!(rt;
-        refusal(message(alloc, 3)?, lone(alloc, rekeying(alloc))?, false)?,
-        0
-    );
-    assert_eq!(rt;
-        refusal(message(alloc, 3)?, lone(alloc, nonce(alloc)?)?, false)?,
-        7
-    );
-    assert_eq!(rt; refusal(none(), none(), false)?, 7);
-    assert_eq!(rt; refusal(none(), none(), true)?, 35);
-    assert_eq!(rt;
-        refusal(none(), lone(alloc, key_exchange(alloc)?)?, false)?,
-        35
-    );
-    assert_eq!(rt; refusal(message(alloc, 1)?, none(), false)?, 35);
-    assert_eq!(rt;
-        refusal(message(alloc, 1)?, lone(alloc, unknown(alloc))?, true)?,
-        1
-    );
+    let one = |payload: Payload| lone(&rt, alloc, payload);
+    let told = [
+        refusal(&rt, whole(), none(), false),
+        refusal(&rt, whole(), one(rekeying(alloc)), false),
+        refusal(&rt, whole(), one(nonce(&rt, alloc)), false),
+        refusal(&rt, none(), none(), false),
+        refusal(&rt, none(), none(), true),
+        refusal(&rt, none(), one(key_exchange(&rt, alloc)), false),
+        refusal(&rt, of_ike(), none(), false),
+        refusal(&rt, of_ike(), one(unknown(alloc)), true),
+    ];
+    assert_eq!(rt; told, [0, 0, 7, 7, 35, 35, 35, 1]);
+}
+
+#[test]
+fn what_is_decided(rt: HostRuntime) {
     let wanted = [(7, true), (35, false), (14, false), (38, false)];
-    assert_eq!(rt; decisions(alloc)?, wanted);
-    Ok(())
+    assert_eq!(rt; decisions(&rt, rt.alloc()), wanted);
 }
 
 #[derive(Clone, Copy, Debug, PartialEq, Eq)]
@@ -354,29 +369,27 @@ fn concluded(alloc: Global, plain: &Plain, extended: bool) -> Result<Conclusion,
     conclude_response(alloc, plain, &asked(extended), &[9; 32], 6, &keys(), 2)
 }
 
-fn conclusion(alloc: Global, first: u8, octets: &[u8]) -> Result<Kind, MemoryFault> {
+fn conclusion(rt: &impl Abort, alloc: Global, first: u8, body: &[u8]) -> Kind {
     let plain = Plain {
         first,
-        octets: Items::from_slice(alloc, octets)?,
+        octets: octets(rt, alloc, body),
     };
-    Ok(match concluded(alloc, &plain, false)? {
+    match concluded(alloc, &plain, false).expect(rt, "memory") {
         Conclusion::Closes => Kind::Closes,
         Conclusion::Made(_) => Kind::Made,
         Conclusion::NoChild => Kind::NoChild,
-    })
+    }
 }
 
 #[test]
-fn what_ends_the_association(rt: HostRuntime) -> Result<(), Fail> {
+fn what_ends_the_association(rt: HostRuntime) {
     let alloc = rt.alloc();
+    let found = |first, octets: &[u8]| conclusion(&rt, alloc, first, octets);
     // Not in the grammar; no payload; NO_ADDITIONAL_SAS; that, and INVALID_SYNTAX behind it.
-    assert_eq!(rt; conclusion(alloc, 41, &[0]), Ok(Kind::NoChild));
-    assert_eq!(rt; conclusion(alloc, 0, &[]), Ok(Kind::NoChild));
-    assert_eq!(rt;
-        conclusion(alloc, 41, &[0, 0, 0, 8, 0, 0, 0, 35]),
-        Ok(Kind::NoChild)
-    );
+    assert_eq!(rt; found(41, &[0]), Kind::NoChild);
+    assert_eq!(rt; found(0, &[]), Kind::NoChild);
+    let full = [0, 0, 0, 8, 0, 0, 0, 35];
+    assert_eq!(rt; found(41, &full), Kind::NoChild);
     let both = [41, 0, 0, 8, 0, 0, 0, 35, 0, 0, 0, 8, 0, 0, 0, 7];
-    assert_eq!(rt; conclusion(alloc, 41, &both), Ok(Kind::Closes));
-    Ok(())
+    assert_eq!(rt; found(41, &both), Kind::Closes);
 }
