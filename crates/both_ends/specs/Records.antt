@@ -1,0 +1,57 @@
+-- How each end of an association comes to its keys in IKE_SA_INIT (RFC 7296 sections 1.2 and 2.14).
+use Rattle.std.specs.Prelude.{◌≡◌, ℕ, Option, Some}
+use Rattle.base.specs.Octets.{Octets}
+use Rattle.wire.specs.declared.message.Message.{Message}
+use Rattle.suite.specs.Callers.{IsSecret}
+use Rattle.suite.specs.declared.fresh.Fresh.{Fresh}
+use Rattle.suite.specs.declared.key_record.KeyRecord.{KeyRecord}
+use Rattle.suite.specs.declared.sealer.Cipher.{Cipher}
+use Rattle.sa_init.specs.Judging.{OfferView}
+use Rattle.sa_init.specs.Parts.{HasParts, PartsView}
+use Rattle.association.specs.Phases.{keys_in}
+use Rattle.association.specs.declared.phase.Association.{Association}
+use Rattle.initial.specs.Beginning.{Admits}
+use Rattle.initial.specs.Configs.{Setup}
+use Rattle.initial.specs.Reading.{Asker, ReadsResponse}
+use Rattle.initial.specs.declared.beginning.Admitted.{Admitted}
+use Rattle.initial.specs.declared.reading.Continued.TheVariants as continued
+
+-- what an end's association sent of itself in IKE_SA_INIT: its SPI, the value of its key exchange and its nonce
+pub record Introduction : Type 0 where
+  pub spi : ℕ
+  pub public : Octets
+  pub nonce : Octets
+
+-- The step by which an end came to these keys as initiator: it read a response, and this is what its own association had sent, and what the
+-- response said of the other.
+pub record ComesToKeysAsInitiator (asker : Asker) (own other : Introduction) (keys : KeyRecord) : Type 0 where
+  pub setup : Setup
+  pub old : Association
+  pub new : Association
+  pub number : ℕ
+  pub octets : Octets
+  pub response : Message
+  pub request : Octets
+  pub read : ReadsResponse asker setup old number octets response (continued.AsksAuth request) new
+  pub keyed : keys_in new.phase ≡ Some keys
+  pub secret : IsSecret read.sent.secret
+  pub own_is : own ≡ record { spi = old.spi_i; public = asker.public_value read.sent.secret; nonce = read.sent.nonce }
+  pub parts : PartsView
+  pub complete : HasParts response.payloads parts
+  pub other_is : other ≡ record { spi = response.header.spi_r; public = parts.public; nonce = parts.nonce }
+
+-- The step by which an end came to these keys as responder: it took an offer, and this is what its own association sent in the answer, and
+-- what the offer said of the other.
+pub record ComesToKeysAsResponder (cipher : Cipher) (group : ℕ) (public_value : Octets → Octets) (shared_secret : Octets → Octets → Option Octets) (own other : Introduction) (keys : KeyRecord) : Type 0 where
+  pub fresh : Fresh
+  pub moment : ℕ
+  pub serial : ℕ
+  pub offer : OfferView
+  pub spi_i : ℕ
+  pub request : Octets
+  pub admitted : Admitted
+  pub admits : Admits cipher group public_value shared_secret fresh moment serial offer spi_i request admitted
+  pub keyed : keys_in admitted.association.phase ≡ Some keys
+  pub secret : IsSecret fresh.secret
+  pub own_is : own ≡ record { spi = fresh.spi; public = public_value fresh.secret; nonce = fresh.nonce }
+  pub other_is : other ≡ record { spi = spi_i; public = offer.public; nonce = offer.nonce }
