@@ -1,5 +1,6 @@
 //! Octets written as hexadecimal digits, with blanks and line ends among them.
 ghost use Rattle.std.specs.Prelude.{◌≡◌, List, ℕ, ◌++◌, Ok, IsErr, OnOk, OnErr, IfOk, string_bytes};
+ghost use Rattle.base.specs.Octets.{Appends};
 ghost use Rattle.hex.specs.Hex.{decode_of};
 ghost use Rattle.console.specs.Digits.{is_blank, digits_of, text_of};
 
@@ -42,9 +43,8 @@ fn is_blank(octet: u8) -> bool
 /// Refused, with `out` as it was: [`HexFault::NotHex`] where anything else is there or the count of digits is odd, else
 /// [`HexFault::Memory`] alone.
 pub fn read_hex(text: &[u8], out: &mut Vec<u8>) -> Result<(), HexFault>
-    ensures read { OnOk result
-        ((octets : List ℕ) × (decode_of (digits_of text.now) ≡ Ok octets)
-        × (out.new.items ≡ out.old.items ++ octets)) }
+    ensures read { OnOk result (Appends (λ octets. decode_of (digits_of text.now) ≡ Ok octets)
+        out.old.items out.new.items) }
     ensures not_hex { result ≡ Err HexFault.NotHex → IsErr (decode_of (digits_of text.now)) }
     ensures refused { OnErr result (out.new.items ≡ out.old.items) }
 {

@@ -1,5 +1,5 @@
 -- How a command ends.
-use Rattle.std.specs.Prelude.{Result, Ok, Err}
+use Rattle.std.specs.Prelude.{◌≡◌, Result, Ok, Err}
 use Rattle.console.specs.declared.digits.HexFault.{HexFault}
 use Rattle.console.specs.declared.digits.HexFault.TheVariants as hex
 use Rattle.console.specs.declared.input.InputFault.{InputFault}
@@ -13,6 +13,11 @@ use Rattle.engine.specs.declared.stop.Stop.TheVariants as stop
 abbrev pub status_of : Result Unit Stop → Status
 status_of (Ok _) = Done
 status_of (Err _) = Refused
+
+-- nothing is left to be said at the end
+abbrev pub IsQuiet : Result Unit Stop → Type 0
+IsQuiet (Ok _) = Unit {0}
+IsQuiet (Err why) = why ≡ stop.Output
 
 -- why a command stops whose file was not read
 abbrev pub stop_of_input : InputFault → Stop

@@ -1,7 +1,7 @@
 //! The engine of `gw`: what its commands do, with a file's octets over any reader and any writer. It is a crate of its own, so
 //! that it is checked without the program's command line.
 //!
-//! [`play`] plays a script. Its first line names its kind; each further line is a directive, and what came of it is printed.
+//! [`play`] plays a script (`script`). Its first line names its kind; each further line is a directive, and what came of it is printed.
 //! A script of kind `one` has the two ends of one ESP association (RFC 4303): its sender seals packets, its receiver opens
 //! them.
 //!
@@ -37,11 +37,10 @@
 
 mod checking;
 mod playing;
-mod script;
 mod showing;
 mod stop;
 
 pub use checking::check;
-pub use playing::play;
+pub use playing::{play, play_lines};
 pub use showing::show;
 pub use stop::{Stop, end};

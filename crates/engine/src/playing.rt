@@ -1,9 +1,10 @@
 //! Playing a script.
 ghost use Rattle.std.specs.Prelude.{◌≤◌};
+ghost use Rattle.engine.specs.Printing.{Prints};
 
-use crate::script::{Kind, One, Player, Two, first_line, is_directive, is_line_end};
 use crate::stop::{Stop, end};
 use console::{read_whole, write_whole};
+use script::{Kind, Line, LineFault, One, Player, Two, directives, first_line};
 use std::alloc::Global;
 use std::io::{Read, Write};
 
@@ -26,24 +27,36 @@ fn play_script<R: Read, W: Write>(
     writer: &mut W,
 ) -> Result<(), Stop> {
     let script = read_whole(alloc, reader)?;
+    let lines = directives(alloc, &script)?;
     match Kind::named(first_line(&script)) {
-        Some(Kind::One) => play_directives(&mut One::new(alloc), &script, writer),
-        Some(Kind::Two) => play_directives(&mut Two::new(alloc), &script, writer),
+        Some(Kind::One) => play_lines(&mut One::new(alloc), &lines, writer),
+        Some(Kind::Two) => play_lines(&mut Two::new(alloc), &lines, writer),
         None => Err(Stop::Line(1)),
     }
 }
 
-/// Plays the lines after the first, and prints what each one says before the next is played.
-fn play_directives<P: Player, W: Write>(
+/// Plays the lines, and prints what the machine says at each one before the next is played: whatever the machine, what goes out is
+/// what it says in turn, or, where the output can't be written, a beginning of that.
+pub fn play_lines<P: Player, W: Write>(
     player: &mut P,
-    script: &[u8],
+    lines: &[Line],
     writer: &mut W,
-) -> Result<(), Stop> {
-    for (index, line) in script.split(is_line_end).enumerate().skip(1) {
-        if is_directive(line) {
-            let text = player.play(line).map_err(|fault| fault.at(index + 1))?;
-            write_whole(writer, text.as_bytes())?;
+) -> Result<(), Stop>
+    ensures { Prints P.says player.old lines.now result (W.contents writer.old) (W.contents writer.new) }
+{
+    for line in lines {
+        match player.play(line.text) {
+            Ok(text) => write_whole(writer, text.as_bytes())?,
+            Err(fault) => return Err(stop_at(line.number, fault)),
         }
     }
     Ok(())
+}
+
+/// Why a line that is not played, with its number from 1, stops the program.
+fn stop_at(number: usize, fault: LineFault) -> Stop {
+    match fault {
+        LineFault::Refused => Stop::Line(number),
+        LineFault::Memory => Stop::Memory,
+    }
 }

@@ -1,6 +1,6 @@
 //! Why the program stops, and how it ends.
 ghost use Rattle.std.specs.Prelude.{◌≡◌};
-ghost use Rattle.engine.specs.Ends.{status_of};
+ghost use Rattle.engine.specs.Ends.{status_of, IsQuiet};
 
 use console::{HexFault, InputFault, Status, Unwritten};
 use std::alloc::AllocError;
@@ -91,9 +91,11 @@ impl From<HexFault> for Stop {
     }
 }
 
-/// Ends a command: prints why it stopped, if it did, and answers the status.
+/// Ends a command: prints why it stopped, if it did, and answers the status. Where the work is done, or the output can't be written
+/// any more, nothing is written.
 pub fn end<W: Write>(outcome: Result<(), Stop>, writer: &mut W) -> Status
-    ensures { result ≡ status_of outcome }
+    ensures status { result ≡ status_of outcome }
+    ensures quiet { IsQuiet outcome → writer.new ≡ writer.old }
 {
     let Err(stop) = outcome else {
         return Status::Done;

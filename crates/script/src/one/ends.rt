@@ -3,7 +3,7 @@ ghost use Rattle.std.specs.Prelude.{◌≡◌};
 
 use super::directive::Terms;
 use super::report::Report;
-use crate::script::LineFault;
+use crate::LineFault;
 use esp::{Answer, Inbound, Outbound};
 use replay::{BlockWindow, is_block_count};
 use std::alloc::{AllocError, Global};

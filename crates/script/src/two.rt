@@ -6,7 +6,7 @@ mod report;
 mod setup;
 mod side;
 
-use super::{LineFault, Player};
+use crate::{LineFault, Player};
 use directive::{Act, Directive};
 use ends::Ends;
 use setup::Setup;
@@ -43,6 +43,11 @@ impl Two {
 }
 
 impl Player for Two {
+    ghost use Rattle.std.specs.Prelude.{⊤};
+
+    // Of what it prints nothing is told.
+    ghost says = { λ _ _ _ _. ⊤ };
+
     fn play(&mut self, line: &[u8]) -> Result<String, LineFault> {
         match Directive::read(self.alloc, line)? {
             Directive::Set(_) if self.ends.is_some() => Err(LineFault::Refused),

@@ -3,7 +3,7 @@ mod directive;
 mod ends;
 mod report;
 
-use super::{LineFault, Player};
+use crate::{LineFault, Player};
 use directive::Directive;
 use ends::Ends;
 use report::Report;
@@ -51,6 +51,11 @@ impl One {
 }
 
 impl Player for One {
+    ghost use Rattle.std.specs.Prelude.{⊤};
+
+    // Of what it prints nothing is told.
+    ghost says = { λ _ _ _ _. ⊤ };
+
     fn play(&mut self, line: &[u8]) -> Result<String, LineFault> {
         let directive = Directive::read(self.alloc, line)?;
         let report = self.follow(directive)?;

@@ -4,7 +4,7 @@ use super::fresh::fresh;
 use super::report;
 use super::setup::Setup;
 use super::side::{Side, address};
-use crate::script::LineFault;
+use crate::LineFault;
 use base::Items;
 use caller::ScriptCaller;
 use gateway::{Datagram, Event, Input, Mark, World, run_world};

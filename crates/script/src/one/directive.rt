@@ -1,6 +1,6 @@
 //! The directives of a script of kind `one`.
-use crate::script::LineFault;
-use crate::script::words::Words;
+use crate::LineFault;
+use crate::words::Words;
 use std::alloc::Global;
 
 /// What one line asks for. Packets are named by their places among all that were sealed, from 1.

@@ -7,7 +7,7 @@ ghost use Rattle.gateway.specs.Worlds.{HoldsNothing};
 
 use super::directive::Term;
 use super::side::{Side, address, name};
-use crate::script::LineFault;
+use crate::LineFault;
 use auth::Identity;
 use base::Items;
 use caller::ScriptCaller;

@@ -1,5 +1,4 @@
 //! Why a line of a script stops the program.
-use crate::stop::Stop;
 use gateway::RunFault;
 use replay::ReplayFault;
 use std::alloc::AllocError;
@@ -11,16 +10,6 @@ pub enum LineFault {
     Refused,
     /// There was no memory for the program's own work.
     Memory,
-}
-
-impl LineFault {
-    /// The fault of the line with this number, from 1.
-    pub fn at(self, number: usize) -> Stop {
-        match self {
-            LineFault::Refused => Stop::Line(number),
-            LineFault::Memory => Stop::Memory,
-        }
-    }
 }
 
 impl From<AllocError> for LineFault {

@@ -1,7 +1,7 @@
 //! The directives of a script of kind `two`.
 use super::side::{Side, named};
-use crate::script::LineFault;
-use crate::script::words::Words;
+use crate::LineFault;
+use crate::words::Words;
 use base::{Items, Range};
 use policy::{Action, Entry};
 use std::alloc::Global;

@@ -1,7 +1,7 @@
 //! The words of a line.
 ghost use Rattle.std.specs.Prelude.{◌≤◌, IfOk};
 
-use super::LineFault;
+use crate::LineFault;
 use base::{Address, Range};
 use console::read_address;
 use hex::{FromHex, FromHexError};

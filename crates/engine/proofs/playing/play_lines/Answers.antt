@@ -1,0 +1,59 @@
+use Rattle.std.proofs.Common.{rules, ◌≡◌, ℕ, ◌+◌, get_or, List, [], ◌∷◌, ◌++◌, Err, sym, ap, subst, ◌∙◌, append_assoc, arith}
+use Rattle.std.proofs.lemmas.List.{length-append}
+use Rattle.std.proofs.KnownBytes.{Appends-trans}
+use Rattle.std.specs.Io.KnownBytes.{Appends}
+use Rattle.std.specs.String.{string_bytes}
+use Rattle.script.specs.declared.lines.Line.{Line}
+use Rattle.engine.specs.Printing.{whole_text, Prints}
+use Rattle.engine.specs.declared.stop.Stop.TheVariants as stop
+use Rattle.engine.proofs.SayingLemmas.{one_more, whole_with}
+use Rattle.engine.proofs.playing.play_lines.Goals as goal
+
+abbrev nothing : Line
+nothing = record { number = 0; text = record { ref_ptr = (0, 0); now = [] } }
+
+pub loop-line-preserved : goal.loop-line-preserved
+loop-line-preserved g c =
+    let before = c.loop-line.invariant in
+    let lines = c.args.lines.now in
+    let text = string_bytes c.in-Ok.text in
+    let is : c.as_bytes.result.now ≡ text = search rules in
+    let old = g.W.Write.contents c.args.writer.now in
+    let between = g.W.Write.contents c.loop-line.writer in
+    let new = g.W.Write.contents c.write_whole.new.writer in
+    let more : Appends between new text = subst (λ (t : List ℕ). Appends between new t) is c.in_ok-write_whole-in-Ok.ensures.whole in
+    record {
+      texts = before.texts ++ text ∷ [];
+      count_is = length-append before.texts (text ∷ []) ∙ ap (λ (n : ℕ). n + 1) before.count_is;
+      in_turn = one_more g.P.Player.says c.args.player.now lines before.texts c.loop-line.player nothing text c.play.new.self before.in_turn
+          (omega (arith, before.count_is, c.loop-line-test.true))
+          (subst (λ (k : ℕ). g.P.Player.says c.loop-line.player (get_or lines k nothing).text.now text c.play.new.self) (sym before.count_is) c.in-Ok.ensures);
+      written = subst (λ (t : List ℕ). Appends old new t) (sym (whole_with before.texts text)) (Appends-trans old between new (whole_text before.texts) text before.written more);
+    }
+
+pub returns-in_err-write_whole-in-Ok : goal.returns-in_err-write_whole-in-Ok
+returns-in_err-write_whole-in-Ok g c =
+    let before = c.loop-line.invariant in
+    let lines = c.args.lines.now in
+    let text = string_bytes c.in-Ok.text in
+    let is : c.as_bytes.result.now ≡ text = search rules in
+    let old = g.W.Write.contents c.args.writer.now in
+    let between = g.W.Write.contents c.loop-line.writer in
+    let new = g.W.Write.contents c.write_whole.new.writer in
+    let part = c.in_err-write_whole-in-Ok.ensures.beginning in
+    let stopped : c.from_residual.result ≡ Err stop.Output = search rules in
+    subst (λ r. Prints g.P.Player.says c.args.player.now lines r old new) (sym stopped)
+    (record {
+      texts = before.texts ++ text ∷ [];
+      last = c.play.new.self;
+      in_turn = one_more g.P.Player.says c.args.player.now lines before.texts c.loop-line.player nothing text c.play.new.self before.in_turn
+          (omega (arith, before.count_is, c.loop-line-test.true))
+          (subst (λ (k : ℕ). g.P.Player.says c.loop-line.player (get_or lines k nothing).text.now text c.play.new.self) (sym before.count_is) c.in-Ok.ensures);
+      all = λ done. cc;
+      written = record {
+        written = whole_text before.texts ++ part.written;
+        left = part.left;
+        parts = whole_with before.texts text ∙ ap (λ (t : List ℕ). whole_text before.texts ++ t) (sym is ∙ part.parts) ∙ sym (append_assoc (whole_text before.texts) part.written part.left);
+        appended = Appends-trans old between new (whole_text before.texts) part.written before.written part.appended;
+      };
+    })
