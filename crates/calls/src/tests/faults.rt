@@ -1,10 +1,12 @@
 //! The number and the text of each fault that a call answers.
 use super::asserts::named;
-use esp::{EspFault, ListFault};
+use children::MemoryFault;
+use esp::{EspFault, ListFault, SealStop};
 use mac::MacFault;
 use policy::InnerFault;
 use replay::ReplayFault;
 use requests::RequestFault;
+use sa_init::SecretsSpent;
 use sadb::TableFault;
 use std::alloc::Global;
 use std::process::Abort;
@@ -91,6 +93,19 @@ fn names_of_esp(rt: &impl Abort, alloc: Global) {
         fault,
         "E38: no room for an answer after 3 packets",
     );
+    // It has the number of what stopped it.
+    let stop = SealStop {
+        sealed: 3,
+        fault: EspFault::PayloadSize,
+    };
+    named(
+        rt,
+        alloc,
+        stop.code(),
+        13,
+        stop,
+        "E13: the payload has more than 16384 octets, after 3 packets",
+    );
 }
 
 fn names_of_sadb(rt: &impl Abort, alloc: Global) {
@@ -130,6 +145,37 @@ fn names_of_traffic(rt: &impl Abort, alloc: Global) {
     }
 }
 
+fn names_of_children(rt: &impl Abort, alloc: Global) {
+    for (fault, number, text) in [
+        (MemoryFault::Message, 10, "E10: no memory"),
+        (
+            MemoryFault::Window,
+            20,
+            "E20: no memory for the replay window",
+        ),
+        (
+            MemoryFault::Narrowing,
+            24,
+            "E24: no memory for the selectors",
+        ),
+        (MemoryFault::Table, 27, "E27: no memory for the table"),
+    ] {
+        named(rt, alloc, fault.code(), number, fault, text);
+    }
+}
+
+fn names_of_sa_init(rt: &impl Abort, alloc: Global) {
+    let fault = SecretsSpent;
+    named(
+        rt,
+        alloc,
+        fault.code(),
+        36,
+        fault,
+        "E36: the numbers are spent",
+    );
+}
+
 #[test]
 fn names_each_fault(rt: HostRuntime) {
     names_of_mac(&rt, rt.alloc());
@@ -138,4 +184,6 @@ fn names_each_fault(rt: HostRuntime) {
     names_of_esp(&rt, rt.alloc());
     names_of_sadb(&rt, rt.alloc());
     names_of_traffic(&rt, rt.alloc());
+    names_of_children(&rt, rt.alloc());
+    names_of_sa_init(&rt, rt.alloc());
 }

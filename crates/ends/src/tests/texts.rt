@@ -1,17 +1,23 @@
 //! What faults print, each of them once. The texts are those of the crates' documentation.
 use super::asserts::same;
 use association::MessageFault;
+use children::MemoryFault;
 use console::HexFault;
+use create_child::AskFault;
 use engine::Stop;
+use gateway::Reason;
 use ike::IkeFault;
+use informational::InformationalFault;
 use replay::ReplayFault;
 use std::alloc::Global;
+use std::fmt::Display;
 use std::panic::Expect;
 use std::process::Abort;
+use traffic::PacketFault;
 use wire::WireFault;
 
-/// Compares what a fault of a message prints.
-fn prints(rt: &impl Abort, alloc: Global, fault: WireFault, text: &str) {
+/// Compares what a fault prints.
+fn prints<F: Display + Drop>(rt: &impl Abort, alloc: Global, fault: F, text: &str) {
     let printed = format!(in alloc; "{fault}").expect(rt, "memory");
     same(rt, printed.as_str(), text);
 }
@@ -61,12 +67,6 @@ fn faults_of_payloads(rt: HostRuntime) {
     }
 }
 
-/// Compares what the program prints where it stops.
-fn stops(rt: &impl Abort, alloc: Global, stop: Stop, text: &str) {
-    let printed = format!(in alloc; "{stop}").expect(rt, "memory");
-    same(rt, printed.as_str(), text);
-}
-
 #[test]
 fn reasons_to_stop(rt: HostRuntime) {
     let number = 5;
@@ -77,8 +77,9 @@ fn reasons_to_stop(rt: HostRuntime) {
         (Stop::Payload { number, offset: 28 }, "refused E5 at 28"),
         (Stop::Line(7), "line 7 refused"),
         (Stop::Memory, "no memory"),
+        (Stop::Output, "the output was not written"),
     ] {
-        stops(&rt, rt.alloc(), stop, text);
+        prints(&rt, rt.alloc(), stop, text);
     }
 }
 
@@ -93,21 +94,31 @@ fn the_fault_of_a_window(rt: HostRuntime) {
 }
 
 #[test]
-fn the_fault_of_digits(rt: HostRuntime) {
-    let printed = format!(in rt.alloc(); "{}", HexFault::NotHex).expect(&rt, "memory");
-    same(&rt, printed.as_str(), "the text is not hexadecimal");
+fn faults_of_digits(rt: HostRuntime) {
+    for (fault, text) in [
+        (HexFault::NotHex, "the text is not hexadecimal"),
+        (HexFault::Memory, "no memory"),
+    ] {
+        prints(&rt, rt.alloc(), fault, text);
+    }
 }
 
-/// Compares the number and the text of a fault of IKE.
-fn tells(rt: &impl Abort, alloc: Global, fault: IkeFault, code: u8, text: &str) {
-    let printed = format!(in alloc; "{fault}").expect(rt, "memory");
-    same(rt, printed.as_str(), text);
-    same(rt, fault.code(), code);
+/// Compares the number that a fault has and what it prints.
+fn tells<F: Display + Drop>(
+    rt: &impl Abort,
+    alloc: Global,
+    code: u8,
+    number: u8,
+    fault: F,
+    text: &str,
+) {
+    same(rt, code, number);
+    prints(rt, alloc, fault, text);
 }
 
 #[test]
 fn faults_of_ike(rt: HostRuntime) {
-    for (fault, code, text) in [
+    for (fault, number, text) in [
         (
             IkeFault::Unread(WireFault::BadVersion),
             3,
@@ -134,13 +145,13 @@ fn faults_of_ike(rt: HostRuntime) {
             "E37: the fresh SPI is zero or in use",
         ),
     ] {
-        tells(&rt, rt.alloc(), fault, code, text);
+        tells(&rt, rt.alloc(), fault.code(), number, fault, text);
     }
 }
 
 #[test]
 fn faults_of_what_came(rt: HostRuntime) {
-    for (fault, code, text) in [
+    for (fault, number, text) in [
         (
             MessageFault::UnknownAssociation,
             28,
@@ -168,6 +179,94 @@ fn faults_of_what_came(rt: HostRuntime) {
             "E33: the message claims the role of this end",
         ),
     ] {
-        tells(&rt, rt.alloc(), IkeFault::Message(fault), code, text);
+        let fault = IkeFault::Message(fault);
+        tells(&rt, rt.alloc(), fault.code(), number, fault, text);
+    }
+}
+
+#[test]
+fn faults_for_want_of_memory(rt: HostRuntime) {
+    for (fault, number, text) in [
+        (MemoryFault::Message, 10, "E10: no memory"),
+        (
+            MemoryFault::Window,
+            20,
+            "E20: no memory for the replay window",
+        ),
+        (
+            MemoryFault::Narrowing,
+            24,
+            "E24: no memory for the selectors",
+        ),
+        (MemoryFault::Table, 27, "E27: no memory for the table"),
+    ] {
+        let fault = IkeFault::Memory(fault);
+        tells(&rt, rt.alloc(), fault.code(), number, fault, text);
+    }
+}
+
+#[test]
+fn faults_of_orders(rt: HostRuntime) {
+    for (fault, number, text) in [
+        (
+            InformationalFault::WrongPhase,
+            32,
+            "E32: the association is in another phase",
+        ),
+        (
+            InformationalFault::Busy,
+            35,
+            "E35: the peer's window is full, or the association is being deleted",
+        ),
+        (
+            InformationalFault::NumbersSpent,
+            36,
+            "E36: the numbers are spent",
+        ),
+        (InformationalFault::Memory, 10, "E10: no memory"),
+    ] {
+        tells(&rt, rt.alloc(), fault.code(), number, fault, text);
+    }
+}
+
+#[test]
+fn faults_of_orders_for_a_child(rt: HostRuntime) {
+    for (fault, number, text) in [
+        (
+            AskFault::WrongPhase,
+            32,
+            "E32: the association is in another phase",
+        ),
+        (
+            AskFault::Busy,
+            35,
+            "E35: the peer's window is full, or the association is being deleted",
+        ),
+        (AskFault::NumbersSpent, 36, "E36: the numbers are spent"),
+        (AskFault::TableFull, 25, "E25: the table is full"),
+        (AskFault::SpisSpent, 26, "E26: the SPIs are spent"),
+        (AskFault::TableMemory, 27, "E27: no memory for the table"),
+        (AskFault::Memory, 10, "E10: no memory"),
+    ] {
+        tells(&rt, rt.alloc(), fault.code(), number, fault, text);
+    }
+}
+
+#[test]
+fn reasons_of_a_gateway(rt: HostRuntime) {
+    for (reason, number, text) in [
+        (
+            Reason::Ike(IkeFault::Unprotected),
+            23,
+            "E23: no entry that protects",
+        ),
+        (
+            Reason::Packet(PacketFault::UnknownAssociation),
+            28,
+            "E28: no association is there for the packet",
+        ),
+        (Reason::Memory, 20, "E20: no memory for the packet"),
+    ] {
+        tells(&rt, rt.alloc(), reason.code(), number, reason, text);
     }
 }

@@ -39,6 +39,7 @@ enum Kind {
     Nonce,
     Sealed,
     VendorId,
+    Unknown,
 }
 
 /// A payload, as a table names it.
@@ -51,15 +52,15 @@ enum Sample {
     TsR(usize),
     /// An unknown one of this type.
     Unknown(u8),
-    /// A notice about an SPI of so many octets.
-    Notify(usize),
+    /// A notice about an SPI of so many octets, with so many octets of data.
+    Notify(usize, usize),
     /// A deletion of so many SPIs of a protocol.
     Deletion(u8, usize),
     /// A proposal with an SPI of so many octets and so many transforms.
     Proposal(usize, usize),
-    /// A proposal whose transform has an attribute of this type, in the short form or in the long one.
+    /// A proposal whose transform has an attribute of this type, in the short form, or in the long one with so many octets.
     Short(u16),
-    Long(u16),
+    Long(u16, usize),
     /// Two proposals of these numbers.
     Numbered(u8, u8),
     /// No proposal.
@@ -79,6 +80,11 @@ fn with_octets(kind: Kind, data: Items<u8>) -> Payload {
         },
         Kind::VendorId => Payload::Skipped {
             kind: SkippedKind::VendorId,
+            data,
+        },
+        Kind::Unknown => Payload::Unknown {
+            kind: 200,
+            critical: true,
             data,
         },
     }
@@ -111,11 +117,11 @@ fn payload(rt: &impl Abort, alloc: Global, sample: Sample) -> Payload {
             critical: true,
             data: octets(rt, alloc, 5, 3),
         },
-        Sample::Notify(count) => Payload::Notify {
+        Sample::Notify(size, count) => Payload::Notify {
             protocol: 0,
-            spi: octets(rt, alloc, 5, count),
+            spi: octets(rt, alloc, 5, size),
             kind: 1,
-            data: Items::new(alloc),
+            data: octets(rt, alloc, 5, count),
         },
         Sample::Deletion(protocol, count) => deletion(rt, alloc, protocol, count),
         _ => association(rt, alloc, sample),
@@ -135,8 +141,8 @@ fn association(rt: &impl Abort, alloc: Global, sample: Sample) -> Payload {
             let attribute = Attribute::Short { kind, value: 128 };
             alone(rt, alloc, attributed(rt, alloc, attribute))
         }
-        Sample::Long(kind) => {
-            let value = octets(rt, alloc, 5, 3);
+        Sample::Long(kind, count) => {
+            let value = octets(rt, alloc, 5, count);
             alone(
                 rt,
                 alloc,
@@ -274,7 +280,7 @@ const SPELLINGS: [Row; 16] = [
     (Sample::Unknown(255), 0, None),
     // data and SPIs that are too long
     (Sample::Octets(Kind::VendorId, 65532), 4, Some(28)),
-    (Sample::Notify(256), 8, Some(28)),
+    (Sample::Notify(256, 0), 8, Some(28)),
     // deletions
     (Sample::Deletion(1, 0), 0, None),
     (Sample::Deletion(1, 1), 8, Some(28)),
@@ -298,9 +304,9 @@ const PROPOSALS: [Row; 14] = [
     (Sample::Proposal(256, 1), 5, Some(28)),
     // the type of an attribute has 15 bits
     (Sample::Short(0x7fff), 0, None),
-    (Sample::Long(0x7fff), 0, None),
+    (Sample::Long(0x7fff, 3), 0, None),
     (Sample::Short(0x8000), 5, Some(28)),
-    (Sample::Long(0x8000), 5, Some(28)),
+    (Sample::Long(0x8000, 3), 5, Some(28)),
     // they are numbered from 1 on
     (Sample::Numbered(1, 2), 0, None),
     (Sample::Numbered(0, 1), 5, Some(28)),
@@ -312,6 +318,55 @@ const PROPOSALS: [Row; 14] = [
 #[test]
 fn limits_and_numbers_of_proposals(rt: HostRuntime) {
     none_differs(&rt, first_differing(&rt, rt.alloc(), &PROPOSALS));
+}
+
+// A payload's length field has two octets and counts the payload's header of 4 (RFC 7296, section 3.2), so at most 65531 octets are behind
+// it. For each form the most that has a spelling, where only the message is too long, and the least that has none.
+const LONGEST: [Row; 13] = [
+    (Sample::Octets(Kind::Sealed, 65531), 9, None),
+    (Sample::Octets(Kind::Sealed, 65532), 4, Some(28)),
+    (Sample::Octets(Kind::Unknown, 65531), 9, None),
+    (Sample::Octets(Kind::Unknown, 65532), 4, Some(28)),
+    (Sample::Octets(Kind::VendorId, 65531), 9, None),
+    // 4 octets stand before a notice's SPI, and its data behind that (section 3.10)
+    (Sample::Notify(0, 65527), 9, None),
+    (Sample::Notify(0, 65528), 8, Some(28)),
+    (Sample::Notify(255, 65272), 9, None),
+    (Sample::Notify(255, 65273), 8, Some(28)),
+    // 4 before a deletion's SPIs of 4 octets each (section 3.11): 65532 octets are its most, 65536 are too many
+    (Sample::Deletion(3, 16381), 9, None),
+    (Sample::Deletion(3, 16382), 8, Some(28)),
+    // 65536 octets of SPIs, and as many SPIs as their count can't say
+    (Sample::Deletion(2, 16384), 8, Some(28)),
+    (Sample::Deletion(3, 65536), 8, Some(28)),
+];
+
+#[test]
+fn the_longest_payloads(rt: HostRuntime) {
+    none_differs(&rt, first_differing(&rt, rt.alloc(), &LONGEST));
+}
+
+// A long attribute's length field counts its value alone (RFC 7296, section 3.3.5), before which 4 octets stand. Those of the transform,
+// the proposal and the payload count their headers too, of 8, 8 and 4 octets (sections 3.3.2, 3.3.1 and 3.2).
+const LONG_ATTRIBUTES: [Row; 8] = [
+    // the most that fits everywhere: only the message is too long
+    (Sample::Long(1, 65511), 9, None),
+    // too long for the payload, at most as long as the proposal takes
+    (Sample::Long(1, 65512), 5, Some(28)),
+    (Sample::Long(1, 65515), 5, Some(28)),
+    // too long for the proposal, at most as long as the transform takes
+    (Sample::Long(1, 65516), 5, Some(28)),
+    (Sample::Long(1, 65523), 5, Some(28)),
+    // too long for the transform, at most as long as the attribute takes
+    (Sample::Long(1, 65524), 5, Some(28)),
+    (Sample::Long(1, 65535), 5, Some(28)),
+    // too long for the attribute
+    (Sample::Long(1, 65536), 5, Some(28)),
+];
+
+#[test]
+fn the_longest_attributes(rt: HostRuntime) {
+    none_differs(&rt, first_differing(&rt, rt.alloc(), &LONG_ATTRIBUTES));
 }
 
 /// Why a message is not encoded. What stood in the output has to stay.

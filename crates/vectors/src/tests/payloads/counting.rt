@@ -103,7 +103,7 @@ fn payloads(rt: &impl Abort, alloc: Global, samples: &[Sample]) -> Items<Payload
 // RFC 7296, section 2.5: the first unknown payload that is marked decides.
 #[test]
 fn the_first_unknown_critical(rt: HostRuntime) {
-    let rows: [(&[Sample], Option<u8>); 3] = [
+    let rows: [(&[Sample], Option<u8>); 4] = [
         (&[Sample::Unknown(200, false), Sample::Nonce(1)], None),
         (
             &[
@@ -114,6 +114,8 @@ fn the_first_unknown_critical(rt: HostRuntime) {
             ],
             Some(201),
         ),
+        // under the number of a key exchange it is unknown all the same
+        (&[Sample::Unknown(34, true)], Some(34)),
         (&[], None),
     ];
     for (samples, wanted) in rows {
@@ -208,6 +210,44 @@ fn each_type_by_itself(rt: HostRuntime) {
     holds(&rt, has_each(payloads.as_slice()));
     let nonce = [payload(&rt, rt.alloc(), Sample::Nonce(1))];
     holds(&rt, !has_ke(&nonce));
+}
+
+/// Unknown payloads under the numbers of known ones, which no decoding gives.
+const UNKNOWN: [Sample; 8] = [
+    Sample::Unknown(33, false),
+    Sample::Unknown(34, false),
+    Sample::Unknown(35, false),
+    Sample::Unknown(36, false),
+    Sample::Unknown(39, false),
+    Sample::Unknown(42, false),
+    Sample::Unknown(44, false),
+    Sample::Unknown(45, false),
+];
+
+/// Whether no proposals, no selectors and no deletion of the association are found.
+fn has_no_list(payloads: &[Payload]) -> bool {
+    only_sa(payloads).is_none()
+        && only_ts_i(payloads).is_none()
+        && only_ts_r(payloads).is_none()
+        && !offers_ike(payloads)
+        && !deletes_association(payloads)
+}
+
+/// Whether no known payload is found.
+fn has_nothing(payloads: &[Payload]) -> bool {
+    only_id_i(payloads).is_none()
+        && only_id_r(payloads).is_none()
+        && only_auth(payloads).is_none()
+        && only_ke(payloads).is_none()
+        && !has_ke(payloads)
+        && has_no_list(payloads)
+}
+
+// What is kept as unknown is none of the known payloads, whatever its number.
+#[test]
+fn unknown_payloads_under_known_numbers(rt: HostRuntime) {
+    let payloads = payloads(&rt, rt.alloc(), &UNKNOWN);
+    holds(&rt, has_nothing(payloads.as_slice()));
 }
 
 /// How many proposals and selectors of each side are found.
