@@ -52,7 +52,7 @@
 //! let mut gateway = Gateway::new(rt.alloc(), config, policy, 4096, ScriptCaller);
 //!
 //! gateway.step(rt.alloc(), &Input::Tick { moment: 0 });
-//! // Of random octets, drawn anew for each input that may send.
+//! // Of random octets, drawn anew for each input that has them.
 //! let fresh = Fresh {
 //!     spi: 1,
 //!     nonce: [9; 32],

@@ -1,7 +1,7 @@
 //! What tests of whole gateways are made of: two gateways with the caller of scripts, and what comes to them.
 //!
 //! `ends` has their configurations and policies, `inputs` what comes to them, `both` two of them that hold an association and its first
-//! child. The crates `gateways` and `starved` share it; nothing of the core stands on it.
+//! child. The crates `gateways`, `runs` and `starved` share it; nothing of the core stands on it.
 #![tactic(auto)]
 
 mod both;

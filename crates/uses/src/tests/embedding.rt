@@ -69,7 +69,7 @@ fn the_page_of_gateway(rt: HostRuntime) -> Result<(), Fail> {
     let mut gateway = Gateway::new(rt.alloc(), config, policy, 4096, ScriptCaller);
 
     gateway.step(rt.alloc(), &Input::Tick { moment: 0 });
-    // Of random octets, drawn anew for each input that may send.
+    // Of random octets, drawn anew for each input that has them.
     let fresh = Fresh {
         spi: 1,
         nonce: [9; 32],
