@@ -16,14 +16,14 @@ use Rattle.initial.specs.Reading.{Asker, ReadsResponse}
 use Rattle.initial.specs.declared.beginning.Admitted.{Admitted}
 use Rattle.initial.specs.declared.reading.Continued.TheVariants as continued
 
--- what an end's association sent of itself in IKE_SA_INIT: its SPI, the value of its key exchange and its nonce
+-- what an association says of itself in IKE_SA_INIT: its SPI, the value of its key exchange and its nonce
 pub record Introduction : Type 0 where
   pub spi : ℕ
   pub public : Octets
   pub nonce : Octets
 
--- The step by which an end came to these keys as initiator: it read a response, and this is what its own association had sent, and what the
--- response said of the other.
+-- The call by which an end came to these keys as initiator: it read a response, and this is what its association holds of itself, and what the
+-- response says of the other. That the first goes out, and stays through a cookie, the calls that begin and go on say.
 pub record ComesToKeysAsInitiator (asker : Asker) (own other : Introduction) (keys : KeyRecord) : Type 0 where
   pub setup : Setup
   pub old : Association
@@ -40,8 +40,8 @@ pub record ComesToKeysAsInitiator (asker : Asker) (own other : Introduction) (ke
   pub complete : HasParts response.payloads parts
   pub other_is : other ≡ record { spi = response.header.spi_r; public = parts.public; nonce = parts.nonce }
 
--- The step by which an end came to these keys as responder: it took an offer, and this is what its own association sent in the answer, and
--- what the offer said of the other.
+-- The call by which an end came to these keys as responder: it took an offer, and this is what its answer says of its association, and what
+-- the offer says of the other.
 pub record ComesToKeysAsResponder (cipher : Cipher) (group : ℕ) (public_value : Octets → Octets) (shared_secret : Octets → Octets → Option Octets) (own other : Introduction) (keys : KeyRecord) : Type 0 where
   pub fresh : Fresh
   pub moment : ℕ

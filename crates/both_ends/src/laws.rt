@@ -8,9 +8,9 @@ ghost use Rattle.both_ends.specs.Records.{ComesToKeysAsInitiator, ComesToKeysAsR
 
 use suite::Agreement;
 
-/// Where an end came to its keys as initiator, and an end as responder, each from the SPI, the value of the key exchange and the nonce
-/// that the other's association sent in IKE_SA_INIT (RFC 7296, section 2.14), both have one record of keys: by the agreement's law,
-/// whatever else the messages had, whatever ciphers and groups the ends ask for, and however many messages came between.
+/// Where one call gave an end its keys as initiator, and one call an end as responder, each from the SPI, the value of the key exchange and
+/// the nonce that the other's association holds of itself (RFC 7296, section 2.14), both have one record of keys: by the agreement's law
+/// alone, whatever else the messages had, and whatever ciphers and groups the ends ask for.
 pub fn both_ends_make_one_record<C: Agreement>(caller: &C)
     ensures { (ours theirs : Cipher) (our_group their_group own_method : ℕ)
         (body_of : Keys → Octets → Octets → Octets → Octets) (proof_of : Octets → Octets)

@@ -5,11 +5,11 @@ ghost use Rattle.console.specs.Output.{AppendsBeginning};
 
 use std::io::{ErrorKind, Write};
 
-/// A write failed: a beginning of the text was written, and nothing after it.
+/// A write failed: a beginning of the text was written, which is not all of it, and nothing after it.
 #[derive(Clone, Copy, Debug, PartialEq, Eq)]
 pub struct Unwritten;
 
-/// Writes the text to its end, or a beginning of it where a write fails: then [`Unwritten`].
+/// Writes the text to its end, or not all of it where a write fails: then [`Unwritten`].
 pub fn write_whole<W: Write>(writer: &mut W, text: &[u8]) -> Result<(), Unwritten>
     ensures whole { OnOk result (Appends (W.contents writer.old) (W.contents writer.new) text.now) }
     ensures beginning { OnErr result
@@ -27,5 +27,9 @@ pub fn write_whole<W: Write>(writer: &mut W, text: &[u8]) -> Result<(), Unwritte
             Err(_) => return Err(Unwritten),
         }
     }
-    Err(Unwritten)
+    if rest.is_empty() {
+        Ok(())
+    } else {
+        Err(Unwritten)
+    }
 }

@@ -1,9 +1,12 @@
 -- What a machine said so far, and at one line more.
-use Rattle.std.proofs.Common.{◌≡◌, ℕ, ◌<◌, List, [], ◌∷◌, ◌++◌, length, get_or, Option, refl, sym, ap, subst, ◌∙◌, append_assoc, arith}
+use Rattle.std.proofs.Common.{◌≡◌, ℕ, zero, suc, ◌<◌, List, [], ◌∷◌, ◌++◌, length, get_or, slice_get, Option, Some, Err, refl, sym, ap, subst, ◌∙◌, append_assoc, arith}
 use Rattle.std.proofs.lemmas.List.{append-nil}
 use Rattle.std.specs.Io.KnownBytes.{Appends}
+use Rattle.script.specs.declared.fault.LineFault.{LineFault}
+use Rattle.script.specs.declared.fault.LineFault.TheVariants as fault
 use Rattle.script.specs.declared.lines.Line.{Line}
-use Rattle.engine.specs.Printing.{whole_text, SaysInTurn}
+use Rattle.engine.specs.Ends.{stop_of_line}
+use Rattle.engine.specs.Printing.{whole_text, EndsBy, SaysInTurn, StopsAt}
 
 -- the texts of so many lines are written
 pub record HasSaid {M : Type 0} (says : M → List ℕ → List ℕ → M → Type 0) (machine : M) (lines : List Line) (count : ℕ) (next : M) (old new : Option (List ℕ)) : Type 0 where
@@ -23,3 +26,14 @@ one_more says machine (first ∷ lines) (t ∷ texts) before default text next t
 pub whole_with : (texts : List (List ℕ)) (text : List ℕ) → whole_text (texts ++ text ∷ []) ≡ whole_text texts ++ text
 whole_with [] text = append-nil text
 whole_with (first ∷ texts) text = ap (λ (t : List ℕ). first ++ t) (whole_with texts text) ∙ sym (append_assoc first (whole_text texts) text)
+
+pub at_place : (lines : List Line) (place : ℕ) (default : Line) → place < length lines → slice_get lines place ≡ Some (get_or lines place default)
+at_place [] place default below = absurd (omega (arith, below))
+at_place (first ∷ lines) zero default below = refl
+at_place (first ∷ lines) (suc place) default below = at_place lines place default (omega (arith, below))
+
+-- a line that is refused ends it by its reason
+pub ends_at : {M : Type 0} (refuses : M → List ℕ → LineFault → Type 0) (lines : List Line) (texts : List (List ℕ)) (last behind : M) (why : LineFault) (number : ℕ) (old new : Option (List ℕ))
+    → StopsAt refuses lines texts last why number old new → EndsBy refuses lines texts last behind (Err (stop_of_line number why)) old new
+ends_at refuses lines texts last behind fault.Refused number old new stops = stops
+ends_at refuses lines texts last behind fault.Memory number old new stops = (number, stops)

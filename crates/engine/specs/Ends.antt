@@ -1,5 +1,7 @@
 -- How a command ends.
-use Rattle.std.specs.Prelude.{◌≡◌, Result, Ok, Err}
+use Rattle.std.specs.Prelude.{◌≡◌, ℕ, Result, Ok, Err}
+use Rattle.script.specs.declared.fault.LineFault.{LineFault}
+use Rattle.script.specs.declared.fault.LineFault.TheVariants as fault
 use Rattle.console.specs.declared.digits.HexFault.{HexFault}
 use Rattle.console.specs.declared.digits.HexFault.TheVariants as hex
 use Rattle.console.specs.declared.input.InputFault.{InputFault}
@@ -28,3 +30,8 @@ stop_of_input input.Memory = stop.Memory
 abbrev pub stop_of_digits : HexFault → Stop
 stop_of_digits hex.NotHex = stop.Hex
 stop_of_digits hex.Memory = stop.Memory
+
+-- why a command stops at a line that was not played
+abbrev pub stop_of_line : ℕ → LineFault → Stop
+stop_of_line number fault.Refused = stop.Line number
+stop_of_line number fault.Memory = stop.Memory

@@ -1,8 +1,11 @@
--- What goes out while a script is played.
-use Rattle.std.specs.Prelude.{◌≡◌, ℕ, List, [], ◌∷◌, ◌++◌, length, Option, Result, Err, IsOk}
+-- What goes out while a script is played, and how that ends.
+use Rattle.std.specs.Prelude.{◌≡◌, ◌≤◌, ℕ, List, [], ◌∷◌, ◌++◌, length, slice_get, Option, Some, Result, Ok, Err}
 use Rattle.std.specs.Io.KnownBytes.{Appends}
+use Rattle.script.specs.declared.fault.LineFault.{LineFault}
+use Rattle.script.specs.declared.fault.LineFault.TheVariants as fault
 use Rattle.script.specs.declared.lines.Line.{Line}
-use Rattle.console.specs.Output.{AppendsBeginning}
+use Rattle.console.specs.declared.status.Status.{Status}
+use Rattle.engine.specs.Ends.{status_of, IsQuiet}
 use Rattle.engine.specs.declared.stop.Stop.{Stop}
 use Rattle.engine.specs.declared.stop.Stop.TheVariants as stop
 
@@ -17,15 +20,49 @@ SaysInTurn says machine lines [] last = machine ≡ last
 SaysInTurn says machine [] (text ∷ texts) last = ⊥
 SaysInTurn {M} says machine (line ∷ lines) (text ∷ texts) last = (next : M) × says machine line.text.now text next × SaysInTurn says next lines texts last
 
--- The text is written, but where it can't be: then a beginning of it is, and nothing after.
-abbrev pub IsWritten : Result Unit Stop → List ℕ → Option (List ℕ) → Option (List ℕ) → Type 0
-IsWritten (Err stop.Output) text old new = AppendsBeginning old new text
-IsWritten outcome text old new = Appends old new text
+-- All lines are played, and all that was said is written.
+pub record Completes {M : Type 0} (lines : List Line) (texts : List (List ℕ)) (last behind : M) (old new : Option (List ℕ)) : Type 0 where
+  pub all : length texts ≡ length lines
+  pub machine : behind ≡ last
+  pub appended : Appends old new (whole_text texts)
 
--- What goes out is what the machine says in turn: at all lines, but where one can't be played or what it says can't be written.
-pub record Prints {M : Type 0} (says : M → List ℕ → List ℕ → M → Type 0) (machine : M) (lines : List Line) (outcome : Result Unit Stop) (old new : Option (List ℕ)) : Type 0 where
+-- What was said last is written in part, and all before it whole.
+pub record BreaksOff {M : Type 0} (texts : List (List ℕ)) (last behind : M) (old new : Option (List ℕ)) : Type 0 where
+  pub before : List (List ℕ)
+  pub written : List ℕ
+  pub left : List ℕ
+  pub some : 1 ≤ length left
+  pub texts_are : texts ≡ before ++ (written ++ left) ∷ []
+  pub machine : behind ≡ last
+  pub appended : Appends old new (whole_text before ++ written)
+
+-- The next line is refused for this reason, and all that was said before is written.
+pub record StopsAt {M : Type 0} (refuses : M → List ℕ → LineFault → Type 0) (lines : List Line) (texts : List (List ℕ)) (last : M) (why : LineFault) (number : ℕ) (old new : Option (List ℕ)) : Type 0 where
+  pub line : Line
+  pub there : slice_get lines (length texts) ≡ Some line
+  pub number_is : number ≡ line.number
+  pub refused : refuses last line.text.now why
+  pub appended : Appends old new (whole_text texts)
+
+-- how it ends, after these texts, by the outcome
+abbrev pub EndsBy : {M : Type 0} → (M → List ℕ → LineFault → Type 0) → List Line → List (List ℕ) → M → M → Result Unit Stop → Option (List ℕ) → Option (List ℕ) → Type 0
+EndsBy refuses lines texts last behind (Ok _) old new = Completes lines texts last behind old new
+EndsBy refuses lines texts last behind (Err stop.Output) old new = BreaksOff texts last behind old new
+EndsBy refuses lines texts last behind (Err (stop.Line number)) old new = StopsAt refuses lines texts last fault.Refused number old new
+EndsBy refuses lines texts last behind (Err stop.Memory) old new = (number : ℕ) × StopsAt refuses lines texts last fault.Memory number old new
+EndsBy refuses lines texts last behind outcome old new = ⊥
+
+-- What goes out is what the machine says in turn: at all lines, or up to the first that it refuses, or to where it can't be written.
+pub record Prints {M : Type 0} (says : M → List ℕ → List ℕ → M → Type 0) (refuses : M → List ℕ → LineFault → Type 0) (machine behind : M) (lines : List Line) (outcome : Result Unit Stop) (old new : Option (List ℕ)) : Type 0 where
   pub texts : List (List ℕ)
   pub last : M
   pub in_turn : SaysInTurn says machine lines texts last
-  pub all : IsOk outcome → length texts ≡ length lines
-  pub written : IsWritten outcome (whole_text texts) old new
+  pub ends : EndsBy refuses lines texts last behind outcome old new
+
+-- So it is printed, and the status tells whether all was; after all was, or where the output can't be written, nothing more goes out.
+pub record Plays {M : Type 0} (says : M → List ℕ → List ℕ → M → Type 0) (refuses : M → List ℕ → LineFault → Type 0) (machine behind : M) (lines : List Line) (status : Status) (old new : Option (List ℕ)) : Type 0 where
+  pub outcome : Result Unit Stop
+  pub printed : Option (List ℕ)
+  pub prints : Prints says refuses machine behind lines outcome old printed
+  pub status_is : status ≡ status_of outcome
+  pub quiet : IsQuiet outcome → new ≡ printed

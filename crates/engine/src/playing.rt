@@ -1,9 +1,10 @@
 //! Playing a script.
-ghost use Rattle.std.specs.Prelude.{◌≤◌};
-ghost use Rattle.engine.specs.Printing.{Prints};
+ghost use Rattle.std.specs.Prelude.{◌≡◌, ◌≤◌};
+ghost use Rattle.engine.specs.Ends.{stop_of_line};
+ghost use Rattle.engine.specs.Printing.{Plays, Prints};
 
 use crate::stop::{Stop, end};
-use console::{read_whole, write_whole};
+use console::{Status, read_whole, write_whole};
 use script::{Kind, Line, LineFault, One, Player, Two, directives, first_line};
 use std::alloc::Global;
 use std::io::{Read, Write};
@@ -17,32 +18,47 @@ use std::io::{Read, Write};
 pub fn play<R: Read, W: Write>(alloc: Global, reader: &mut R, writer: &mut W) -> u8
     ensures { result ≤ 1 }
 {
-    let outcome = play_script(alloc, reader, writer);
-    end(outcome, writer).code()
+    let status = match play_script(alloc, reader, writer) {
+        Ok(status) => status,
+        Err(stop) => end(Err(stop), writer),
+    };
+    status.code()
 }
 
 fn play_script<R: Read, W: Write>(
     alloc: Global,
     reader: &mut R,
     writer: &mut W,
-) -> Result<(), Stop> {
+) -> Result<Status, Stop> {
     let script = read_whole(alloc, reader)?;
     let lines = directives(alloc, &script)?;
     match Kind::named(first_line(&script)) {
-        Some(Kind::One) => play_lines(&mut One::new(alloc), &lines, writer),
-        Some(Kind::Two) => play_lines(&mut Two::new(alloc), &lines, writer),
+        Some(Kind::One) => Ok(play_lines(&mut One::new(alloc), &lines, writer)),
+        Some(Kind::Two) => Ok(play_lines(&mut Two::new(alloc), &lines, writer)),
         None => Err(Stop::Line(1)),
     }
 }
 
-/// Plays the lines, and prints what the machine says at each one before the next is played: whatever the machine, what goes out is
-/// what it says in turn, or, where the output can't be written, a beginning of that.
-pub fn play_lines<P: Player, W: Write>(
+/// Plays the lines, prints what the machine says at each one before the next is played, and, where a line is refused, why; and answers
+/// the status.
+///
+/// Whatever the machine: what goes out, where the writer tells its octets, is what the machine says in turn, at all lines, or up to the
+/// first that it refuses; where a write fails, a beginning of that, and nothing more, not even why.
+pub fn play_lines<P: Player, W: Write>(player: &mut P, lines: &[Line], writer: &mut W) -> Status
+    ensures { Plays P.says P.refuses player.old player.new lines.now result
+        (W.contents writer.old) (W.contents writer.new) }
+{
+    let outcome = print_lines(player, lines, writer);
+    end(outcome, writer)
+}
+
+fn print_lines<P: Player, W: Write>(
     player: &mut P,
     lines: &[Line],
     writer: &mut W,
 ) -> Result<(), Stop>
-    ensures { Prints P.says player.old lines.now result (W.contents writer.old) (W.contents writer.new) }
+    ensures { Prints P.says P.refuses player.old player.new lines.now result
+        (W.contents writer.old) (W.contents writer.new) }
 {
     for line in lines {
         match player.play(line.text) {
@@ -54,7 +70,9 @@ pub fn play_lines<P: Player, W: Write>(
 }
 
 /// Why a line that is not played, with its number from 1, stops the program.
-fn stop_at(number: usize, fault: LineFault) -> Stop {
+fn stop_at(number: usize, fault: LineFault) -> Stop
+    ensures { result ≡ stop_of_line number fault }
+{
     match fault {
         LineFault::Refused => Stop::Line(number),
         LineFault::Memory => Stop::Memory,

@@ -53,8 +53,10 @@ impl One {
 impl Player for One {
     ghost use Rattle.std.specs.Prelude.{⊤};
 
-    // Of what it prints nothing is told.
+    // Of what it prints, and of what it refuses, nothing is told.
     ghost says = { λ _ _ _ _. ⊤ };
+
+    ghost refuses = { λ _ _ _. ⊤ };
 
     fn play(&mut self, line: &[u8]) -> Result<String, LineFault> {
         let directive = Directive::read(self.alloc, line)?;

@@ -45,8 +45,10 @@ impl Two {
 impl Player for Two {
     ghost use Rattle.std.specs.Prelude.{⊤};
 
-    // Of what it prints nothing is told.
+    // Of what it prints, and of what it refuses, nothing is told.
     ghost says = { λ _ _ _ _. ⊤ };
+
+    ghost refuses = { λ _ _ _. ⊤ };
 
     fn play(&mut self, line: &[u8]) -> Result<String, LineFault> {
         match Directive::read(self.alloc, line)? {
