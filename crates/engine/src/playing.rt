@@ -1,5 +1,6 @@
 //! Playing a script.
-ghost use Rattle.std.specs.Prelude.{◌≡◌, ◌≤◌};
+ghost use Rattle.std.specs.Prelude.{◌≡◌, ◌≤◌, IfOk};
+ghost use Rattle.console.specs.Status.{exit_code};
 ghost use Rattle.engine.specs.Ends.{stop_of_line};
 ghost use Rattle.engine.specs.Printing.{Plays, Prints};
 
@@ -18,18 +19,19 @@ use std::io::{Read, Write};
 pub fn play<R: Read, W: Write>(alloc: Global, reader: &mut R, writer: &mut W) -> u8
     ensures { result ≤ 1 }
 {
-    let status = match play_script(alloc, reader, writer) {
-        Ok(status) => status,
-        Err(stop) => end(Err(stop), writer),
-    };
-    status.code()
+    match play_script(alloc, reader, writer) {
+        Ok(status) => status.code(),
+        Err(stop) => end(Err(stop), writer).code(),
+    }
 }
 
 fn play_script<R: Read, W: Write>(
     alloc: Global,
     reader: &mut R,
     writer: &mut W,
-) -> Result<Status, Stop> {
+) -> Result<Status, Stop>
+    ensures { IfOk result (λ status. exit_code status ≤ 1) }
+{
     let script = read_whole(alloc, reader)?;
     let lines = directives(alloc, &script)?;
     match Kind::named(first_line(&script)) {
@@ -45,8 +47,9 @@ fn play_script<R: Read, W: Write>(
 /// Whatever the machine: what goes out, where the writer tells its octets, is what the machine says in turn, at all lines, or up to the
 /// first that it refuses; where a write fails, a beginning of that, and nothing more, not even why.
 pub fn play_lines<P: Player, W: Write>(player: &mut P, lines: &[Line], writer: &mut W) -> Status
-    ensures { Plays P.says P.refuses player.old player.new lines.now result
+    ensures plays { Plays P.says P.refuses player.old player.new lines.now result
         (W.contents writer.old) (W.contents writer.new) }
+    ensures code { exit_code result ≤ 1 }
 {
     let outcome = print_lines(player, lines, writer);
     end(outcome, writer)

@@ -1,5 +1,6 @@
 //! Why the program stops, and how it ends.
-ghost use Rattle.std.specs.Prelude.{◌≡◌};
+ghost use Rattle.std.specs.Prelude.{◌≡◌, ◌≤◌};
+ghost use Rattle.console.specs.Status.{exit_code};
 ghost use Rattle.engine.specs.Ends.{status_of, IsQuiet};
 
 use console::{HexFault, InputFault, Status, Unwritten};
@@ -95,6 +96,7 @@ impl From<HexFault> for Stop {
 /// any more, nothing is written.
 pub fn end<W: Write>(outcome: Result<(), Stop>, writer: &mut W) -> Status
     ensures status { result ≡ status_of outcome }
+    ensures code { exit_code result ≤ 1 }
     ensures quiet { IsQuiet outcome → writer.new ≡ writer.old }
 {
     let Err(stop) = outcome else {
