@@ -15,11 +15,12 @@ use Rattle.wire.specs.declared.payload.Payload.TheVariants.{Sealed}
 use Rattle.suite.specs.declared.keys.Keys.{Keys}
 use Rattle.exchange.specs.declared.sealed.Plain.{Plain}
 
--- The octets of the header and of the encrypted payload's header behind it; and how many a message in clear may have, so that with
--- that header and the 128 octets that a cipher adds at most it has no more than a message may have.
+-- the octets of the header and of the encrypted payload's header behind it
 abbrev pub HEAD_LENGTH : ℕ
 HEAD_LENGTH = 32
 
+-- How many octets a message in clear may have: with the encrypted payload's header and the 128 octets that a cipher adds at most
+-- it has no more than a message may have.
 abbrev pub CLEAR_LIMIT : ℕ
 CLEAR_LIMIT = 2868
 
@@ -57,7 +58,8 @@ sealed_octets body_of sealed_size keys fresh clear =
     let head = sealed_head clear (sealed_size (length clear - HEADER_LENGTH)) in
     head ++ body_of keys head (drop HEADER_LENGTH clear) fresh
 
--- the message has a spelling, in clear so short that it fits a message once it is sealed
+-- The message has a spelling, in clear so short that it fits a message whatever the cipher adds. A longer one may fit too, under a
+-- cipher that adds less.
 pub record CanBeSealed (m : Message) : Type 0 where
   pub clear : List ℕ
   pub spelled : SpellsPlainly m clear

@@ -116,7 +116,7 @@ pub record IsSendableSelector (s : Selector) : Type 0 where
   pub ports : IsPortRange s.start_port s.end_port
   pub addresses : IsOrdered s.addresses
 
--- How many selectors a message carries at most, a limit of this implementation, which `wire` has too.
+-- How many selectors a payload carries at most, a limit of this implementation, which `wire` has too.
 abbrev pub SELECTOR_LIMIT : ℕ
 SELECTOR_LIMIT = 16
 

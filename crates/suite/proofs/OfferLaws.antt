@@ -8,7 +8,7 @@ use Rattle.suite.specs.declared.choice.Wanted.{Wanted}
 use Rattle.suite.specs.declared.choice.Wanted.TheVariants.{Ike, Esp}
 use Rattle.suite.specs.Choice.{acceptable_transforms, key_length_attribute, kinds, sequence_numbers, without_attributes, ChoosesNumbers, HasSpi, IsAcceptableProposal, IsAcceptableTransform, IsChosenProposal, IsFirstAcceptable}
 use Rattle.suite.proofs.OfferLemmas.{one_item}
-use Rattle.suite.specs.Offers.{answer_of, answered_transforms, count_of_kind, offer_of, offered_transforms, IsAcceptableAnswer}
+use Rattle.suite.specs.Offers.{answer_of, answered_transforms, count_of_kind, offer_of, offered_transforms, AcceptsAnswer, IsAcceptableAnswer}
 
 All-nil : {X : Type 0} (P : X → Type 0) → All P []
 All-nil P = λ k d below. absurd (omega arith)
@@ -68,9 +68,9 @@ esp_acceptable allowed extended spi number form wanted =
           (2, n, omega arith, refl, (five, numbers_acceptable allowed extended wanted));
     }
 
-both_acceptable : (spi : List ℕ) → HasSpi (Esp true) spi → IsAcceptableProposal (Esp true) (offer_of (Esp true) spi)
-both_acceptable spi form =
-    let w = Esp true in
+both_acceptable : (allowed : Bool) (spi : List ℕ) → HasSpi (Esp allowed) spi → IsAcceptableProposal (Esp allowed) (offer_of (Esp true) spi)
+both_acceptable allowed spi form =
+    let w = Esp allowed in
     let a = without_attributes 1 11 in
     let b = without_attributes 3 12 in
     let m = sequence_numbers true in
@@ -83,13 +83,18 @@ both_acceptable spi form =
       each = all_3 (λ (kind : ℕ). Any (IsAcceptableTransform w kind) ts) 1 3 5
           (0, a, omega arith, refl, (refl, (0, omega arith, refl)))
           (1, b, omega arith, refl, (refl, (1, omega arith, refl)))
-          (2, m, omega arith, refl, (refl, (3, omega arith, refl)));
+          (3, n, omega arith, refl, (refl, (2, omega arith, refl)));
     }
 
 pub offer_acceptable : (wanted : Wanted) (spi : List ℕ) → HasSpi wanted spi → IsAcceptableProposal wanted (offer_of wanted spi)
 offer_acceptable (Ike encr key_length group) spi form = subst (λ (x : List ℕ). IsAcceptableProposal (Ike encr key_length group) (offer_of (Ike encr key_length group) x)) (sym form) (ike_acceptable encr group key_length 1)
 offer_acceptable (Esp false) spi form = esp_acceptable false false spi 1 form (λ e. cc)
-offer_acceptable (Esp true) spi form = both_acceptable spi form
+offer_acceptable (Esp true) spi form = both_acceptable true spi form
+
+-- for a child, also where one end alone allows extended sequence numbers
+pub child_offer_acceptable : (ours theirs : Bool) (spi : List ℕ) → HasSpi (Esp ours) spi → IsAcceptableProposal (Esp theirs) (offer_of (Esp ours) spi)
+child_offer_acceptable false theirs spi form = esp_acceptable theirs false spi 1 form (λ e. cc)
+child_offer_acceptable true theirs spi form = both_acceptable theirs spi form
 
 -- extended sequence numbers are acceptable only where they are wanted
 wanted_if : (allowed extended : Bool) → Contains (acceptable_transforms (Esp allowed)) (sequence_numbers extended) → extended ≡ true → allowed ≡ true
@@ -197,6 +202,29 @@ numbers_agreed (Esp a) (Ike e' k' g') spi answer chosen found = absurd (let x : 
 numbers_agreed (Esp a) (Esp b) spi answer chosen found =
     let numbers = found_numbers (Esp a) (Esp b) spi chosen found in
     numbers_first a chosen.extended (numbers_acceptable a chosen.extended (offered_if a chosen.extended numbers.place numbers.here))
+
+first_place : (p : Proposal) (place : ℕ) (q : Proposal) → slice_get (p ∷ []) place ≡ Some q → place ≡ 0
+first_place p zero q e = refl
+first_place p (suc place) q e = cc
+
+pub answer_accepted : (ours theirs : Wanted) (spi answer : List ℕ) (chosen : Chosen) → HasSpi ours answer → IsChosenProposal theirs (offer_of ours spi ∷ []) chosen → AcceptsAnswer ours (answer_of theirs chosen answer ∷ []) chosen
+answer_accepted ours theirs spi answer chosen form found =
+    let it = answer_of theirs chosen answer in
+    let is = answer_agreed ours theirs spi answer chosen form found in
+    let alone : chosen.place ≡ 0 = first_place (offer_of ours spi) chosen.place found.proposal found.here in
+    record {
+      proposal = it;
+      alone = refl;
+      answer = is;
+      choice = record {
+        proposal = it;
+        here = subst (λ (k : ℕ). slice_get (it ∷ []) k ≡ Some it) (sym alone) refl;
+        acceptable = is.acceptable;
+        first = λ k other below at. absurd (omega (arith, below, alone));
+        number = refl;
+        numbers = numbers_agreed ours theirs spi answer chosen found;
+      };
+    }
 
 prf_of : (e g : ℕ) (k : Option ℕ) (t : Transform) → Contains (acceptable_transforms (Ike e k g)) t → t.kind ≡ 2 → without_attributes 2 5 ≡ t
 prf_of e g k t (zero, below, at) is = absurd (let x : 1 ≡ 2 = ap (λ (t : Transform). t.kind) at ∙ is in omega arith)

@@ -9,7 +9,7 @@ use Rattle.suite.specs.declared.choice.Wanted.TheVariants.{Ike, Esp}
 use Rattle.suite.specs.Transforms.{AUTH_HMAC_SHA2_256_128, ENCR, ENCR_NULL, INTEG}
 use Rattle.suite.specs.Choice.{acceptable_transforms, kinds, wanted_protocol, sequence_numbers, without_attributes, IsAcceptableProposal, IsChosenProposal}
 
--- What stands of each type of transform but sequence numbers, of which one transform alone is acceptable.
+-- The transforms of the types of which one alone is acceptable: of all but sequence numbers.
 abbrev pub fixed_transforms : Wanted → List Transform
 fixed_transforms (Ike encr key_length group) = acceptable_transforms (Ike encr key_length group)
 fixed_transforms (Esp extended) = without_attributes ENCR ENCR_NULL ∷ without_attributes INTEG AUTH_HMAC_SHA2_256_128 ∷ []

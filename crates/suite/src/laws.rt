@@ -1,12 +1,13 @@
 //! What follows from the definitions alone. No function here does anything.
-ghost use Rattle.std.specs.Prelude.{◌≡◌, List, ℕ, ◌∷◌, []};
+ghost use Rattle.std.specs.Prelude.{◌≡◌, Bool, List, ℕ, ◌∷◌, []};
 ghost use Rattle.wire.specs.declared.proposal.Proposal.{Proposal};
 ghost use Rattle.suite.specs.Choice.{ChoosesNumbers, HasSpi, IsAcceptableProposal, IsChosenProposal};
 ghost use Rattle.suite.specs.Keys.{ike_keys, initiator_keys, responder_keys};
-ghost use Rattle.suite.specs.Offers.{answer_of, offer_of, IsAcceptableAnswer, IsTakenFrom};
+ghost use Rattle.suite.specs.Offers.{answer_of, offer_of, AcceptsAnswer, IsAcceptableAnswer, IsTakenFrom};
 ghost use Rattle.suite.specs.Sealing.{AreKeys};
 ghost use Rattle.suite.specs.declared.choice.Chosen.{Chosen};
 ghost use Rattle.suite.specs.declared.choice.Wanted.{Wanted};
+ghost use Rattle.suite.specs.declared.choice.Wanted.TheVariants.{Esp};
 
 use mac::laws::key_material_is_octets;
 
@@ -41,15 +42,20 @@ pub fn offers_are_answered()
         → ChoosesNumbers wanted (answer_of wanted chosen spi).transforms chosen.extended }
 {}
 
-/// What is chosen of an end's offer is answered by an answer to it, with the sequence numbers that were chosen, also where the
-/// two ends want differently.
+/// What one end offers for a child is acceptable to the other, also where only one of them allows extended sequence numbers. What
+/// an end chooses of an offer is answered by what the one who offered takes for that choice, whatever the chooser allows.
 pub fn ends_agree()
+    ensures offers { (ours theirs : Bool) (spi : List ℕ) → HasSpi (Esp ours) spi
+        → IsAcceptableProposal (Esp theirs) (offer_of (Esp ours) spi) }
     ensures answers { (ours theirs : Wanted) (spi answer : List ℕ) (chosen : Chosen) → HasSpi ours answer
         → IsChosenProposal theirs (offer_of ours spi ∷ []) chosen
         → IsAcceptableAnswer ours (answer_of theirs chosen answer) }
     ensures numbers { (ours theirs : Wanted) (spi answer : List ℕ) (chosen : Chosen)
         → IsChosenProposal theirs (offer_of ours spi ∷ []) chosen
         → ChoosesNumbers ours (answer_of theirs chosen answer).transforms chosen.extended }
+    ensures accepted { (ours theirs : Wanted) (spi answer : List ℕ) (chosen : Chosen) → HasSpi ours answer
+        → IsChosenProposal theirs (offer_of ours spi ∷ []) chosen
+        → AcceptsAnswer ours (answer_of theirs chosen answer ∷ []) chosen }
     ensures taken { (wanted : Wanted) (proposals : List Proposal) (chosen : Chosen) (spi : List ℕ)
         → IsChosenProposal wanted proposals chosen
         → IsTakenFrom proposals chosen.place (answer_of wanted chosen spi) }
