@@ -94,7 +94,7 @@ module _ (facts : DeliveryFacts) where
     | inr marks ↦ facts.marking table new_table marks.serial sound marks.marked
   ]
 
-  ike_windows : (meaning : Meaning) (entries : List Entry) (view : ike.InputView) (old : Machine) (table : Database) (stepped : Stepped) (new : Machine) (new_table : Database) → IsSoundTable table
+  pub ike_windows : (meaning : Meaning) (entries : List Entry) (view : ike.InputView) (old : Machine) (table : Database) (stepped : Stepped) (new : Machine) (new_table : Database) → IsSoundTable table
       → ike.Steps meaning entries view old table stepped new new_table → LeavesWindows table new_table
   ike_windows meaning entries (ike.Message from octets fresh) old table stepped new new_table sound is =
       changes_windows table new_table old new sound (facts.changed meaning entries (ike.Message from octets fresh) old table stepped new new_table refl is)
@@ -157,13 +157,13 @@ asks_none traffic.Discarded = refl
 asks_none (traffic.Dropped fault) = refl
 
 -- a packet that came, and what became of it
-record Came {C : Type 0} (octets : Octets) (p : Passage C) : Type 0 where
-  outcome : Outcome
-  receives : Receives p.before.table octets outcome p.after.table
-  said : p.said ≡ view_of_outcome outcome
-  kept : p.after ≡ record p.before { table = p.after.table }
+pub record Came {C : Type 0} (octets : Octets) (p : Passage C) : Type 0 where
+  pub outcome : Outcome
+  pub receives : Receives p.before.table octets outcome p.after.table
+  pub said : p.said ≡ view_of_outcome outcome
+  pub kept : p.after ≡ record p.before { table = p.after.table }
 
-came : {C : Type 0} (meaning_of : C → Meaning) (octets : Octets) (p : Passage C) → IsPassage meaning_of p → p.given ≡ input.Esp octets → Came octets p
+pub came : {C : Type 0} (meaning_of : C → Meaning) (octets : Octets) (p : Passage C) → IsPassage meaning_of p → p.given ≡ input.Esp octets → Came octets p
 came {C} meaning_of octets p is given =
     let does : DoesInput (meaning_of p.before.caller) p.before.entries (input.Esp octets) p.before.machine p.before.table p.said is.steps.trace p.after.machine p.after.table =
     subst (λ (g : Input). DoesInput (meaning_of p.before.caller) p.before.entries g p.before.machine p.before.table p.said is.steps.trace p.after.machine p.after.table) given is.steps.traces.does in
@@ -204,7 +204,7 @@ received_given (input.Outward packet) s r is = nothing_came r _ is
 received_given (input.Inward packet) s r is = nothing_came r _ is
 
 -- this is said of packets that came alone
-abbrev goes_up : OutputView → Bool
+abbrev pub goes_up : OutputView → Bool
 goes_up (Up child number packet) = true
 goes_up (Dummy child number) = true
 goes_up _ = false
@@ -243,14 +243,14 @@ sends_up : (entries : List Entry) (table : Database) (packet : Octets) (s : Outp
 sends_up entries table packet s new_table (inl is) = ap goes_up is.output ∙ sent_up table entries packet is.outcome new_table is.sends
 sends_up entries table packet s new_table (inr is) = ap goes_up is.output
 
-record IsPacket (given : Input) : Type 0 where
-  octets : Octets
-  is : given ≡ input.Esp octets
+pub record IsPacket (given : Input) : Type 0 where
+  pub octets : Octets
+  pub is : given ≡ input.Esp octets
 
 neither : (b : Bool) (A : Type 0) → b ≡ true → b ≡ false → A
 neither b A one other = absurd cc
 
-came_up : (meaning : Meaning) (entries : List Entry) (given : Input) (old : Machine) (table : Database) (s : OutputView) (trace : Trace) (new : Machine) (new_table : Database)
+pub came_up : (meaning : Meaning) (entries : List Entry) (given : Input) (old : Machine) (table : Database) (s : OutputView) (trace : Trace) (new : Machine) (new_table : Database)
     → DoesInput meaning entries given old table s trace new new_table → goes_up s ≡ true → IsPacket given
 came_up meaning entries (input.Ike from octets fresh) old table s trace new new_table is up = neither (goes_up s) _ up (steps_up meaning entries (ike.Message from octets fresh) old table s trace new new_table is)
 came_up meaning entries (input.Start serial entry fresh) old table s trace new new_table is up = neither (goes_up s) _ up (steps_up meaning entries (ike.Start serial entry fresh) old table s trace new new_table is)
@@ -270,7 +270,7 @@ one_outcome : (a b : Outcome) → Some a ≡ Some b → a ≡ b
 one_outcome a b is = cc
 
 -- what is said tells the outcome
-told_outcome : (s : OutputView) (a b : Outcome) → s ≡ view_of_outcome a → s ≡ view_of_outcome b → a ≡ b
+pub told_outcome : (s : OutputView) (a b : Outcome) → s ≡ view_of_outcome a → s ≡ view_of_outcome b → a ≡ b
 told_outcome s a b one other = one_outcome a b (sym (outcome_back a) ∙ ap outcome_of_said (sym one ∙ other) ∙ outcome_back b)
 
 there_too : {C : Type 0} (ps : List (Passage C)) (place : ℕ) (p : Passage C) → slice_get ps place ≡ Some p → slice_get (table_passages ps) place ≡ Some (table_passage p)

@@ -2,7 +2,7 @@
 use Rattle.std.proofs.Common.{◌≡◌, ℕ, List, Option, Some, None, inl, inr, refl, sym, ap, subst, ◌∙◌}
 use Rattle.std.specs.Prelude.{MatchOption}
 use Rattle.policy.specs.declared.entry.Entry.{Entry}
-use Rattle.sadb.specs.Database.{Database, IsAsBefore, pair_at, PairMap}
+use Rattle.sadb.specs.Database.{Database, pair_at, PairMap}
 use Rattle.sadb.specs.declared.pair.Pair.{Pair}
 use Rattle.sadb.specs.declared.pair.State.TheVariants.{Live, Deleting}
 use Rattle.flows.specs.declared.memory.Answer.{Answer}
@@ -10,7 +10,7 @@ use Rattle.flows.specs.Memory.{AllRight, HoldsNone}
 use Rattle.flows.specs.Staying.{NoneComes, WasThere}
 use Rattle.ike.specs.Machines.{Held}
 use Rattle.ike.specs.Pairs.{BecameDeleting}
-use Rattle.ike.specs.Tracing.{IsTraced, NamesChild}
+use Rattle.ike.specs.Tracing.{IsTraced}
 use Rattle.ike.specs.declared.output.MadeChild.{MadeChild}
 use Rattle.ike.specs.declared.output.Stepped.{Stepped}
 

@@ -2,22 +2,29 @@ mod PacketLemmas
 mod LawLemmas
 mod RunLemmas
 mod QuietLemmas
-mod WorldLemmas
+pub mod WorldLemmas
 mod WorldHistoryLemmas
 mod FittingLemmas
 mod DeterminedSteps
-mod ToldLemmas
-mod HistoryLemmas
+pub mod ToldLemmas
+pub mod HistoryLemmas
 mod RequestLemmas
 mod MomentLemmas
 mod DeliveryLemmas
 mod WorkedLemmas
-mod WorkedRequestLemmas
+pub mod WorkedRequestLemmas
 mod PromiseLemmas
-mod PartyLemmas
-mod MoveLemmas
-mod TurnLemmas
-mod SoundWorldLemmas
+pub mod PartyLemmas
+pub mod MoveLemmas
+pub mod TurnLemmas
+pub mod SoundWorldLemmas
 mod WorkedAskingLemmas
-mod WorkedWorldLemmas
+pub mod WorkedWorldLemmas
 mod FlowLemmas
+mod ClearLemmas
+pub mod OpenLemmas
+pub mod AskedLemmas
+pub mod ChildLemmas
+mod MirrorLemmas
+mod PairLemmas
+mod CarryLemmas

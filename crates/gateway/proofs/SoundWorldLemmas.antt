@@ -50,17 +50,17 @@ pub record PartyLaws : Type 0 where
 
 -- ---- what is stored stays, event by event
 
-event_later : {C : Type 0} (meaning_of : C → Meaning) (h : Happening C) (last : Stored) → TakesEvent meaning_of h.event h.before h.said h.after → IsLater h.after.stored last → IsLater h.before.stored last
+pub event_later : {C : Type 0} (meaning_of : C → Meaning) (h : Happening C) (last : Stored) → TakesEvent meaning_of h.event h.before h.said h.after → IsLater h.after.stored last → IsLater h.before.stored last
 event_later {C} meaning_of h last t later =
     let stored = ap (λ (w : WorldState C). w.stored) t.content ∙ stored_at h.event.end t.gateway (storing h.event.end h.said t.trace t.gateway h.before.stored) h.before in
     later_more h.before.stored h.after.stored last _ (ap (λ (s : Stored). s.sent) stored) (ap (λ (s : Stored). s.keyed) stored) (ap (λ (s : Stored). s.children) stored) later
 
-trail_later : {C : Type 0} (meaning_of : C → Meaning) (hs : List (Happening C)) (old new : WorldState C) → IsWorldTrail meaning_of old hs new → IsLater old.stored new.stored
+pub trail_later : {C : Type 0} (meaning_of : C → Meaning) (hs : List (Happening C)) (old new : WorldState C) → IsWorldTrail meaning_of old hs new → IsLater old.stored new.stored
 trail_later {C} meaning_of [] old new trail = later_same old.stored new.stored (ap (λ (w : WorldState C). w.stored) trail)
 trail_later {C} meaning_of (h ∷ hs) old new trail =
     subst (λ (w : WorldState C). IsLater w.stored new.stored) trail.0 (event_later meaning_of h new.stored trail.1 (trail_later meaning_of hs h.after new trail.2))
 
-place_later : {C : Type 0} (meaning_of : C → Meaning) (hs : List (Happening C)) (old new : WorldState C) (place : ℕ) (h : Happening C) → IsWorldTrail meaning_of old hs new → slice_get hs place ≡ Some h
+pub place_later : {C : Type 0} (meaning_of : C → Meaning) (hs : List (Happening C)) (old new : WorldState C) (place : ℕ) (h : Happening C) → IsWorldTrail meaning_of old hs new → slice_get hs place ≡ Some h
     → IsLater h.before.stored new.stored
 place_later {C} meaning_of [] old new place h trail there = absurd cc
 place_later {C} meaning_of (g ∷ hs) old new zero h trail there =
@@ -92,7 +92,7 @@ by_then_unforged {C} meaning_of keys hs old new trail unforged place h response 
 
 -- ---- ends apart
 
-each_end : (P : End → Type 0) (e : End) → P e → P (other_end e) → (end : End) → P end
+pub each_end : (P : End → Type 0) (e : End) → P e → P (other_end e) → (end : End) → P end
 each_end P A here there A = here
 each_end P A here there B = there
 each_end P B here there B = here
@@ -307,7 +307,7 @@ world_first {C} meaning_of e es o os old between new step rest = record {
   };
 }
 
-world_told : {C : Type 0} (meaning_of : C → Meaning) (es : List Event) (os : List Output) (old new : WorldState C) → Runs (HappensAs meaning_of) es os old new → WorldTold meaning_of es os old new
+pub world_told : {C : Type 0} (meaning_of : C → Meaning) (es : List Event) (os : List Output) (old new : WorldState C) → Runs (HappensAs meaning_of) es os old new → WorldTold meaning_of es os old new
 world_told {C} meaning_of [] [] old new run = record { happenings = []; history = record { takes = refl; says = refl; trail = run } }
 world_told {C} meaning_of (e ∷ es) (o ∷ os) old new run = world_first meaning_of e es o os old run.0 new run.1 (world_told meaning_of es os run.0 new run.2)
 world_told {C} meaning_of [] (o ∷ os) old new run = absurd run

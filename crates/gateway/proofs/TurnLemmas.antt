@@ -93,7 +93,7 @@ once_is {C} end (Sealed child number octets) sent gateway keys entry there =
     absurd (esp_never number (pair_at gateway.table.pairs child) keys entry.response entry.number (same_datagram end (esp_mark gateway.table child number) octets keys entry there).1)
 once_is {C} end _ sent gateway keys entry there = absurd (none_there (as_stored end keys entry) there)
 
-is_once : {C : Type 0} (end : End) (s : OutputView) (sent : Option marks.Mark) (gateway : State C) (octets : Octets) → said_octets s ≡ Some octets
+pub is_once : {C : Type 0} (end : End) (s : OutputView) (sent : Option marks.Mark) (gateway : State C) (octets : Octets) → said_octets s ≡ Some octets
     → Contains (sent_once end s sent gateway) (datagram_of end (ike_mark gateway.machine sent) octets)
 is_once {C} end (Reply o closed) sent gateway octets is = subst (λ (x : Octets). Contains (datagram_of end (ike_mark gateway.machine sent) o ∷ []) (datagram_of end (ike_mark gateway.machine sent) x)) (some_is o octets is) (at_head _ [])
 is_once {C} end (Repeat o) sent gateway octets is = subst (λ (x : Octets). Contains (datagram_of end (ike_mark gateway.machine sent) o ∷ []) (datagram_of end (ike_mark gateway.machine sent) x)) (some_is o octets is) (at_head _ [])

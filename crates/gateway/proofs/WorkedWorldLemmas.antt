@@ -20,6 +20,7 @@ use Rattle.initial.specs.declared.config.Config.{Config}
 use Rattle.effects.specs.Moves.{ledger_of, Ledger}
 use Rattle.effects.specs.Openings.{OpensAsMessage}
 use Rattle.effects.specs.declared.taking.Effect.TheVariants as effect
+use Rattle.ike.specs.Moves.{HasSeal}
 use Rattle.ike.specs.Outputs.{stepped_of}
 use Rattle.ike.specs.Machines.{association_of}
 use Rattle.ike.specs.Moves.{ledger_at}
@@ -278,7 +279,7 @@ OneMessage = (m n : Message) (b : Octets) → Spells m b → Spells n b → m �
 abbrev pub OneTime : Type 0
 OneTime = (keys k : KeyRecord) → times keys (k ∷ []) ≡ 1 ↔ (k ≡ keys)
 
-module _ {C : Type 0} (laws : PartyLaws) (one_time : OneTime) (one_message : OneMessage) (config : Config) (caller : C) (is : IsConfig config) (request reply from : Octets) (fresh : Fresh) where
+module _ {C : Type 0} (laws : PartyLaws) (one_time : OneTime) (one_message : OneMessage) (config : Config) (caller : C) (is : IsConfig config) (request reply from : Octets) (fresh : Fresh) (seal : HasSeal fresh) where
   abbrev world : WorldState C
   world = asked_world config caller request reply
 
@@ -323,6 +324,7 @@ module _ {C : Type 0} (laws : PartyLaws) (one_time : OneTime) (one_message : One
   happens : TakesEvent (λ _. worked_meaning) arrival.event arrival.before arrival.said arrival.after
   happens = record {
     sound = sound_state config caller is first_taken fine_before;
+    fresh = seal;
     trace = (stepped_of 1 2 (effect.Replied reply_said)).trace;
     gateway = gateway_with config caller (worked_association one_more_taken);
     traces = first_traces config caller is from fresh;
@@ -338,6 +340,7 @@ module _ {C : Type 0} (laws : PartyLaws) (one_time : OneTime) (one_message : One
   answers : TakesEvent (λ _. worked_meaning) answer.event answer.before answer.said answer.after
   answers = record {
     sound = asking_state;
+    fresh = seal;
     trace = (stepped_of 1 2 (effect.Counted nothing_ended)).trace;
     gateway = gateway_with config caller counted_association;
     traces = record {

@@ -35,7 +35,7 @@ front_trail {C} meaning_of B B input s before after gateway trace stored ps new 
 front_trail {C} meaning_of A B input s before after gateway trace stored ps new sound traces same rest = subst (λ (w : WorldState C). IsTrail meaning_of w.a ps new) same rest
 front_trail {C} meaning_of B A input s before after gateway trace stored ps new sound traces same rest = subst (λ (w : WorldState C). IsTrail meaning_of w.b ps new) same rest
 
-trail_at : {C : Type 0} (meaning_of : C → Meaning) (end : End) (hs : List (Happening C)) (old new : WorldState C) → IsWorldTrail meaning_of old hs new
+pub trail_at : {C : Type 0} (meaning_of : C → Meaning) (end : End) (hs : List (Happening C)) (old new : WorldState C) → IsWorldTrail meaning_of old hs new
     → IsTrail meaning_of (gateway_at end old) (passages_at end hs) (gateway_at end new)
 trail_at {C} meaning_of end [] old new trail = ap (λ (w : WorldState C). gateway_at end w) trail
 trail_at {C} meaning_of end (h ∷ hs) old new trail =

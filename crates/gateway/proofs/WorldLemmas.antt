@@ -5,13 +5,14 @@ use Rattle.effects.specs.Taking.{Meaning}
 use Rattle.ike.specs.declared.output.Trace.{Trace}
 use Rattle.gateway.specs.Outputs.{output_view, OutputView}
 use Rattle.gateway.specs.Promises.{KeepsPromises}
+use Rattle.gateway.specs.Requests.{for_ike}
 use Rattle.gateway.specs.Runs.{Runs, StepsAs}
 use Rattle.gateway.specs.States.{IsSoundState, State}
 use Rattle.gateway.specs.Steps.{Traces}
 use Rattle.gateway.specs.Storing.{TakesAt}
 use Rattle.gateway.specs.WorldPromises.{KeepsWorldPromises}
 use Rattle.gateway.specs.WorldRuns.{inputs_at, outputs_at, HappensAs, IsLater, PlaysFirst}
-use Rattle.gateway.specs.Worlds.{gateway_at, if_at, storing, with_gateway, Stored, TakesEvent, WorldState}
+use Rattle.gateway.specs.Worlds.{gateway_at, if_at, storing, with_gateway, IsFreshlyGiven, Stored, TakesEvent, WorldState}
 use Rattle.gateway.specs.declared.input.Input.{Input}
 use Rattle.gateway.specs.declared.output.Output.{Output}
 use Rattle.gateway.specs.declared.world.stored.End.{End}
@@ -80,13 +81,14 @@ stays_stored {C} meaning_of (e ∷ es) [] old new run = absurd run
 
 -- a step of the gateway of A, after room was made, is what happens at A
 pub taken_at_a : {C : Type 0} (meaning_of : C → Meaning) (event : Event) (old : WorldState C) (a b : State C) (before ready : Stored) (s : OutputView) (gateway : State C) (after : Stored)
-    → event.end ≡ A → IsSoundState a → record { a = a; b = b; stored = before } ≡ old → ready ≡ before → TakesAt (meaning_of a.caller) A event.input a ready s gateway after
+    → event.end ≡ A → IsFreshlyGiven (for_ike event.input) → IsSoundState a → record { a = a; b = b; stored = before } ≡ old → ready ≡ before → TakesAt (meaning_of a.caller) A event.input a ready s gateway after
     → TakesEvent meaning_of event old s (record { a = gateway; b = b; stored = after })
-taken_at_a {C} meaning_of event old a b before ready s gateway after at_a sound was same t =
+taken_at_a {C} meaning_of event old a b before ready s gateway after at_a fresh sound was same t =
     let content : record { a = gateway; b = b; stored = after } ≡ with_gateway A gateway (storing A s t.trace gateway before) (record { a = a; b = b; stored = before }) =
     ap (λ (st : Stored). record { a = gateway; b = b; stored = st }) (t.stores ∙ ap (λ (st : Stored). storing A s t.trace gateway st) same) in
     record {
       sound = subst (λ (x : End). IsSoundState (gateway_at x old)) (sym at_a) (subst (λ (w : WorldState C). IsSoundState w.a) was sound);
+      fresh = fresh;
       trace = t.trace;
       gateway = gateway;
       traces = subst (λ (e : End). Traces (meaning_of (gateway_at e old).caller) event.input (gateway_at e old) s t.trace gateway) (sym at_a)
@@ -97,13 +99,14 @@ taken_at_a {C} meaning_of event old a b before ready s gateway after at_a sound 
 
 -- and so it is at B
 pub taken_at_b : {C : Type 0} (meaning_of : C → Meaning) (event : Event) (old : WorldState C) (a b : State C) (before ready : Stored) (s : OutputView) (gateway : State C) (after : Stored)
-    → event.end ≡ B → IsSoundState b → record { a = a; b = b; stored = before } ≡ old → ready ≡ before → TakesAt (meaning_of b.caller) B event.input b ready s gateway after
+    → event.end ≡ B → IsFreshlyGiven (for_ike event.input) → IsSoundState b → record { a = a; b = b; stored = before } ≡ old → ready ≡ before → TakesAt (meaning_of b.caller) B event.input b ready s gateway after
     → TakesEvent meaning_of event old s (record { a = a; b = gateway; stored = after })
-taken_at_b {C} meaning_of event old a b before ready s gateway after at_b sound was same t =
+taken_at_b {C} meaning_of event old a b before ready s gateway after at_b fresh sound was same t =
     let content : record { a = a; b = gateway; stored = after } ≡ with_gateway B gateway (storing B s t.trace gateway before) (record { a = a; b = b; stored = before }) =
     ap (λ (st : Stored). record { a = a; b = gateway; stored = st }) (t.stores ∙ ap (λ (st : Stored). storing B s t.trace gateway st) same) in
     record {
       sound = subst (λ (x : End). IsSoundState (gateway_at x old)) (sym at_b) (subst (λ (w : WorldState C). IsSoundState w.b) was sound);
+      fresh = fresh;
       trace = t.trace;
       gateway = gateway;
       traces = subst (λ (e : End). Traces (meaning_of (gateway_at e old).caller) event.input (gateway_at e old) s t.trace gateway) (sym at_b)

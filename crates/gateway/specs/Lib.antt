@@ -7,6 +7,9 @@ pub mod Worlds
 pub mod WorldHistories
 pub mod WorldParties
 pub mod WorldPromises
+pub mod WorldChildren
+pub mod WorldPackets
+pub mod WorldChildPromises
 pub mod WorldRuns
 pub mod Storing
 pub mod Contents

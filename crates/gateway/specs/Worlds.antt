@@ -11,9 +11,12 @@ use Rattle.effects.specs.Taking.{Meaning}
 use Rattle.moments.specs.declared.resent.Resent.{Resent}
 use Rattle.ike.specs.Machines.{keys_of_serial, Machine}
 use Rattle.ike.specs.declared.output.MadeChild.{MadeChild}
+use Rattle.ike.specs.Moves.{HasFresh}
+use Rattle.ike.specs.Steps as ike_steps
 use Rattle.ike.specs.declared.output.Mark as ike
 use Rattle.ike.specs.declared.output.Trace.{Trace}
 use Rattle.gateway.specs.Outputs.{OutputView, Counted, Clear, Discarded, Done, Dropped, Dummy, Refused, Repeat, Reply, Request, Sealed, Ticked, Up}
+use Rattle.gateway.specs.Requests.{for_ike}
 use Rattle.gateway.specs.States.{IsSoundState, State}
 use Rattle.gateway.specs.Steps.{Traces}
 use Rattle.gateway.specs.declared.world.log.Log.{Log}
@@ -170,9 +173,15 @@ storing end said trace gateway old = record {
   children = old.children ++ option_to_list (child_by end trace.child gateway);
 }
 
+-- the octets for sealing that a step is given are 16, as every value of their type has them
+abbrev pub IsFreshlyGiven : Option ike_steps.InputView → Type 0
+IsFreshlyGiven None = Unit {0}
+IsFreshlyGiven (Some given) = HasFresh given
+
 -- One end, of which holds what holds of every gateway, takes a step: what it sent and made is stored, and the other end is as it was.
 pub record TakesEvent {C : Type 0} (meaning_of : C → Meaning) (event : Event) (old : WorldState C) (said : OutputView) (new : WorldState C) : Type 0 where
   pub sound : IsSoundState (gateway_at event.end old)
+  pub fresh : IsFreshlyGiven (for_ike event.input)
   pub trace : Trace
   pub gateway : State C
   pub traces : Traces (meaning_of (gateway_at event.end old).caller) event.input (gateway_at event.end old) said trace gateway

@@ -8,6 +8,8 @@ ghost use Rattle.policy.specs.declared.flow.Flow.{Flow};
 ghost use Rattle.policy.specs.declared.policy.Direction.TheVariants as direction;
 ghost use Rattle.suite.specs.declared.fresh.Fresh.{Fresh};
 ghost use Rattle.suite.specs.declared.key_record.KeyRecord.{KeyRecord};
+ghost use Rattle.suite.specs.declared.keys.Keys.{Keys};
+ghost use Rattle.association.specs.Receiving.{Opening};
 ghost use Rattle.effects.specs.Taking.{Meaning};
 ghost use Rattle.initial.specs.Configs.{IsConfig};
 ghost use Rattle.initial.specs.declared.config.Config.{Config};
@@ -32,6 +34,8 @@ ghost use Rattle.gateway.specs.Steps.{GoesSealed, Steps, Traces};
 ghost use Rattle.gateway.specs.WorkedWorlds.{IsWorkedWorld};
 ghost use Rattle.gateway.specs.WorldHistories.{passages_at, Happening, IsWorldHistory, IsWorldTrail};
 ghost use Rattle.gateway.specs.WorldParties.{HasSent, IsNeverMadeTwice, IsSoundUnder};
+ghost use Rattle.ike.specs.Moves.{HasSeal};
+ghost use Rattle.gateway.specs.WorldChildPromises.{IsSoundForChildren, KeepsChildPromises};
 ghost use Rattle.gateway.specs.WorldPromises.{EndsAgree, IsUnforged, IsUnforgedByThen, KeepsWorldPromises, StaysSound};
 ghost use Rattle.gateway.specs.WorldRuns.{inputs_at, outputs_at, CallsWorldAs, HappensAs, IsLater};
 ghost use Rattle.gateway.specs.Worked.{IsWorkedRun};
@@ -45,11 +49,13 @@ ghost use Rattle.gateway.specs.declared.fault.Reason.{Reason};
 ghost use Rattle.gateway.specs.declared.input.Input.{Input};
 ghost use Rattle.gateway.specs.declared.input.Input.TheVariants as input;
 
+use children::laws::children_mirror;
 use deliveries::laws::{
     every_list_of_packets_is_judged, numbers_are_determined, other_changes_leave_windows,
     premises_are_met,
 };
 use esp::laws::sealed_packets_open;
+use further::laws::further_children_mirror;
 use ike::laws::{
     children_have_few_selectors, one_association_is_changed, steps_are_moves,
     traces_name_what_is_held, what_is_sent_is_short,
@@ -61,11 +67,12 @@ use lockstep::laws::{
 use moments::laws::some_are_held_on;
 use requests::laws::later_incoming_follow;
 use sadb::laws::later_tables_are_determined;
+use suite::{Agreement, Proof, Sealer};
 use traffic::laws::{
-    a_packet_takes_one_number, only_the_bypassed_goes_in_the_clear, outcomes_are_determined,
-    outcomes_go_by_content,
+    a_packet_takes_one_number, no_pair_comes, only_the_bypassed_goes_in_the_clear,
+    outcomes_are_determined, outcomes_go_by_content, what_one_end_seals_the_other_hands_up,
 };
-use wire::laws::octets_spell_one_message;
+use wire::laws::{octets_spell_one_message, plain_spellings_are_spellings};
 
 /// What is to be protected never goes in the clear, outward or inward: outward it goes sealed or, for want of an association, of a
 /// number (E28, E12) or of memory, not at all. Only what the policy bypasses goes on as it is.
@@ -330,13 +337,69 @@ pub fn ends_of_a_sound_world_agree<C>()
     what_was_sent_under_keys_is_told();
 }
 
+/// A world of two gateways that hold nothing is sound for children under every key record, whatever cipher there is.
+pub fn new_worlds_account_for_children<C>()
+    ensures { (body_of : Keys → Octets → Octets → Octets → Octets) (plain_of : Opening) (keys : KeyRecord)
+        (a b : State C) → HoldsNothing a → HoldsNothing b → IsSoundTable a.table → IsSoundTable b.table
+        → IsSoundForChildren body_of plain_of keys (new_world a b) }
+{
+    every_world_stays_sound::<C>();
+}
+
+/// Every list of events keeps what is promised of the children of both ends, whatever history it has. The children of one request that
+/// both ends made mirror each other, since each was made of the octets of one request and of one response, which were sealed at one end and
+/// opened at the other (RFC 7296, sections 2.9 and 2.17); what goes up from such a child the other end sealed (RFC 4301, sections 5.1 and 5.2).
+pub fn children_of_both_ends_agree<C: Sealer + Agreement + Proof>()
+    ensures { (happenings : List (Happening C)) (old new : WorldState C)
+        → IsWorldTrail (λ caller. record {
+          cipher = C.cipher;
+          body_of = C.body_of;
+          plain_of = C.plain_of;
+          group = C.group_number;
+          public_value = C.public_value;
+          shared_secret = C.shared_secret;
+          own_method = C.own_method caller;
+          proof_of = C.proof_of caller;
+          accepts = C.accepts caller;
+        }) old happenings new
+        → KeepsChildPromises C.body_of C.plain_of (λ caller. record {
+          cipher = C.cipher;
+          body_of = C.body_of;
+          plain_of = C.plain_of;
+          group = C.group_number;
+          public_value = C.public_value;
+          shared_secret = C.shared_secret;
+          own_method = C.own_method caller;
+          proof_of = C.proof_of caller;
+          accepts = C.accepts caller;
+        }) happenings old new }
+{
+    a_packet_takes_one_number();
+    every_list_of_packets_is_judged();
+    every_world_stays_sound::<C>();
+    children_mirror();
+    further_children_mirror();
+    ike::laws::children_are_made_of_their_messages();
+    ike::laws::keys_stay_whole();
+    no_pair_comes();
+    octets_spell_one_message();
+    one_association_is_changed();
+    other_changes_leave_windows();
+    plain_spellings_are_spellings();
+    some_are_held_on();
+    steps_are_moves();
+    traces_name_what_is_held();
+    traffic::laws::later_tables_follow();
+    what_one_end_seals_the_other_hands_up();
+}
+
 /// The premises on both ends are met by a world that is sound for a key record under which each end holds an association, one as its
 /// initiator and one as its responder: a request comes to the responder, takes effect and is answered, and it was sent so before. So it
 /// is whatever the configuration, the caller's value, what went before, where the octets come from and what is fresh; the caller's
 /// cipher hides nothing, and all laws of its traits hold.
 pub fn the_premises_of_two_ends_are_met<C>()
     ensures { (config : Config) (caller : C) (request reply from : Octets) (fresh : Fresh) → IsConfig config
-        → IsWorkedWorld config caller request reply from fresh }
+        → HasSeal fresh → IsWorkedWorld config caller request reply from fresh }
 {
     each_party_stays_sound();
     octets_spell_one_message();

@@ -1,22 +1,28 @@
 //! Two gateways, and what passed between them.
 ghost use Rattle.std.specs.Prelude.{◌≡◌, MatchOption, None, Some, IfErr, IfOk};
+ghost use Rattle.base.specs.Octets.{AreOctets, Octets};
+ghost use Rattle.ike.specs.Moves.{HasSeal};
 ghost use Rattle.gateway.specs.Outputs.{output_view};
+ghost use Rattle.gateway.specs.Requests.{for_ike};
 ghost use Rattle.suite.specs.declared.key_record.KeyRecord.{KeyRecord};
+ghost use Rattle.association.specs.Receiving.{Opening};
+ghost use Rattle.suite.specs.declared.keys.Keys.{Keys};
+ghost use Rattle.gateway.specs.WorldChildPromises.{IsSoundForChildren};
 ghost use Rattle.gateway.specs.WorldParties.{IsSoundUnder};
-ghost use Rattle.gateway.specs.Worlds.{datagram_at, gateway_at, new_world, HoldsNothing, TakesEvent};
+ghost use Rattle.gateway.specs.Worlds.{datagram_at, gateway_at, new_world, HoldsNothing, IsFreshlyGiven, TakesEvent};
 
 mod log;
 mod running;
 mod stored;
 
-use crate::laws::every_world_stays_sound;
-use crate::{Gateway, Output};
+use crate::laws::{every_world_stays_sound, new_worlds_account_for_children};
+use crate::{Gateway, Input, Output};
 use log::{Log, most_again, take};
 pub use running::run_world;
 use std::alloc::{AllocError, Global};
 use std::marker::Model;
 pub use stored::{Child, Datagram, End, Event, Keyed, Mark, Simplex};
-use suite::{Agreement, Proof, Sealer};
+use suite::{Agreement, Fresh, Proof, Sealer};
 
 /// Two gateways that are each other's peer; every datagram that they sent, in order, and under what; every key record that they
 /// made, and every child.
@@ -46,14 +52,19 @@ impl<C> Model for World<C> {
 
 impl<C> World<C> {
     /// Two gateways that hold no association and have given no SPI, at the moment 0: nothing was sent yet. Takes no memory. Such a world
-    /// is sound under every key record.
+    /// is sound under every key record, for children too.
     pub fn new(alloc: Global, a: Gateway<C>, b: Gateway<C>) -> World<C>
         requires a { HoldsNothing a }
         requires b { HoldsNothing b }
         ensures content { result ≡ new_world a b }
         ensures sound { (keys : KeyRecord) → IsSoundUnder keys result }
+        ensures children { (body_of : Keys → Octets → Octets → Octets → Octets) (plain_of : Opening)
+            (keys : KeyRecord) → IsSoundForChildren body_of plain_of keys result }
     {
         every_world_stays_sound::<C>();
+        new_worlds_account_for_children::<C>();
+        a.invariants_hold();
+        b.invariants_hold();
         World {
             a,
             b,
@@ -125,6 +136,7 @@ impl<C: Sealer + Agreement + Proof> World<C> {
             event.now self.old (output_view output) self.new) }
         ensures refused { IfErr result (λ _. self.new ≡ self.old) }
     {
+        input_is_fresh(&event.input);
         let again = most_again(&event.input, self.gateway(event.end));
         let spare = self.log.prepare(alloc, again)?;
         let log = &mut self.log;
@@ -140,3 +152,28 @@ impl<C: Sealer + Agreement + Proof> World<C> {
         }
     }
 }
+
+// Brings that the octets for sealing are 16. Does nothing.
+fn input_is_fresh(input: &Input)
+    ensures { IsFreshlyGiven (for_ike input.now) }
+{
+    match input {
+        Input::Ike { fresh, .. }
+        | Input::Start { fresh, .. }
+        | Input::Probe { fresh, .. }
+        | Input::DeleteChild { fresh, .. }
+        | Input::DeleteIke { fresh, .. } => seal_is_fresh(fresh),
+        _ => {}
+    }
+}
+
+fn seal_is_fresh(fresh: &Fresh)
+    ensures { HasSeal fresh.now }
+{
+    octets_fit(&fresh.seal);
+}
+
+// What the type of octets says. Does nothing.
+fn octets_fit(octets: &[u8])
+    ensures { AreOctets octets.now }
+{}

@@ -11,5 +11,5 @@ returns g c =
       appended = c.what_was_sent_under_keys_is_told.ensures.later;
       counted = c.what_was_sent_under_keys_is_told.ensures.counted;
     } in
-    λ config caller request reply from fresh is.
-    worked_world_is laws c.what_was_sent_under_keys_is_told.ensures.one c.octets_spell_one_message.ensures.message config caller is request reply from fresh
+    λ config caller request reply from fresh is seal.
+    worked_world_is laws c.what_was_sent_under_keys_is_told.ensures.one c.octets_spell_one_message.ensures.message config caller is request reply from fresh seal

@@ -1,9 +1,11 @@
 use Rattle.std.proofs.Common.{◌≡◌, ℕ, List, [], ◌∷◌, ◌++◌, length, sym, ◌∙◌, subst, arith}
 use Rattle.effects.specs.Taking.{Meaning}
 use Rattle.gateway.specs.Runs.{Runs}
+use Rattle.gateway.specs.WorldChildPromises.{KeepsChildren}
 use Rattle.gateway.specs.WorldRuns.{HappensAs, PlaysFirst}
 use Rattle.gateway.specs.declared.world.stored.Event.{Event}
 use Rattle.gateway.proofs.RunLemmas.{pushed_after, run_more, take_next}
+use Rattle.gateway.proofs.CarryLemmas.{keeps_children}
 use Rattle.gateway.proofs.WorldLemmas.{plays}
 use Rattle.gateway.proofs.world.running.run_world.Goals as goal
 
@@ -83,3 +85,54 @@ returns-clause-all g c =
     let all : c.loop-done.done ≡ length c.args.events.now = omega arith in
     subst (λ (k : ℕ). PlaysFirst meaning_of k c.args.events.now c.args.world.now c.args.outputs.now.items c.loop-done.world c.loop-done.outputs.items) all
     (plays c.every_run_keeps_its_promises.ensures c.every_world_stays_sound.ensures.run meaning_of c.loop-done.done c.args.events.now c.args.world.now c.args.outputs.now.items i.answers c.loop-done.world c.loop-done.outputs.items i.appended i.runs)
+
+pub returns-then-is_err-clause-children : goal.returns-then-is_err-clause-children
+returns-then-is_err-clause-children g c =
+    let i = c.loop-done.invariant in
+    let meaning_of : _ → Meaning = λ caller. record {
+      cipher = g.C.Sealer.cipher;
+      body_of = g.C.Sealer.body_of;
+      plain_of = g.C.Sealer.plain_of;
+      group = g.C.Agreement.group_number;
+      public_value = g.C.Agreement.public_value;
+      shared_secret = g.C.Agreement.shared_secret;
+      own_method = g.C.Proof.own_method caller;
+      proof_of = g.C.Proof.proof_of caller;
+      accepts = g.C.Proof.accepts caller;
+    } in
+    keeps_children meaning_of g.C.Sealer.body_of g.C.Sealer.plain_of c.children_of_both_ends_agree.ensures c.loop-done.done c.args.events.now c.args.world.now c.args.outputs.now.items i.answers c.loop-done.world c.reserve.new.self.items
+    (c.reserve.ensures.items ∙ i.appended) i.runs
+
+pub returns-in_default-clause-children : goal.returns-in_default-clause-children
+returns-in_default-clause-children g c =
+    let i = c.loop-done.invariant in
+    let meaning_of : _ → Meaning = λ caller. record {
+      cipher = g.C.Sealer.cipher;
+      body_of = g.C.Sealer.body_of;
+      plain_of = g.C.Sealer.plain_of;
+      group = g.C.Agreement.group_number;
+      public_value = g.C.Agreement.public_value;
+      shared_secret = g.C.Agreement.shared_secret;
+      own_method = g.C.Proof.own_method caller;
+      proof_of = g.C.Proof.proof_of caller;
+      accepts = g.C.Proof.accepts caller;
+    } in
+    subst (λ w. KeepsChildren g.C.Sealer.body_of g.C.Sealer.plain_of meaning_of c.args.events.now c.args.world.now c.args.outputs.now.items w c.reserve.new.self.items) (sym c.in_default.ensures.refused)
+    (keeps_children meaning_of g.C.Sealer.body_of g.C.Sealer.plain_of c.children_of_both_ends_agree.ensures c.loop-done.done c.args.events.now c.args.world.now c.args.outputs.now.items i.answers c.loop-done.world c.reserve.new.self.items
+    (c.reserve.ensures.items ∙ i.appended) i.runs)
+
+pub returns-clause-children : goal.returns-clause-children
+returns-clause-children g c =
+    let i = c.loop-done.invariant in
+    let meaning_of : _ → Meaning = λ caller. record {
+      cipher = g.C.Sealer.cipher;
+      body_of = g.C.Sealer.body_of;
+      plain_of = g.C.Sealer.plain_of;
+      group = g.C.Agreement.group_number;
+      public_value = g.C.Agreement.public_value;
+      shared_secret = g.C.Agreement.shared_secret;
+      own_method = g.C.Proof.own_method caller;
+      proof_of = g.C.Proof.proof_of caller;
+      accepts = g.C.Proof.accepts caller;
+    } in
+    keeps_children meaning_of g.C.Sealer.body_of g.C.Sealer.plain_of c.children_of_both_ends_agree.ensures c.loop-done.done c.args.events.now c.args.world.now c.args.outputs.now.items i.answers c.loop-done.world c.loop-done.outputs.items i.appended i.runs
