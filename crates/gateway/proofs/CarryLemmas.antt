@@ -1,5 +1,5 @@
 -- Over a list of events a world accounts for its children and its pairs, and what goes up at one end the other sealed.
-use Rattle.std.proofs.Common.{◌≡◌, ◌++◌, ℕ, take, zero, suc, Bool, true, false, List, [], ◌∷◌, Some, Contains, inl, inr, refl, sym, ap, subst, ◌∙◌, arith}
+use Rattle.std.proofs.Common.{◌≡◌, ◌≤◌, ◌++◌, ℕ, take, zero, suc, Bool, true, false, List, [], ◌∷◌, Some, Contains, inl, inr, refl, sym, ap, subst, ◌∙◌, arith}
 use Rattle.std.specs.Prelude.{slice_get}
 use Rattle.std.proofs.lemmas.List.Elements.{Contains-append_left}
 use Rattle.base.specs.Octets.{Octets}
@@ -30,15 +30,16 @@ use Rattle.gateway.specs.Outputs.{Up}
 use Rattle.gateway.specs.Packets.{PacketsAreDelivered}
 use Rattle.ike.specs.Machines.{association_of}
 use Rattle.gateway.specs.Runs.{Runs}
-use Rattle.gateway.specs.States.{association_in, State}
+use Rattle.gateway.specs.States.{association_in, IsSoundState, State}
 use Rattle.gateway.specs.Steps.{DoesInput}
 use Rattle.gateway.specs.WorldChildren.{AccountsForChildren, AreEndsOfOneChild, AsksForItsChildren, ChildrenMirror, IsStoredOf, MirrorEachOther, SentRequest, WasAnsweredFor, WasAskedFor, WasMade}
-use Rattle.gateway.specs.WorldChildPromises.{ChildrenAgree, IsSoundForChildren, KeepsChildPromises, KeepsChildren}
+use Rattle.gateway.specs.BothEnds.{ChildrenAgree, IsWhollySound, PromisesOfBothEnds, KeepsBothEnds}
 use Rattle.gateway.specs.WorldHistories.{passage_at, passages_at, Happening, IsWorldTrail}
 use Rattle.gateway.specs.WorldPackets.{AccountsForPairs, HasOneSender, HasSentPacket, HasStored, HoldsPairOf, IsJudgedAt, PairsMirror, WasSealedByOther}
 use Rattle.gateway.specs.WorldParties.{HasSent, HoldsUnder, IsNeverMadeTwice, IsSoundUnder}
 use Rattle.gateway.specs.WorldPromises.{IsUnforged, StaysSound}
 use Rattle.gateway.specs.WorldRuns.{HappensAs, IsLater}
+use Rattle.gateway.specs.WorldWindows.{window_at, AccountsForWindows, WindowsFit}
 use Rattle.gateway.specs.Worlds.{datagram_of, gateway_at, if_at, new_world, other_end, simplex_of, HoldsNothing, Stored, TakesEvent, WorldState}
 use Rattle.gateway.specs.declared.input.Input.{Input}
 use Rattle.gateway.specs.declared.input.Input.TheVariants as input
@@ -369,15 +370,18 @@ same_place {C} end (x ∷ hs) (suc place) (suc other) h g there too own also as_
 -- ---- all of it
 
 module _ {C : Type 0} (turns : TurnLaws) (kin : ChildLaws) (mirrors : MirrorLaws) (laws : PairLaws) (carry : CarryLaws) (meaning_of : C → Meaning) (body_of : Keys → Octets → Octets → Octets → Octets) (plain_of : Opening)
-    (shares : ShareCipher meaning_of body_of plain_of) (opens : OpenLaws body_of plain_of) (hs : List (Happening C)) (old new : WorldState C) (trail : IsWorldTrail meaning_of old hs new) (sound : StaysSound meaning_of hs old new) where
-  stays_so : (keys : KeyRecord) → IsSoundForChildren body_of plain_of keys old → IsUnforged meaning_of keys hs new.stored → IsNeverMadeTwice keys new.stored → IsSoundForChildren body_of plain_of keys new
+    (shares : ShareCipher meaning_of body_of plain_of) (opens : OpenLaws body_of plain_of) (hs : List (Happening C)) (old new : WorldState C) (trail : IsWorldTrail meaning_of old hs new) (sound : StaysSound meaning_of hs old new)
+    (windows : (keys : KeyRecord) → IsSoundUnder keys old → AccountsForWindows body_of plain_of keys old old.stored → IsUnforged meaning_of keys hs new.stored → IsNeverMadeTwice keys new.stored → AccountsForWindows body_of plain_of keys new new.stored)
+    (fit : (keys : KeyRecord) → AccountsForWindows body_of plain_of keys new new.stored → WindowsFit keys new) where
+  stays_so : (keys : KeyRecord) → IsWhollySound body_of plain_of keys old → IsUnforged meaning_of keys hs new.stored → IsNeverMadeTwice keys new.stored → IsWhollySound body_of plain_of keys new
   stays_so keys known unforged once = record {
     sound = sound.stays keys known.sound unforged once;
+    windows = windows keys known.sound known.windows unforged once;
     children = known_trail turns kin meaning_of body_of plain_of shares keys hs old new trail unforged (later_known body_of plain_of old.stored new.stored (trail_later meaning_of hs old new trail) keys old known.children);
     pairs = accounts_trail laws meaning_of hs old new trail known.pairs;
   }
 
-  agree_so : (keys : KeyRecord) → IsSoundForChildren body_of plain_of keys old → IsUnforged meaning_of keys hs new.stored → IsNeverMadeTwice keys new.stored → ChildrenAgree keys hs new
+  agree_so : (keys : KeyRecord) → IsWhollySound body_of plain_of keys old → IsUnforged meaning_of keys hs new.stored → IsNeverMadeTwice keys new.stored → ChildrenAgree keys hs new
   agree_so keys known unforged once =
       let now = stays_so keys known unforged once in
       let mirror : ChildrenMirror keys new = children_mirror mirrors body_of plain_of opens keys new (sound.agree keys now.sound) now.children in
@@ -420,9 +424,10 @@ module _ {C : Type 0} (turns : TurnLaws) (kin : ChildLaws) (mirrors : MirrorLaws
       (packets.up (count_at end hs place) serial number one (passage_at end h) at_first said)
       (packets.up (count_at end hs other) serial number two (passage_at end g) at_second also))
 
-  pub child_promises : KeepsChildPromises body_of plain_of meaning_of hs old new
-  child_promises = record {
+  pub both_ends_promises : PromisesOfBothEnds body_of plain_of meaning_of hs old new
+  both_ends_promises = record {
     stays = stays_so;
+    windows = λ keys known. fit keys known.windows;
     agree = agree_so;
     pairs = λ known place h there. let at = event_at laws meaning_of hs old new place h trail known there in accounts_after laws meaning_of h at.takes at.accounts;
     stored = λ known place serial number packet h there said. up_stored laws carry meaning_of h new (event_at laws meaning_of hs old new place h trail known there) serial number packet said;
@@ -437,10 +442,15 @@ no_pair {C} s serial pair none sound there =
     let nothing = none.given in
     absurd (omega (arith, given.from_start, given.before_next, nothing))
 
-pub new_children : {C : Type 0} (body_of : Keys → Octets → Octets → Octets → Octets) (plain_of : Opening) (keys : KeyRecord) (a b : State C) → HoldsNothing a → HoldsNothing b → IsSoundTable a.table → IsSoundTable b.table
-    → IsSoundUnder keys (new_world a b) → IsSoundForChildren body_of plain_of keys (new_world a b)
-new_children {C} body_of plain_of keys a b first second one other sound = record {
+pub new_wholly_sound : {C : Type 0} (body_of : Keys → Octets → Octets → Octets → Octets) (plain_of : Opening) (keys : KeyRecord) (a b : State C) → HoldsNothing a → HoldsNothing b → IsSoundState a → IsSoundState b
+    → IsSoundUnder keys (new_world a b) → IsWhollySound body_of plain_of keys (new_world a b)
+new_wholly_sound {C} body_of plain_of keys a b first second one other sound = record {
   sound = sound;
+  windows = record {
+    least = least;
+    tells = λ end response number octets sent. absurd (none_there (datagram_of end (mark.Ike keys response number) octets) sent);
+    counts = λ end x holds. absurd (none_held end x holds);
+  };
   children = record {
     asks = λ end x holds. absurd (none_held end x holds);
     made = λ child there under. absurd (none_there child there);
@@ -461,16 +471,20 @@ new_children {C} body_of plain_of keys a b first second one other sound = record
   none_held B x holds = none_of b x holds.serial second holds.there
 
   none_stands : (end : End) (serial : ℕ) (pair : Pair) → pair_at (gateway_at end (new_world a b)).table.pairs serial ≡ Some pair → ⊥
-  none_stands A serial pair there = no_pair a serial pair first one there
-  none_stands B serial pair there = no_pair b serial pair second other there
+  none_stands A serial pair there = no_pair a serial pair first one.table there
+  none_stands B serial pair there = no_pair b serial pair second other.table there
+
+  least : (end : End) → 1 ≤ window_at end (new_world a b)
+  least A = one.machine.config.window.least
+  least B = other.machine.config.window.least
 
 -- ---- a run
 
-pub keeps_children : {C : Type 0} (meaning_of : C → Meaning) (body_of : Keys → Octets → Octets → Octets → Octets) (plain_of : Opening)
-    → ((hs : List (Happening C)) (old new : WorldState C) → IsWorldTrail meaning_of old hs new → KeepsChildPromises body_of plain_of meaning_of hs old new)
+pub keeps_both_ends : {C : Type 0} (meaning_of : C → Meaning) (body_of : Keys → Octets → Octets → Octets → Octets) (plain_of : Opening)
+    → ((hs : List (Happening C)) (old new : WorldState C) → IsWorldTrail meaning_of old hs new → PromisesOfBothEnds body_of plain_of meaning_of hs old new)
     → (count : ℕ) (events : List Event) (old : WorldState C) (before outputs : List Output) (new : WorldState C) (after : List Output) → after ≡ before ++ outputs
-    → Runs (HappensAs meaning_of) (take count events) outputs old new → KeepsChildren body_of plain_of meaning_of events old before new after
-keeps_children {C} meaning_of body_of plain_of law count events old before outputs new after appended run =
+    → Runs (HappensAs meaning_of) (take count events) outputs old new → KeepsBothEnds body_of plain_of meaning_of events old before new after
+keeps_both_ends {C} meaning_of body_of plain_of law count events old before outputs new after appended run =
     let told = world_told meaning_of (take count events) outputs old new run in
     record {
       count = count;

@@ -111,19 +111,19 @@ pub record ShareCipher {C : Type 0} (meaning_of : C → Meaning) (body_of : Keys
 -- ---- what a step is to the machine of IKE
 
 -- it takes a step, or stands still
-record Answered {C : Type 0} (meaning : Meaning) (given : Option ike.InputView) (old : State C) (s : OutputView) (trace : Trace) (new : State C) : Type 0 where
-  view : ike.InputView
-  is : given ≡ Some view
-  stepped : Stepped
-  steps : ike.Steps meaning old.entries view old.machine old.table stepped new.machine new.table
-  output : s ≡ view_of_ike stepped.output
-  traced : trace ≡ stepped.trace
+pub record Answered {C : Type 0} (meaning : Meaning) (given : Option ike.InputView) (old : State C) (s : OutputView) (trace : Trace) (new : State C) : Type 0 where
+  pub view : ike.InputView
+  pub is : given ≡ Some view
+  pub stepped : Stepped
+  pub steps : ike.Steps meaning old.entries view old.machine old.table stepped new.machine new.table
+  pub output : s ≡ view_of_ike stepped.output
+  pub traced : trace ≡ stepped.trace
 
-record StandsStill {C : Type 0} (old : State C) (trace : Trace) (new : State C) : Type 0 where
-  machine : new.machine ≡ old.machine
-  traced : trace ≡ no_trace
+pub record StandsStill {C : Type 0} (old : State C) (trace : Trace) (new : State C) : Type 0 where
+  pub machine : new.machine ≡ old.machine
+  pub traced : trace ≡ no_trace
 
-abbrev Way : {C : Type 0} → Meaning → Option ike.InputView → State C → OutputView → Trace → State C → Type 0
+abbrev pub Way : {C : Type 0} → Meaning → Option ike.InputView → State C → OutputView → Trace → State C → Type 0
 Way {C} meaning given old s trace new = Answered meaning given old s trace new ⊎ StandsStill old trace new
 
 ike_way : {C : Type 0} (meaning : Meaning) (view : ike.InputView) (old : State C) (s : OutputView) (trace : Trace) (new : State C)
@@ -131,7 +131,7 @@ ike_way : {C : Type 0} (meaning : Meaning) (view : ike.InputView) (old : State C
 ike_way {C} meaning view old s trace new (inl is) = inl (record { view = view; is = refl; stepped = is.stepped; steps = is.steps; output = is.output; traced = is.traced })
 ike_way {C} meaning view old s trace new (inr is) = inr (record { machine = is.machine; traced = is.traced })
 
-way_of : {C : Type 0} (meaning : Meaning) (given : Input) (old : State C) (s : OutputView) (trace : Trace) (new : State C)
+pub way_of : {C : Type 0} (meaning : Meaning) (given : Input) (old : State C) (s : OutputView) (trace : Trace) (new : State C)
     → DoesInput meaning old.entries given old.machine old.table s trace new.machine new.table → Way meaning (for_ike given) old s trace new
 way_of {C} meaning (input.Ike from octets fresh) old s trace new is = ike_way meaning (ike.Message from octets fresh) old s trace new is
 way_of {C} meaning (input.Start serial entry fresh) old s trace new is = ike_way meaning (ike.Start serial entry fresh) old s trace new is
@@ -145,18 +145,18 @@ way_of {C} meaning (input.Outward packet) old s trace new is = inr (record { mac
 way_of {C} meaning (input.Inward packet) old s trace new is = inr (record { machine = is.0.machine; traced = is.0.traced })
 
 -- a datagram came
-record IsMessage (view : ike.InputView) : Type 0 where
-  from : Octets
-  octets : Octets
-  fresh : Fresh
-  is : view ≡ ike.Message from octets fresh
+pub record IsMessage (view : ike.InputView) : Type 0 where
+  pub from : Octets
+  pub octets : Octets
+  pub fresh : Fresh
+  pub is : view ≡ ike.Message from octets fresh
 
 -- the peer's message came by it
-record Brought (meaning : Meaning) (view : ike.InputView) (a : Association) (response : Bool) (number : ℕ) : Type 0 where
-  message : IsMessage view
-  opens : OpensAsMessage meaning.plain_of a (other_role a.role) response number message.octets
+pub record Brought (meaning : Meaning) (view : ike.InputView) (a : Association) (response : Bool) (number : ℕ) : Type 0 where
+  pub message : IsMessage view
+  pub opens : OpensAsMessage meaning.plain_of a (other_role a.role) response number message.octets
 
-brought : (meaning : Meaning) (view : ike.InputView) (a : Association) (response : Bool) (number : ℕ) → Comes meaning view a response number → Brought meaning view a response number
+pub brought : (meaning : Meaning) (view : ike.InputView) (a : Association) (response : Bool) (number : ℕ) → Comes meaning view a response number → Brought meaning view a response number
 brought meaning (ike.Message from octets fresh) a response number comes = record { message = record { from = from; octets = octets; fresh = fresh; is = refl }; opens = comes }
 brought meaning (ike.Start serial place fresh) a response number comes = absurd comes
 brought meaning (ike.Order what fresh) a response number comes = absurd comes
@@ -180,7 +180,7 @@ role_keys : (role : Role) (keys : KeyRecord) → AreWholeKeys keys → AreKeys (
 role_keys Initiator keys whole = whole.initiator
 role_keys Responder keys whole = whole.responder
 
-keys_at : (held : Held) (serial : ℕ) (a : Association) (keys : KeyRecord) (role : Role) → HoldWholeKeys held → association_of serial held.associations ≡ Some a → keys_in a.phase ≡ Some keys → AreKeys (keys_of role keys)
+pub keys_at : (held : Held) (serial : ℕ) (a : Association) (keys : KeyRecord) (role : Role) → HoldWholeKeys held → association_of serial held.associations ≡ Some a → keys_in a.phase ≡ Some keys → AreKeys (keys_of role keys)
 keys_at held serial a keys role whole there keyed = role_keys role keys (whole_at held serial a whole there keys keyed)
 
 -- ---- the association that waits for the answer to a request for a further child is established
@@ -220,7 +220,7 @@ gateway_there {C} A gateway stored old = refl
 gateway_there {C} B gateway stored old = refl
 
 -- what was opened, by the keys that the association has
-opened_with : (plain_of : Opening) (role : Role) (o : Option KeyRecord) (keys : KeyRecord) (octets : Octets) (payloads : List Payload) (plain : Plain) → o ≡ Some keys
+pub opened_with : (plain_of : Opening) (role : Role) (o : Option KeyRecord) (keys : KeyRecord) (octets : Octets) (payloads : List Payload) (plain : Plain) → o ≡ Some keys
     → opened_under plain_of role o octets payloads ≡ Some plain → plain_of_message plain_of (keys_of (other_role role) keys) octets payloads ≡ Some plain
 opened_with plain_of role o keys octets payloads plain is opened = sym (ap (λ (k : Option KeyRecord). opened_under plain_of role k octets payloads) is) ∙ opened
 

@@ -28,3 +28,5 @@ pub mod ChildLemmas
 mod MirrorLemmas
 mod PairLemmas
 mod CarryLemmas
+mod WindowLemmas
+mod WindowWorldLemmas

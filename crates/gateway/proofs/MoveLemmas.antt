@@ -96,7 +96,7 @@ said_octets (Repeat octets) = Some octets
 said_octets (Request serial octets) = Some octets
 said_octets _ = None
 
-octets_same : (o : IkeOutput) → said_octets (view_of_ike o) ≡ octets_in o
+pub octets_same : (o : IkeOutput) → said_octets (view_of_ike o) ≡ octets_in o
 octets_same (output.Reply octets closed) = refl
 octets_same (output.Repeat octets) = refl
 octets_same (output.Request serial octets) = refl

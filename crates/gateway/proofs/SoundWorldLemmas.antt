@@ -124,10 +124,10 @@ party_stays {C} B s trace gateway old = λ i. record { ledgers = ledger_at old.a
 
 module _ {C : Type 0} (turns : TurnLaws) (laws : PartyLaws) (meaning_of : C → Meaning) (keys : KeyRecord) where
   -- what the end's peer will have sent
-  abbrev peers : End → Stored → List Entry
+  abbrev pub peers : End → Stored → List Entry
   peers end last = under keys (sent_at (other_end end) last.sent)
 
-  abbrev BothSound : WorldState C → Stored → Type 0
+  abbrev pub BothSound : WorldState C → Stored → Type 0
   BothSound w last = (end : End) → IsSoundParty keys (party_at end w) (peers end last)
 
   module _ (h : Happening C) (t : TakesEvent meaning_of h.event h.before h.said h.after) (last : Stored) (later : IsLater h.after.stored last) (once : IsNeverMadeTwice keys last)
@@ -167,7 +167,7 @@ module _ {C : Type 0} (turns : TurnLaws) (laws : PartyLaws) (meaning_of : C → 
     sound_there sound =
         subst (λ (p : Party). IsSoundParty keys p (peers (other_end e) last)) (sym (ap (λ (w : WorldState C). party_at (other_end e) w) t.content ∙ party_stays e h.said t.trace t.gateway h.before)) sound
 
-    sound_after : BothSound h.before last → BothSound h.after last
+    pub sound_after : BothSound h.before last → BothSound h.after last
     sound_after both = each_end (λ end. IsSoundParty keys (party_at end h.after) (peers end last)) e (sound_here (both e)) (sound_there (both (other_end e)))
 
   both_stay : (hs : List (Happening C)) (old new : WorldState C) → IsWorldTrail meaning_of old hs new → IsUnforged meaning_of keys hs new.stored → IsNeverMadeTwice keys new.stored
@@ -185,7 +185,7 @@ module _ {C : Type 0} (turns : TurnLaws) (laws : PartyLaws) (meaning_of : C → 
       ∙ laws.appended keys (sent_at end now.sent) (sent_at end later.more.sent)))
       (Contains-append_left (under keys (sent_at end now.sent)) (under keys (sent_at end later.more.sent)) entry there)
 
-  both_sound : (w : WorldState C) (last : Stored) → IsLater w.stored last → IsSoundUnder keys w → BothSound w last
+  pub both_sound : (w : WorldState C) (last : Stored) → IsLater w.stored last → IsSoundUnder keys w → BothSound w last
   both_sound w last later sound A = laws.later keys (party_at A w) (under keys (sent_at B w.stored.sent)) (peers A last) sound.one (more_sent B w.stored last later)
   both_sound w last later sound B = laws.later keys (party_at B w) (under keys (sent_at A w.stored.sent)) (peers B last) sound.other (more_sent A w.stored last later)
 
@@ -236,7 +236,7 @@ held_there {C} keys A w asking answering held =
 held_there {C} keys B w asking answering held =
     record { asks = held.asks.serial; answers = held.answers.serial; held = inr (holds_ledger keys B w asking held.asks, holds_ledger keys A w answering held.answers); roles = held.roles }
 
-party_sound : {C : Type 0} (keys : KeyRecord) (end : End) (w : WorldState C) → IsSoundUnder keys w → IsSoundParty keys (party_at end w) (under keys (sent_at (other_end end) w.stored.sent))
+pub party_sound : {C : Type 0} (keys : KeyRecord) (end : End) (w : WorldState C) → IsSoundUnder keys w → IsSoundParty keys (party_at end w) (under keys (sent_at (other_end end) w.stored.sent))
 party_sound {C} keys A w sound = sound.one
 party_sound {C} keys B w sound = sound.other
 

@@ -42,12 +42,12 @@ use Rattle.gateway.proofs.MoveLemmas.{entry_of, input_moves, said_octets, way_ke
 -- ---- what is stored of a step
 
 -- a message under SK, as it is stored
-record IsUnder (machine : Machine) (sent : Option marks.Mark) (keys : KeyRecord) (response : Bool) (number : ℕ) : Type 0 where
-  mark : marks.Mark
-  named : sent ≡ Some mark
-  keyed : keys_of_serial mark.ike machine.held.associations ≡ Some keys
-  is_response : mark.response ≡ response
-  number_is : mark.number ≡ number
+pub record IsUnder (machine : Machine) (sent : Option marks.Mark) (keys : KeyRecord) (response : Bool) (number : ℕ) : Type 0 where
+  pub mark : marks.Mark
+  pub named : sent ≡ Some mark
+  pub keyed : keys_of_serial mark.ike machine.held.associations ≡ Some keys
+  pub is_response : mark.response ≡ response
+  pub number_is : mark.number ≡ number
 
 no_mark : (by : Mark) (keys : KeyRecord) (response : Bool) (number : ℕ) → mark.Plain ≡ mark.Ike keys response number → ⊥
 no_mark by keys response number is = cc
@@ -59,14 +59,14 @@ under_by machine m (Some k) keys response number found is =
     let same : k ≡ keys = cc in
     record { mark = m; named = refl; keyed = found ∙ ap (λ (x : KeyRecord). Some x) same; is_response = cc; number_is = cc }
 
-is_under : (machine : Machine) (sent : Option marks.Mark) (keys : KeyRecord) (response : Bool) (number : ℕ) → ike_mark machine sent ≡ mark.Ike keys response number → IsUnder machine sent keys response number
+pub is_under : (machine : Machine) (sent : Option marks.Mark) (keys : KeyRecord) (response : Bool) (number : ℕ) → ike_mark machine sent ≡ mark.Ike keys response number → IsUnder machine sent keys response number
 is_under machine None keys response number is = absurd cc
 is_under machine (Some m) keys response number is = under_by machine m (keys_of_serial m.ike machine.held.associations) keys response number refl is
 
 -- the message of a step
-record IsSaid (s : OutputView) (sent : Option marks.Mark) (machine : Machine) (keys : KeyRecord) (entry : Entry) : Type 0 where
-  octets : said_octets s ≡ Some entry.octets
-  under : ike_mark machine sent ≡ mark.Ike keys entry.response entry.number
+pub record IsSaid (s : OutputView) (sent : Option marks.Mark) (machine : Machine) (keys : KeyRecord) (entry : Entry) : Type 0 where
+  pub octets : said_octets s ≡ Some entry.octets
+  pub under : ike_mark machine sent ≡ mark.Ike keys entry.response entry.number
 
 same_datagram : (end : End) (by : Mark) (octets : Octets) (keys : KeyRecord) (entry : Entry) → Contains (datagram_of end by octets ∷ []) (as_stored end keys entry)
     → (octets ≡ entry.octets) × (by ≡ mark.Ike keys entry.response entry.number)
@@ -84,7 +84,7 @@ esp_never : (number : ℕ) (o : Option Pair) (keys : KeyRecord) (response : Bool
 esp_never number None keys response n is = cc
 esp_never number (Some pair) keys response n is = cc
 
-once_is : {C : Type 0} (end : End) (s : OutputView) (sent : Option marks.Mark) (gateway : State C) (keys : KeyRecord) (entry : Entry) → Contains (sent_once end s sent gateway) (as_stored end keys entry)
+pub once_is : {C : Type 0} (end : End) (s : OutputView) (sent : Option marks.Mark) (gateway : State C) (keys : KeyRecord) (entry : Entry) → Contains (sent_once end s sent gateway) (as_stored end keys entry)
     → IsSaid s sent gateway.machine keys entry
 once_is {C} end (Reply octets closed) sent gateway keys entry there = said_so end (Reply octets closed) sent gateway.machine octets keys entry refl there
 once_is {C} end (Repeat octets) sent gateway keys entry there = said_so end (Repeat octets) sent gateway.machine octets keys entry refl there
@@ -101,15 +101,15 @@ is_once {C} end (Request serial o) sent gateway octets is = subst (λ (x : Octet
 is_once {C} end _ sent gateway octets is = absurd (none_some octets is)
 
 -- a request that goes out again under keys
-record IsAgain (s : OutputView) (machine : Machine) (keys : KeyRecord) (entry : Entry) : Type 0 where
-  requests : List Resent
-  closed : List ℕ
-  request : Resent
-  ticked : s ≡ Ticked requests closed
-  there : Contains requests request
-  sealed : request.encrypted ≡ true
-  keyed : keys_of_serial request.ike machine.held.associations ≡ Some keys
-  is : request_of request.number request.octets ≡ entry
+pub record IsAgain (s : OutputView) (machine : Machine) (keys : KeyRecord) (entry : Entry) : Type 0 where
+  pub requests : List Resent
+  pub closed : List ℕ
+  pub request : Resent
+  pub ticked : s ≡ Ticked requests closed
+  pub there : Contains requests request
+  pub sealed : request.encrypted ≡ true
+  pub keyed : keys_of_serial request.ike machine.held.associations ≡ Some keys
+  pub is : request_of request.number request.octets ≡ entry
 
 again_marked : (machine : Machine) (r : Resent) (b : Bool) (keys : KeyRecord) (response : Bool) (number : ℕ) → r.encrypted ≡ b
     → ike_mark machine (if b then Some (record { ike = r.ike; response = false; number = r.number }) else None) ≡ mark.Ike keys response number
@@ -138,7 +138,7 @@ again_is_in end machine requests closed keys entry there =
       is = λ i. record { response = response i; number = number i; octets = octets i };
     }
 
-again_is : (end : End) (machine : Machine) (s : OutputView) (keys : KeyRecord) (entry : Entry) → Contains (map (again_as end machine) (requests_in s)) (as_stored end keys entry) → IsAgain s machine keys entry
+pub again_is : (end : End) (machine : Machine) (s : OutputView) (keys : KeyRecord) (entry : Entry) → Contains (map (again_as end machine) (requests_in s)) (as_stored end keys entry) → IsAgain s machine keys entry
 again_is end machine (Ticked requests closed) keys entry there = again_is_in end machine requests closed keys entry there
 again_is end machine _ keys entry there = absurd (none_there (as_stored end keys entry) there)
 

@@ -9,7 +9,8 @@ pub mod WorldParties
 pub mod WorldPromises
 pub mod WorldChildren
 pub mod WorldPackets
-pub mod WorldChildPromises
+pub mod WorldWindows
+pub mod BothEnds
 pub mod WorldRuns
 pub mod Storing
 pub mod Contents

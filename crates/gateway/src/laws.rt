@@ -28,15 +28,16 @@ ghost use Rattle.gateway.specs.Outputs.{Clear, Dropped, FewAgain, FitsChild, Fit
 ghost use Rattle.gateway.specs.Promises.{KeepsPromises};
 ghost use Rattle.gateway.specs.Histories.{IsHistory, Passage};
 ghost use Rattle.gateway.specs.Runs.{CallsAs, Runs, StepsAs};
-ghost use Rattle.gateway.specs.States.{State};
+ghost use Rattle.gateway.specs.States.{IsSoundState, State};
 ghost use Rattle.gateway.specs.Storing.{again_by};
 ghost use Rattle.gateway.specs.Steps.{GoesSealed, Steps, Traces};
 ghost use Rattle.gateway.specs.WorkedWorlds.{IsWorkedWorld};
 ghost use Rattle.gateway.specs.WorldHistories.{passages_at, Happening, IsWorldHistory, IsWorldTrail};
 ghost use Rattle.gateway.specs.WorldParties.{HasSent, IsNeverMadeTwice, IsSoundUnder};
 ghost use Rattle.ike.specs.Moves.{HasSeal};
-ghost use Rattle.gateway.specs.WorldChildPromises.{IsSoundForChildren, KeepsChildPromises};
+ghost use Rattle.gateway.specs.BothEnds.{IsWhollySound, PromisesOfBothEnds};
 ghost use Rattle.gateway.specs.WorldPromises.{EndsAgree, IsUnforged, IsUnforgedByThen, KeepsWorldPromises, StaysSound};
+ghost use Rattle.gateway.specs.WorldWindows.{AccountsForWindows, WindowsFit};
 ghost use Rattle.gateway.specs.WorldRuns.{inputs_at, outputs_at, CallsWorldAs, HappensAs, IsLater};
 ghost use Rattle.gateway.specs.Worked.{IsWorkedRun};
 ghost use Rattle.gateway.specs.WorkedRequests.{IsWorkedRequest};
@@ -49,6 +50,7 @@ ghost use Rattle.gateway.specs.declared.fault.Reason.{Reason};
 ghost use Rattle.gateway.specs.declared.input.Input.{Input};
 ghost use Rattle.gateway.specs.declared.input.Input.TheVariants as input;
 
+use auth::laws::windows_are_read_again;
 use children::laws::children_mirror;
 use deliveries::laws::{
     every_list_of_packets_is_judged, numbers_are_determined, other_changes_leave_windows,
@@ -337,19 +339,19 @@ pub fn ends_of_a_sound_world_agree<C>()
     what_was_sent_under_keys_is_told();
 }
 
-/// A world of two gateways that hold nothing is sound for children under every key record, whatever cipher there is.
-pub fn new_worlds_account_for_children<C>()
+/// A world of two gateways that hold nothing is wholly sound under every key record, whatever cipher there is.
+pub fn new_worlds_are_wholly_sound<C>()
     ensures { (body_of : Keys → Octets → Octets → Octets → Octets) (plain_of : Opening) (keys : KeyRecord)
-        (a b : State C) → HoldsNothing a → HoldsNothing b → IsSoundTable a.table → IsSoundTable b.table
-        → IsSoundForChildren body_of plain_of keys (new_world a b) }
+        (a b : State C) → HoldsNothing a → HoldsNothing b → IsSoundState a → IsSoundState b
+        → IsWhollySound body_of plain_of keys (new_world a b) }
 {
     every_world_stays_sound::<C>();
 }
 
-/// Every list of events keeps what is promised of the children of both ends, whatever history it has. The children of one request that
+/// Every list of events keeps what is promised of both ends beside their requests in step, whatever history it has. The children of one request that
 /// both ends made mirror each other, since each was made of the octets of one request and of one response, which were sealed at one end and
 /// opened at the other (RFC 7296, sections 2.9 and 2.17); what goes up from such a child the other end sealed (RFC 4301, sections 5.1 and 5.2).
-pub fn children_of_both_ends_agree<C: Sealer + Agreement + Proof>()
+pub fn both_ends_keep_their_promises<C: Sealer + Agreement + Proof>()
     ensures { (happenings : List (Happening C)) (old new : WorldState C)
         → IsWorldTrail (λ caller. record {
           cipher = C.cipher;
@@ -362,7 +364,7 @@ pub fn children_of_both_ends_agree<C: Sealer + Agreement + Proof>()
           proof_of = C.proof_of caller;
           accepts = C.accepts caller;
         }) old happenings new
-        → KeepsChildPromises C.body_of C.plain_of (λ caller. record {
+        → PromisesOfBothEnds C.body_of C.plain_of (λ caller. record {
           cipher = C.cipher;
           body_of = C.body_of;
           plain_of = C.plain_of;
@@ -391,6 +393,53 @@ pub fn children_of_both_ends_agree<C: Sealer + Agreement + Proof>()
     traces_name_what_is_held();
     traffic::laws::later_tables_follow();
     what_one_end_seals_the_other_hands_up();
+    windows_are_those_told::<C>();
+}
+
+/// The window that an end counts for the other is no wider than the one that the other is set to: over every list of events, where no
+/// message under the key record was forged and neither end came to it twice. Each end tells its own in IKE_AUTH, and what is sealed at one
+/// end is what opens at the other (RFC 7296, section 2.3).
+pub fn windows_are_those_told<C: Sealer + Agreement + Proof>()
+    ensures stays { (keys : KeyRecord) (happenings : List (Happening C)) (old new : WorldState C)
+        → IsWorldTrail (λ caller. record {
+          cipher = C.cipher;
+          body_of = C.body_of;
+          plain_of = C.plain_of;
+          group = C.group_number;
+          public_value = C.public_value;
+          shared_secret = C.shared_secret;
+          own_method = C.own_method caller;
+          proof_of = C.proof_of caller;
+          accepts = C.accepts caller;
+        }) old happenings new
+        → IsSoundUnder keys old → AccountsForWindows C.body_of C.plain_of keys old old.stored
+        → IsUnforged (λ caller. record {
+          cipher = C.cipher;
+          body_of = C.body_of;
+          plain_of = C.plain_of;
+          group = C.group_number;
+          public_value = C.public_value;
+          shared_secret = C.shared_secret;
+          own_method = C.own_method caller;
+          proof_of = C.proof_of caller;
+          accepts = C.accepts caller;
+        }) keys happenings new.stored
+        → IsNeverMadeTwice keys new.stored
+        → AccountsForWindows C.body_of C.plain_of keys new new.stored }
+    ensures fit { (keys : KeyRecord) (world : WorldState C)
+        → AccountsForWindows C.body_of C.plain_of keys world world.stored → WindowsFit keys world }
+{
+    each_party_stays_sound();
+    what_was_sent_under_keys_is_told();
+    effects::laws::associations_stay_themselves();
+    effects::laws::requests_are_remembered();
+    ike::laws::children_are_made_of_their_messages();
+    ike::laws::keys_stay_whole();
+    octets_spell_one_message();
+    plain_spellings_are_spellings();
+    steps_are_moves();
+    traces_name_what_is_held();
+    windows_are_read_again();
 }
 
 /// The premises on both ends are met by a world that is sound for a key record under which each end holds an association, one as its

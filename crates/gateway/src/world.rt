@@ -7,7 +7,7 @@ ghost use Rattle.gateway.specs.Requests.{for_ike};
 ghost use Rattle.suite.specs.declared.key_record.KeyRecord.{KeyRecord};
 ghost use Rattle.association.specs.Receiving.{Opening};
 ghost use Rattle.suite.specs.declared.keys.Keys.{Keys};
-ghost use Rattle.gateway.specs.WorldChildPromises.{IsSoundForChildren};
+ghost use Rattle.gateway.specs.BothEnds.{IsWhollySound};
 ghost use Rattle.gateway.specs.WorldParties.{IsSoundUnder};
 ghost use Rattle.gateway.specs.Worlds.{datagram_at, gateway_at, new_world, HoldsNothing, IsFreshlyGiven, TakesEvent};
 
@@ -15,7 +15,7 @@ mod log;
 mod running;
 mod stored;
 
-use crate::laws::{every_world_stays_sound, new_worlds_account_for_children};
+use crate::laws::{every_world_stays_sound, new_worlds_are_wholly_sound};
 use crate::{Gateway, Input, Output};
 use log::{Log, most_again, take};
 pub use running::run_world;
@@ -52,17 +52,17 @@ impl<C> Model for World<C> {
 
 impl<C> World<C> {
     /// Two gateways that hold no association and have given no SPI, at the moment 0: nothing was sent yet. Takes no memory. Such a world
-    /// is sound under every key record, for children too.
+    /// is sound under every key record, and accounts for its windows, its children and its pairs.
     pub fn new(alloc: Global, a: Gateway<C>, b: Gateway<C>) -> World<C>
         requires a { HoldsNothing a }
         requires b { HoldsNothing b }
         ensures content { result ≡ new_world a b }
         ensures sound { (keys : KeyRecord) → IsSoundUnder keys result }
-        ensures children { (body_of : Keys → Octets → Octets → Octets → Octets) (plain_of : Opening)
-            (keys : KeyRecord) → IsSoundForChildren body_of plain_of keys result }
+        ensures wholly { (body_of : Keys → Octets → Octets → Octets → Octets) (plain_of : Opening)
+            (keys : KeyRecord) → IsWhollySound body_of plain_of keys result }
     {
         every_world_stays_sound::<C>();
-        new_worlds_account_for_children::<C>();
+        new_worlds_are_wholly_sound::<C>();
         a.invariants_hold();
         b.invariants_hold();
         World {

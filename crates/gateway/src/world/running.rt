@@ -1,11 +1,11 @@
 //! A list of events at two ends.
 ghost use Rattle.std.specs.Prelude.{OnOk, IfErr, length};
-ghost use Rattle.gateway.specs.WorldChildPromises.{KeepsChildren};
+ghost use Rattle.gateway.specs.BothEnds.{KeepsBothEnds};
 ghost use Rattle.gateway.specs.WorldRuns.{PlaysFirst, StopsPlaying};
 
 use super::{Event, World};
 use crate::laws::{
-    children_of_both_ends_agree, every_run_keeps_its_promises, every_world_stays_sound,
+    both_ends_keep_their_promises, every_run_keeps_its_promises, every_world_stays_sound,
 };
 use crate::{Output, RunFault};
 use std::alloc::Global;
@@ -23,10 +23,10 @@ use suite::{Agreement, Proof, Sealer};
 /// as initiator and the other as responder under the record, and for the requests of either: what is in effect at the answering end was
 /// issued by the asking end, what that counts as answered is in effect, both keep within the windows, as the asking end counts the
 /// other's, and where it counts one place the requests in effect are the first ones, none skipped, and those answered the same or all
-/// but the last (RFC 7296, sections 2.1 to 2.3). That two ends come to one record, or count the window that the other was set to, is
-/// not promised here.
+/// but the last (RFC 7296, sections 2.1 to 2.3). The window that an end counts for the other is no wider than the one that the other is set
+/// to. That two ends come to one record is not promised here.
 ///
-/// And of their children: where a world is so sound under a key record, wherever both ends made the child of one request, the pairs mirror each
+/// And of their children, under the same premises: wherever both ends made the child of one request, the pairs mirror each
 /// other; and each packet that goes up from such a child is, octet for octet, what one stored packet carries that the other end's pair of it sealed
 /// under the same number, which that end's policy protects outward and that pair covers, as long as no packet to the child was forged and the
 /// other end had no other child that sends under its inbound SPI and key. Under no number of a child anything goes up twice (RFC 4301, section 4.1;
@@ -63,7 +63,7 @@ pub fn run_world<'a, C: Sealer + Agreement + Proof>(
           accepts = C.accepts caller;
         })
         events.now world.old outputs.old.items fault world.new outputs.new.items) }
-    ensures children { KeepsChildren C.body_of C.plain_of
+    ensures both { KeepsBothEnds C.body_of C.plain_of
         (λ caller. record {
           cipher = C.cipher;
           body_of = C.body_of;
@@ -77,7 +77,7 @@ pub fn run_world<'a, C: Sealer + Agreement + Proof>(
         })
         events.now world.old outputs.old.items world.new outputs.new.items }
 {
-    children_of_both_ends_agree::<C>();
+    both_ends_keep_their_promises::<C>();
     every_run_keeps_its_promises::<C>();
     every_world_stays_sound::<C>();
     for (done, event) in events.iter().enumerate() {

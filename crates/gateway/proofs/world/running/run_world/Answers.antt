@@ -1,11 +1,11 @@
 use Rattle.std.proofs.Common.{◌≡◌, ℕ, List, [], ◌∷◌, ◌++◌, length, sym, ◌∙◌, subst, arith}
 use Rattle.effects.specs.Taking.{Meaning}
 use Rattle.gateway.specs.Runs.{Runs}
-use Rattle.gateway.specs.WorldChildPromises.{KeepsChildren}
+use Rattle.gateway.specs.BothEnds.{KeepsBothEnds}
 use Rattle.gateway.specs.WorldRuns.{HappensAs, PlaysFirst}
 use Rattle.gateway.specs.declared.world.stored.Event.{Event}
 use Rattle.gateway.proofs.RunLemmas.{pushed_after, run_more, take_next}
-use Rattle.gateway.proofs.CarryLemmas.{keeps_children}
+use Rattle.gateway.proofs.CarryLemmas.{keeps_both_ends}
 use Rattle.gateway.proofs.WorldLemmas.{plays}
 use Rattle.gateway.proofs.world.running.run_world.Goals as goal
 
@@ -86,8 +86,8 @@ returns-clause-all g c =
     subst (λ (k : ℕ). PlaysFirst meaning_of k c.args.events.now c.args.world.now c.args.outputs.now.items c.loop-done.world c.loop-done.outputs.items) all
     (plays c.every_run_keeps_its_promises.ensures c.every_world_stays_sound.ensures.run meaning_of c.loop-done.done c.args.events.now c.args.world.now c.args.outputs.now.items i.answers c.loop-done.world c.loop-done.outputs.items i.appended i.runs)
 
-pub returns-then-is_err-clause-children : goal.returns-then-is_err-clause-children
-returns-then-is_err-clause-children g c =
+pub returns-then-is_err-clause-both : goal.returns-then-is_err-clause-both
+returns-then-is_err-clause-both g c =
     let i = c.loop-done.invariant in
     let meaning_of : _ → Meaning = λ caller. record {
       cipher = g.C.Sealer.cipher;
@@ -100,11 +100,11 @@ returns-then-is_err-clause-children g c =
       proof_of = g.C.Proof.proof_of caller;
       accepts = g.C.Proof.accepts caller;
     } in
-    keeps_children meaning_of g.C.Sealer.body_of g.C.Sealer.plain_of c.children_of_both_ends_agree.ensures c.loop-done.done c.args.events.now c.args.world.now c.args.outputs.now.items i.answers c.loop-done.world c.reserve.new.self.items
+    keeps_both_ends meaning_of g.C.Sealer.body_of g.C.Sealer.plain_of c.both_ends_keep_their_promises.ensures c.loop-done.done c.args.events.now c.args.world.now c.args.outputs.now.items i.answers c.loop-done.world c.reserve.new.self.items
     (c.reserve.ensures.items ∙ i.appended) i.runs
 
-pub returns-in_default-clause-children : goal.returns-in_default-clause-children
-returns-in_default-clause-children g c =
+pub returns-in_default-clause-both : goal.returns-in_default-clause-both
+returns-in_default-clause-both g c =
     let i = c.loop-done.invariant in
     let meaning_of : _ → Meaning = λ caller. record {
       cipher = g.C.Sealer.cipher;
@@ -117,12 +117,12 @@ returns-in_default-clause-children g c =
       proof_of = g.C.Proof.proof_of caller;
       accepts = g.C.Proof.accepts caller;
     } in
-    subst (λ w. KeepsChildren g.C.Sealer.body_of g.C.Sealer.plain_of meaning_of c.args.events.now c.args.world.now c.args.outputs.now.items w c.reserve.new.self.items) (sym c.in_default.ensures.refused)
-    (keeps_children meaning_of g.C.Sealer.body_of g.C.Sealer.plain_of c.children_of_both_ends_agree.ensures c.loop-done.done c.args.events.now c.args.world.now c.args.outputs.now.items i.answers c.loop-done.world c.reserve.new.self.items
+    subst (λ w. KeepsBothEnds g.C.Sealer.body_of g.C.Sealer.plain_of meaning_of c.args.events.now c.args.world.now c.args.outputs.now.items w c.reserve.new.self.items) (sym c.in_default.ensures.refused)
+    (keeps_both_ends meaning_of g.C.Sealer.body_of g.C.Sealer.plain_of c.both_ends_keep_their_promises.ensures c.loop-done.done c.args.events.now c.args.world.now c.args.outputs.now.items i.answers c.loop-done.world c.reserve.new.self.items
     (c.reserve.ensures.items ∙ i.appended) i.runs)
 
-pub returns-clause-children : goal.returns-clause-children
-returns-clause-children g c =
+pub returns-clause-both : goal.returns-clause-both
+returns-clause-both g c =
     let i = c.loop-done.invariant in
     let meaning_of : _ → Meaning = λ caller. record {
       cipher = g.C.Sealer.cipher;
@@ -135,4 +135,4 @@ returns-clause-children g c =
       proof_of = g.C.Proof.proof_of caller;
       accepts = g.C.Proof.accepts caller;
     } in
-    keeps_children meaning_of g.C.Sealer.body_of g.C.Sealer.plain_of c.children_of_both_ends_agree.ensures c.loop-done.done c.args.events.now c.args.world.now c.args.outputs.now.items i.answers c.loop-done.world c.loop-done.outputs.items i.appended i.runs
+    keeps_both_ends meaning_of g.C.Sealer.body_of g.C.Sealer.plain_of c.both_ends_keep_their_promises.ensures c.loop-done.done c.args.events.now c.args.world.now c.args.outputs.now.items i.answers c.loop-done.world c.loop-done.outputs.items i.appended i.runs

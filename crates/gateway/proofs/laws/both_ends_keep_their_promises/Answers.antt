@@ -1,11 +1,11 @@
 use Rattle.std.proofs.Common.{refl}
-use Rattle.gateway.proofs.CarryLemmas.{child_promises, CarryLaws}
+use Rattle.gateway.proofs.CarryLemmas.{both_ends_promises, CarryLaws}
 use Rattle.gateway.proofs.ChildLemmas.{ChildLaws}
 use Rattle.gateway.proofs.MirrorLemmas.{MirrorLaws}
 use Rattle.gateway.proofs.MoveLemmas.{TurnLaws}
 use Rattle.gateway.proofs.OpenLemmas.{OpenLaws}
 use Rattle.gateway.proofs.PairLemmas.{PairLaws}
-use Rattle.gateway.proofs.laws.children_of_both_ends_agree.Goals as goal
+use Rattle.gateway.proofs.laws.both_ends_keep_their_promises.Goals as goal
 
 pub returns : goal.returns
 returns g c =
@@ -55,4 +55,5 @@ returns g c =
       one_chain = c.octets_spell_one_message.ensures.chain;
       again = g.met.C.Sealer.opens_again;
     } in
-    λ happenings old new trail. child_promises turns kin mirrors pairs carry _ body_of plain_of (record { body = λ caller. refl; plain = λ caller. refl }) opens happenings old new trail (c.every_world_stays_sound.ensures.trail _ happenings old new trail)
+    λ happenings old new trail. both_ends_promises turns kin mirrors pairs carry _ body_of plain_of (record { body = λ caller. refl; plain = λ caller. refl }) opens happenings old new trail (c.every_world_stays_sound.ensures.trail _ happenings old new trail)
+    (λ keys sound known unforged once. c.windows_are_those_told.ensures.stays keys happenings old new trail sound known unforged once) (λ keys known. c.windows_are_those_told.ensures.fit keys new known)

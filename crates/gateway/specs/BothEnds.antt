@@ -1,5 +1,5 @@
--- What is promised of the children that both ends of a world made, over a list of events (RFC 7296 sections 1.2, 1.3.1, 2.9 and 2.17; RFC 4301
--- sections 4.1, 5.1 and 5.2; RFC 4303 sections 3.3 and 3.4).
+-- What is promised of both ends of a world over a list of events, beside that their requests keep in step: their windows, their children and the
+-- packets of these (RFC 7296 sections 1.2, 1.3.1, 2.3, 2.9 and 2.17; RFC 4301 sections 4.1, 5.1 and 5.2; RFC 4303 sections 3.3 and 3.4).
 use Rattle.std.specs.Prelude.{◌≡◌, ◌++◌, ℕ, List, Contains, Some, slice_get, take}
 use Rattle.base.specs.Octets.{Octets}
 use Rattle.suite.specs.declared.key_record.KeyRecord.{KeyRecord}
@@ -12,20 +12,22 @@ use Rattle.gateway.specs.WorldHistories.{Happening, IsWorldHistory}
 use Rattle.gateway.specs.WorldPackets.{AccountsForPairs, HandsUpWhatWasSealed, HasOneSender, HasStored, IsUnforgedTo, PairsMirror}
 use Rattle.gateway.specs.WorldParties.{IsNeverMadeTwice, IsSoundUnder}
 use Rattle.gateway.specs.WorldPromises.{IsUnforged}
+use Rattle.gateway.specs.WorldWindows.{AccountsForWindows, WindowsFit}
 use Rattle.gateway.specs.Worlds.{WorldState}
 use Rattle.gateway.specs.declared.output.Output.{Output}
 use Rattle.gateway.specs.declared.world.stored.Child.{Child}
 use Rattle.gateway.specs.declared.world.stored.Event.{Event}
 
--- A world that is sound under a key record, and accounts for its children under it and for its pairs, as a new one does.
-pub record IsSoundForChildren {C : Type 0} (body_of : Keys → Octets → Octets → Octets → Octets) (plain_of : Opening) (keys : KeyRecord) (w : WorldState C) : Type 0 where
+-- A world that is sound under a key record, and accounts for its windows and its children under it and for its pairs, as a new one does.
+pub record IsWhollySound {C : Type 0} (body_of : Keys → Octets → Octets → Octets → Octets) (plain_of : Opening) (keys : KeyRecord) (w : WorldState C) : Type 0 where
   pub sound : IsSoundUnder keys w
+  pub windows : AccountsForWindows body_of plain_of keys w w.stored
   pub children : AccountsForChildren body_of plain_of keys w w.stored
   pub pairs : AccountsForPairs w
 
--- What is promised of the children under a key record after a list of events: the children of one request mirror each other, and so do the pairs that
--- both ends hold of it, then and after each event; and what went up from such a child in the list the other end sealed, where no packet to the child was forged and the
--- other end had no other child that sends under its inbound SPI and key.
+-- What is promised of the children under a key record after a list of events: the children of one request mirror each other, and so do the pairs
+-- that both ends hold of it, then and after each event; and what went up from such a child in the list the other end sealed, where no packet to
+-- the child was forged and the other end had no other child that sends under its inbound SPI and key.
 pub record ChildrenAgree {C : Type 0} (keys : KeyRecord) (happenings : List (Happening C)) (w : WorldState C) : Type 0 where
   pub mirror : ChildrenMirror keys w
   pub held : PairsMirror keys w
@@ -33,13 +35,14 @@ pub record ChildrenAgree {C : Type 0} (keys : KeyRecord) (happenings : List (Hap
   pub carried : (child : Child) → Contains w.stored.children child → child.keys ≡ keys → IsUnforgedTo child happenings w.stored → HasOneSender child w.stored
       → HandsUpWhatWasSealed child happenings w
 
--- A world that is so sound stays so over a list of events, where no message under the record was forged and neither end came to it twice, and its
--- children agree. A world accounts for its pairs whatever comes, at each step too; what goes up is of a child that is stored; and under no number of a
--- child anything goes up twice.
-pub record KeepsChildPromises {C : Type 0} (body_of : Keys → Octets → Octets → Octets → Octets) (plain_of : Opening) (meaning_of : C → Meaning) (happenings : List (Happening C)) (old new : WorldState C) : Type 0 where
-  pub stays : (keys : KeyRecord) → IsSoundForChildren body_of plain_of keys old → IsUnforged meaning_of keys happenings new.stored → IsNeverMadeTwice keys new.stored
-      → IsSoundForChildren body_of plain_of keys new
-  pub agree : (keys : KeyRecord) → IsSoundForChildren body_of plain_of keys old → IsUnforged meaning_of keys happenings new.stored → IsNeverMadeTwice keys new.stored
+-- A world that is so sound stays so over a list of events, where no message under the record was forged and neither end came to it twice; then no
+-- end counts a wider window for the other than that is set to, and the children agree. A world accounts for its pairs whatever comes, at each step
+-- too; what goes up is of a child that is stored; and under no number of a child anything goes up twice.
+pub record PromisesOfBothEnds {C : Type 0} (body_of : Keys → Octets → Octets → Octets → Octets) (plain_of : Opening) (meaning_of : C → Meaning) (happenings : List (Happening C)) (old new : WorldState C) : Type 0 where
+  pub stays : (keys : KeyRecord) → IsWhollySound body_of plain_of keys old → IsUnforged meaning_of keys happenings new.stored → IsNeverMadeTwice keys new.stored
+      → IsWhollySound body_of plain_of keys new
+  pub windows : (keys : KeyRecord) → IsWhollySound body_of plain_of keys new → WindowsFit keys new
+  pub agree : (keys : KeyRecord) → IsWhollySound body_of plain_of keys old → IsUnforged meaning_of keys happenings new.stored → IsNeverMadeTwice keys new.stored
       → ChildrenAgree keys happenings new
   pub pairs : AccountsForPairs old → (place : ℕ) (h : Happening C) → slice_get happenings place ≡ Some h → AccountsForPairs h.after
   pub stored : AccountsForPairs old → (place serial number : ℕ) (packet : Octets) (h : Happening C) → slice_get happenings place ≡ Some h → h.said ≡ Up serial number packet
@@ -48,10 +51,10 @@ pub record KeepsChildPromises {C : Type 0} (body_of : Keys → Octets → Octets
       → h.event.end ≡ g.event.end → h.said ≡ Up serial number one → g.said ≡ Up serial number two → place ≡ other
 
 -- The first so many events took place, and their outputs were appended. What took place has a history, and of every history of it that holds.
-pub record KeepsChildren {C : Type 0} (body_of : Keys → Octets → Octets → Octets → Octets) (plain_of : Opening) (meaning_of : C → Meaning) (events : List Event) (old : WorldState C) (before : List Output) (new : WorldState C) (after : List Output) : Type 0 where
+pub record KeepsBothEnds {C : Type 0} (body_of : Keys → Octets → Octets → Octets → Octets) (plain_of : Opening) (meaning_of : C → Meaning) (events : List Event) (old : WorldState C) (before : List Output) (new : WorldState C) (after : List Output) : Type 0 where
   pub count : ℕ
   pub outputs : List Output
   pub appended : after ≡ before ++ outputs
   pub happenings : List (Happening C)
   pub history : IsWorldHistory meaning_of (take count events) outputs old new happenings
-  pub each : (others : List (Happening C)) → IsWorldHistory meaning_of (take count events) outputs old new others → KeepsChildPromises body_of plain_of meaning_of others old new
+  pub each : (others : List (Happening C)) → IsWorldHistory meaning_of (take count events) outputs old new others → PromisesOfBothEnds body_of plain_of meaning_of others old new
