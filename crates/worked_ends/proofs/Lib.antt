@@ -1,0 +1,10 @@
+mod MessageLemmas
+mod ChildLemmas
+mod FlowLemmas
+mod TableLemmas
+mod CarriedLemmas
+mod SentLemmas
+mod LedgerLemmas
+mod StateLemmas
+mod WindowLemmas
+mod WorkedChildLemmas

@@ -1,0 +1,364 @@
+-- The messages of the worked world are spelled so, and seal their payloads; the two that made the child open to these.
+use Rattle.std.proofs.Common.{◌≡◌, ◌<◌, ◌^◌, ◌&&◌, ◌++◌, ◌∷◌, ℕ, Bool, true, false, [], ltb, ap, arith, refl, sym}
+use Rattle.std.proofs.lemmas.Bool.{true≢false, ltb-true}
+use Rattle.std.specs.List.{AllByRecursion}
+use Rattle.byteorder.specs.Endian.{big_bytes}
+use Rattle.base.specs.Octets.{AreOctets, IsOctet, Octets}
+use Rattle.wire.specs.Messages.{SpellsHeader, SpellsWith}
+use Rattle.wire.specs.Parts.{IsMarked, IsZero}
+use Rattle.wire.specs.Payloads.{IsClear, SpellsChain, SpellsPayload, SpellsPayloads}
+use Rattle.wire.specs.Proposals.{SpellsProposal, SpellsTransform}
+use Rattle.wire.specs.Selectors.{SpellsSelectors}
+use Rattle.wire.specs.declared.message.Header.{Header}
+use Rattle.wire.specs.declared.payload.Payload.TheVariants.{Nonce, Sa, Sealed, TsI, TsR}
+use Rattle.suite.specs.Choice.{without_attributes}
+use Rattle.exchange.specs.Headers.{sent_header}
+use Rattle.exchange.specs.declared.headers.Role.TheVariants.{Initiator, Responder}
+use Rattle.deliveries.specs.Worked.{any_traffic}
+use Rattle.gateway.specs.WorkedRequests.{worked_keys, worked_meaning}
+use Rattle.gateway.specs.WorldChildren.{OpensToPayloads, SealsPayloads}
+use Rattle.gateway.proofs.WorkedRequestLemmas.{whole_keys}
+use Rattle.worked_ends.specs.WorkedMessages.{answering_octets, answering_payloads, asking_octets, asking_payloads, first_answering, first_asking, first_octets, header_octets, message_octets, nonce_octets, nonce_of, payloads_of, plain_octets, proposal_of, sa_octets, encrypted_octets, selector_octets}
+
+-- ---- octets
+
+and_left : (a b : Bool) → (a && b) ≡ true → a ≡ true
+and_left true b is = refl
+and_left false b is = is
+
+and_right : (a b : Bool) → (a && b) ≡ true → b ≡ true
+and_right true b is = is
+and_right false b is = absurd (true≢false (sym is))
+
+abbrev are_octets : Octets → Bool
+are_octets [] = true
+are_octets (o ∷ os) = ltb o 256 && are_octets os
+
+octets_if : (os : Octets) → are_octets os ≡ true → AreOctets os
+octets_if [] is = tt
+octets_if (o ∷ os) is = (ltb-true o 256 (and_left (ltb o 256) (are_octets os) is), octets_if os (and_right (ltb o 256) (are_octets os) is))
+
+-- the octets of a header in front of the number
+abbrev fixed_octets : ℕ → ℕ → Octets
+fixed_octets exchange flags = 0 ∷ 0 ∷ 0 ∷ 0 ∷ 0 ∷ 0 ∷ 0 ∷ 1 ∷ 0 ∷ 0 ∷ 0 ∷ 0 ∷ 0 ∷ 0 ∷ 0 ∷ 2 ∷ 46 ∷ 0x20 ∷ exchange ∷ flags ∷ []
+
+-- ---- the payloads, with whatever may stand in reserved octets
+
+module _ (Free : ℕ → Type 0) (free : Free 0) where
+  transform_is : (mark kind id : ℕ) → 0 ∷ id ∷ [] ≡ big_bytes 2 id → id < 256 → IsMarked Free mark (SpellsTransform Free (without_attributes kind id)) (mark ∷ 0 ∷ 0 ∷ 8 ∷ kind ∷ 0 ∷ 0 ∷ id ∷ [])
+  transform_is mark kind id spelled small = record {
+    reserved = 0;
+    inside = kind ∷ 0 ∷ 0 ∷ id ∷ [];
+    free = free;
+    part = record { spelled = refl; fits = omega arith };
+    content = record {
+      reserved = 0;
+      attributes = [];
+      free = free;
+      spelled = ap (λ (os : Octets). kind ∷ 0 ∷ (os ++ [])) spelled;
+      id = omega (arith, small);
+      each = refl;
+    };
+  }
+
+  proposal_is : (k : ℕ) → SpellsProposal Free (proposal_of k)
+      (1 ∷ 3 ∷ 4 ∷ 3 ∷ 0 ∷ 0 ∷ k ∷ 0 ∷ 3 ∷ 0 ∷ 0 ∷ 8 ∷ 1 ∷ 0 ∷ 0 ∷ 11 ∷ 3 ∷ 0 ∷ 0 ∷ 8 ∷ 3 ∷ 0 ∷ 0 ∷ 12 ∷ 0 ∷ 0 ∷ 0 ∷ 8 ∷ 5 ∷ 0 ∷ 0 ∷ 0 ∷ [])
+  proposal_is k = record {
+    transforms = 3 ∷ 0 ∷ 0 ∷ 8 ∷ 1 ∷ 0 ∷ 0 ∷ 11 ∷ 3 ∷ 0 ∷ 0 ∷ 8 ∷ 3 ∷ 0 ∷ 0 ∷ 12 ∷ 0 ∷ 0 ∷ 0 ∷ 8 ∷ 5 ∷ 0 ∷ 0 ∷ 0 ∷ [];
+    spelled = refl;
+    spi = omega arith;
+    count = omega arith;
+    each = record {
+      front = 3 ∷ 0 ∷ 0 ∷ 8 ∷ 1 ∷ 0 ∷ 0 ∷ 11 ∷ [];
+      rest = 3 ∷ 0 ∷ 0 ∷ 8 ∷ 3 ∷ 0 ∷ 0 ∷ 12 ∷ 0 ∷ 0 ∷ 0 ∷ 8 ∷ 5 ∷ 0 ∷ 0 ∷ 0 ∷ [];
+      joined = refl;
+      first = transform_is 3 1 11 refl (omega arith);
+      others = record {
+        front = 3 ∷ 0 ∷ 0 ∷ 8 ∷ 3 ∷ 0 ∷ 0 ∷ 12 ∷ [];
+        rest = 0 ∷ 0 ∷ 0 ∷ 8 ∷ 5 ∷ 0 ∷ 0 ∷ 0 ∷ [];
+        joined = refl;
+        first = transform_is 3 3 12 refl (omega arith);
+        others = transform_is 0 5 0 refl (omega arith);
+      };
+    };
+  }
+
+  sa_is : (k : ℕ) → SpellsPayload Free (Sa (proposal_of k ∷ [])) 40 (sa_octets k)
+  sa_is k = record {
+    second = 0;
+    body = 0 ∷ 0 ∷ 0 ∷ 36 ∷ 1 ∷ 3 ∷ 4 ∷ 3 ∷ 0 ∷ 0 ∷ k ∷ 0 ∷ 3 ∷ 0 ∷ 0 ∷ 8 ∷ 1 ∷ 0 ∷ 0 ∷ 11 ∷ 3 ∷ 0 ∷ 0 ∷ 8 ∷ 3 ∷ 0 ∷ 0 ∷ 12 ∷ 0 ∷ 0 ∷ 0 ∷ 8 ∷ 5 ∷ 0 ∷ 0 ∷ 0 ∷ [];
+    part = record { spelled = refl; fits = omega arith };
+    header = free;
+    inside = record {
+      each = record {
+        reserved = 0;
+        inside = 1 ∷ 3 ∷ 4 ∷ 3 ∷ 0 ∷ 0 ∷ k ∷ 0 ∷ 3 ∷ 0 ∷ 0 ∷ 8 ∷ 1 ∷ 0 ∷ 0 ∷ 11 ∷ 3 ∷ 0 ∷ 0 ∷ 8 ∷ 3 ∷ 0 ∷ 0 ∷ 12 ∷ 0 ∷ 0 ∷ 0 ∷ 8 ∷ 5 ∷ 0 ∷ 0 ∷ 0 ∷ [];
+        free = free;
+        part = record { spelled = refl; fits = omega arith };
+        content = proposal_is k;
+      };
+      numbered = omega arith;
+    };
+  }
+
+  nonce_is : (filling : ℕ) → SpellsPayload Free (Nonce (nonce_of filling)) 44 (nonce_octets filling)
+  nonce_is filling = record {
+    second = 0;
+    body = nonce_of filling;
+    part = record { spelled = refl; fits = omega arith };
+    header = free;
+    inside = record { spelled = refl; some = omega arith; few = omega arith };
+  }
+
+  abbrev selectors : Octets
+  selectors = 7 ∷ 0 ∷ 0 ∷ 16 ∷ 0 ∷ 0 ∷ 255 ∷ 255 ∷ 0 ∷ 0 ∷ 0 ∷ 0 ∷ 255 ∷ 255 ∷ 255 ∷ 255 ∷ []
+
+  selectors_are : SpellsSelectors Free any_traffic (1 ∷ 0 ∷ 0 ∷ 0 ∷ selectors)
+  selectors_are = record {
+    reserved_1 = 0;
+    reserved_2 = 0;
+    reserved_3 = 0;
+    free = (free, free, free);
+    selectors = selectors;
+    spelled = refl;
+    some = omega arith;
+    few = omega arith;
+    each = record {
+      front = selectors;
+      rest = [];
+      joined = refl;
+      first = record {
+        part = record { spelled = refl; fits = omega arith };
+        ports = omega arith;
+        port = omega arith;
+        addresses = omega arith;
+        fits = (omega arith, omega arith);
+      };
+      others = refl;
+    };
+  }
+
+  ts_i_is : SpellsPayload Free (TsI any_traffic) 45 (selector_octets 45)
+  ts_i_is = record { second = 0; body = 1 ∷ 0 ∷ 0 ∷ 0 ∷ selectors; part = record { spelled = refl; fits = omega arith }; header = free; inside = selectors_are }
+
+  ts_r_is : SpellsPayload Free (TsR any_traffic) 0 (selector_octets 0)
+  ts_r_is = record { second = 0; body = 1 ∷ 0 ∷ 0 ∷ 0 ∷ selectors; part = record { spelled = refl; fits = omega arith }; header = free; inside = selectors_are }
+
+  chain_is : (k filling : ℕ) → SpellsPayloads Free 33 (payloads_of k filling) (plain_octets k filling)
+  chain_is k filling = (
+    refl,
+    40,
+    record {
+      front = sa_octets k;
+      rest = nonce_octets filling ++ (selector_octets 45 ++ selector_octets 0);
+      joined = refl;
+      first = sa_is k;
+      others = (
+        refl,
+        44,
+        record {
+          front = nonce_octets filling;
+          rest = selector_octets 45 ++ selector_octets 0;
+          joined = refl;
+          first = nonce_is filling;
+          others = (
+            refl,
+            45,
+            record {
+              front = selector_octets 45;
+              rest = selector_octets 0;
+              joined = refl;
+              first = ts_i_is;
+              others = (refl, 0, record { front = selector_octets 0; rest = []; joined = refl; first = ts_r_is; others = (refl, refl) });
+            },
+          );
+        },
+      );
+    },
+  )
+
+  -- the message with this header, of the one encrypted payload that holds them
+  message_is : (flags k filling : ℕ) (h : Header) → SpellsHeader Free h 46 (header_octets 36 flags 2) → AreOctets (message_octets flags k filling)
+      → SpellsWith Free (record { header = h; payloads = Sealed 33 (plain_octets k filling) ∷ [] }) (message_octets flags k filling)
+  message_is flags k filling h head octets = record {
+    first = 46;
+    header = header_octets 36 flags 2;
+    payloads = encrypted_octets k filling;
+    whole = refl;
+    head = head;
+    chain = (
+      refl,
+      33,
+      record {
+        front = encrypted_octets k filling;
+        rest = [];
+        joined = refl;
+        first = record { second = 0; body = plain_octets k filling; part = record { spelled = refl; fits = omega arith }; header = (refl, free); inside = refl };
+        others = (refl, refl);
+      },
+    );
+    limit = omega arith;
+    octets = octets;
+  }
+
+  asking_header_is : (exchange number : ℕ) → 0 ∷ 0 ∷ 0 ∷ number ∷ [] ≡ big_bytes 4 number → number < 2 ^ 32
+      → SpellsHeader Free (sent_header 1 2 exchange Initiator false number) 46 (header_octets exchange 0x08 number)
+  asking_header_is exchange number spelled fits = record {
+    flags = 8;
+    has_flags = record { low = 0; high = 0; value = refl; low_bits = omega arith; high_bits = omega arith; free = (free, free) };
+    spelled = ap (λ (os : Octets). fixed_octets exchange 0x08 ++ os) spelled;
+    spi_i = omega arith;
+    spi_r = omega arith;
+    minor = omega arith;
+    id = fits;
+  }
+
+  answering_header_is : (exchange number : ℕ) → 0 ∷ 0 ∷ 0 ∷ number ∷ [] ≡ big_bytes 4 number → number < 2 ^ 32
+      → SpellsHeader Free (sent_header 1 2 exchange Responder true number) 46 (header_octets exchange 0x20 number)
+  answering_header_is exchange number spelled fits = record {
+    flags = 32;
+    has_flags = record { low = 0; high = 0; value = refl; low_bits = omega arith; high_bits = omega arith; free = (free, free) };
+    spelled = ap (λ (os : Octets). fixed_octets exchange 0x20 ++ os) spelled;
+    spi_i = omega arith;
+    spi_r = omega arith;
+    minor = omega arith;
+    id = fits;
+  }
+
+  -- the message of number 1 with this header, whose encrypted payload is empty
+  first_is : (flags : ℕ) (h : Header) → SpellsHeader Free h 46 (header_octets 35 flags 1) → AreOctets (first_octets flags)
+      → SpellsWith Free (record { header = h; payloads = Sealed 0 [] ∷ [] }) (first_octets flags)
+  first_is flags h head octets = record {
+    first = 46;
+    header = header_octets 35 flags 1;
+    payloads = 0 ∷ 0 ∷ 0 ∷ 4 ∷ [];
+    whole = refl;
+    head = head;
+    chain = (
+      refl,
+      0,
+      record {
+        front = 0 ∷ 0 ∷ 0 ∷ 4 ∷ [];
+        rest = [];
+        joined = refl;
+        first = record { second = 0; body = []; part = record { spelled = refl; fits = omega arith }; header = (refl, free); inside = refl };
+        others = (refl, refl);
+      },
+    );
+    limit = omega arith;
+    octets = octets;
+  }
+
+clear : (k filling : ℕ) → AllByRecursion IsClear (payloads_of k filling)
+clear k filling = (λ is. absurd (omega (arith, is)), (λ is. absurd (omega (arith, is)), (λ is. absurd (omega (arith, is)), (λ is. absurd (omega (arith, is)), tt))))
+
+read : (k filling : ℕ) → AreOctets (plain_octets k filling) → SpellsChain 33 (payloads_of k filling) (plain_octets k filling)
+read k filling octets = record { clear = clear k filling; payloads = chain_is IsOctet (omega arith) k filling; octets = octets }
+
+-- ---- what is sealed and opens
+
+pub first_request_seals : SealsPayloads worked_meaning.body_of worked_keys 35 false 1 [] first_asking
+first_request_seals = record {
+  header = sent_header 1 2 35 Initiator false 1;
+  header_is = record { exchange_is = refl; response_is = refl; number_is = refl };
+  sender = Initiator;
+  from_sender = refl;
+  keyed = whole_keys.initiator;
+  fresh = nonce_of 0;
+  fresh_octets = octets_if (nonce_of 0) refl;
+  fresh_long = refl;
+  sealed = record {
+    first = 0;
+    plain = [];
+    spelled = (refl, refl);
+    octets = octets_if [] refl;
+    whole = first_is IsZero refl 8 (sent_header 1 2 35 Initiator false 1) (asking_header_is IsZero refl 35 1 refl (omega arith)) (octets_if first_asking refl);
+  };
+}
+
+pub first_response_seals : SealsPayloads worked_meaning.body_of worked_keys 35 true 1 [] first_answering
+first_response_seals = record {
+  header = sent_header 1 2 35 Responder true 1;
+  header_is = record { exchange_is = refl; response_is = refl; number_is = refl };
+  sender = Responder;
+  from_sender = refl;
+  keyed = whole_keys.responder;
+  fresh = nonce_of 0;
+  fresh_octets = octets_if (nonce_of 0) refl;
+  fresh_long = refl;
+  sealed = record {
+    first = 0;
+    plain = [];
+    spelled = (refl, refl);
+    octets = octets_if [] refl;
+    whole = first_is IsZero refl 32 (sent_header 1 2 35 Responder true 1) (answering_header_is IsZero refl 35 1 refl (omega arith)) (octets_if first_answering refl);
+  };
+}
+
+asking_plain : AreOctets (plain_octets 2 1)
+asking_plain = octets_if (plain_octets 2 1) refl
+
+answering_plain : AreOctets (plain_octets 1 2)
+answering_plain = octets_if (plain_octets 1 2) refl
+
+pub request_seals : SealsPayloads worked_meaning.body_of worked_keys 36 false 2 asking_payloads asking_octets
+request_seals = record {
+  header = sent_header 1 2 36 Initiator false 2;
+  header_is = record { exchange_is = refl; response_is = refl; number_is = refl };
+  sender = Initiator;
+  from_sender = refl;
+  keyed = whole_keys.initiator;
+  fresh = nonce_of 0;
+  fresh_octets = octets_if (nonce_of 0) refl;
+  fresh_long = refl;
+  sealed = record {
+    first = 33;
+    plain = plain_octets 2 1;
+    spelled = chain_is IsZero refl 2 1;
+    octets = asking_plain;
+    whole = message_is IsZero refl 8 2 1 (sent_header 1 2 36 Initiator false 2) (asking_header_is IsZero refl 36 2 refl (omega arith)) (octets_if asking_octets refl);
+  };
+}
+
+pub request_opens : OpensToPayloads worked_meaning.plain_of worked_keys 36 false 2 asking_payloads asking_octets
+request_opens = record {
+  message = record { header = sent_header 1 2 36 Initiator false 2; payloads = Sealed 33 (plain_octets 2 1) ∷ [] };
+  spelled = message_is IsOctet (omega arith) 8 2 1 (sent_header 1 2 36 Initiator false 2) (asking_header_is IsOctet (omega arith) 36 2 refl (omega arith)) (octets_if asking_octets refl);
+  header_is = record { exchange_is = refl; response_is = refl; number_is = refl };
+  sender = Initiator;
+  from_sender = refl;
+  plain = record { first = 33; octets = plain_octets 2 1 };
+  opened = refl;
+  read = read 2 1 asking_plain;
+}
+
+pub response_seals : SealsPayloads worked_meaning.body_of worked_keys 36 true 2 answering_payloads answering_octets
+response_seals = record {
+  header = sent_header 1 2 36 Responder true 2;
+  header_is = record { exchange_is = refl; response_is = refl; number_is = refl };
+  sender = Responder;
+  from_sender = refl;
+  keyed = whole_keys.responder;
+  fresh = nonce_of 0;
+  fresh_octets = octets_if (nonce_of 0) refl;
+  fresh_long = refl;
+  sealed = record {
+    first = 33;
+    plain = plain_octets 1 2;
+    spelled = chain_is IsZero refl 1 2;
+    octets = answering_plain;
+    whole = message_is IsZero refl 32 1 2 (sent_header 1 2 36 Responder true 2) (answering_header_is IsZero refl 36 2 refl (omega arith)) (octets_if answering_octets refl);
+  };
+}
+
+pub response_opens : OpensToPayloads worked_meaning.plain_of worked_keys 36 true 2 answering_payloads answering_octets
+response_opens = record {
+  message = record { header = sent_header 1 2 36 Responder true 2; payloads = Sealed 33 (plain_octets 1 2) ∷ [] };
+  spelled = message_is IsOctet (omega arith) 32 1 2 (sent_header 1 2 36 Responder true 2) (answering_header_is IsOctet (omega arith) 36 2 refl (omega arith)) (octets_if answering_octets refl);
+  header_is = record { exchange_is = refl; response_is = refl; number_is = refl };
+  sender = Responder;
+  from_sender = refl;
+  plain = record { first = 33; octets = plain_octets 1 2 };
+  opened = refl;
+  read = read 1 2 answering_plain;
+}

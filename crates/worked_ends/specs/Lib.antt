@@ -1,0 +1,2 @@
+pub mod WorkedMessages
+pub mod WorkedChildren
