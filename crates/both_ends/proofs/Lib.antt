@@ -1,1 +1,9 @@
 mod RecordLemmas
+mod OctetLemmas
+mod InitLemmas
+mod AuthLemmas
+mod CallerLemmas
+mod RequestLemmas
+mod AcceptLemmas
+mod WorkedRecordLemmas
+mod WorldRecordLemmas

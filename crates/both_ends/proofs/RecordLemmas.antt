@@ -18,7 +18,7 @@ use Rattle.initial.specs.Reading.{Asker, Continues, waiting_of}
 use Rattle.initial.specs.declared.reading.Continued.TheVariants as continued
 use Rattle.both_ends.specs.Records.{ComesToKeysAsInitiator, ComesToKeysAsResponder, Introduction}
 
-abbrev IsSymmetric : (Octets → Octets) → (Octets → Octets → Option Octets) → Type 0
+abbrev pub IsSymmetric : (Octets → Octets) → (Octets → Octets → Option Octets) → Type 0
 IsSymmetric public_value shared_secret = (a b : List ℕ) → IsSecret a → IsSecret b → shared_secret a (public_value b) ≡ shared_secret b (public_value a)
 
 -- what is read gives the keys that the association has then
@@ -33,10 +33,10 @@ keys_read asker setup old sent number m octets request (response.Keys made) new 
     subst (λ (k : KeyRecord). GivesKeys asker.cipher asker.group asker.shared_secret (waiting_of old.spi_i sent) m k) is means
 keys_read asker setup old sent number m octets request response.Unfit new keys means continues keyed = absurd continues
 
-same_values : (m : Message) (a b : PartsView) → HasParts m.payloads a → HasParts m.payloads b → a.public ≡ b.public
+pub same_values : (m : Message) (a b : PartsView) → HasParts m.payloads a → HasParts m.payloads b → a.public ≡ b.public
 same_values m a b one other = let both : (a.group, a.public) ≡ (b.group, b.public) = cc in ap (λ (x : ℕ × Octets). x.1) both
 
-same_nonces : (m : Message) (a b : PartsView) → HasParts m.payloads a → HasParts m.payloads b → a.nonce ≡ b.nonce
+pub same_nonces : (m : Message) (a b : PartsView) → HasParts m.payloads a → HasParts m.payloads b → a.nonce ≡ b.nonce
 same_nonces m a b one other = cc
 
 same_keys : (s t ni mi nr mr : Octets) (spi_i other_i spi_r other_r : ℕ) → s ≡ t → ni ≡ mi → nr ≡ mr → spi_i ≡ other_i → spi_r ≡ other_r

@@ -1,1 +1,3 @@
 pub mod Records
+pub mod WorkedRecords
+pub mod WorldRecords

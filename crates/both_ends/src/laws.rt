@@ -1,12 +1,17 @@
 //! What follows from the definitions alone. No function here does anything.
-ghost use Rattle.std.specs.Prelude.{◌≡◌, ℕ};
+ghost use Rattle.std.specs.Prelude.{◌≡◌, ℕ, List, Some, slice_get};
 ghost use Rattle.base.specs.Octets.{Octets};
 ghost use Rattle.suite.specs.declared.key_record.KeyRecord.{KeyRecord};
 ghost use Rattle.suite.specs.declared.keys.Keys.{Keys};
 ghost use Rattle.suite.specs.declared.sealer.Cipher.{Cipher};
+ghost use Rattle.gateway.specs.WorldHistories.{Happening, IsWorldTrail};
+ghost use Rattle.gateway.specs.Worlds.{WorldState};
 ghost use Rattle.both_ends.specs.Records.{ComesToKeysAsInitiator, ComesToKeysAsResponder, Introduction};
+ghost use Rattle.both_ends.specs.WorkedRecords.{IsWorkedRecord};
+ghost use Rattle.both_ends.specs.WorldRecords.{CameToKeysAsInitiator, CameToKeysAsResponder};
 
-use suite::Agreement;
+use suite::{Agreement, Proof, Sealer};
+use wire::laws::octets_spell_one_message;
 
 /// Where one call gave an end its keys as initiator, and one call an end as responder, each from the SPI, the value of the key exchange and
 /// the nonce that the other's association holds of itself (RFC 7296, section 2.14), both have one record of keys: by the agreement's law
@@ -28,4 +33,41 @@ pub fn both_ends_make_one_record<C: Agreement>(caller: &C)
         → one ≡ other }
 {
     let _ = caller;
+}
+
+/// The premises of one record are met: an initiator and a responder come to one record of keys by the two messages of one IKE_SA_INIT, the
+/// initiator reading the very octets with which the responder answers the very octets that it sent. The caller's cipher hides nothing, and
+/// all laws of its traits hold.
+pub fn the_premises_of_one_record_are_met()
+    ensures { IsWorkedRecord }
+{}
+
+/// What took place in a world, in whatever order (as `gateway::run_world` tells it by a history): where an association of one step came to
+/// its keys as initiator, and one of another step as responder, each from the SPI, the value of the key exchange and the nonce that the
+/// other holds of itself, both have one record of keys (RFC 7296, section 2.14). It asks neither that the world is sound nor that nothing was
+/// forged, and the steps may be those of whichever ends.
+pub fn the_ends_of_a_world_make_one_record<C: Sealer + Agreement + Proof>(caller: &C)
+    ensures { (old new : WorldState C) (happenings : List (Happening C))
+        → IsWorldTrail
+        (λ caller. record {
+          cipher = C.cipher;
+          body_of = C.body_of;
+          plain_of = C.plain_of;
+          group = C.group_number;
+          public_value = C.public_value;
+          shared_secret = C.shared_secret;
+          own_method = C.own_method caller;
+          proof_of = C.proof_of caller;
+          accepts = C.accepts caller;
+        })
+        old happenings new
+        → (place other_place : ℕ) (h g : Happening C)
+        → slice_get happenings place ≡ Some h → slice_get happenings other_place ≡ Some g
+        → (initiator responder : Introduction) (one other : KeyRecord)
+        → CameToKeysAsInitiator C.public_value h initiator responder one
+        → CameToKeysAsResponder C.public_value g responder initiator other
+        → one ≡ other }
+{
+    let _ = caller;
+    octets_spell_one_message();
 }

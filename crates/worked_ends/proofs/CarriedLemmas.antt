@@ -1,12 +1,14 @@
 -- The worked packet is sealed by A's pair, and judged, opened and handed up by B's, whatever the keys of the child are.
-use Rattle.std.proofs.Common.{◌≡◌, ◌+◌, ◌||◌, ◌&&◌, ◌++◌, ℕ, Bool, true, false, refl, sym, ap, ◌∙◌, subst, arith}
+use Rattle.std.proofs.Common.{inl, inr, ◌≡◌, ◌+◌, ◌||◌, ◌&&◌, ◌++◌, ℕ, Bool, true, false, refl, sym, ap, ◌∙◌, subst, arith}
 use Rattle.std.specs.Prelude.{nat_eq, nat_lt}
 use Rattle.std.specs.FinMap as map
 use Rattle.std.specs.FinSet as set
-use Rattle.std.proofs.lemmas.Bool.{lt-ltb}
+use Rattle.std.specs.Ordering.{nat_cmp}
+use Rattle.std.proofs.lemmas.Bool.{both_ways, lt-ltb, ne_eqb}
+use Rattle.std.proofs.lemmas.Bool.Decides.{eqb_tells}
 use Rattle.std.proofs.lemmas.List.{append_assoc}
 use Rattle.base.specs.Octets.{Octets}
-use Rattle.replay.specs.Window.{unused_window, Seen, Takes}
+use Rattle.replay.specs.Window.{unused_window, IsSoundWindow, Seen, Takes}
 use Rattle.esp.specs.Judging.{low_half, Judges}
 use Rattle.esp.specs.Packet.{check_value, head, packet, trailer, IsContents, IsPacket}
 use Rattle.esp.specs.Sealing.{IsShortestPacket}
@@ -34,6 +36,24 @@ one_is_taken = record {
   top = refl;
   size = refl;
   taken = λ q. contains-insert_nat set.empty 1 q ∙ with_true (nat_eq q 1 || set.contains set.empty q) (nat_lt 1 (q + 64)) (lt-ltb 1 (q + 64) (omega arith));
+}
+
+is_one : (n : ℕ) → set.contains one_taken.taken n ≡ true → n ≡ 1
+is_one n is = elim (eqb_tells n 1) [
+  | inl (_, same) ↦ same
+  | inr (_, apart) ↦
+      let beside = contains-insert_nat set.empty 1 n ∙ ap (λ (b : Bool). b || set.contains {R = nat_cmp} set.empty n) (ne_eqb n 1 apart) in
+      absurd (both_ways _ (beside ∙ none_taken n) is)
+]
+
+one_sound : IsSoundWindow one_taken
+one_sound = record {
+  spans = omega arith;
+  not_zero = λ n is. let same = is_one n is in omega (arith, same);
+  up_to_top = λ n is. let same = is_one n is in omega (arith, same);
+  in_span = λ n is. let same = is_one n is in omega (arith, same);
+  top_taken = λ h. contains-insert_nat set.empty 1 1;
+  fits = omega arith;
 }
 
 -- by the key of what A sends, and by the key of what B sends
@@ -74,6 +94,9 @@ module _ (first second : Octets) where
 
   pub receiver_fits : IsFit (receiver (unused_window 2)) 256
   receiver_fits = record { serial = refl; inbound = refl; window = unused_sound }
+
+  pub later_fits : IsFit (receiver one_taken) 256
+  later_fits = record { serial = refl; inbound = refl; window = one_sound }
 
   -- ---- the packet
 

@@ -4,7 +4,9 @@ mod FlowLemmas
 mod TableLemmas
 mod CarriedLemmas
 mod SentLemmas
+mod WaitingLemmas
 mod LedgerLemmas
+mod ProbeLemmas
 mod StateLemmas
 mod WindowLemmas
 mod WorkedChildLemmas

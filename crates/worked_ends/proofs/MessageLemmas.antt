@@ -18,7 +18,7 @@ use Rattle.deliveries.specs.Worked.{any_traffic}
 use Rattle.gateway.specs.WorkedRequests.{worked_keys, worked_meaning}
 use Rattle.gateway.specs.WorldChildren.{OpensToPayloads, SealsPayloads}
 use Rattle.gateway.proofs.WorkedRequestLemmas.{whole_keys}
-use Rattle.worked_ends.specs.WorkedMessages.{answering_octets, answering_payloads, asking_octets, asking_payloads, first_answering, first_asking, first_octets, header_octets, message_octets, nonce_octets, nonce_of, payloads_of, plain_octets, proposal_of, sa_octets, encrypted_octets, selector_octets}
+use Rattle.worked_ends.specs.WorkedMessages.{answering_octets, answering_payloads, asking_octets, asking_payloads, first_answering, bare_octets, first_asking, header_octets, message_octets, nonce_octets, nonce_of, payloads_of, plain_octets, probe_octets, proposal_of, sa_octets, encrypted_octets, selector_octets}
 
 -- ---- octets
 
@@ -34,7 +34,7 @@ abbrev are_octets : Octets → Bool
 are_octets [] = true
 are_octets (o ∷ os) = ltb o 256 && are_octets os
 
-octets_if : (os : Octets) → are_octets os ≡ true → AreOctets os
+pub octets_if : (os : Octets) → are_octets os ≡ true → AreOctets os
 octets_if [] is = tt
 octets_if (o ∷ os) is = (ltb-true o 256 (and_left (ltb o 256) (are_octets os) is), octets_if os (and_right (ltb o 256) (are_octets os) is))
 
@@ -201,7 +201,7 @@ module _ (Free : ℕ → Type 0) (free : Free 0) where
     octets = octets;
   }
 
-  asking_header_is : (exchange number : ℕ) → 0 ∷ 0 ∷ 0 ∷ number ∷ [] ≡ big_bytes 4 number → number < 2 ^ 32
+  pub asking_header_is : (exchange number : ℕ) → 0 ∷ 0 ∷ 0 ∷ number ∷ [] ≡ big_bytes 4 number → number < 2 ^ 32
       → SpellsHeader Free (sent_header 1 2 exchange Initiator false number) 46 (header_octets exchange 0x08 number)
   asking_header_is exchange number spelled fits = record {
     flags = 8;
@@ -213,7 +213,7 @@ module _ (Free : ℕ → Type 0) (free : Free 0) where
     id = fits;
   }
 
-  answering_header_is : (exchange number : ℕ) → 0 ∷ 0 ∷ 0 ∷ number ∷ [] ≡ big_bytes 4 number → number < 2 ^ 32
+  pub answering_header_is : (exchange number : ℕ) → 0 ∷ 0 ∷ 0 ∷ number ∷ [] ≡ big_bytes 4 number → number < 2 ^ 32
       → SpellsHeader Free (sent_header 1 2 exchange Responder true number) 46 (header_octets exchange 0x20 number)
   answering_header_is exchange number spelled fits = record {
     flags = 32;
@@ -225,12 +225,13 @@ module _ (Free : ℕ → Type 0) (free : Free 0) where
     id = fits;
   }
 
-  -- the message of number 1 with this header, whose encrypted payload is empty
-  first_is : (flags : ℕ) (h : Header) → SpellsHeader Free h 46 (header_octets 35 flags 1) → AreOctets (first_octets flags)
-      → SpellsWith Free (record { header = h; payloads = Sealed 0 [] ∷ [] }) (first_octets flags)
-  first_is flags h head octets = record {
+  -- the message with this header, whose encrypted payload is empty
+  pub bare_is : (exchange flags number : ℕ) (h : Header) → SpellsHeader Free h 46 (header_octets exchange flags number)
+      → AreOctets (bare_octets exchange flags number)
+      → SpellsWith Free (record { header = h; payloads = Sealed 0 [] ∷ [] }) (bare_octets exchange flags number)
+  bare_is exchange flags number h head octets = record {
     first = 46;
-    header = header_octets 35 flags 1;
+    header = header_octets exchange flags number;
     payloads = 0 ∷ 0 ∷ 0 ∷ 4 ∷ [];
     whole = refl;
     head = head;
@@ -272,7 +273,8 @@ first_request_seals = record {
     plain = [];
     spelled = (refl, refl);
     octets = octets_if [] refl;
-    whole = first_is IsZero refl 8 (sent_header 1 2 35 Initiator false 1) (asking_header_is IsZero refl 35 1 refl (omega arith)) (octets_if first_asking refl);
+    whole = bare_is IsZero refl 35 8 1 (sent_header 1 2 35 Initiator false 1)
+        (asking_header_is IsZero refl 35 1 refl (omega arith)) (octets_if first_asking refl);
   };
 }
 
@@ -291,7 +293,8 @@ first_response_seals = record {
     plain = [];
     spelled = (refl, refl);
     octets = octets_if [] refl;
-    whole = first_is IsZero refl 32 (sent_header 1 2 35 Responder true 1) (answering_header_is IsZero refl 35 1 refl (omega arith)) (octets_if first_answering refl);
+    whole = bare_is IsZero refl 35 32 1 (sent_header 1 2 35 Responder true 1)
+        (answering_header_is IsZero refl 35 1 refl (omega arith)) (octets_if first_answering refl);
   };
 }
 
@@ -361,4 +364,24 @@ response_opens = record {
   plain = record { first = 33; octets = plain_octets 1 2 };
   opened = refl;
   read = read 1 2 answering_plain;
+}
+
+pub probe_seals : SealsPayloads worked_meaning.body_of worked_keys 37 false 3 [] probe_octets
+probe_seals = record {
+  header = sent_header 1 2 37 Initiator false 3;
+  header_is = record { exchange_is = refl; response_is = refl; number_is = refl };
+  sender = Initiator;
+  from_sender = refl;
+  keyed = whole_keys.initiator;
+  fresh = nonce_of 0;
+  fresh_octets = octets_if (nonce_of 0) refl;
+  fresh_long = refl;
+  sealed = record {
+    first = 0;
+    plain = [];
+    spelled = (refl, refl);
+    octets = octets_if [] refl;
+    whole = bare_is IsZero refl 37 8 3 (sent_header 1 2 37 Initiator false 3)
+        (asking_header_is IsZero refl 37 3 refl (omega arith)) (octets_if probe_octets refl);
+  };
 }

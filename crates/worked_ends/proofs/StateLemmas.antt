@@ -1,5 +1,5 @@
 -- Both gateways of the worked world are sound.
-use Rattle.std.proofs.Common.{◌≡◌, ◌<◌, ◌∷◌, inl, inr, ℕ, zero, suc, Bool, true, false, cond, [], Some, None, ap, arith, refl, subst, sym, ◌∙◌}
+use Rattle.std.proofs.Common.{◌≡◌, ◌<◌, ◌≤◌, ◌∷◌, inl, inr, ℕ, zero, suc, Bool, true, false, cond, [], Some, None, length, ap, arith, refl, subst, sym, ◌∙◌}
 use Rattle.std.specs.FinSet as set
 use Rattle.std.specs.Ordering.{nat_cmp}
 use Rattle.std.specs.Prelude.{slice_get, slice_index_or}
@@ -8,14 +8,17 @@ use Rattle.base.specs.Octets.{Octets}
 use Rattle.suite.specs.declared.key_record.KeyRecord.{KeyRecord}
 use Rattle.requests.specs.Incoming.{IsLeftBehind}
 use Rattle.requests.specs.Numbers.{HasNumber}
+use Rattle.requests.specs.Timers.{due_from, waits}
 use Rattle.sadb.specs.Database.{Database, IsSoundTable}
 use Rattle.association.specs.Closing.{HoldsSpi}
 use Rattle.association.specs.declared.phase.Association.{Association}
+use Rattle.association.specs.declared.phase.Request.{Request}
 use Rattle.initial.specs.Configs.{IsConfig}
 use Rattle.initial.specs.declared.config.Config.{Config}
 use Rattle.moments.specs.Held.{IsInTime}
 use Rattle.effects.specs.Keeping.{IsShort}
 use Rattle.effects.specs.Lengths.{AreWholeKeys}
+use Rattle.effects.specs.Waiting.{IsAskedLater}
 use Rattle.ike.specs.Machines.{half_open_count, has_serial}
 use Rattle.ike.specs.Soundness.{AreApart, AsksAsAllowed, IsSound}
 use Rattle.gateway.specs.States.{IsSoundState}
@@ -24,12 +27,13 @@ use Rattle.gateway.proofs.WorkedRequestLemmas.{first_three, no_reply, none_asked
 use Rattle.worked_ends.specs.WorkedChildren.{answering_association, asking_association, gateway_of, three_numbers, three_taken}
 use Rattle.worked_ends.proofs.LedgerLemmas.{the_reply}
 use Rattle.worked_ends.proofs.TableLemmas.{none_taken}
+use Rattle.worked_ends.proofs.WaitingLemmas.{asked_alone, none_reserved}
 
 -- ---- the associations
 
 asking_spi : (spi : ℕ) → HoldsSpi asking_association spi → ⊥
 asking_spi spi (inl is) = cc
-asking_spi spi (inr waits) = none_asked waits.number waits.awaits.request waits.awaits.outstanding
+asking_spi spi (inr waits) = none_reserved waits.number waits.awaits.request spi waits.awaits.outstanding waits.awaits.reserved
 
 answering_spi : (reply : Octets) (spi : ℕ) → HoldsSpi (answering_association reply) spi → ⊥
 answering_spi reply spi (inl is) = cc
@@ -45,11 +49,11 @@ sound_asking table = record {
   reserved = record {
     reserved = λ spi is. absurd (asking_spi spi is);
     first = λ spi is. absurd cc;
-    one = λ number other spi first second. absurd (none_asked number first.request first.outstanding);
+    one = λ number other spi first second. absurd (none_reserved number first.request spi first.outstanding first.reserved);
   };
   short = record {
     replies = λ n reply is. absurd (no_reply n reply is);
-    requests = λ n request is. absurd (none_asked n request is);
+    requests = λ n request is. subst (λ (r : Request). IsShort r.octets) (sym (asked_alone n request is).content) (omega arith);
     first = λ reply is. absurd cc;
   };
   soundly = record {
@@ -57,8 +61,8 @@ sound_asking table = record {
     near = λ n reply is. absurd (no_reply n reply is);
     concluded = λ n reply is. absurd (no_reply n reply is);
     named = λ keys is. omega arith;
-    waits = λ n request is. absurd (none_asked n request is);
-    issued = λ n request is. absurd (none_asked n request is);
+    waits = λ n request is. subst (λ (r : Request). IsAskedLater r.purpose) (sym (asked_alone n request is).content) (inl refl);
+    issued = λ n request is. let number = (asked_alone n request is).number in omega (arith, number);
     took_none = λ is. elim is [ inl waits ↦ (let same = waits.is in absurd cc) | inr waits ↦ (let same = waits.is in absurd cc) ];
     took_first = λ is. let same = is.is in absurd cc;
     peers = omega arith;
@@ -103,15 +107,25 @@ sound_answering kept short table = record {
 }
 
 pub asking_as_allowed : (extended : Bool) → AsksAsAllowed extended asking_association
-asking_as_allowed extended = record { first = λ child asks. absurd cc; further = λ n request further asks. absurd (none_asked n request asks) }
+asking_as_allowed extended = record {
+  first = λ child asks. absurd cc;
+  further = λ n request further asks purpose. absurd (let purposes = ap (λ (r : Request). r.purpose) (asked_alone n request asks).content in cc);
+}
 
 pub answering_as_allowed : (kept : Octets) (extended : Bool) → AsksAsAllowed extended (answering_association kept)
 answering_as_allowed kept extended = record { first = λ child asks. absurd cc; further = λ n request further asks. absurd (none_asked n request asks) }
 
 pub asking_in_time : IsInTime 0 asking_association
 asking_in_time = record {
-  nothing_due = record { held = refl; none_due = λ n request is. absurd (none_asked n request is) };
-  begun = record { since = omega arith; sent = λ n request is. absurd (none_asked n request is); often = λ n request is. absurd (none_asked n request is) };
+  nothing_due = record {
+    held = refl;
+    none_due = λ n request is. subst (λ (r : Request). 0 < due_from r.timer) (sym (asked_alone n request is).content) (omega arith);
+  };
+  begun = record {
+    since = omega arith;
+    sent = λ n request is. subst (λ (r : Request). r.timer.sent ≤ 0) (sym (asked_alone n request is).content) (omega arith);
+    often = λ n request is. subst (λ (r : Request). r.timer.repeats ≤ length waits) (sym (asked_alone n request is).content) (omega arith);
+  };
 }
 
 pub answering_in_time : (kept : Octets) → IsInTime 0 (answering_association kept)

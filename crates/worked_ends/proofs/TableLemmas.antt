@@ -1,5 +1,5 @@
 -- A table of one pair is sound, and that pair is all that is found in it.
-use Rattle.std.proofs.Common.{◌≡◌, ◌≢◌, ◌+◌, ◌≤◌, ◌^◌, ℕ, Bool, true, false, cond, Some, None, refl, sym, ap, ◌∙◌, subst, arith, inl, inr}
+use Rattle.std.proofs.Common.{◌≡◌, ◌≢◌, ◌+◌, ◌≤◌, ◌^◌, ℕ, Bool, true, false, cond, is_some, Some, None, refl, sym, ap, ◌∙◌, subst, arith, inl, inr}
 use Rattle.std.specs.Cmp.{nat_cmp_total, unsigned_tied}
 use Rattle.std.specs.FinMap as map
 use Rattle.std.specs.FinSet as set
@@ -69,12 +69,19 @@ one_more_at_most : (b : Bool) (n : ℕ) → cond b n (n + 1) ≤ n + 1
 one_more_at_most true n = omega arith
 one_more_at_most false n = omega arith
 
-few_pairs : (lone : Pair) → map.len (lone_pair lone) ≤ 1
+pub few_pairs : (lone : Pair) → map.len (lone_pair lone) ≤ 1
 few_pairs lone =
     let len = map.len-insert nat_cmp_total no_pairs 1 lone in
     let most = one_more_at_most (map.contains_key no_pairs 1) (map.len no_pairs) in
     let none = map.len-empty nat_cmp Pair in
     omega arith
+
+pub few_in_place : (first lone : Pair) → map.len (map.insert (lone_pair first) 1 lone) ≤ 1
+few_in_place first lone =
+    let m : PairMap = lone_pair first in
+    let len = map.len-insert nat_cmp_total m 1 lone ∙ ap (λ (b : Bool). cond b (map.len m) (map.len m + 1)) (ap is_some (lone_in first).there) in
+    let few = few_pairs first in
+    omega (arith, len, few)
 
 -- a pair with the serial 1, this inbound SPI and a sound window
 pub record IsFit (lone : Pair) (spi : ℕ) : Type 0 where
@@ -95,20 +102,20 @@ lone_inbound lone pairs own has fit = record {
   only = λ serial is. (of_inbound lone pairs own has fit serial own is).0 ∙ sym fit.serial;
 }
 
-pub sound_table : (lone : Pair) (spi : ℕ) → IsFit lone spi → 256 ≤ spi → spi + 65536 ≤ 2 ^ 32 → IsSoundTable (table_with spi (lone_pair lone))
-sound_table lone spi fit least most =
-    let has = lone_in lone in
+pub sound_table : (lone : Pair) (pairs : PairMap) (spi : ℕ) → HasLone lone pairs → map.len pairs ≤ 1 → IsFit lone spi
+    → 256 ≤ spi → spi + 65536 ≤ 2 ^ 32 → IsSoundTable (table_with spi pairs)
+sound_table lone pairs spi has few fit least most =
     record {
       start = record { least = least; most = most };
       given = omega arith;
       first = omega arith;
       next = let none = set.len-empty nat_cmp in omega arith;
-      few = let none = set.len-empty nat_cmp in let few = few_pairs lone in omega arith;
+      few = let none = set.len-empty nat_cmp in omega (arith, none, few);
       reserved_given = λ other is. absurd (both_ways _ (none_taken other) is);
       serial = λ serial pair there. (let found = has.only serial pair there in ap (λ (p : Pair). p.serial) found.pair_is ∙ fit.serial ∙ sym found.serial_is);
       serial_given = λ serial pair there. (let is = (has.only serial pair there).serial_is in (omega (arith, is), omega (arith, is)));
       window = λ serial pair there. subst (λ (p : Pair). IsSoundWindow p.inbound.window) (sym (has.only serial pair there).pair_is) fit.window;
-      spi_given = λ serial other is. (let same = (of_inbound lone (lone_pair lone) spi has fit serial other is).1 in record { from_start = omega (arith, same); before_next = omega (arith, same) });
+      spi_given = λ serial other is. (let same = (of_inbound lone pairs spi has fit serial other is).1 in record { from_start = omega (arith, same); before_next = omega (arith, same) });
       spi_taken = λ serial other is reserved. both_ways _ (none_taken other) reserved;
-      apart = λ serial other spi first second. (of_inbound lone (lone_pair lone) _ has fit serial spi first).0 ∙ sym (of_inbound lone (lone_pair lone) _ has fit other spi second).0;
+      apart = λ serial other spi first second. (of_inbound lone pairs _ has fit serial spi first).0 ∙ sym (of_inbound lone pairs _ has fit other spi second).0;
     }

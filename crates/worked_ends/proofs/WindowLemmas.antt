@@ -14,8 +14,8 @@ use Rattle.gateway.specs.Worlds.{simplex_of, WorldState}
 use Rattle.gateway.specs.declared.world.stored.End.{End}
 use Rattle.gateway.specs.declared.world.stored.End.TheVariants.{A, B}
 use Rattle.worked_ends.specs.WorkedChildren.{answering_association, asking_association, carried_octets, carrying, sealed_world}
-use Rattle.worked_ends.specs.WorkedMessages.{answering_octets, answering_payloads, asking_octets, asking_payloads, first_answering, first_asking}
-use Rattle.worked_ends.proofs.MessageLemmas.{first_request_seals, first_response_seals, request_seals, response_seals}
+use Rattle.worked_ends.specs.WorkedMessages.{answering_octets, answering_payloads, asking_octets, asking_payloads, first_answering, first_asking, probe_octets}
+use Rattle.worked_ends.proofs.MessageLemmas.{first_request_seals, first_response_seals, probe_seals, request_seals, response_seals}
 use Rattle.worked_ends.proofs.SentLemmas.{sent_by_a, sent_by_b}
 use Rattle.worked_ends.proofs.StateLemmas.{found_is}
 
@@ -33,6 +33,9 @@ module _ (window : ℕ) (least : LEAST_WINDOW ≤ window) where
   request_tells : Tells window (request_of 2 asking_octets)
   request_tells = record { exchange = 36; payloads = asking_payloads; sealed = request_seals; tells = least }
 
+  probe_tells : Tells window (request_of 3 probe_octets)
+  probe_tells = record { exchange = 37; payloads = []; sealed = probe_seals; tells = least }
+
   response_tells : Tells window (response_of 2 answering_octets)
   response_tells = record { exchange = 36; payloads = answering_payloads; sealed = response_seals; tells = least }
 
@@ -44,13 +47,14 @@ module _ {C : Type 0} (config : Config) (caller : C) (is : IsConfig config) wher
       → Tells config.window (record { response = response; number = number; octets = octets })
   each_tells A response number octets there =
       let entry : Entry = record { response = response; number = number; octets = octets } in
-      elim (sent_by_a first_asking first_answering asking_octets answering_octets (simplex_of carrying) carried_octets entry there) [
+      elim (sent_by_a first_asking first_answering asking_octets answering_octets (simplex_of carrying) carried_octets probe_octets entry there) [
         | inl same ↦ subst (Tells config.window) same (first_request_tells config.window is.window.least)
-        | inr same ↦ subst (Tells config.window) same (request_tells config.window is.window.least)
+        | inr (inl same) ↦ subst (Tells config.window) same (request_tells config.window is.window.least)
+        | inr (inr same) ↦ subst (Tells config.window) same (probe_tells config.window is.window.least)
       ]
   each_tells B response number octets there =
       let entry : Entry = record { response = response; number = number; octets = octets } in
-      elim (sent_by_b first_asking first_answering asking_octets answering_octets (simplex_of carrying) carried_octets entry there) [
+      elim (sent_by_b first_asking first_answering asking_octets answering_octets (simplex_of carrying) carried_octets probe_octets entry there) [
         | inl same ↦ subst (Tells config.window) same (first_response_tells config.window is.window.least)
         | inr same ↦ subst (Tells config.window) same (response_tells config.window is.window.least)
       ]

@@ -1,19 +1,26 @@
--- The worked world of one child takes place, and the premises on the children of both ends hold of it.
-use Rattle.std.proofs.Common.{◌≡◌, ◌⊎◌, ◌<◌, ◌∷◌, inl, inr, ℕ, zero, suc, true, false, [], Some, Contains, ap, arith, refl, subst, sym, ◌∙◌}
+-- The worked world of one child and a probe takes place, and the premises on both ends hold of it.
+use Rattle.std.proofs.Common.{◌≡◌, ◌⊎◌, ◌<◌, ◌∷◌, inl, inr, ℕ, zero, suc, Bool, true, false, [], Some, Contains, ap, arith, refl, subst, sym, ◌∙◌}
 use Rattle.std.specs.Prelude.{slice_get}
+use Rattle.std.proofs.lemmas.List.Elements.{Contains-append_left, Contains-push}
 use Rattle.base.specs.Octets.{Octets}
+use Rattle.wire.specs.Messages.{Spells}
+use Rattle.wire.specs.declared.message.Message.{Message}
 use Rattle.replay.specs.Window.{unused_window}
 use Rattle.esp.specs.Worked.{worked_payload}
 use Rattle.exchange.specs.declared.headers.Role.TheVariants.{Initiator, Responder}
 use Rattle.suite.specs.Keys.{child_material, key_at}
+use Rattle.suite.specs.declared.fresh.Fresh.{Fresh}
 use Rattle.sadb.specs.Database.{pair_at}
 use Rattle.sadb.specs.declared.pair.Pair.{Pair}
 use Rattle.association.specs.declared.phase.Association.{Association}
+use Rattle.association.specs.declared.phase.Request.{Request}
 use Rattle.initial.specs.Configs.{IsConfig}
 use Rattle.initial.specs.declared.config.Config.{Config}
 use Rattle.effects.specs.Children.{Further}
+use Rattle.effects.specs.declared.taking.Effect.TheVariants as effect
 use Rattle.ike.specs.Machines.{has_serial}
-use Rattle.ike.specs.Outputs.{no_trace}
+use Rattle.ike.specs.Moves.{HasSeal}
+use Rattle.ike.specs.Outputs.{no_trace, stepped_of}
 use Rattle.traffic.specs.Outcomes as traffic
 use Rattle.gateway.specs.States.{IsSoundState}
 use Rattle.gateway.specs.WorkedRequests.{worked_keys, worked_meaning}
@@ -34,16 +41,18 @@ use Rattle.gateway.specs.declared.world.stored.Mark.TheVariants as mark
 use Rattle.gateway.specs.declared.world.stored.Simplex.{Simplex}
 use Rattle.gateway.proofs.PartyLemmas.{at_head, at_head_or_further, further_on, single, some_is}
 use Rattle.gateway.proofs.WorkedRequestLemmas.{can_be, none_asked}
-use Rattle.worked_ends.specs.WorkedChildren.{answered_child, answering_association, answering_table, asked_child, asking_association, asking_table, all_protected, carried_octets, carrying, gateway_of, it_arrives, later_table, one_taken, packet_arrives, pair_of, sealed_world, worked_stored, IsWorkedChild}
-use Rattle.worked_ends.specs.WorkedMessages.{answering_octets, answering_payloads, asking_octets, asking_payloads, first_answering, first_asking, nonce_of, proposal_of}
-use Rattle.worked_ends.proofs.CarriedLemmas.{it_is_received, it_is_sealed, one_number, receiver_fits, sender_fits}
+use Rattle.worked_ends.specs.WorkedChildren.{answered_child, answering_association, answering_table, asked_child, asking_association, asking_table, all_protected, carried_octets, carrying, gateway_of, all_arrive, counted_association, later_table, lone_pair, one_taken, packet_arrives, pair_of, probe_arrives, probed_association, probed_stored, response_arrives, sealed_world, worked_stored, IsWorkedLink}
+use Rattle.worked_ends.specs.WorkedMessages.{alive_octets, answering_octets, answering_payloads, asking_octets, asking_payloads, first_answering, first_asking, nonce_of, probe_octets, proposal_of}
+use Rattle.worked_ends.proofs.CarriedLemmas.{it_is_received, it_is_sealed, one_number, later_fits, receiver_fits, sender_fits}
 use Rattle.worked_ends.proofs.ChildLemmas.{answered_is, answered_stored, asked_is, asked_stored}
 use Rattle.worked_ends.proofs.LedgerLemmas.{made_once, world_sound, OneTime}
 use Rattle.worked_ends.proofs.MessageLemmas.{request_opens, request_seals, response_opens, response_seals}
-use Rattle.worked_ends.proofs.SentLemmas.{packet_there, second_response_there, sealed_is, second_request_there, SentIsTold}
+use Rattle.worked_ends.proofs.SentLemmas.{packet_there, third_request_there, second_response_there, sealed_is, second_request_there, SentIsTold}
+use Rattle.worked_ends.proofs.ProbeLemmas.{answer_spelled, answered, asked, asked_spelled, nothing_ended, alive_opens, probe_opens, reply_said, request_takes, response_takes}
 use Rattle.worked_ends.proofs.StateLemmas.{answering_as_allowed, answering_in_time, asking_as_allowed, asking_in_time, found_is, sound_answering, sound_asking, sound_state}
+use Rattle.worked_ends.proofs.WaitingLemmas.{asked_alone}
 use Rattle.worked_ends.proofs.WindowLemmas.{windows}
-use Rattle.worked_ends.proofs.TableLemmas.{lone_in, lone_in_place, sound_table}
+use Rattle.worked_ends.proofs.TableLemmas.{few_in_place, few_pairs, lone_in, lone_in_place, sound_table}
 
 -- the key of what A sends, and of what B sends
 abbrev asking_key : Octets
@@ -58,6 +67,9 @@ asking_pair = pair_of Initiator 1 (unused_window 2)
 
 abbrev answering_pair : Pair
 answering_pair = pair_of Responder 0 (unused_window 2)
+
+abbrev later_pair : Pair
+later_pair = pair_of Responder 0 one_taken
 
 of_one : AreOfOneRequest asked_child answered_child
 of_one = record { keys = refl; ends = refl; asked_is = refl; answered_is = refl; number = refl }
@@ -97,10 +109,10 @@ each_child P answered asked child there = elim (one_of child there) [
 ]
 
 requested : HasSent A worked_keys false 2 asking_octets stored
-requested = second_request_there first_asking first_answering asking_octets answering_octets by carried_octets
+requested = second_request_there first_asking first_answering asking_octets answering_octets by carried_octets probe_octets
 
 responded : HasSent B worked_keys true 2 answering_octets stored
-responded = second_response_there first_asking first_answering asking_octets answering_octets by carried_octets
+responded = second_response_there first_asking first_answering asking_octets answering_octets by carried_octets probe_octets
 
 was_asked_for : WasAskedFor worked_meaning.body_of worked_meaning.plain_of asked_child stored
 was_asked_for = record {
@@ -185,23 +197,39 @@ sealed_at end simplex number octets is =
 
 -- ---- the world
 
-module _ {C : Type 0} (told : SentIsTold) (one_time : OneTime) (config : Config) (caller : C) (is : IsConfig config) where
+-- what is known of messages
+abbrev pub OneMessage : Type 0
+OneMessage = (m n : Message) (b : Octets) → Spells m b → Spells n b → m ≡ n
+
+module _ {C : Type 0} (told : SentIsTold) (one_time : OneTime) (one_message : OneMessage)
+    (config : Config) (caller : C) (is : IsConfig config) (from : Octets) (fresh : Fresh) (seal : HasSeal fresh) where
   abbrev world : WorldState C
   world = sealed_world config caller
 
   abbrev arrival : Happening C
   arrival = packet_arrives config caller
 
+  abbrev probe : Happening C
+  probe = probe_arrives config caller from fresh
+
+  abbrev answer : Happening C
+  answer = response_arrives config caller from fresh
+
+  abbrev last : Stored
+  last = probed_stored
+
   one_state : IsSoundState world.a
   one_state =
       sound_state config caller is asking_association (asking_table 1) (sound_asking (asking_table 1)) (asking_as_allowed config.extended) asking_in_time refl
-      (sound_table asking_pair 512 (sender_fits asking_key answering_key 1) (omega arith) (omega arith)) refl
+      (sound_table asking_pair (lone_pair asking_pair) 512 (lone_in asking_pair) (few_pairs asking_pair) (sender_fits asking_key answering_key 1)
+      (omega arith) (omega arith)) refl
 
   other_state : IsSoundState world.b
   other_state =
       sound_state config caller is (answering_association answering_octets) answering_table (sound_answering answering_octets (omega arith) answering_table)
       (answering_as_allowed answering_octets config.extended) (answering_in_time answering_octets) refl
-      (sound_table answering_pair 256 (receiver_fits asking_key answering_key) (omega arith) (omega arith)) refl
+      (sound_table answering_pair (lone_pair answering_pair) 256 (lone_in answering_pair) (few_pairs answering_pair)
+      (receiver_fits asking_key answering_key) (omega arith) (omega arith)) refl
 
   happens : TakesEvent (λ _. worked_meaning) arrival.event arrival.before arrival.said arrival.after
   happens = record {
@@ -216,12 +244,90 @@ module _ {C : Type 0} (told : SentIsTold) (one_time : OneTime) (config : Config)
     content = refl;
   }
 
+  -- B after the packet came
+  later_state : IsSoundState probe.before.b
+  later_state =
+      sound_state config caller is (answering_association answering_octets) later_table (sound_answering answering_octets (omega arith) later_table)
+      (answering_as_allowed answering_octets config.extended) (answering_in_time answering_octets) refl
+      (sound_table later_pair later_table.pairs 256 (lone_in_place answering_pair later_pair) (few_in_place answering_pair later_pair)
+      (later_fits asking_key answering_key) (omega arith) (omega arith)) refl
+
+  probe_happens : TakesEvent (λ _. worked_meaning) probe.event probe.before probe.said probe.after
+  probe_happens = record {
+    sound = later_state;
+    fresh = seal;
+    trace = (stepped_of 1 3 (effect.Replied reply_said)).trace;
+    gateway = gateway_of config caller probed_association later_table;
+    traces = record {
+      kept = refl;
+      does = inl (record {
+        stepped = stepped_of 1 3 (effect.Replied reply_said);
+        steps = (
+          refl,
+          inr (record {
+            message = asked;
+            spelled = asked_spelled;
+            done = record {
+              association = answering_association answering_octets;
+              there = refl;
+              effect = effect.Replied reply_said;
+              changed = probed_association;
+              takes = request_takes answering_octets _ _;
+              said = refl;
+              content = refl;
+            };
+          }),
+        );
+        output = refl;
+        traced = refl;
+      });
+    };
+    content = refl;
+  }
+
+  response_happens : TakesEvent (λ _. worked_meaning) answer.event answer.before answer.said answer.after
+  response_happens = record {
+    sound = one_state;
+    fresh = seal;
+    trace = (stepped_of 1 3 (effect.Counted nothing_ended)).trace;
+    gateway = gateway_of config caller counted_association (asking_table 1);
+    traces = record {
+      kept = refl;
+      does = inl (record {
+        stepped = stepped_of 1 3 (effect.Counted nothing_ended);
+        steps = (
+          refl,
+          inr (record {
+            message = answered;
+            spelled = answer_spelled;
+            done = record {
+              association = asking_association;
+              there = refl;
+              effect = effect.Counted nothing_ended;
+              changed = counted_association;
+              takes = response_takes _ _;
+              said = refl;
+              content = refl;
+            };
+          }),
+        );
+        output = refl;
+        traced = refl;
+      });
+    };
+    content = refl;
+  }
+
   -- ---- its children
 
   asks_for_none : (end : End) (a : Association) → HoldsUnder worked_keys end world a → AsksForItsChildren worked_meaning.body_of worked_keys end a world.stored
   asks_for_none A a holds =
       subst (λ (x : Association). AsksForItsChildren worked_meaning.body_of worked_keys A x world.stored) (found_is (has_serial holds.serial asking_association) asking_association a holds.there)
-      (record { first = λ sent waits. absurd cc; further = λ number request further there purpose. absurd (none_asked number request there) })
+      (record {
+        first = λ sent waits. absurd cc;
+        further = λ number request further there purpose.
+            absurd (let purposes = ap (λ (r : Request). r.purpose) (asked_alone number request there).content in cc);
+      })
   asks_for_none B a holds =
       subst (λ (x : Association). AsksForItsChildren worked_meaning.body_of worked_keys B x world.stored)
       (found_is (has_serial holds.serial (answering_association answering_octets)) (answering_association answering_octets) a holds.there)
@@ -248,9 +354,11 @@ module _ {C : Type 0} (told : SentIsTold) (one_time : OneTime) (config : Config)
   sealed_by : (end : End) (simplex : Simplex) (number : ℕ) (octets : Octets) → Contains world.stored.sent (datagram_of end (mark.Esp simplex number) octets)
       → WasSealedAt (gateway_at end world).entries end simplex number octets world.stored
   sealed_by A simplex number octets there =
-      sealed_at A simplex number octets (sealed_is first_asking first_answering asking_octets answering_octets (simplex_of carrying) carried_octets A simplex number octets there)
+      sealed_at A simplex number octets
+      (sealed_is first_asking first_answering asking_octets answering_octets by carried_octets probe_octets A simplex number octets there)
   sealed_by B simplex number octets there =
-      sealed_at B simplex number octets (sealed_is first_asking first_answering asking_octets answering_octets (simplex_of carrying) carried_octets B simplex number octets there)
+      sealed_at B simplex number octets
+      (sealed_is first_asking first_answering asking_octets answering_octets by carried_octets probe_octets B simplex number octets there)
 
   pairs : AccountsForPairs world
   pairs = record {
@@ -266,17 +374,49 @@ module _ {C : Type 0} (told : SentIsTold) (one_time : OneTime) (config : Config)
 
   -- ---- what comes
 
-  each_happening : (P : Happening C → Type 0) → P arrival → (place : ℕ) (h : Happening C) → slice_get (arrival ∷ []) place ≡ Some h → P h
-  each_happening P holds zero h there = subst P (some_is arrival h there) holds
-  each_happening P holds (suc place) h there = absurd cc
+  each_happening : (P : Happening C → Type 0) → P arrival → P probe → P answer → (place : ℕ) (h : Happening C)
+      → slice_get (all_arrive config caller from fresh) place ≡ Some h → P h
+  each_happening P first second third zero h there = subst P (some_is arrival h there) first
+  each_happening P first second third (suc zero) h there = subst P (some_is probe h there) second
+  each_happening P first second third (suc (suc zero)) h there = subst P (some_is answer h there) third
+  each_happening P first second third (suc (suc (suc place))) h there = absurd cc
 
-  unforged : IsUnforged (λ _. worked_meaning) worked_keys (it_arrives config caller) world.stored
+  -- what was sent stays so
+  still_sent : (d : Datagram) → Contains world.stored.sent d → Contains last.sent d
+  still_sent d there = Contains-append_left world.stored.sent (datagram_of B (mark.Ike worked_keys true 3) alive_octets ∷ []) d there
+
+  request_was_sent : (response : Bool) (number : ℕ) (octets : Octets) → ComesUnder (λ _. worked_meaning) worked_keys response number octets probe
+      → HasSent A worked_keys response number octets last
+  request_was_sent response number octets comes =
+      let same : probe_octets ≡ octets = comes.datagram in
+      let spelled : Spells comes.opens.message probe_octets = subst (λ (o : Octets). Spells comes.opens.message o) (sym same) comes.opens.spelled in
+      let message : asked ≡ comes.opens.message = one_message asked comes.opens.message probe_octets asked_spelled spelled in
+      let is_response : false ≡ response = ap (λ (m : Message). m.header.flags.response) message ∙ comes.opens.is_response in
+      let number_is : 3 ≡ number = ap (λ (m : Message). m.header.id) message ∙ comes.opens.number_is in
+      subst (λ (d : Datagram). Contains last.sent d) (λ i. datagram_of A (mark.Ike worked_keys (is_response i) (number_is i)) (same i))
+      (still_sent (datagram_of A (mark.Ike worked_keys false 3) probe_octets)
+      (third_request_there first_asking first_answering asking_octets answering_octets by carried_octets probe_octets))
+
+  response_was_sent : (response : Bool) (number : ℕ) (octets : Octets) → ComesUnder (λ _. worked_meaning) worked_keys response number octets answer
+      → HasSent B worked_keys response number octets last
+  response_was_sent response number octets comes =
+      let same : alive_octets ≡ octets = comes.datagram in
+      let spelled : Spells comes.opens.message alive_octets = subst (λ (o : Octets). Spells comes.opens.message o) (sym same) comes.opens.spelled in
+      let message : answered ≡ comes.opens.message = one_message answered comes.opens.message alive_octets answer_spelled spelled in
+      let is_response : true ≡ response = ap (λ (m : Message). m.header.flags.response) message ∙ comes.opens.is_response in
+      let number_is : 3 ≡ number = ap (λ (m : Message). m.header.id) message ∙ comes.opens.number_is in
+      subst (λ (d : Datagram). Contains last.sent d) (λ i. datagram_of B (mark.Ike worked_keys (is_response i) (number_is i)) (same i))
+      (Contains-push world.stored.sent (datagram_of B (mark.Ike worked_keys true 3) alive_octets))
+
+  unforged : IsUnforged (λ _. worked_meaning) worked_keys (all_arrive config caller from fresh) last
   unforged place h response number octets there comes =
-      each_happening (λ (x : Happening C). ComesUnder (λ _. worked_meaning) worked_keys response number octets x → HasSent (other_end x.event.end) worked_keys response number octets world.stored)
-      (λ (c : ComesUnder (λ _. worked_meaning) worked_keys response number octets arrival). absurd c.datagram) place h there comes
+      each_happening (λ (x : Happening C). ComesUnder (λ _. worked_meaning) worked_keys response number octets x
+      → HasSent (other_end x.event.end) worked_keys response number octets last)
+      (λ (c : ComesUnder (λ _. worked_meaning) worked_keys response number octets arrival). absurd c.datagram)
+      (request_was_sent response number octets) (response_was_sent response number octets) place h there comes
 
   judged_is_sent : (number : ℕ) (octets : Octets) → IsJudgedAt answered_child number octets arrival
-      → HasSentPacket A answered_child.inbound.spi answered_child.inbound.key number octets world.stored
+      → HasSentPacket A answered_child.inbound.spi answered_child.inbound.key number octets last
   judged_is_sent number octets judged =
       let same : carried_octets ≡ octets = ap esp_octets judged.given in
       let number_is : number ≡ 1 = one_number asking_key answering_key judged.pair number octets same judged.addressed judged.judged in
@@ -284,30 +424,60 @@ module _ {C : Type 0} (told : SentIsTold) (one_time : OneTime) (config : Config)
         by = simplex_of carrying;
         spi_is = refl;
         key_is = refl;
-        sent = subst (λ (d : Datagram). Contains world.stored.sent d) (λ i. datagram_of A (mark.Esp (simplex_of carrying) (sym number_is i)) (same i))
-            (packet_there first_asking first_answering asking_octets answering_octets (simplex_of carrying) carried_octets);
+        sent = subst (λ (d : Datagram). Contains last.sent d) (λ i. datagram_of A (mark.Esp (simplex_of carrying) (sym number_is i)) (same i))
+            (still_sent (datagram_of A (mark.Esp by 1) carried_octets)
+            (packet_there first_asking first_answering asking_octets answering_octets by carried_octets probe_octets));
       }
 
-  unforged_to : IsUnforgedTo answered_child (it_arrives config caller) world.stored
-  unforged_to place number octets h there judged =
-      each_happening (λ (x : Happening C). IsJudgedAt answered_child number octets x → HasSentPacket A answered_child.inbound.spi answered_child.inbound.key number octets world.stored)
-      (judged_is_sent number octets) place h there judged
+  -- the probe and its response are no packets
+  no_packet : (given octets : Octets) → input.Ike from given fresh ≡ input.Esp octets → ⊥
+  no_packet given octets is = cc
 
-  pub worked_child_is : IsWorkedChild config caller
-  worked_child_is = record {
-    trail = (refl, happens, refl);
+  unforged_to : IsUnforgedTo answered_child (all_arrive config caller from fresh) last
+  unforged_to place number octets h there judged =
+      each_happening (λ (x : Happening C). IsJudgedAt answered_child number octets x
+      → HasSentPacket A answered_child.inbound.spi answered_child.inbound.key number octets last)
+      (judged_is_sent number octets)
+      (λ (j : IsJudgedAt answered_child number octets probe). absurd (no_packet probe_octets octets j.given))
+      (λ (j : IsJudgedAt answered_child number octets answer). absurd (no_packet alive_octets octets j.given)) place h there judged
+
+  pub worked_link_is : IsWorkedLink config caller from fresh
+  worked_link_is = record {
+    trail = (refl, happens, (refl, probe_happens, (refl, response_happens, refl)));
     can_be = can_be;
     one_state = one_state;
     other_state = other_state;
     sound = sound;
+    request_comes = record {
+      association = answering_association answering_octets;
+      held = record { serial = 1; there = refl; keyed = refl };
+      datagram = refl;
+      opens = probe_opens answering_octets;
+    };
+    response_comes = record {
+      association = asking_association;
+      held = record { serial = 1; there = refl; keyed = refl };
+      datagram = refl;
+      opens = alive_opens;
+    };
     unforged = unforged;
     once = λ end. let one = made_once told one_time config caller end in omega (arith, one);
+    held = record {
+      asks = record { serial = 1; there = refl; keyed = refl };
+      answers = record { serial = 1; there = refl; keyed = refl };
+      roles = refl;
+    };
+    held_back = record {
+      asks = record { serial = 1; there = refl; keyed = refl };
+      answers = record { serial = 1; there = refl; keyed = refl };
+      roles = refl;
+    };
     asked_there = asked_there;
     answered_there = answered_there;
     keyed = refl;
     of_one = of_one;
     asked_held = record { pair = asking_pair; held = (lone_in asking_pair).there };
-    answered_held = record { pair = pair_of Responder 0 one_taken; held = (lone_in_place answering_pair (pair_of Responder 0 one_taken)).there };
+    answered_held = record { pair = later_pair; held = (lone_in_place answering_pair later_pair).there };
     unforged_to = unforged_to;
     alone = one_sender;
     ends_at = refl;

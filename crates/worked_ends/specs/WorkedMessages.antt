@@ -1,5 +1,5 @@
--- The messages of the worked world, as payloads and as octets (RFC 7296 sections 1.3.1 and 3.1 to 3.14): the two of number 1, and the two of
--- CREATE_CHILD_SA by which the worked child is made. The cipher hides nothing, so the octets of the payloads are the body.
+-- The messages of the worked world, as payloads and as octets (RFC 7296 sections 1.3.1, 1.4 and 3.1 to 3.14): the two of number 1, the two of
+-- CREATE_CHILD_SA by which the worked child is made, and the two of the probe. The cipher hides nothing, so the octets of the payloads are the body.
 use Rattle.std.specs.Prelude.{◌++◌, ◌∷◌, ℕ, false, List, [], replicate}
 use Rattle.base.specs.Octets.{Octets}
 use Rattle.wire.specs.declared.payload.Payload.{Payload}
@@ -49,16 +49,23 @@ abbrev pub header_octets : ℕ → ℕ → ℕ → Octets
 header_octets exchange flags number =
     0 ∷ 0 ∷ 0 ∷ 0 ∷ 0 ∷ 0 ∷ 0 ∷ 1 ∷ 0 ∷ 0 ∷ 0 ∷ 0 ∷ 0 ∷ 0 ∷ 0 ∷ 2 ∷ 46 ∷ 0x20 ∷ exchange ∷ flags ∷ 0 ∷ 0 ∷ 0 ∷ number ∷ []
 
--- Of number 1, IKE_AUTH, with nothing in its encrypted payload: of what proves an identity nothing is looked at here, but that no window is told.
-abbrev pub first_octets : ℕ → Octets
-first_octets flags = header_octets 35 flags 1 ++ (0 ∷ 0 ∷ 0 ∷ 32 ∷ 0 ∷ 0 ∷ 0 ∷ 4 ∷ [])
+-- with nothing in its encrypted payload
+abbrev pub bare_octets : ℕ → ℕ → ℕ → Octets
+bare_octets exchange flags number = header_octets exchange flags number ++ (0 ∷ 0 ∷ 0 ∷ 32 ∷ 0 ∷ 0 ∷ 0 ∷ 4 ∷ [])
 
--- what A sent first, and what B answered
+-- What A sent first, and what B answered: IKE_AUTH. Of what proves an identity nothing is looked at here, but that no window is told.
 abbrev pub first_asking : Octets
-first_asking = first_octets 0x08
+first_asking = bare_octets 35 0x08 1
 
 abbrev pub first_answering : Octets
-first_answering = first_octets 0x20
+first_answering = bare_octets 35 0x20 1
+
+-- what A asks last, whether B is there, and what B answers: INFORMATIONAL of number 3 without payloads (section 1.4)
+abbrev pub probe_octets : Octets
+probe_octets = bare_octets 37 0x08 3
+
+abbrev pub alive_octets : Octets
+alive_octets = bare_octets 37 0x20 3
 
 -- the header of the encrypted payload, of which SA is the first inside
 abbrev pub encrypted_octets : ℕ → ℕ → Octets
