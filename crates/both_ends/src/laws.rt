@@ -1,15 +1,22 @@
 //! What follows from the definitions alone. No function here does anything.
-ghost use Rattle.std.specs.Prelude.{◌≡◌, ℕ, List, Some, slice_get};
+ghost use Rattle.std.specs.Prelude.{◌≡◌, ◌≤◌, ℕ, List, Some, slice_get};
 ghost use Rattle.base.specs.Octets.{Octets};
 ghost use Rattle.suite.specs.declared.key_record.KeyRecord.{KeyRecord};
 ghost use Rattle.suite.specs.declared.keys.Keys.{Keys};
 ghost use Rattle.suite.specs.declared.sealer.Cipher.{Cipher};
+ghost use Rattle.association.specs.declared.phase.Association.{Association};
+ghost use Rattle.lockstep.specs.Promises.{lacking_below};
+ghost use Rattle.gateway.specs.BothEnds.{IsWhollySound};
 ghost use Rattle.gateway.specs.WorldHistories.{Happening, IsWorldTrail};
-ghost use Rattle.gateway.specs.Worlds.{WorldState};
+ghost use Rattle.gateway.specs.WorldParties.{AreBothHeld};
+ghost use Rattle.gateway.specs.WorldWindows.{window_at};
+ghost use Rattle.gateway.specs.Worlds.{other_end, WorldState};
+ghost use Rattle.gateway.specs.declared.world.stored.End.{End};
 ghost use Rattle.both_ends.specs.Records.{ComesToKeysAsInitiator, ComesToKeysAsResponder, Introduction};
 ghost use Rattle.both_ends.specs.WorkedRecords.{IsWorkedRecord};
 ghost use Rattle.both_ends.specs.WorldRecords.{CameToKeysAsInitiator, CameToKeysAsResponder};
 
+use gateway::laws::{ends_of_a_sound_world_agree, windows_are_those_told};
 use suite::{Agreement, Proof, Sealer};
 use wire::laws::octets_spell_one_message;
 
@@ -70,4 +77,15 @@ pub fn the_ends_of_a_world_make_one_record<C: Sealer + Agreement + Proof>(caller
 {
     let _ = caller;
     octets_spell_one_message();
+}
+
+/// In a wholly sound world, as `gateway::run_world` keeps it, no more requests of an end wait for their answer than the other end is set to take
+/// at once, of each association that one of them holds as initiator and the other as responder (RFC 7296, section 2.3).
+pub fn no_more_waits_than_the_other_end_takes<C: Sealer + Agreement + Proof>()
+    ensures { (keys : KeyRecord) (world : WorldState C) → IsWhollySound C.body_of C.plain_of keys world
+        → (end : End) (asking answering : Association) → AreBothHeld keys end world asking answering
+        → lacking_below asking.outgoing.answered asking.outgoing.next ≤ window_at (other_end end) world }
+{
+    ends_of_a_sound_world_agree::<C>();
+    windows_are_those_told::<C>();
 }

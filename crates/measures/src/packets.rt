@@ -35,13 +35,18 @@ fn hash_on(text: &mut [u8]) {
 /// All packets go into one buffer, which the first turn makes long enough.
 pub fn seal(alloc: Global, count: u32, octets: u16) -> Option<u8> {
     let payload = vec![in alloc; 0; usize::from(octets)].ok()?;
-    let mut sender = Outbound::new(SPI, &KEY, true, 0);
     let mut packet = Vec::new(alloc);
+    seal_all(count, &payload, &mut packet)?;
+    packet.last().copied()
+}
+
+fn seal_all(count: u32, payload: &[u8], packet: &mut Vec<u8>) -> Option<()> {
+    let mut sender = Outbound::new(SPI, &KEY, true, 0);
     for _ in 0..count {
         packet.clear();
-        sender.seal(IPV4, &payload, &mut packet).ok()?;
+        sender.seal(IPV4, payload, packet).ok()?;
     }
-    packet.last().copied()
+    Some(())
 }
 
 /// Each turn opens the same packet.
@@ -58,8 +63,7 @@ pub fn open(alloc: Global, count: u32, octets: u16) -> Option<u8> {
 fn sealed(alloc: Global, octets: u16) -> Option<Vec<u8>> {
     let payload = vec![in alloc; 0; usize::from(octets)].ok()?;
     let mut packet = Vec::new(alloc);
-    let mut sender = Outbound::new(SPI, &KEY, true, 0);
-    sender.seal(IPV4, &payload, &mut packet).ok()?;
+    seal_all(1, &payload, &mut packet)?;
     Some(packet)
 }
 

@@ -65,6 +65,16 @@ fn add_pair(alloc: Global, table: &mut Table, place: u16) -> Option<u32> {
     let local = Items::from_slice(alloc, &[selector(here())]).ok()?;
     let remote = Items::from_slice(alloc, &[selector(network(place))]).ok()?;
     let window = BlockWindow::new(alloc, 2).ok()?;
+    install(table, window, local, remote)
+}
+
+/// Adds a pair of these sides under the next SPI.
+fn install(
+    table: &mut Table,
+    window: BlockWindow,
+    local: Items<Selector>,
+    remote: Items<Selector>,
+) -> Option<u32> {
     let spi = table.reserve().ok()?;
     let inbound = Inbound::new(spi.number(), &KEY, true, window);
     let outbound = Outbound::new(spi.number(), &KEY, true, 0);

@@ -16,7 +16,7 @@
 
 mod receiver;
 
-use esp::Outbound;
+use esp::{Answer, Outbound};
 use receiver::{KEY, Receiver, SPI};
 use std::alloc::Global;
 use std::env;
@@ -30,49 +30,102 @@ fn main(rt: HostRuntime) -> ExitCode {
     }
 }
 
+/// Does what the words ask for.
+fn run(rt: &HostRuntime) -> Option<()> {
+    let words = words(rt)?;
+    let payloads = payloads(rt.alloc(), &words)?;
+    time_of(rt, &words, &payloads)
+}
+
+fn words(rt: &HostRuntime) -> Option<Vec<String>> {
+    env::args(rt).ok()?.collect(rt.alloc()).ok()
+}
+
 /// The number that a word is.
 fn number_at(words: &[String], place: usize) -> Option<usize> {
     words.get(place)?.parse().ok()
 }
 
-/// Does what the words ask for.
-fn run(rt: &HostRuntime) -> Option<()> {
-    let alloc = rt.alloc();
-    let words: Vec<String> = env::args(rt).ok()?.collect(alloc).ok()?;
-    let rounds = number_at(&words, 2)?;
-    let count = number_at(&words, 3)?;
-    let mut payloads: Vec<Vec<u8>> = Vec::new(alloc);
-    let kinds = words.len().checked_sub(4)?;
+/// The payloads that the words ask for.
+fn payloads(alloc: Global, words: &[String]) -> Option<Vec<Vec<u8>>> {
+    let count = number_at(words, 3)?;
+    let mut payloads = Vec::new(alloc);
     for place in 0..count {
-        let size = number_at(&words, 4usize.checked_add(place.checked_rem(kinds)?)?)?;
-        payloads.push(vec![in alloc; 7; size].ok()?).ok()?;
+        payloads.push(payload(alloc, words, place)?).ok()?;
     }
-    let mut parts: Vec<&[u8]> = Vec::new(alloc);
-    for payload in &payloads {
-        parts.push(payload.as_slice()).ok()?;
+    Some(payloads)
+}
+
+/// The payload at a place, which has one of the sizes that the words give in turn.
+fn payload(alloc: Global, words: &[String], place: usize) -> Option<Vec<u8>> {
+    let kinds = words.len().checked_sub(4)?;
+    let kind = place.checked_rem(kinds)?;
+    let size = number_at(words, kind.checked_add(4)?)?;
+    vec![in alloc; 7; size].ok()
+}
+
+fn slices(alloc: Global, payloads: &[Vec<u8>]) -> Option<Vec<&[u8]>> {
+    let mut slices = Vec::new(alloc);
+    for payload in payloads {
+        slices.push(payload.as_slice()).ok()?;
     }
-    match words.get(1)?.as_str() {
-        "seal" => seal(rt, rounds, &parts),
-        "seal_all" => seal_all(rt, rounds, &parts),
-        "open" => open(rt, rounds, &parts, false),
-        "open_all" => open(rt, rounds, &parts, true),
-        "old" => old(rt, rounds, &parts, false),
-        "old_all" => old(rt, rounds, &parts, true),
+    Some(slices)
+}
+
+/// Times the call that the words name.
+fn time_of(rt: &HostRuntime, words: &[String], payloads: &[Vec<u8>]) -> Option<()> {
+    let rounds = number_at(words, 2)?;
+    let parts = slices(rt.alloc(), payloads)?;
+    call(rt, words.get(1)?.as_str(), rounds, &parts)
+}
+
+fn call(rt: &HostRuntime, name: &str, rounds: usize, parts: &[&[u8]]) -> Option<()> {
+    match name {
+        "seal" => seal(rt, rounds, parts, false),
+        "seal_all" => seal(rt, rounds, parts, true),
+        "open" => open(rt, rounds, parts, false),
+        "open_all" => open(rt, rounds, parts, true),
+        "old" => old(rt, rounds, parts, false),
+        "old_all" => old(rt, rounds, parts, true),
         _ => None,
     }
 }
 
-fn seal(rt: &HostRuntime, rounds: usize, parts: &[&[u8]]) -> Option<()> {
+/// Prints what was found.
+fn report(rt: &HostRuntime, best: u128, last: Option<u8>) -> Option<()> {
+    println!(rt; "{best} {}", last.unwrap_or(0)).ok()
+}
+
+fn seal(rt: &HostRuntime, rounds: usize, parts: &[&[u8]], side_by_side: bool) -> Option<()> {
     let mut sender = Outbound::new(SPI, &KEY, true, 0);
     let mut out = Vec::new(rt.alloc());
     let mut best = u128::MAX;
     for _ in 0..rounds {
         out.clear();
-        let start = Instant::now(rt).ok()?;
-        seal_each(&mut sender, parts, &mut out)?;
-        best = start.elapsed(rt).ok()?.as_nanos().min(best);
+        best = time_to_seal(rt, &mut sender, parts, &mut out, side_by_side)?.min(best);
     }
     report(rt, best, out.last().copied())
+}
+
+/// The nanoseconds that it takes to seal the payloads once.
+fn time_to_seal(
+    rt: &HostRuntime,
+    sender: &mut Outbound,
+    parts: &[&[u8]],
+    out: &mut Vec<u8>,
+    side_by_side: bool,
+) -> Option<u128> {
+    let start = Instant::now(rt).ok()?;
+    if side_by_side {
+        sender.seal_all(4, parts, out).ok()?;
+    } else {
+        seal_each(sender, parts, out)?;
+    }
+    nanoseconds_since(rt, start)
+}
+
+fn nanoseconds_since(rt: &HostRuntime, start: Instant) -> Option<u128> {
+    Some(start.elapsed(rt).ok()?.as_nanos())
 }
 
 fn seal_each(sender: &mut Outbound, parts: &[&[u8]], out: &mut Vec<u8>) -> Option<()> {
@@ -80,24 +133,6 @@ fn seal_each(sender: &mut Outbound, parts: &[&[u8]], out: &mut Vec<u8>) -> Optio
         sender.seal(4, part, out).ok()?;
     }
     Some(())
-}
-
-fn seal_all(rt: &HostRuntime, rounds: usize, parts: &[&[u8]]) -> Option<()> {
-    let mut sender = Outbound::new(SPI, &KEY, true, 0);
-    let mut out = Vec::new(rt.alloc());
-    let mut best = u128::MAX;
-    for _ in 0..rounds {
-        out.clear();
-        let start = Instant::now(rt).ok()?;
-        sender.seal_all(4, parts, &mut out).ok()?;
-        best = start.elapsed(rt).ok()?.as_nanos().min(best);
-    }
-    report(rt, best, out.last().copied())
-}
-
-/// Prints what was found.
-fn report(rt: &HostRuntime, best: u128, last: Option<u8>) -> Option<()> {
-    println!(rt; "{best} {}", last.unwrap_or(0)).ok()
 }
 
 /// As many lists of packets with these payloads, none of which came before.
@@ -114,29 +149,50 @@ fn lists(alloc: Global, rounds: usize, parts: &[&[u8]]) -> Option<Vec<Vec<Vec<u8
 fn list(alloc: Global, sender: &mut Outbound, parts: &[&[u8]]) -> Option<Vec<Vec<u8>>> {
     let mut list = Vec::new(alloc);
     for part in parts {
-        let mut packet = Vec::new(alloc);
-        sender.seal(4, part, &mut packet).ok()?;
-        list.push(packet).ok()?;
+        list.push(packet(alloc, sender, part)?).ok()?;
     }
     Some(list)
 }
 
+fn packet(alloc: Global, sender: &mut Outbound, payload: &[u8]) -> Option<Vec<u8>> {
+    let mut packet = Vec::new(alloc);
+    sender.seal(4, payload, &mut packet).ok()?;
+    Some(packet)
+}
+
 fn open(rt: &HostRuntime, rounds: usize, parts: &[&[u8]], side_by_side: bool) -> Option<()> {
     let lists = lists(rt.alloc(), rounds, parts)?;
+    let best = best_opening(rt, &lists, side_by_side)?;
+    report(rt, best, None)
+}
+
+/// The nanoseconds of the list that is opened fastest.
+fn best_opening(rt: &HostRuntime, lists: &[Vec<Vec<u8>>], side_by_side: bool) -> Option<u128> {
     let mut receiver = Receiver::new(rt.alloc())?;
     let mut out = Vec::new(rt.alloc());
     let mut best = u128::MAX;
-    for list in &lists {
+    for list in lists {
         out.clear();
-        let start = Instant::now(rt).ok()?;
-        if side_by_side {
-            receiver.open_all(list, &mut out)?;
-        } else {
-            open_each(&mut receiver, list)?;
-        }
-        best = start.elapsed(rt).ok()?.as_nanos().min(best);
+        best = time_to_open(rt, &mut receiver, list, &mut out, side_by_side)?.min(best);
     }
-    report(rt, best, None)
+    Some(best)
+}
+
+/// The nanoseconds that it takes to open the packets.
+fn time_to_open(
+    rt: &HostRuntime,
+    receiver: &mut Receiver,
+    list: &[Vec<u8>],
+    out: &mut Vec<Answer>,
+    side_by_side: bool,
+) -> Option<u128> {
+    let start = Instant::now(rt).ok()?;
+    if side_by_side {
+        receiver.open_all(list, out)?;
+    } else {
+        open_each(receiver, list)?;
+    }
+    nanoseconds_since(rt, start)
 }
 
 fn open_each(receiver: &mut Receiver, list: &[Vec<u8>]) -> Option<()> {
@@ -148,23 +204,44 @@ fn open_each(receiver: &mut Receiver, list: &[Vec<u8>]) -> Option<()> {
 
 /// Packets that were opened already.
 fn old(rt: &HostRuntime, rounds: usize, parts: &[&[u8]], side_by_side: bool) -> Option<()> {
-    let lists = lists(rt.alloc(), 1, parts)?;
-    let list = lists.first()?;
+    let list = list(rt.alloc(), &mut Outbound::new(SPI, &KEY, true, 0), parts)?;
+    let best = best_refusal(rt, rounds, &list, side_by_side)?;
+    report(rt, best, None)
+}
+
+/// The nanoseconds of the fastest round in which packets that were opened are refused.
+fn best_refusal(
+    rt: &HostRuntime,
+    rounds: usize,
+    list: &[Vec<u8>],
+    side_by_side: bool,
+) -> Option<u128> {
     let mut receiver = Receiver::new(rt.alloc())?;
     let mut out = Vec::new(rt.alloc());
     receiver.open_all(list, &mut out)?;
     let mut best = u128::MAX;
     for _ in 0..rounds {
         out.clear();
-        let start = Instant::now(rt).ok()?;
-        if side_by_side {
-            receiver.open_all(list, &mut out)?;
-        } else {
-            refuse_each(&mut receiver, list)?;
-        }
-        best = start.elapsed(rt).ok()?.as_nanos().min(best);
+        best = time_to_refuse(rt, &mut receiver, list, &mut out, side_by_side)?.min(best);
     }
-    report(rt, best, None)
+    Some(best)
+}
+
+/// The nanoseconds that it takes to refuse the packets.
+fn time_to_refuse(
+    rt: &HostRuntime,
+    receiver: &mut Receiver,
+    list: &[Vec<u8>],
+    out: &mut Vec<Answer>,
+    side_by_side: bool,
+) -> Option<u128> {
+    let start = Instant::now(rt).ok()?;
+    if side_by_side {
+        receiver.open_all(list, out)?;
+    } else {
+        refuse_each(receiver, list)?;
+    }
+    nanoseconds_since(rt, start)
 }
 
 fn refuse_each(receiver: &mut Receiver, list: &[Vec<u8>]) -> Option<()> {

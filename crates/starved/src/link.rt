@@ -53,7 +53,7 @@ enum Given {
     Sealed,
 }
 
-const WAY: [(End, Given); 30] = [
+const WAY: &[(End, Given)] = &[
     // An association and its first child, and a packet through it.
     (End::A, Given::Start),
     (End::B, Given::Message),
@@ -134,7 +134,7 @@ impl Link {
     /// Goes the whole way; answers how many steps were refused for want of memory, and given again.
     pub fn go(&mut self, alloc: Global) -> Result<u32, Trouble> {
         let mut refused: u32 = 0;
-        for (end, given) in WAY {
+        for &(end, given) in WAY {
             if self.was_refused(alloc, end, given)? {
                 refused = refused.saturating_add(1);
             }

@@ -6,3 +6,8 @@ use std::process::Abort;
 pub fn same<T: PartialEq + Debug + Drop>(rt: &impl Abort, found: T, wanted: T) {
     assert_eq!(rt; found, wanted);
 }
+
+/// Finds that something holds.
+pub fn holds(rt: &impl Abort, fact: bool) {
+    assert!(rt; fact);
+}

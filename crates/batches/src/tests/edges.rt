@@ -27,14 +27,34 @@ fn opened(alloc: Global, numbers: Numbers, blocks: Range<usize>) -> Result<Optio
     let text = text(alloc)?;
     let lengths = lengths(alloc, numbers, blocks)?;
     let list = payloads(alloc, &text, &lengths, lengths.len())?;
-    let mut at_once = Vec::new(alloc);
-    sender(numbers, 6).seal_all(IPV4, &list, &mut at_once)?;
-    let packets = packets(alloc, sender(numbers, 6), &list)?;
-    if at_once != joined(alloc, &packets)? {
-        return Ok(None);
+    opened_of(alloc, numbers, &list)
+}
+
+/// The same of a list of payloads.
+fn opened_of(alloc: Global, numbers: Numbers, list: &[&[u8]]) -> Result<Option<usize>, Fail> {
+    let packets = packets(alloc, sender(numbers, 6), list)?;
+    if are_sealed_at_once(alloc, numbers, list, &packets)? {
+        Ok(Some(handed_up(alloc, numbers, &packets)?))
+    } else {
+        Ok(None)
     }
-    let up = Receiver::new(alloc, numbers)?.count_up(alloc, &packets)?;
-    Ok(Some(up))
+}
+
+/// Whether a list sealed at once comes to these packets.
+fn are_sealed_at_once(
+    alloc: Global,
+    numbers: Numbers,
+    list: &[&[u8]],
+    packets: &[Vec<u8>],
+) -> Result<bool, Fail> {
+    let mut at_once = Vec::new(alloc);
+    sender(numbers, 6).seal_all(IPV4, list, &mut at_once)?;
+    Ok(at_once == joined(alloc, packets)?)
+}
+
+/// How many packets a new receiver hands up.
+fn handed_up(alloc: Global, numbers: Numbers, packets: &[Vec<u8>]) -> Result<usize, Fail> {
+    Receiver::new(alloc, numbers)?.count_up(alloc, packets)
 }
 
 #[test]

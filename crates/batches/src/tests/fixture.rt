@@ -110,11 +110,16 @@ pub fn packets(
 ) -> Result<Vec<Vec<u8>>, Fail> {
     let mut packets = Vec::new(alloc);
     for payload in payloads {
-        let mut packet = Vec::new(alloc);
-        sender.seal(IPV4, payload, &mut packet)?;
-        packets.push(packet)?;
+        packets.push(packet(alloc, &mut sender, payload)?)?;
     }
     Ok(packets)
+}
+
+/// The packet of one payload.
+fn packet(alloc: Global, sender: &mut Outbound, payload: &[u8]) -> Result<Vec<u8>, Fail> {
+    let mut packet = Vec::new(alloc);
+    sender.seal(IPV4, payload, &mut packet)?;
+    Ok(packet)
 }
 
 /// The octets of packets, one after the other.
@@ -130,9 +135,8 @@ pub fn joined(alloc: Global, packets: &[Vec<u8>]) -> Result<Vec<u8>, AllocError>
 pub fn numbered(alloc: Global, numbers: Numbers, list: &[u64]) -> Result<Vec<Vec<u8>>, Fail> {
     let mut packets = Vec::new(alloc);
     for number in list {
-        let mut packet = Vec::new(alloc);
-        sender(numbers, number.saturating_sub(1)).seal(IPV4, b"", &mut packet)?;
-        packets.push(packet)?;
+        let mut sender = sender(numbers, number.saturating_sub(1));
+        packets.push(packet(alloc, &mut sender, b"")?)?;
     }
     Ok(packets)
 }
@@ -172,11 +176,16 @@ impl Receiver {
         Some(self.inbound.open_all(packets, out))
     }
 
-    /// Opens packets by one call, and answers how many were handed up.
-    pub fn count_up(&mut self, alloc: Global, packets: &[Vec<u8>]) -> Result<usize, Fail> {
+    /// What is answered of packets that are opened by one call.
+    fn answers(&mut self, alloc: Global, packets: &[Vec<u8>]) -> Result<Vec<Answer>, Fail> {
         let mut answers = Vec::new(alloc);
         self.open_all(packets, &mut answers).ok_or("another SPI")??;
-        Ok(count_up(&answers))
+        Ok(answers)
+    }
+
+    /// Opens packets by one call, and answers how many were handed up.
+    pub fn count_up(&mut self, alloc: Global, packets: &[Vec<u8>]) -> Result<usize, Fail> {
+        Ok(count_up(&self.answers(alloc, packets)?))
     }
 }
 
@@ -233,21 +242,23 @@ impl Pair {
 
     /// Hands the list to both.
     pub fn open(&mut self, alloc: Global, packets: &[Vec<u8>]) -> Result<Outcome, Fail> {
-        let mut answers = Vec::new(alloc);
-        self.all
-            .open_all(packets, &mut answers)
-            .ok_or("another SPI")??;
+        let answers = self.all.answers(alloc, packets)?;
+        Ok(self.compare(packets, &answers))
+    }
+
+    /// Hands the packets to the other receiver, and compares what it answers.
+    fn compare(&mut self, packets: &[Vec<u8>], answers: &[Answer]) -> Outcome {
         if answers.len() != packets.len() {
-            return Ok(Outcome::Differs {
+            return Outcome::Differs {
                 place: answers.len(),
-            });
+            };
         }
-        Ok(match self.first_difference(packets, &answers) {
+        match self.first_difference(packets, answers) {
             Some(place) => Outcome::Differs { place },
             None => Outcome::Same {
-                up: count_up(&answers),
+                up: count_up(answers),
             },
-        })
+        }
     }
 
     /// The place of the first packet of which the call for one packet says something else.

@@ -26,19 +26,31 @@ fn deliver(
     turn: usize,
     packet: &[u8],
 ) -> Result<(), AllocError> {
-    match turn % 6 {
-        0 => list.push(damaged(alloc, packet, 8 + turn % 20)?)?,
-        1 => list.push(packet.to_vec(alloc)?)?,
-        2 => list.push(cut(alloc, packet, 28)?)?,
-        _ => (),
+    if let Some(before) = before(alloc, turn, packet)? {
+        list.push(before)?;
     }
-    let last = match turn % 6 {
-        3 => cut(alloc, packet, 3)?,
-        4 => damaged(alloc, packet, 7)?,
-        _ => packet.to_vec(alloc)?,
-    };
-    list.push(last)?;
+    list.push(last(alloc, turn, packet)?)?;
     Ok(())
+}
+
+/// What is delivered first, in half of the turns.
+fn before(alloc: Global, turn: usize, packet: &[u8]) -> Result<Option<Vec<u8>>, AllocError> {
+    let before = match turn % 6 {
+        0 => damaged(alloc, packet, 8 + turn % 20),
+        1 => packet.to_vec(alloc),
+        2 => cut(alloc, packet, 28),
+        _ => return Ok(None),
+    };
+    Ok(Some(before?))
+}
+
+/// What is delivered last.
+fn last(alloc: Global, turn: usize, packet: &[u8]) -> Result<Vec<u8>, AllocError> {
+    match turn % 6 {
+        3 => cut(alloc, packet, 3),
+        4 => damaged(alloc, packet, 7),
+        _ => packet.to_vec(alloc),
+    }
 }
 
 /// The packets out of order, some of them repeated, damaged or cut.
@@ -65,26 +77,40 @@ fn deliveries(
     count: usize,
     stride: usize,
 ) -> Result<Vec<Vec<u8>>, Fail> {
-    let text = text(alloc)?;
-    let list = payloads(alloc, &text, &[64, 0, 33, 340, 18], count)?;
-    let packets = packets(alloc, sender(numbers, last), &list)?;
+    let packets = packets_after(alloc, numbers, last, &[64, 0, 33, 340, 18], count)?;
     Ok(muddled(alloc, &packets, stride)?)
+}
+
+/// So many packets after a number, of these lengths in turn.
+fn packets_after(
+    alloc: Global,
+    numbers: Numbers,
+    last: u64,
+    lengths: &[usize],
+    count: usize,
+) -> Result<Vec<Vec<u8>>, Fail> {
+    let text = text(alloc)?;
+    let list = payloads(alloc, &text, lengths, count)?;
+    packets(alloc, sender(numbers, last), &list)
 }
 
 /// The first count of packets at which a list is opened otherwise than one by one, or not all of it is handed up.
 fn first_count_that_differs(alloc: Global, counts: Range<usize>) -> Result<Option<usize>, Fail> {
-    let text = text(alloc)?;
     let mut pair = Pair::new(alloc, Numbers::Extended)?;
     let mut last = 6;
     for count in counts {
-        let list = payloads(alloc, &text, &[0, 41], count)?;
-        let packets = packets(alloc, sender(Numbers::Extended, last), &list)?;
-        if pair.open(alloc, &packets)? != (Outcome::Same { up: count }) {
+        if outcome_after(alloc, &mut pair, last, count)? != (Outcome::Same { up: count }) {
             return Ok(Some(count));
         }
         last = last.saturating_add(count as u64);
     }
     Ok(None)
+}
+
+/// What comes of so many packets after a number.
+fn outcome_after(alloc: Global, pair: &mut Pair, last: u64, count: usize) -> Result<Outcome, Fail> {
+    let packets = packets_after(alloc, Numbers::Extended, last, &[0, 41], count)?;
+    pair.open(alloc, &packets)
 }
 
 #[test]
@@ -99,49 +125,79 @@ fn opens_each_count_from_71(rt: HostRuntime) -> Result<(), Fail> {
     Ok(())
 }
 
+/// What comes of 60 packets out of order.
+fn outcome_of_muddled(alloc: Global, numbers: Numbers) -> Result<Outcome, Fail> {
+    let list = deliveries(alloc, numbers, 6, 60, 7)?;
+    Pair::new(alloc, numbers)?.open(alloc, &list)
+}
+
 // Of 60 packets four in six are handed up: none of them is out of reach.
 #[test]
 fn opens_muddled_lists(rt: HostRuntime) -> Result<(), Fail> {
-    let alloc = rt.alloc();
-    let short = deliveries(alloc, Numbers::Short, 6, 60, 7)?;
-    let outcome = Pair::new(alloc, Numbers::Short)?.open(alloc, &short)?;
-    same(&rt, outcome, Outcome::Same { up: 40 });
-    let extended = deliveries(alloc, Numbers::Extended, 6, 60, 7)?;
-    let outcome = Pair::new(alloc, Numbers::Extended)?.open(alloc, &extended)?;
-    same(&rt, outcome, Outcome::Same { up: 40 });
+    let short = outcome_of_muddled(rt.alloc(), Numbers::Short)?;
+    let extended = outcome_of_muddled(rt.alloc(), Numbers::Extended)?;
+    let wanted = Outcome::Same { up: 40 };
+    same(&rt, (short, extended), (wanted, wanted));
     Ok(())
+}
+
+/// What comes of two lists that a pair is handed one after the other.
+fn outcomes(
+    alloc: Global,
+    numbers: Numbers,
+    first: &[Vec<u8>],
+    second: &[Vec<u8>],
+) -> Result<(Outcome, Outcome), Fail> {
+    let mut pair = Pair::new(alloc, numbers)?;
+    let of_first = pair.open(alloc, first)?;
+    let of_second = pair.open(alloc, second)?;
+    Ok((of_first, of_second))
 }
 
 // Of so many packets out of order some are older than the window.
 #[test]
 fn opens_lists_with_old_packets(rt: HostRuntime) -> Result<(), Fail> {
-    let alloc = rt.alloc();
-    let list = deliveries(alloc, Numbers::Short, 6, 130, 77)?;
-    let mut pair = Pair::new(alloc, Numbers::Short)?;
-    let outcome = pair.open(alloc, &list)?;
+    let list = deliveries(rt.alloc(), Numbers::Short, 6, 130, 77)?;
+    let (outcome, again) = outcomes(rt.alloc(), Numbers::Short, &list, &list)?;
     same(&rt, matches!(outcome, Outcome::Same { .. }), true);
     // What one end took the other took.
-    same(&rt, pair.open(alloc, &list)?, Outcome::Same { up: 0 });
+    same(&rt, again, Outcome::Same { up: 0 });
     Ok(())
+}
+
+/// What comes of the packet 2^32 - 100, and then of 60 packets out of order from 2^32 - 29 on.
+fn outcomes_across_a_round(alloc: Global) -> Result<(Outcome, Outcome), Fail> {
+    let first = numbered(alloc, Numbers::Extended, &[ROUND - 100])?;
+    let list = deliveries(alloc, Numbers::Extended, ROUND - 30, 60, 7)?;
+    outcomes(alloc, Numbers::Extended, &first, &list)
 }
 
 #[test]
 fn opens_lists_across_a_round(rt: HostRuntime) -> Result<(), Fail> {
-    let alloc = rt.alloc();
-    let first = numbered(alloc, Numbers::Extended, &[ROUND - 100])?;
-    let list = deliveries(alloc, Numbers::Extended, ROUND - 30, 60, 7)?;
-    let mut pair = Pair::new(alloc, Numbers::Extended)?;
-    same(&rt, pair.open(alloc, &first)?, Outcome::Same { up: 1 });
-    same(&rt, pair.open(alloc, &list)?, Outcome::Same { up: 40 });
+    let found = outcomes_across_a_round(rt.alloc())?;
+    same(
+        &rt,
+        found,
+        (Outcome::Same { up: 1 }, Outcome::Same { up: 40 }),
+    );
     Ok(())
+}
+
+/// What comes of packet 100, and then of packets with these numbers.
+fn outcomes_behind_100(
+    alloc: Global,
+    numbers: Numbers,
+    list: &[u64],
+) -> Result<(Outcome, Outcome), Fail> {
+    let first = numbered(alloc, numbers, &[100])?;
+    let list = numbered(alloc, numbers, list)?;
+    outcomes(alloc, numbers, &first, &list)
 }
 
 // The sixth packet moves the window so far that from then on the low half 50 stands for 2^32 + 50, and no more for 50 as at the
 // list's head. So what was sealed under 60 and 99 has another number at its turn, for which its check value is wrong.
 #[test]
 fn recovers_another_number_at_its_turn(rt: HostRuntime) -> Result<(), Fail> {
-    let alloc = rt.alloc();
-    let first = numbered(alloc, Numbers::Extended, &[100])?;
     let list = [
         101,
         102,
@@ -154,25 +210,24 @@ fn recovers_another_number_at_its_turn(rt: HostRuntime) -> Result<(), Fail> {
         ROUND,
         99,
     ];
-    let list = numbered(alloc, Numbers::Extended, &list)?;
-    let mut pair = Pair::new(alloc, Numbers::Extended)?;
-    same(&rt, pair.open(alloc, &first)?, Outcome::Same { up: 1 });
-    same(&rt, pair.open(alloc, &list)?, Outcome::Same { up: 8 });
+    let found = outcomes_behind_100(rt.alloc(), Numbers::Extended, &list)?;
+    same(
+        &rt,
+        found,
+        (Outcome::Same { up: 1 }, Outcome::Same { up: 8 }),
+    );
     Ok(())
 }
 
 // The numbers 90 and 91 lie inside the window when the list begins, and below it at their turn.
 #[test]
 fn finds_packets_old_at_their_turn(rt: HostRuntime) -> Result<(), Fail> {
-    let alloc = rt.alloc();
-    let first = numbered(alloc, Numbers::Short, &[100])?;
-    let list = numbered(
-        alloc,
-        Numbers::Short,
-        &[101, 102, 103, 92, 300, 90, 91, 299],
-    )?;
-    let mut pair = Pair::new(alloc, Numbers::Short)?;
-    same(&rt, pair.open(alloc, &first)?, Outcome::Same { up: 1 });
-    same(&rt, pair.open(alloc, &list)?, Outcome::Same { up: 6 });
+    let list = [101, 102, 103, 92, 300, 90, 91, 299];
+    let found = outcomes_behind_100(rt.alloc(), Numbers::Short, &list)?;
+    same(
+        &rt,
+        found,
+        (Outcome::Same { up: 1 }, Outcome::Same { up: 6 }),
+    );
     Ok(())
 }

@@ -1,6 +1,6 @@
 //! Lists that are sealed by one call, beside as many calls for one payload.
 use super::asserts::same;
-use super::fixture::{MOST, Numbers, ROUND, at_once, one_by_one, payloads, sender, text};
+use super::fixture::{MOST, Numbers, ROUND, Sealed, at_once, one_by_one, payloads, sender, text};
 use esp::EspFault;
 use std::alloc::{AllocError, Global};
 use std::ops::Range;
@@ -50,9 +50,9 @@ fn first_exhaustion_that_differs(
 ) -> Result<Option<u64>, AllocError> {
     let text = text(alloc)?;
     let list = payloads(alloc, &text, &[3, 40], 70)?;
-    for left in [0, 1, 5, 7, 8, 9, 63, 64, 65, 69, 70, 71] {
-        if differs(alloc, numbers, greatest.saturating_sub(left), &list) {
-            return Ok(Some(left));
+    for left in &[0, 1, 5, 7, 8, 9, 63, 64, 65, 69, 70, 71] {
+        if differs(alloc, numbers, greatest.saturating_sub(*left), &list) {
+            return Ok(Some(*left));
         }
     }
     Ok(None)
@@ -71,17 +71,21 @@ fn stops_where_numbers_are_exhausted(rt: HostRuntime) -> Result<(), Fail> {
 /// The first place at which lists of 70 payloads are not stopped as one by one, if the payload there is too long.
 fn first_long_payload_that_differs(alloc: Global) -> Result<Option<usize>, AllocError> {
     let text = text(alloc)?;
-    let long = text.split_at(text.len().min(MOST + 1)).0;
-    for place in [0, 1, 5, 7, 8, 9, 63, 64, 65, 69] {
-        let mut list = payloads(alloc, &text, &[10, 50], 70)?;
-        if let Some(payload) = list.get_mut(place) {
-            *payload = long;
-        }
-        if differs(alloc, Numbers::Extended, 6, &list) {
-            return Ok(Some(place));
+    for place in &[0, 1, 5, 7, 8, 9, 63, 64, 65, 69] {
+        if differs_where_one_is_long(alloc, &text, *place)? {
+            return Ok(Some(*place));
         }
     }
     Ok(None)
+}
+
+/// Whether a list is another whose payload at this place is too long.
+fn differs_where_one_is_long(alloc: Global, text: &[u8], place: usize) -> Result<bool, AllocError> {
+    let mut list = payloads(alloc, text, &[10, 50], 70)?;
+    if let Some(payload) = list.get_mut(place) {
+        *payload = text.split_at(text.len().min(MOST + 1)).0;
+    }
+    Ok(differs(alloc, Numbers::Extended, 6, &list))
 }
 
 #[test]
@@ -93,11 +97,15 @@ fn stops_at_a_payload_that_is_too_long(rt: HostRuntime) -> Result<(), Fail> {
 // What both ways are compared by tells a stop from none, and how far they came.
 #[test]
 fn tells_where_it_stopped(rt: HostRuntime) -> Result<(), Fail> {
-    let alloc = rt.alloc();
-    let text = text(alloc)?;
-    let list = payloads(alloc, &text, &[3], 70)?;
-    let sealed = at_once(alloc, sender(Numbers::Short, ROUND - 41), &list);
+    let sealed = stopped(rt.alloc())?;
     same(&rt, sealed.stop, Some((40, EspFault::Exhausted)));
     same(&rt, (sealed.next, sealed.octets.len()), (None, 40 * 32));
     Ok(())
+}
+
+/// What comes of 70 payloads where 40 numbers are left.
+fn stopped(alloc: Global) -> Result<Sealed, AllocError> {
+    let text = text(alloc)?;
+    let list = payloads(alloc, &text, &[3], 70)?;
+    Ok(at_once(alloc, sender(Numbers::Short, ROUND - 41), &list))
 }
