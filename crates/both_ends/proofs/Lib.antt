@@ -7,3 +7,4 @@ mod RequestLemmas
 mod AcceptLemmas
 mod WorkedRecordLemmas
 mod WorldRecordLemmas
+mod GoingOutLemmas

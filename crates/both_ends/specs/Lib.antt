@@ -1,3 +1,4 @@
 pub mod Records
 pub mod WorkedRecords
 pub mod WorldRecords
+pub mod GoingOut

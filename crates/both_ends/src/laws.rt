@@ -1,17 +1,25 @@
 //! What follows from the definitions alone. No function here does anything.
-ghost use Rattle.std.specs.Prelude.{◌≡◌, ◌≤◌, ℕ, List, Some, slice_get};
+ghost use Rattle.std.specs.Prelude.{◌≡◌, ◌≤◌, ◌∷◌, ℕ, Contains, List, None, Some, slice_get};
 ghost use Rattle.base.specs.Octets.{Octets};
 ghost use Rattle.suite.specs.declared.key_record.KeyRecord.{KeyRecord};
 ghost use Rattle.suite.specs.declared.keys.Keys.{Keys};
 ghost use Rattle.suite.specs.declared.sealer.Cipher.{Cipher};
 ghost use Rattle.association.specs.declared.phase.Association.{Association};
 ghost use Rattle.lockstep.specs.Promises.{lacking_below};
+ghost use Rattle.sadb.specs.Database.{pair_at};
+ghost use Rattle.sadb.specs.declared.pair.Pair.{Pair};
+ghost use Rattle.effects.specs.Taking.{Meaning};
 ghost use Rattle.gateway.specs.BothEnds.{IsWhollySound};
+ghost use Rattle.gateway.specs.Outputs.{OutputView, Sealed};
 ghost use Rattle.gateway.specs.WorldHistories.{Happening, IsWorldTrail};
 ghost use Rattle.gateway.specs.WorldParties.{AreBothHeld};
 ghost use Rattle.gateway.specs.WorldWindows.{window_at};
-ghost use Rattle.gateway.specs.Worlds.{other_end, WorldState};
+ghost use Rattle.gateway.specs.Worlds.{datagram_at, datagram_of, gateway_at, other_end, simplex_of, TakesEvent, WorldState};
+ghost use Rattle.gateway.specs.declared.world.stored.Datagram.{Datagram};
 ghost use Rattle.gateway.specs.declared.world.stored.End.{End};
+ghost use Rattle.gateway.specs.declared.world.stored.Event.{Event};
+ghost use Rattle.gateway.specs.declared.world.stored.Mark.TheVariants as mark;
+ghost use Rattle.both_ends.specs.GoingOut.{GoesOut, IsStoredAsSent};
 ghost use Rattle.both_ends.specs.Records.{ComesToKeysAsInitiator, ComesToKeysAsResponder, Introduction};
 ghost use Rattle.both_ends.specs.WorkedRecords.{IsWorkedRecord};
 ghost use Rattle.both_ends.specs.WorldRecords.{CameToKeysAsInitiator, CameToKeysAsResponder};
@@ -89,3 +97,19 @@ pub fn no_more_waits_than_the_other_end_takes<C: Sealer + Agreement + Proof>()
     ends_of_a_sound_world_agree::<C>();
     windows_are_those_told::<C>();
 }
+
+/// Whatever goes out at a step of a world is stored as sent by its end, a packet with the SPI and the key that its pair sends under and with
+/// its number. The first that was stored is the datagram 1, and there is none of the number 0.
+pub fn what_goes_out_is_stored<C>()
+    ensures sent { (meaning_of : C → Meaning) (event : Event) (old new : WorldState C) (said : OutputView)
+        → TakesEvent meaning_of event old said new
+        → (octets : Octets) → GoesOut said octets → IsStoredAsSent event.end octets new.stored }
+    ensures packet { (meaning_of : C → Meaning) (event : Event) (old new : WorldState C)
+        (child number : ℕ) (octets : Octets) (pair : Pair)
+        → TakesEvent meaning_of event old (Sealed child number octets) new
+        → pair_at (gateway_at event.end new).table.pairs child ≡ Some pair
+        → Contains new.stored.sent
+        (datagram_of event.end (mark.Esp (simplex_of pair.outbound.association) number) octets) }
+    ensures counted { (first : Datagram) (others : List Datagram)
+        → (datagram_at (first ∷ others) 0 ≡ None) × (datagram_at (first ∷ others) 1 ≡ Some first.octets) }
+{}

@@ -4,7 +4,7 @@
 //! other's association holds of itself, [`laws::the_ends_of_a_world_make_one_record`] says the same of the steps of a world of two gateways,
 //! and [`laws::the_premises_of_one_record_are_met`] that two ends can come to that by one exchange. What holds of two ends that have one
 //! record, their requests in step among it, stands in `lockstep` and `gateway`; [`laws::no_more_waits_than_the_other_end_takes`] joins two of
-//! these.
+//! these, and [`laws::what_goes_out_is_stored`] says what their worlds are judged by.
 #![tactic(auto)]
 
 pub mod laws;

@@ -167,6 +167,13 @@ one_sender other there end_is spi_is key_is = elim (one_of other there) [
   | inr same ↦ subst (λ (c : Child). AreEndsOfOneChild answered_child c) same (inr of_one)
 ]
 
+-- and no other child of B's sends to A
+one_sender_back : HasOneSender asked_child stored
+one_sender_back other there end_is spi_is key_is = elim (one_of other there) [
+  | inl same ↦ subst (λ (c : Child). AreEndsOfOneChild asked_child c) same (inl of_one)
+  | inr same ↦ absurd (same_end (ap (λ (c : Child). c.end) same ∙ end_is))
+]
+
 was_sealed : WasSealedBy all_protected asked_child 1 worked_payload carried_octets
 was_sealed = record {
   table = asking_table 0;
@@ -441,6 +448,15 @@ module _ {C : Type 0} (told : SentIsTold) (one_time : OneTime) (one_message : On
       (λ (j : IsJudgedAt answered_child number octets probe). absurd (no_packet probe_octets octets j.given))
       (λ (j : IsJudgedAt answered_child number octets answer). absurd (no_packet alive_octets octets j.given)) place h there judged
 
+  -- no packet came to A
+  unforged_back : IsUnforgedTo asked_child (all_arrive config caller from fresh) last
+  unforged_back place number octets h there judged =
+      each_happening (λ (x : Happening C). IsJudgedAt asked_child number octets x
+      → HasSentPacket B asked_child.inbound.spi asked_child.inbound.key number octets last)
+      (λ (j : IsJudgedAt asked_child number octets arrival). absurd (same_end (sym j.end_is)))
+      (λ (j : IsJudgedAt asked_child number octets probe). absurd (no_packet probe_octets octets j.given))
+      (λ (j : IsJudgedAt asked_child number octets answer). absurd (no_packet alive_octets octets j.given)) place h there judged
+
   pub worked_link_is : IsWorkedLink config caller from fresh
   worked_link_is = record {
     trail = (refl, happens, (refl, probe_happens, (refl, response_happens, refl)));
@@ -480,6 +496,8 @@ module _ {C : Type 0} (told : SentIsTold) (one_time : OneTime) (one_message : On
     answered_held = record { pair = later_pair; held = (lone_in_place answering_pair later_pair).there };
     unforged_to = unforged_to;
     alone = one_sender;
+    unforged_back = unforged_back;
+    alone_back = one_sender_back;
     ends_at = refl;
     goes_up = refl;
   }
