@@ -19,14 +19,11 @@ use Rattle.gateway.specs.declared.world.stored.Mark.{Mark}
 use Rattle.gateway.specs.declared.world.stored.Mark.TheVariants as mark
 use Rattle.gateway.proofs.PartyLemmas.{at_head, at_head_or_further, further_on, none_there}
 use Rattle.both_ends.specs.GoingOut.{GoesOut, IsAmong, IsStoredAsSent}
+use Rattle.both_ends.proofs.WorldRecordLemmas.{gateway_then}
 
 stored_then : {C : Type 0} (end : End) (gateway : State C) (stored : Stored) (w : WorldState C) → (with_gateway end gateway stored w).stored ≡ stored
 stored_then {C} A gateway stored w = refl
 stored_then {C} B gateway stored w = refl
-
-gateway_then : {C : Type 0} (end : End) (gateway : State C) (stored : Stored) (w : WorldState C) → gateway_at end (with_gateway end gateway stored w) ≡ gateway
-gateway_then {C} A gateway stored w = refl
-gateway_then {C} B gateway stored w = refl
 
 mapped : {X Y : Type 0} (f : X → Y) (xs : List X) (x : X) → Contains xs x → Contains (map f xs) (f x)
 mapped {X} {Y} f [] x there = absurd (none_there x there)

@@ -1,5 +1,5 @@
 mod RecordLemmas
-mod OctetLemmas
+pub mod OctetLemmas
 mod InitLemmas
 mod AuthLemmas
 mod CallerLemmas

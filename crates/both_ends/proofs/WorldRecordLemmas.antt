@@ -49,24 +49,22 @@ use Rattle.gateway.specs.declared.input.Input.{Input}
 use Rattle.gateway.specs.declared.input.Input.TheVariants as input
 use Rattle.gateway.specs.declared.world.stored.End.{End}
 use Rattle.gateway.specs.declared.world.stored.End.TheVariants.{A, B}
+use Rattle.gateway.proofs.PartyLemmas.{some_is}
 use Rattle.both_ends.specs.Records.{ComesToKeysAsInitiator, ComesToKeysAsResponder, Introduction}
 use Rattle.both_ends.specs.WorldRecords.{CameToKeysAsInitiator, CameToKeysAsResponder, SaysOfSender}
 use Rattle.both_ends.proofs.RecordLemmas.{one_record, same_nonces, same_values, IsSymmetric}
 
 -- ---- lists
 
-same_item : {X : Type 0} (x y : X) → Some x ≡ Some y → x ≡ y
-same_item {X} x y is = cc
-
 -- in a longer list each item keeps its place
 kept_in_place : {X : Type 0} (xs : List X) (y : X) (place : ℕ) (a b : X) → slice_get xs place ≡ Some a → slice_get (xs ++ y ∷ []) place ≡ Some b → a ≡ b
 kept_in_place {X} [] y place a b there here = absurd cc
-kept_in_place {X} (x ∷ xs) y zero a b there here = same_item a b (sym there ∙ here)
+kept_in_place {X} (x ∷ xs) y zero a b there here = some_is a b (sym there ∙ here)
 kept_in_place {X} (x ∷ xs) y (suc place) a b there here = kept_in_place xs y place a b there here
 
 -- and what is new is the one at its end
 new_in_place : {X : Type 0} (xs : List X) (y : X) (place : ℕ) (b : X) → slice_get xs place ≡ None → slice_get (xs ++ y ∷ []) place ≡ Some b → y ≡ b
-new_in_place {X} [] y zero b none here = same_item y b here
+new_in_place {X} [] y zero b none here = some_is y b here
 new_in_place {X} [] y (suc place) b none here = absurd cc
 new_in_place {X} (x ∷ xs) y zero b none here = absurd cc
 new_in_place {X} (x ∷ xs) y (suc place) b none here = new_in_place xs y place b none here
@@ -78,9 +76,9 @@ data IsReplaced {X : Type 0} (xs : List X) (at : ℕ) (y : X) (place : ℕ) (a b
 
 replaced : {X : Type 0} (xs : List X) (at : ℕ) (y : X) (place : ℕ) (a b : X) → slice_get xs place ≡ Some a → slice_get (slice_set xs at y) place ≡ Some b → IsReplaced xs at y place a b
 replaced {X} [] at y place a b there here = absurd cc
-replaced {X} (x ∷ xs) zero y zero a b there here = Put there (same_item y b here)
-replaced {X} (x ∷ xs) zero y (suc place) a b there here = Kept (same_item a b (sym there ∙ here))
-replaced {X} (x ∷ xs) (suc at) y zero a b there here = Kept (same_item a b (sym there ∙ here))
+replaced {X} (x ∷ xs) zero y zero a b there here = Put there (some_is y b here)
+replaced {X} (x ∷ xs) zero y (suc place) a b there here = Kept (some_is a b (sym there ∙ here))
+replaced {X} (x ∷ xs) (suc at) y zero a b there here = Kept (some_is a b (sym there ∙ here))
 replaced {X} (x ∷ xs) (suc at) y (suc place) a b there here = elim (replaced xs at y place a b there here) [
   | Kept is ↦ Kept is
   | Put found is ↦ Put found is
@@ -177,7 +175,7 @@ module _ (meaning : Meaning) (setup : Setup) (octets : Octets) (sent : InitSent)
 
   module _ (held later : Held) (place : ℕ) (stood : slice_get held.associations place ≡ Some old) (stands : slice_get later.associations place ≡ Some new) where
     not_unchanged : later ≡ held → ⊥
-    not_unchanged is = not_same (same_item old new (sym stood ∙ ap (λ (x : Held). slice_get x.associations place) (sym is) ∙ stands))
+    not_unchanged is = not_same (some_is old new (sym stood ∙ ap (λ (x : Held). slice_get x.associations place) (sym is) ∙ stands))
 
     not_judged : (spi_i : ℕ) (judgement : JudgementView) (stepped : Stepped) → DoesJudgement meaning setup spi_i octets judgement held stepped later → ⊥
     not_judged spi_i (Answered notice) stepped d = not_unchanged d.1
@@ -210,7 +208,7 @@ module _ (meaning : Meaning) (setup : Setup) (octets : Octets) (sent : InitSent)
         elim (replaced held.associations at d.changed place old new stood here) [
           | Kept is ↦ absurd (not_same is)
           | Put there is ↦ (
-              let was : d.association ≡ old = same_item d.association old (sym d.there ∙ there) in
+              let was : d.association ≡ old = some_is d.association old (sym d.there ∙ there) in
               let taken : TakesMessage meaning setup old table octets m d.effect new new_table =
               subst (λ (a : Association). TakesMessage meaning setup old table octets m d.effect a new_table) is
               (subst (λ (a : Association). TakesMessage meaning setup a table octets m d.effect d.changed new_table) was d.takes) in
@@ -308,7 +306,7 @@ module _ (meaning : Meaning) (setup : Setup) (cookies : CookieSecrets) (from oct
 abbrev pub OneMessage : Type 0
 OneMessage = (m n : Message) (octets : Octets) → Spells m octets → Spells n octets → m ≡ n
 
-gateway_then : {C : Type 0} (end : End) (gateway : State C) (stored : Stored) (w : WorldState C) → gateway_at end (with_gateway end gateway stored w) ≡ gateway
+pub gateway_then : {C : Type 0} (end : End) (gateway : State C) (stored : Stored) (w : WorldState C) → gateway_at end (with_gateway end gateway stored w) ≡ gateway
 gateway_then {C} A gateway stored w = refl
 gateway_then {C} B gateway stored w = refl
 
@@ -430,7 +428,7 @@ pub each_step : {C : Type 0} (meaning_of : C → Meaning) (hs : List (Happening 
     → (place : ℕ) (h : Happening C) → slice_get hs place ≡ Some h → TakesEvent meaning_of h.event h.before h.said h.after
 each_step {C} meaning_of [] old new trail place h there = absurd cc
 each_step {C} meaning_of (x ∷ hs) old new trail zero h there =
-    subst (λ (y : Happening C). TakesEvent meaning_of y.event y.before y.said y.after) (same_item x h there) trail.1
+    subst (λ (y : Happening C). TakesEvent meaning_of y.event y.before y.said y.after) (some_is x h there) trail.1
 each_step {C} meaning_of (x ∷ hs) old new trail (suc place) h there = each_step meaning_of hs x.after new trail.2 place h there
 
 -- ---- whatever the caller means

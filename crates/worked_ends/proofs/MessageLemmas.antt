@@ -1,6 +1,5 @@
 -- The messages of the worked world are spelled so, and seal their payloads; the two that made the child open to these.
-use Rattle.std.proofs.Common.{◌≡◌, ◌<◌, ◌^◌, ◌&&◌, ◌++◌, ◌∷◌, ℕ, Bool, true, false, [], ltb, ap, arith, refl, sym}
-use Rattle.std.proofs.lemmas.Bool.{true≢false, ltb-true}
+use Rattle.std.proofs.Common.{◌≡◌, ◌<◌, ◌^◌, ◌++◌, ◌∷◌, ℕ, Bool, true, false, List, [], ap, arith, refl}
 use Rattle.std.specs.List.{AllByRecursion}
 use Rattle.byteorder.specs.Endian.{big_bytes}
 use Rattle.base.specs.Octets.{AreOctets, IsOctet, Octets}
@@ -10,33 +9,20 @@ use Rattle.wire.specs.Payloads.{IsClear, SpellsChain, SpellsPayload, SpellsPaylo
 use Rattle.wire.specs.Proposals.{SpellsProposal, SpellsTransform}
 use Rattle.wire.specs.Selectors.{SpellsSelectors}
 use Rattle.wire.specs.declared.message.Header.{Header}
+use Rattle.wire.specs.declared.message.Message.{Message}
+use Rattle.wire.specs.declared.payload.Payload.{Payload}
 use Rattle.wire.specs.declared.payload.Payload.TheVariants.{Nonce, Sa, Sealed, TsI, TsR}
 use Rattle.suite.specs.Choice.{without_attributes}
-use Rattle.exchange.specs.Headers.{sent_header}
+use Rattle.suite.specs.Sealing.{AreKeys}
+use Rattle.exchange.specs.Headers.{keys_of, sent_header}
+use Rattle.exchange.specs.declared.headers.Role.{Role}
 use Rattle.exchange.specs.declared.headers.Role.TheVariants.{Initiator, Responder}
 use Rattle.deliveries.specs.Worked.{any_traffic}
 use Rattle.gateway.specs.WorkedRequests.{worked_keys, worked_meaning}
 use Rattle.gateway.specs.WorldChildren.{OpensToPayloads, SealsPayloads}
 use Rattle.gateway.proofs.WorkedRequestLemmas.{whole_keys}
+use Rattle.both_ends.proofs.OctetLemmas.{octets_if}
 use Rattle.worked_ends.specs.WorkedMessages.{answering_octets, answering_payloads, asking_octets, asking_payloads, first_answering, bare_octets, first_asking, header_octets, message_octets, nonce_octets, nonce_of, payloads_of, plain_octets, probe_octets, proposal_of, sa_octets, encrypted_octets, selector_octets}
-
--- ---- octets
-
-and_left : (a b : Bool) → (a && b) ≡ true → a ≡ true
-and_left true b is = refl
-and_left false b is = is
-
-and_right : (a b : Bool) → (a && b) ≡ true → b ≡ true
-and_right true b is = is
-and_right false b is = absurd (true≢false (sym is))
-
-abbrev are_octets : Octets → Bool
-are_octets [] = true
-are_octets (o ∷ os) = ltb o 256 && are_octets os
-
-pub octets_if : (os : Octets) → are_octets os ≡ true → AreOctets os
-octets_if [] is = tt
-octets_if (o ∷ os) is = (ltb-true o 256 (and_left (ltb o 256) (are_octets os) is), octets_if os (and_right (ltb o 256) (are_octets os) is))
 
 -- the octets of a header in front of the number
 abbrev fixed_octets : ℕ → ℕ → Octets
@@ -258,45 +244,36 @@ read k filling octets = record { clear = clear k filling; payloads = chain_is Is
 
 -- ---- what is sealed and opens
 
-pub first_request_seals : SealsPayloads worked_meaning.body_of worked_keys 35 false 1 [] first_asking
-first_request_seals = record {
-  header = sent_header 1 2 35 Initiator false 1;
-  header_is = record { exchange_is = refl; response_is = refl; number_is = refl };
-  sender = Initiator;
-  from_sender = refl;
-  keyed = whole_keys.initiator;
-  fresh = nonce_of 0;
-  fresh_octets = octets_if (nonce_of 0) refl;
-  fresh_long = refl;
-  sealed = record {
-    first = 0;
-    plain = [];
-    spelled = (refl, refl);
-    octets = octets_if [] refl;
-    whole = bare_is IsZero refl 35 8 1 (sent_header 1 2 35 Initiator false 1)
-        (asking_header_is IsZero refl 35 1 refl (omega arith)) (octets_if first_asking refl);
-  };
-}
+-- a message of the end of this role, with what its encrypted payload is spelled by
+module _ (sender : Role) (exchange number : ℕ) (response : Bool) (first : ℕ) (payloads : List Payload) (plain octets : Octets) where
+  abbrev message : Message
+  message = record { header = sent_header 1 2 exchange sender response number; payloads = Sealed first plain ∷ [] }
 
-pub first_response_seals : SealsPayloads worked_meaning.body_of worked_keys 35 true 1 [] first_answering
-first_response_seals = record {
-  header = sent_header 1 2 35 Responder true 1;
-  header_is = record { exchange_is = refl; response_is = refl; number_is = refl };
-  sender = Responder;
-  from_sender = refl;
-  keyed = whole_keys.responder;
-  fresh = nonce_of 0;
-  fresh_octets = octets_if (nonce_of 0) refl;
-  fresh_long = refl;
-  sealed = record {
-    first = 0;
-    plain = [];
-    spelled = (refl, refl);
-    octets = octets_if [] refl;
-    whole = bare_is IsZero refl 35 32 1 (sent_header 1 2 35 Responder true 1)
-        (answering_header_is IsZero refl 35 1 refl (omega arith)) (octets_if first_answering refl);
-  };
-}
+  seals : AreKeys (keys_of sender worked_keys) → SpellsPayloads IsZero first payloads plain → AreOctets plain → SpellsWith IsZero message octets
+      → SealsPayloads worked_meaning.body_of worked_keys exchange response number payloads octets
+  seals keyed spelled plain_octets whole = record {
+    header = message.header;
+    header_is = record { exchange_is = refl; response_is = refl; number_is = refl };
+    sender = sender;
+    from_sender = refl;
+    keyed = keyed;
+    fresh = nonce_of 0;
+    fresh_octets = octets_if (nonce_of 0) refl;
+    fresh_long = refl;
+    sealed = record { first = first; plain = plain; spelled = spelled; octets = plain_octets; whole = whole };
+  }
+
+  opens : SpellsWith IsOctet message octets → SpellsChain first payloads plain → OpensToPayloads worked_meaning.plain_of worked_keys exchange response number payloads octets
+  opens spelled read = record {
+    message = message;
+    spelled = spelled;
+    header_is = record { exchange_is = refl; response_is = refl; number_is = refl };
+    sender = sender;
+    from_sender = refl;
+    plain = record { first = first; octets = plain };
+    opened = refl;
+    read = read;
+  }
 
 asking_plain : AreOctets (plain_octets 2 1)
 asking_plain = octets_if (plain_octets 2 1) refl
@@ -304,84 +281,45 @@ asking_plain = octets_if (plain_octets 2 1) refl
 answering_plain : AreOctets (plain_octets 1 2)
 answering_plain = octets_if (plain_octets 1 2) refl
 
+asking_header : (Free : ℕ → Type 0) → Free 0 → SpellsHeader Free (sent_header 1 2 36 Initiator false 2) 46 (header_octets 36 0x08 2)
+asking_header Free free = asking_header_is Free free 36 2 refl (omega arith)
+
+answering_header : (Free : ℕ → Type 0) → Free 0 → SpellsHeader Free (sent_header 1 2 36 Responder true 2) 46 (header_octets 36 0x20 2)
+answering_header Free free = answering_header_is Free free 36 2 refl (omega arith)
+
+pub first_request_seals : SealsPayloads worked_meaning.body_of worked_keys 35 false 1 [] first_asking
+first_request_seals =
+    seals Initiator 35 1 false 0 [] [] first_asking whole_keys.initiator (refl, refl) (octets_if [] refl)
+    (bare_is IsZero refl 35 8 1 (sent_header 1 2 35 Initiator false 1) (asking_header_is IsZero refl 35 1 refl (omega arith)) (octets_if first_asking refl))
+
+pub first_response_seals : SealsPayloads worked_meaning.body_of worked_keys 35 true 1 [] first_answering
+first_response_seals =
+    seals Responder 35 1 true 0 [] [] first_answering whole_keys.responder (refl, refl) (octets_if [] refl)
+    (bare_is IsZero refl 35 32 1 (sent_header 1 2 35 Responder true 1) (answering_header_is IsZero refl 35 1 refl (omega arith)) (octets_if first_answering refl))
+
 pub request_seals : SealsPayloads worked_meaning.body_of worked_keys 36 false 2 asking_payloads asking_octets
-request_seals = record {
-  header = sent_header 1 2 36 Initiator false 2;
-  header_is = record { exchange_is = refl; response_is = refl; number_is = refl };
-  sender = Initiator;
-  from_sender = refl;
-  keyed = whole_keys.initiator;
-  fresh = nonce_of 0;
-  fresh_octets = octets_if (nonce_of 0) refl;
-  fresh_long = refl;
-  sealed = record {
-    first = 33;
-    plain = plain_octets 2 1;
-    spelled = chain_is IsZero refl 2 1;
-    octets = asking_plain;
-    whole = message_is IsZero refl 8 2 1 (sent_header 1 2 36 Initiator false 2) (asking_header_is IsZero refl 36 2 refl (omega arith)) (octets_if asking_octets refl);
-  };
-}
+request_seals =
+    seals Initiator 36 2 false 33 asking_payloads (plain_octets 2 1) asking_octets whole_keys.initiator (chain_is IsZero refl 2 1) asking_plain
+    (message_is IsZero refl 8 2 1 (sent_header 1 2 36 Initiator false 2) (asking_header IsZero refl) (octets_if asking_octets refl))
 
 pub request_opens : OpensToPayloads worked_meaning.plain_of worked_keys 36 false 2 asking_payloads asking_octets
-request_opens = record {
-  message = record { header = sent_header 1 2 36 Initiator false 2; payloads = Sealed 33 (plain_octets 2 1) ∷ [] };
-  spelled = message_is IsOctet (omega arith) 8 2 1 (sent_header 1 2 36 Initiator false 2) (asking_header_is IsOctet (omega arith) 36 2 refl (omega arith)) (octets_if asking_octets refl);
-  header_is = record { exchange_is = refl; response_is = refl; number_is = refl };
-  sender = Initiator;
-  from_sender = refl;
-  plain = record { first = 33; octets = plain_octets 2 1 };
-  opened = refl;
-  read = read 2 1 asking_plain;
-}
+request_opens =
+    opens Initiator 36 2 false 33 asking_payloads (plain_octets 2 1) asking_octets
+    (message_is IsOctet (omega arith) 8 2 1 (sent_header 1 2 36 Initiator false 2) (asking_header IsOctet (omega arith)) (octets_if asking_octets refl))
+    (read 2 1 asking_plain)
 
 pub response_seals : SealsPayloads worked_meaning.body_of worked_keys 36 true 2 answering_payloads answering_octets
-response_seals = record {
-  header = sent_header 1 2 36 Responder true 2;
-  header_is = record { exchange_is = refl; response_is = refl; number_is = refl };
-  sender = Responder;
-  from_sender = refl;
-  keyed = whole_keys.responder;
-  fresh = nonce_of 0;
-  fresh_octets = octets_if (nonce_of 0) refl;
-  fresh_long = refl;
-  sealed = record {
-    first = 33;
-    plain = plain_octets 1 2;
-    spelled = chain_is IsZero refl 1 2;
-    octets = answering_plain;
-    whole = message_is IsZero refl 32 1 2 (sent_header 1 2 36 Responder true 2) (answering_header_is IsZero refl 36 2 refl (omega arith)) (octets_if answering_octets refl);
-  };
-}
+response_seals =
+    seals Responder 36 2 true 33 answering_payloads (plain_octets 1 2) answering_octets whole_keys.responder (chain_is IsZero refl 1 2) answering_plain
+    (message_is IsZero refl 32 1 2 (sent_header 1 2 36 Responder true 2) (answering_header IsZero refl) (octets_if answering_octets refl))
 
 pub response_opens : OpensToPayloads worked_meaning.plain_of worked_keys 36 true 2 answering_payloads answering_octets
-response_opens = record {
-  message = record { header = sent_header 1 2 36 Responder true 2; payloads = Sealed 33 (plain_octets 1 2) ∷ [] };
-  spelled = message_is IsOctet (omega arith) 32 1 2 (sent_header 1 2 36 Responder true 2) (answering_header_is IsOctet (omega arith) 36 2 refl (omega arith)) (octets_if answering_octets refl);
-  header_is = record { exchange_is = refl; response_is = refl; number_is = refl };
-  sender = Responder;
-  from_sender = refl;
-  plain = record { first = 33; octets = plain_octets 1 2 };
-  opened = refl;
-  read = read 1 2 answering_plain;
-}
+response_opens =
+    opens Responder 36 2 true 33 answering_payloads (plain_octets 1 2) answering_octets
+    (message_is IsOctet (omega arith) 32 1 2 (sent_header 1 2 36 Responder true 2) (answering_header IsOctet (omega arith)) (octets_if answering_octets refl))
+    (read 1 2 answering_plain)
 
 pub probe_seals : SealsPayloads worked_meaning.body_of worked_keys 37 false 3 [] probe_octets
-probe_seals = record {
-  header = sent_header 1 2 37 Initiator false 3;
-  header_is = record { exchange_is = refl; response_is = refl; number_is = refl };
-  sender = Initiator;
-  from_sender = refl;
-  keyed = whole_keys.initiator;
-  fresh = nonce_of 0;
-  fresh_octets = octets_if (nonce_of 0) refl;
-  fresh_long = refl;
-  sealed = record {
-    first = 0;
-    plain = [];
-    spelled = (refl, refl);
-    octets = octets_if [] refl;
-    whole = bare_is IsZero refl 37 8 3 (sent_header 1 2 37 Initiator false 3)
-        (asking_header_is IsZero refl 37 3 refl (omega arith)) (octets_if probe_octets refl);
-  };
-}
+probe_seals =
+    seals Initiator 37 3 false 0 [] [] probe_octets whole_keys.initiator (refl, refl) (octets_if [] refl)
+    (bare_is IsZero refl 37 8 3 (sent_header 1 2 37 Initiator false 3) (asking_header_is IsZero refl 37 3 refl (omega arith)) (octets_if probe_octets refl))

@@ -32,7 +32,8 @@ use Rattle.gateway.proofs.WorkedRequestLemmas.{first_three, gap_of, lacks_if_not
 use Rattle.worked_ends.specs.WorkedChildren.{answering_association, asking_association, counted_association, four_numbers, four_taken, probe_request, probed_association, three_numbers, three_taken}
 use Rattle.worked_ends.specs.WorkedMessages.{alive_octets, probe_octets}
 use Rattle.worked_ends.proofs.LedgerLemmas.{the_reply}
-use Rattle.worked_ends.proofs.MessageLemmas.{answering_header_is, asking_header_is, bare_is, octets_if}
+use Rattle.both_ends.proofs.OctetLemmas.{octets_if}
+use Rattle.worked_ends.proofs.MessageLemmas.{answering_header_is, asking_header_is, bare_is}
 use Rattle.worked_ends.proofs.WaitingLemmas.{there_three}
 
 -- ---- numbers
