@@ -50,7 +50,8 @@ pub record PromisesOfBothEnds {C : Type 0} (body_of : Keys → Octets → Octets
   pub once : (place other serial number : ℕ) (one two : Octets) (h g : Happening C) → slice_get happenings place ≡ Some h → slice_get happenings other ≡ Some g
       → h.event.end ≡ g.event.end → h.said ≡ Up serial number one → g.said ≡ Up serial number two → place ≡ other
 
--- The first so many events took place, and their outputs were appended. What took place has a history, and of every history of it that holds.
+-- Some number of events took place, the first ones; the outputs' length tells how many. What took place has a history, and of every history of it
+-- the promises hold.
 pub record KeepsBothEnds {C : Type 0} (body_of : Keys → Octets → Octets → Octets → Octets) (plain_of : Opening) (meaning_of : C → Meaning) (events : List Event) (old : WorldState C) (before : List Output) (new : WorldState C) (after : List Output) : Type 0 where
   pub count : ℕ
   pub outputs : List Output

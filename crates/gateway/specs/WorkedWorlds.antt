@@ -98,7 +98,7 @@ abbrev pub both_arrive : {C : Type 0} → Config → C → Octets → Octets →
 both_arrive {C} config caller request reply from fresh =
     request_arrives config caller request reply from fresh ∷ response_arrives config caller request reply from fresh ∷ []
 
--- This takes place in a world that is sound under the keys, of two gateways that can be: the request comes to B and takes effect, and its
+-- This takes place in a world that is sound under the keys, of two gateways whose states are sound: the request comes to B and takes effect, and its
 -- response comes to A and is counted. What comes under the keys was sent so by the other end before, and neither end came to them twice.
 -- Both hold the association afterwards, in both directions, and each counts one place for its peer.
 pub record IsWorkedWorld {C : Type 0} (config : Config) (caller : C) (request reply from : Octets) (fresh : Fresh) : Type 0 where

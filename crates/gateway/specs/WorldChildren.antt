@@ -124,7 +124,8 @@ pub record SentRequest (body_of : Keys → Octets → Octets → Octets → Octe
   pub sealed : SealsPayloads body_of keys exchange false number payloads octets
 
 -- An end that waits for the response of IKE_AUTH sent a request of number 1 that asks for the child which it waits for; and one that waits
--- for a further child sent the request of that number which asks for it. (Of who asked nothing is left where a child is made, but this.)
+-- for a further child sent the request of that number which asks for it. (What was asked is forgotten once the child is made, so it is said here,
+-- while the answer is waited for.)
 pub record AsksForItsChildren (body_of : Keys → Octets → Octets → Octets → Octets) (keys : KeyRecord) (end : End) (a : Association) (stored : Stored) : Type 0 where
   pub first : (sent : AuthSent) → a.phase ≡ phase.AuthSent sent
       → (asks : List Payload) × HasChildPayloads asks (child_request (asked_of sent.child)) × SentRequest body_of keys end (exchange_of_child First) 1 asks stored

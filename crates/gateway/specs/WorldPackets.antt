@@ -65,7 +65,7 @@ pub record WasSealedAt (policy : List Entry) (end : End) (by : Simplex) (number 
 pub record AccountsForPairs {C : Type 0} (w : WorldState C) : Type 0 where
   pub stored : (end : End) (serial : ℕ) (pair : Pair) → pair_at (gateway_at end w).table.pairs serial ≡ Some pair → HasStored end serial w.stored
   pub same : (child : Child) (pair : Pair) → Contains w.stored.children child → HoldsPairOf child pair w → IsStoredOf child pair
-  -- so its serial is one of those that were given, as that of a pair in a sound table is
+  -- a stored child's serial is below the next one, or its pair is still held; so no later pair takes it
   pub given : (child : Child) → Contains w.stored.children child → (child.serial < (gateway_at child.end w).table.next) ⊎ HoldsSomePairOf child w
   pub alone : (one other : Child) → Contains w.stored.children one → Contains w.stored.children other → one.end ≡ other.end → one.serial ≡ other.serial → one ≡ other
   pub sealed : (end : End) (by : Simplex) (number : ℕ) (octets : Octets) → Contains w.stored.sent (datagram_of end (mark.Esp by number) octets)
@@ -85,7 +85,7 @@ pub record HasSentPacket (end : End) (spi : ℕ) (key : Octets) (number : ℕ) (
   pub sent : Contains stored.sent (datagram_of end (mark.Esp by number) octets)
 
 -- An ESP packet of these octets comes to this child, whose pair is held, and is judged as this number: its check value is right under the
--- child's inbound SPI and key, and the number new and in reach (RFC 4303 sections 3.4.3 and 3.4.4).
+-- held pair's inbound SPI and key, and the number new and in reach of its window (RFC 4303 sections 3.4.3 and 3.4.4).
 pub record IsJudgedAt {C : Type 0} (child : Child) (number : ℕ) (octets : Octets) (h : Happening C) : Type 0 where
   pub end_is : h.event.end ≡ child.end
   pub given : h.event.input ≡ input.Esp octets

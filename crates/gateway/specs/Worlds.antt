@@ -1,4 +1,4 @@
--- Two gateways that are each other's peer, and what is stored of them: what was sent under what, which keys and which children were made.
+-- Two gateways, and what is stored of them: what was sent under what, which keys and which children were made.
 use Rattle.std.specs.Prelude.{◌≡◌, ◌++◌, ◌∷◌, ℕ, zero, suc, List, [], false, Option, Some, None, map, slice_get, refl, if◌then◌else◌}
 use Rattle.std.specs.Coded.{Coded, code_by, coded×}
 use Rattle.std.specs.Option.{option_map, option_to_list}

@@ -348,9 +348,10 @@ pub fn new_worlds_are_wholly_sound<C>()
     every_world_stays_sound::<C>();
 }
 
-/// Every list of events keeps what is promised of both ends beside their requests in step, whatever history it has. The children of one request that
-/// both ends made mirror each other, since each was made of the octets of one request and of one response, which were sealed at one end and
-/// opened at the other (RFC 7296, sections 2.9 and 2.17); what goes up from such a child the other end sealed (RFC 4301, sections 5.1 and 5.2).
+/// Every list of events keeps what is promised of both ends beside their requests in step, whatever history it has. The children of one
+/// request that both ends made mirror each other, since each was made of the octets of one request and of one response, which were sealed at
+/// one end and opened at the other (RFC 7296, sections 2.9 and 2.17); what goes up from such a child the other end sealed (RFC 4301,
+/// sections 5.1 and 5.2).
 pub fn both_ends_keep_their_promises<C: Sealer + Agreement + Proof>()
     ensures { (happenings : List (Happening C)) (old new : WorldState C)
         → IsWorldTrail (λ caller. record {
@@ -443,9 +444,9 @@ pub fn windows_are_those_told<C: Sealer + Agreement + Proof>()
 }
 
 /// The premises on both ends are met by a world that is sound for a key record under which each end holds an association, one as its
-/// initiator and one as its responder: a request comes to the responder, takes effect and is answered, and it was sent so before. So it
-/// is whatever the configuration, the caller's value, what went before, where the octets come from and what is fresh; the caller's
-/// cipher hides nothing, and all laws of its traits hold.
+/// initiator and one as its responder: a request comes to the responder, takes effect and is answered, and the response comes back and is
+/// counted; both were sent so before. So it is whatever the configuration, the caller's value, what went before, where the octets come
+/// from and what is fresh; the caller's cipher hides nothing, and all laws of its traits hold.
 pub fn the_premises_of_two_ends_are_met<C>()
     ensures { (config : Config) (caller : C) (request reply from : Octets) (fresh : Fresh) → IsConfig config
         → HasSeal fresh → IsWorkedWorld config caller request reply from fresh }

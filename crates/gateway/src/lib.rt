@@ -1,11 +1,12 @@
 //! One gateway (RFC 4301): the machine of IKE and the path of packets, over one association table and one policy. Inputs go in,
 //! datagrams, packets and orders of this end, and outputs come out, packets and named refusals.
 //!
-//! [`Gateway::step`] takes one input, [`run`] a list of them. [`World`] holds two gateways that are each other's peer; [`run_world`]
-//! gives each its events in order, stores what they sent and made, and promises of both together what [`lockstep`] says of two parties. What
-//! a step does is said by the crates below: [`ike`] of datagrams of IKE and of orders, [`traffic`] of packets. Here it is said which of
-//! them an input goes to, and what stays as it was: the policy and the caller always, and the machine of IKE where a packet comes. What
-//! follows from the definitions alone is in [`laws`].
+//! [`Gateway::step`] takes one input, [`run`] a list of them. [`World`] holds two gateways; [`run_world`] gives each its events in order,
+//! stores what they sent and made, and promises of both together what [`lockstep`] says of two parties, that neither counts a wider
+//! window for the other than that is set to, that the children of one request mirror each other, and that what goes up at one end the
+//! other sealed. What a step does is said by the crates below: [`ike`] of datagrams of IKE and of orders, [`traffic`] of packets. Here it is
+//! said which of them an input goes to, and what stays as it was: the policy and the caller always, and the machine of IKE where a packet
+//! comes. What follows from the definitions alone is in [`laws`].
 //!
 //! ```rust
 //! use auth::Identity;

@@ -24,8 +24,8 @@ use std::marker::Model;
 pub use stored::{Child, Datagram, End, Event, Keyed, Mark, Simplex};
 use suite::{Agreement, Fresh, Proof, Sealer};
 
-/// Two gateways that are each other's peer; every datagram that they sent, in order, and under what; every key record that they
-/// made, and every child.
+/// Two gateways; every datagram that they sent, in order, and under what; every key record that they made, and every child. Each may
+/// be set up as the other's peer, which nothing here asks for: an event says what comes to an end, wherever it comes from.
 ///
 /// What is stored is never forgotten: it is what both ends together can be judged by, however the datagrams travel. It holds keys: a
 /// world is for tests, and for what is said of both ends together.
