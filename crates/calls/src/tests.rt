@@ -1,12 +1,6 @@
 mod asserts;
-mod faults;
-mod of_auth;
-mod of_caller;
-mod of_children;
 mod of_esp;
-mod of_mac;
 mod of_replay;
 mod of_requests;
-mod of_sa_init;
 mod of_sadb;
 mod of_traffic;

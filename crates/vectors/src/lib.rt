@@ -1,11 +1,11 @@
-//! Rows and tables of exact values. A crate with tests is proved twice, and its tests are proved by one job, so all tests but a few
-//! that need something private of their crate stand in seven crates above the others: here what the formats, the policy and the
-//! keys come to; in `calls` the calls of the crates below the machine, one by one; in `batches` lists of packets; in `gateways`
-//! whole machines and gateways; in `runs` long lists of inputs; in `uses` the crates' pages; in `ends` scripts.
+//! Rows and tables of exact values. A crate with tests is proved twice, its tests are proved by one job, and `rt ci` reckons memory by lines:
+//! so all tests but a few that need something private of their crate stand in crates above the others, of a few thousand lines each. Here
+//! is what keys, choices and numbers come to; in `message_vectors` messages and payloads, in `policy_vectors` the policy; in `calls` the
+//! calls of the crates that carry packets, one by one, in `message_calls` those of the crates of messages; in `batches` lists of packets;
+//! in `gateways` whole machines and gateways; in `runs` long lists of inputs; in `uses` the crates' pages; in `ends` scripts.
 //!
-//! `messages` has the rows of the message format, `flows` those of the policy, `keying` those of keys and choices, `payloads` what
-//! payloads mean, `sealing` messages sealed and opened by the caller of scripts, `long` inputs as long as they may be, `numbers` the
-//! numbers that RFC 7296 gives.
+//! `keying` has the rows of keys and choices, `sealing` messages sealed and opened by the caller of scripts, `long` inputs as long as they
+//! may be, `numbers` the numbers that RFC 7296 gives, `entries` what [`check_all`] counts.
 #![tactic(auto)]
 
 mod entry;

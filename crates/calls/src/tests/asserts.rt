@@ -2,8 +2,7 @@
 //! these a tenth of one.
 ghost use Rattle.std.specs.Prelude.{IsTrue};
 
-use std::alloc::Global;
-use std::fmt::{Debug, Display};
+use std::fmt::Debug;
 use std::process::Abort;
 
 /// Finds what was wanted.
@@ -39,18 +38,4 @@ pub fn holds_at<P: Debug + Drop>(rt: &impl Abort, place: P, fact: bool)
 /// the answer, `expect` stays, which costs more.
 pub fn granted<T, E: Debug>(rt: &impl Abort, answer: Result<T, E>) -> T {
     answer.expect(rt, "memory")
-}
-
-/// Finds that a fault has this number, and is printed so.
-pub fn named<F: Display + Drop>(
-    rt: &impl Abort,
-    alloc: Global,
-    code: u8,
-    number: u8,
-    fault: F,
-    text: &str,
-) {
-    same(rt, code, number);
-    let printed = granted(rt, format!(in alloc; "{fault}"));
-    same(rt, printed.as_str(), text);
 }

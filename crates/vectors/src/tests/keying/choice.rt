@@ -1,5 +1,4 @@
-use crate::tests::asserts::{granted, holds};
-use crate::tests::none_differs;
+use crate::tests::asserts::{granted, holds, none_differs};
 use std::alloc::Global;
 use std::process::Abort;
 use suite::{Chosen, Wanted, choose};

@@ -1,6 +1,5 @@
 //! The worked rows, every payload type and every fault. The octets come from a program of another language.
-use super::none_differs;
-use crate::tests::asserts::{granted, holds, holds_at, same, same_at};
+use crate::tests::asserts::{granted, holds, holds_at, none_differs, same, same_at};
 use base::{Items, Range, Selector};
 use std::alloc::Global;
 use std::process::Abort;

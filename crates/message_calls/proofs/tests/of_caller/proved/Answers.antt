@@ -1,7 +1,7 @@
 use Rattle.std.proofs.Common.{◌≡◌, ℕ, List, Result, Ok, Err, IfOk, subst, sym}
 use Rattle.suite.specs.Callers.{FitsPayload}
 use Rattle.base.proofs.OctetLemmas.{octets_from_fits}
-use Rattle.calls.proofs.tests.of_caller.proved.Goals as goal
+use Rattle.message_calls.proofs.tests.of_caller.proved.Goals as goal
 
 also_fits : {E : Type 0} (r : Result (List ℕ) E) (value : List ℕ) → FitsPayload value → IfOk r (λ v. v ≡ value) → IfOk r (λ v. (v ≡ value) × FitsPayload v)
 also_fits (Err e) value fits is = is

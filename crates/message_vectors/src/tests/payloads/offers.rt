@@ -1,6 +1,5 @@
 // The octets are those of RFC 7296, section 3.3, written out.
-use crate::tests::asserts::{granted, holds, same};
-use crate::tests::none_differs;
+use crate::tests::asserts::{granted, holds, none_differs, same};
 use exchange::offers_ike;
 use std::alloc::Global;
 use std::process::Abort;

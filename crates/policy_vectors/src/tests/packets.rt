@@ -1,6 +1,5 @@
 //! The flow of a packet, and each refusal at its edge.
-use crate::tests::asserts::{granted, holds};
-use crate::tests::none_differs;
+use crate::tests::asserts::{granted, holds, none_differs};
 use base::Address;
 use policy::{Flow, InnerFault, Ports, inner};
 use std::alloc::Global;

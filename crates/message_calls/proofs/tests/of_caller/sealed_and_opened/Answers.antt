@@ -1,7 +1,7 @@
 use Rattle.std.proofs.Common.{◌≡◌, ◌++◌, ℕ, List, Option, Some, length, sym, ap, ◌∙◌, subst, arith}
 use Rattle.suite.specs.Sealing.{AreSealable, Opens}
 use Rattle.base.proofs.OctetLemmas.{octets_from_fits, octets_from}
-use Rattle.calls.proofs.tests.of_caller.sealed_and_opened.Goals as goal
+use Rattle.message_calls.proofs.tests.of_caller.sealed_and_opened.Goals as goal
 
 pub returns : goal.returns
 returns g c =

@@ -1,4 +1,5 @@
 //! Policies, flows and narrowing: rows, tables, and plain models beside the library.
+mod asserts;
 mod faults;
 mod ipv6;
 mod large;

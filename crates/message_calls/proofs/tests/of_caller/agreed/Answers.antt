@@ -1,7 +1,7 @@
 use Rattle.std.proofs.Common.{ℕ, List, arith, ap, sym, ◌∙◌}
 use Rattle.suite.specs.Callers.{IsSecret}
 use Rattle.base.proofs.OctetLemmas.{octets_from}
-use Rattle.calls.proofs.tests.of_caller.agreed.Goals as goal
+use Rattle.message_calls.proofs.tests.of_caller.agreed.Goals as goal
 
 pub returns : goal.returns
 returns g c =

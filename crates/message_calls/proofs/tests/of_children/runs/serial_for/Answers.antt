@@ -2,7 +2,7 @@ use Rattle.std.proofs.Common.{rules, ◌≡◌, ℕ, List, take, sym, ap, ◌∙
 use Rattle.byteorder.specs.Endian.{big_bytes}
 use Rattle.sadb.specs.Database.{IsForPair, IsInbound, PairMap}
 use Rattle.sadb.specs.declared.pair.Pair.{Pair}
-use Rattle.calls.proofs.tests.of_children.runs.serial_for.Goals as goal
+use Rattle.message_calls.proofs.tests.of_children.runs.serial_for.Goals as goal
 
 for : (pairs : PairMap) (spi : ℕ) (pair : Pair) (packet : List ℕ) → IsInbound pairs spi pair → take 4 packet ≡ big_bytes 4 spi → IsForPair pairs pair.serial packet
 for pairs spi pair packet found begins = record {

@@ -1,5 +1,5 @@
 //! The number and the text of each fault that a call answers.
-use super::asserts::named;
+use crate::tests::asserts::named;
 use children::MemoryFault;
 use esp::{EspFault, ListFault, SealStop};
 use mac::MacFault;

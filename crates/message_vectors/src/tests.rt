@@ -1,0 +1,3 @@
+mod asserts;
+mod messages;
+mod payloads;
