@@ -1,0 +1,2 @@
+mod Stages
+mod SoundnessLemmas

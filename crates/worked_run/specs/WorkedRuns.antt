@@ -1,0 +1,191 @@
+-- A worked run of a world, for which the premises of what is promised of both ends are shown to hold: from two new gateways on an association and its
+-- first child are set up, a packet is carried, and a probe is answered (RFC 7296 sections 1.2, 1.4 and 2.4; RFC 4301 sections 5.1 and 5.2).
+use Rattle.std.specs.Prelude.{◌≡◌, ◌<◌, ◌∷◌, false, true, ℕ, None, Some, List, [], Contains, map, replicate, slice_get}
+use Rattle.base.specs.Octets.{Octets}
+use Rattle.base.specs.declared.address.Range.TheVariants.{V4}
+use Rattle.esp.specs.Worked.{worked_payload}
+use Rattle.policy.specs.declared.entry.Action.TheVariants.{Protect}
+use Rattle.policy.specs.declared.entry.Entry.{Entry}
+use Rattle.association.specs.declared.phase.Association.{Association}
+use Rattle.initial.specs.Configs.{IsConfig}
+use Rattle.initial.specs.declared.config.Config.{Config}
+use Rattle.initial.specs.declared.config.EndConfig.{EndConfig}
+use Rattle.effects.specs.Taking.{asker_of, Meaning}
+use Rattle.ike.specs.Moves.{HasSeal}
+use Rattle.gateway.specs.BothEnds.{IsWhollySound}
+use Rattle.gateway.specs.Outputs.{Counted, OutputView, Reply, Request, Sealed, Up}
+use Rattle.gateway.specs.States.{new_gateway, State}
+use Rattle.gateway.specs.WorldChildren.{AreOfOneRequest}
+use Rattle.gateway.specs.WorldHistories.{Happening, IsWorldTrail}
+use Rattle.gateway.specs.WorldPackets.{HasOneSender, HoldsSomePairOf, IsUnforgedTo}
+use Rattle.gateway.specs.WorldParties.{AreBothHeld, IsNeverMadeTwice}
+use Rattle.gateway.specs.WorldPromises.{ComesUnder, IsUnforgedByThen}
+use Rattle.gateway.specs.Worlds.{new_world, WorldState}
+use Rattle.gateway.specs.declared.input.Input.TheVariants as input
+use Rattle.gateway.specs.declared.world.stored.Child.{Child}
+use Rattle.gateway.specs.declared.world.stored.End.{End}
+use Rattle.gateway.specs.declared.world.stored.End.TheVariants.{A, B}
+use Rattle.gateway.specs.declared.world.stored.Event.{Event}
+use Rattle.both_ends.specs.WorkedRecords.{fresh_of, introduction_of, worked_asker, worked_plain_of, worked_record, CanBeMeant}
+use Rattle.both_ends.specs.WorldRecords.{CameToKeysAsInitiator, CameToKeysAsResponder}
+
+-- ---- how both are set up
+
+-- A cipher that hides nothing, and one secret for all, as in the worked calls; whatever proof of an identity there is is accepted.
+abbrev pub run_meaning : Meaning
+run_meaning = record {
+  cipher = worked_asker.cipher;
+  body_of = worked_asker.body_of;
+  plain_of = worked_plain_of;
+  group = worked_asker.group;
+  public_value = worked_asker.public_value;
+  shared_secret = worked_asker.shared_secret;
+  own_method = worked_asker.own_method;
+  proof_of = worked_asker.proof_of;
+  accepts = λ kind identity method octets proof. true;
+}
+
+-- an identity of one octet, opaque to others (RFC 7296 section 3.5), and an address
+abbrev pub end_config : ℕ → EndConfig
+end_config number = record { identity = record { kind = 11; «data» = number ∷ [] }; address = replicate 4 number }
+
+-- A is the end of number 1 and B that of number 2, and each is the other's peer.
+abbrev pub config_by : ℕ → ℕ → Config
+config_by own peer = record {
+  own = end_config own;
+  peer = end_config peer;
+  extended = false;
+  blocks = 2;
+  cookie_secret = replicate 32 0;
+  window = 1;
+}
+
+abbrev pub config_at : End → Config
+config_at A = config_by 1 2
+config_at B = config_by 2 1
+
+-- the first SPI that an end gives to a child
+abbrev pub spi_at : End → ℕ
+spi_at A = 256
+spi_at B = 512
+
+-- one entry, which protects all traffic of IPv4
+abbrev pub all_protected : List Entry
+all_protected =
+    record {
+      protocol = 0;
+      local = V4 0 4294967295;
+      remote = V4 0 4294967295;
+      local_ports = (0, 65535);
+      remote_ports = (0, 65535);
+      action = Protect;
+    }
+    ∷ []
+
+abbrev pub new_end : {C : Type 0} → End → C → State C
+new_end {C} end caller = new_gateway (config_at end) all_protected (spi_at end) caller
+
+-- two new gateways, whatever their callers' values
+abbrev pub new_ends : {C : Type 0} → C → C → WorldState C
+new_ends {C} a b = new_world (new_end A a) (new_end B b)
+
+-- ---- what happens
+
+-- the datagrams of the run, in the order in which they are sent
+pub record Exchanged : Type 0 where
+  pub init_request : Octets
+  pub init_response : Octets
+  pub auth_request : Octets
+  pub auth_response : Octets
+  pub packet : Octets
+  pub probe : Octets
+  pub probe_response : Octets
+
+-- a datagram comes from the end of this number to this end, at the step that takes the fresh words of another number
+abbrev pub comes_to : End → ℕ → Octets → ℕ → Event
+comes_to end from octets number = record { end = end; input = input.Ike (replicate 4 from) octets (fresh_of number) }
+
+-- A is ordered to set up an association with a first child, by the first entry; the four messages come as they were sent. Then a packet goes out at A
+-- and comes to B; A is ordered to ask whether B is there, and the request and its response come.
+abbrev pub events_of : Exchanged → List Event
+events_of e =
+    record { end = A; input = input.Start None 0 (fresh_of 1) }
+    ∷ comes_to B 1 e.init_request 2
+    ∷ comes_to A 2 e.init_response 3
+    ∷ comes_to B 1 e.auth_request 4
+    ∷ comes_to A 2 e.auth_response 5
+    ∷ record { end = A; input = input.Outward worked_payload }
+    ∷ record { end = B; input = input.Esp e.packet }
+    ∷ record { end = A; input = input.Probe 1 (fresh_of 6) }
+    ∷ comes_to B 1 e.probe 7
+    ∷ comes_to A 2 e.probe_response 8
+    ∷ []
+
+-- what comes of each
+abbrev pub outputs_of : Exchanged → List OutputView
+outputs_of e =
+    Request 1 e.init_request
+    ∷ Reply e.init_response None
+    ∷ Request 1 e.auth_request
+    ∷ Reply e.auth_response None
+    ∷ Counted 1 (Some 1) None
+    ∷ Sealed 1 1 e.packet
+    ∷ Up 1 1 worked_payload
+    ∷ Request 1 e.probe
+    ∷ Reply e.probe_response None
+    ∷ Counted 1 None None
+    ∷ []
+
+-- There is such a run, for a caller that there can be, of two gateways that are rightly set up and hold nothing, whose world is wholly sound under
+-- each key record. No message that comes under the keys which both ends come to was forged, as it had been sent by then, and neither end comes to
+-- them twice. Each end comes to them from what the other says of itself. Both hold the association at the end, in both directions; the probe and its
+-- response come under the keys. Both ends make the child, by one request, and hold a pair of it at the end; no packet to it was forged at either end,
+-- and it has one sender each way. The packet goes up by the pair of the end that answered for the child, whose serial is 1.
+pub record IsWorkedRun {C : Type 0} (a b : C) : Type 0 where
+  pub exchanged : Exchanged
+  pub happenings : List (Happening C)
+  pub last : WorldState C
+  pub takes : map (λ h. h.event) happenings ≡ events_of exchanged
+  pub says : map (λ h. h.said) happenings ≡ outputs_of exchanged
+  pub trail : IsWorldTrail (λ _. run_meaning) (new_ends a b) happenings last
+  -- what is asked of the caller, of how both are set up, and of what is fresh
+  pub can_be : CanBeMeant (asker_of run_meaning) run_meaning.plain_of
+  pub set_up : (end : End) → IsConfig (config_at end)
+  pub sealing : (number : ℕ) → number < 256 → HasSeal (fresh_of number)
+  -- what is asked of the record of keys
+  pub sound : IsWhollySound run_meaning.body_of run_meaning.plain_of worked_record (new_ends a b)
+  pub unforged : IsUnforgedByThen (λ _. run_meaning) worked_record happenings
+  pub once : IsNeverMadeTwice worked_record last.stored
+  -- how each end comes to it
+  pub answering : Happening C
+  pub answers : slice_get happenings 1 ≡ Some answering
+  pub as_responder : CameToKeysAsResponder run_meaning.public_value answering (introduction_of (fresh_of 2)) (introduction_of (fresh_of 1)) worked_record
+  pub reading : Happening C
+  pub reads : slice_get happenings 2 ≡ Some reading
+  pub as_initiator : CameToKeysAsInitiator run_meaning.public_value reading (introduction_of (fresh_of 1)) (introduction_of (fresh_of 2)) worked_record
+  -- the association at the end, and what comes under its keys
+  pub asking_association : Association
+  pub answering_association : Association
+  pub held : AreBothHeld worked_record A last asking_association answering_association
+  pub held_back : AreBothHeld worked_record B last answering_association asking_association
+  pub probed : Happening C
+  pub probes : slice_get happenings 8 ≡ Some probed
+  pub request_comes : ComesUnder (λ _. run_meaning) worked_record false 2 exchanged.probe probed
+  pub counting : Happening C
+  pub counts : slice_get happenings 9 ≡ Some counting
+  pub response_comes : ComesUnder (λ _. run_meaning) worked_record true 2 exchanged.probe_response counting
+  -- the child
+  pub asked : Child
+  pub answered : Child
+  pub asked_there : Contains last.stored.children asked
+  pub answered_there : Contains last.stored.children answered
+  pub keyed : asked.keys ≡ worked_record
+  pub of_one : AreOfOneRequest asked answered
+  pub asked_held : HoldsSomePairOf asked last
+  pub answered_held : HoldsSomePairOf answered last
+  pub unforged_to : IsUnforgedTo answered happenings last.stored
+  pub alone : HasOneSender answered last.stored
+  pub unforged_back : IsUnforgedTo asked happenings last.stored
+  pub alone_back : HasOneSender asked last.stored
+  pub ends_at : answered.end ≡ B
+  pub serial_is : answered.serial ≡ 1
