@@ -1,10 +1,10 @@
 mod RecordLemmas
 pub mod OctetLemmas
-mod InitLemmas
-mod AuthLemmas
-mod CallerLemmas
-mod RequestLemmas
-mod AcceptLemmas
-mod WorkedRecordLemmas
+pub mod InitLemmas
+pub mod AuthLemmas
+pub mod CallerLemmas
+pub mod RequestLemmas
+pub mod AcceptLemmas
+pub mod WorkedRecordLemmas
 mod WorldRecordLemmas
 mod GoingOutLemmas

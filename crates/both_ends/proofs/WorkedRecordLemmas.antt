@@ -31,10 +31,10 @@ use Rattle.both_ends.proofs.RequestLemmas.{after, first_issued, first_waits, sec
 
 -- ---- the initiator begins
 
-abbrev first_request : Request
+abbrev pub first_request : Request
 first_request = new_request request_octets Begin 0
 
-abbrev worked_beginning : Beginning
+abbrev pub worked_beginning : Beginning
 worked_beginning = record {
   octets = request_octets;
   outgoing = after none_issued first_request;
@@ -43,28 +43,28 @@ worked_beginning = record {
   nonce = beginning_fresh.nonce;
 }
 
-begins : Begins worked_asker.cipher worked_asker.group worked_asker.public_value beginning_fresh 0 worked_beginning
+pub begins : Begins worked_asker.cipher worked_asker.group worked_asker.public_value beginning_fresh 0 worked_beginning
 begins = record { spelled = request_sent; issued = first_issued first_request; spi = refl; secret = refl; nonce_is = refl }
 
 -- what waits for the answer
-abbrev waiting : Association
+abbrev pub waiting : Association
 waiting = begun 1 worked_beginning worked_child
 
-abbrev init_sent : InitSent
+abbrev pub init_sent : InitSent
 init_sent = record { secret = beginning_fresh.secret; nonce = beginning_fresh.nonce; cookie = None; cookies_taken = 0; child = worked_child }
 
 -- ---- the responder answers
 
-abbrev worked_offer : OfferView
+abbrev pub worked_offer : OfferView
 worked_offer = record { chosen = worked_chosen; public = worked_asker.public_value beginning_fresh.secret; nonce = beginning_fresh.nonce }
 
-abbrev asked_parts : PartsView
+abbrev pub asked_parts : PartsView
 asked_parts = record { proposals = init_proposal ∷ []; group = worked_asker.group; public = worked_asker.public_value beginning_fresh.secret; nonce = beginning_fresh.nonce }
 
-asked_has : HasParts asked_message.payloads asked_parts
+pub asked_has : HasParts asked_message.payloads asked_parts
 asked_has = record { sa = refl; ke = refl; ni = refl }
 
-accepted : IsAccepted worked_asker.cipher worked_asker.group (first_secret (replicate 32 0)) (record { address = replicate 4 1; spi_i = 1 }) 0 0 asked_message.payloads worked_offer
+pub accepted : IsAccepted worked_asker.cipher worked_asker.group (first_secret (replicate 32 0)) (record { address = replicate 4 1; spi_i = 1 }) 0 0 asked_message.payloads worked_offer
 accepted = record {
   parts = asked_parts;
   considered = record {
@@ -77,13 +77,13 @@ accepted = record {
   ni = refl;
 }
 
-abbrev worked_agreed : Agreed
+abbrev pub worked_agreed : Agreed
 worked_agreed = record { «record» = worked_record; octets = answer_octets }
 
 abbrev admitted : Admitted
 admitted = record { association = half_open 1 beginning_fresh.spi answering_fresh.spi worked_record request_octets answer_octets 1; octets = answer_octets }
 
-answered : IsAnswer worked_asker.cipher worked_asker.group worked_asker.public_value worked_asker.shared_secret worked_offer beginning_fresh.spi answering_fresh worked_agreed
+pub answered : IsAnswer worked_asker.cipher worked_asker.group worked_asker.public_value worked_asker.shared_secret worked_offer beginning_fresh.spi answering_fresh worked_agreed
 answered = record { shared = replicate 32 0; agrees = refl; keys = refl; spelled = answer_sent }
 
 admits : Admits worked_asker.cipher worked_asker.group worked_asker.public_value worked_asker.shared_secret answering_fresh 1 1 worked_offer beginning_fresh.spi request_octets admitted
@@ -107,13 +107,13 @@ answers = record {
 
 -- ---- the initiator reads the answer
 
-abbrev answered_parts : PartsView
+abbrev pub answered_parts : PartsView
 answered_parts = record { proposals = init_proposal ∷ []; group = worked_asker.group; public = worked_asker.public_value answering_fresh.secret; nonce = answering_fresh.nonce }
 
-answered_has : HasParts answered_message.payloads answered_parts
+pub answered_has : HasParts answered_message.payloads answered_parts
 answered_has = record { sa = refl; ke = refl; ni = refl }
 
-gives : GivesKeys worked_asker.cipher worked_asker.group worked_asker.shared_secret (waiting_of beginning_fresh.spi init_sent) answered_message worked_record
+pub gives : GivesKeys worked_asker.cipher worked_asker.group worked_asker.shared_secret (waiting_of beginning_fresh.spi init_sent) answered_message worked_record
 gives = record {
   parts = answered_parts;
   acceptance = record { complete = answered_has; chosen = worked_chosen; accepted = answer_accepted; same_group = refl; named = λ is. absurd (omega (arith, is)) };

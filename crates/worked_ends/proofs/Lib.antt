@@ -1,12 +1,13 @@
-mod MessageLemmas
+pub mod MessageLemmas
 mod ChildLemmas
-mod FlowLemmas
-mod TableLemmas
-mod CarriedLemmas
+pub mod FlowLemmas
+pub mod TableLemmas
+pub mod CarriedLemmas
 mod SentLemmas
 mod WaitingLemmas
 mod LedgerLemmas
 mod ProbeLemmas
-mod StateLemmas
+pub mod StateLemmas
 mod WindowLemmas
 mod WorkedChildLemmas
+pub mod MapLemmas

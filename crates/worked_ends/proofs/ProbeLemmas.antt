@@ -33,6 +33,7 @@ use Rattle.worked_ends.specs.WorkedChildren.{answering_association, asking_assoc
 use Rattle.worked_ends.specs.WorkedMessages.{alive_octets, probe_octets}
 use Rattle.worked_ends.proofs.LedgerLemmas.{the_reply}
 use Rattle.both_ends.proofs.OctetLemmas.{octets_if}
+use Rattle.worked_ends.proofs.MapLemmas.{put_beside, put_there}
 use Rattle.worked_ends.proofs.MessageLemmas.{answering_header_is, asking_header_is, bare_is}
 use Rattle.worked_ends.proofs.WaitingLemmas.{there_three}
 
@@ -71,13 +72,6 @@ two_behind : IsLeftBehind four_taken 2
 two_behind = record { later = 3; in_effect = first_four.has 3 (omega arith); far = omega arith }
 
 -- ---- the replies that are kept
-
-put_there : (m : map.FinMap nat_cmp Octets) (k n : ℕ) (v : Octets) → n ≡ k → map.get (map.insert m k v) n ≡ Some v
-put_there m k n v same = map.get-insert nat_cmp_total m k v n ∙ ap (λ (b : Bool). cond b (Some v) (map.get m n)) (unsigned_tied n k ∙ eq-eqb n k same)
-
-put_beside : (m : map.FinMap nat_cmp Octets) (k n : ℕ) (v : Octets) → n ≢ k → map.get (map.insert m k v) n ≡ map.get m n
-put_beside m k n v apart =
-    map.get-insert nat_cmp_total m k v n ∙ ap (λ (b : Bool). cond b (Some v) (map.get m n)) (unsigned_tied n k ∙ ne_eqb n k apart)
 
 one_kept : (k : ℕ) (v : Octets) → map.len (map.insert first_taken.kept k v) ≡ map.len first_taken.kept + 1
 one_kept k v =

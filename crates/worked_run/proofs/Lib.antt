@@ -1,2 +1,14 @@
 mod Stages
 mod SoundnessLemmas
+mod SentLemmas
+mod NewEndLemmas
+mod BeginningLemmas
+mod KeyedLemmas
+mod ResponseLemmas
+mod AcceptingLemmas
+mod ConcludingLemmas
+mod HeldLemmas
+mod PacketLemmas
+mod AskingLemmas
+mod LastLemmas
+mod WorkedRunLemmas

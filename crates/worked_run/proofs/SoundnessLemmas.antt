@@ -1,6 +1,5 @@
 -- A gateway stays sound over a step of the machine of IKE, as the laws of that say.
-use Rattle.std.proofs.Common.{◌<◌, ℕ, zero, suc, List, [], ◌∷◌, arith}
-use Rattle.std.specs.Prelude.{slice_index_or}
+use Rattle.std.proofs.Common.{zero, suc, List, [], ◌∷◌, arith}
 use Rattle.policy.specs.declared.entry.Entry.{Entry}
 use Rattle.sadb.specs.Database.{Database, IsSoundTable}
 use Rattle.association.specs.declared.phase.Association.{Association}

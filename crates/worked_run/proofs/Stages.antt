@@ -1,14 +1,13 @@
 -- The worlds that the worked run goes through, one after each step, and its steps.
-use Rattle.std.proofs.Common.{◌+◌, ◌∷◌, ℕ, Bool, true, false, Some, None, List, []}
+use Rattle.std.proofs.Common.{◌∷◌, ℕ, Bool, true, false, Some, None, List, []}
 use Rattle.std.specs.FinMap as map
 use Rattle.std.specs.FinSet as set
-use Rattle.std.specs.Ordering.{nat_cmp}
 use Rattle.base.specs.Octets.{Octets}
 use Rattle.replay.specs.Window.{unused_window, Seen}
 use Rattle.esp.specs.Packet.{packet}
 use Rattle.esp.specs.Worked.{worked_payload}
 use Rattle.esp.specs.declared.association.Association as esp
-use Rattle.sadb.specs.Database.{empty_table, Database, PairMap}
+use Rattle.sadb.specs.Database.{empty_table, Database}
 use Rattle.sadb.specs.declared.pair.Pair.{Pair}
 use Rattle.sadb.specs.declared.pair.State.TheVariants.{Live}
 use Rattle.suite.specs.Keys.{first_child_keys}
@@ -28,7 +27,7 @@ use Rattle.initial.specs.Issuing.{new_request}
 use Rattle.initial.specs.declared.beginning.Beginning.{Beginning}
 use Rattle.deliveries.specs.Worked.{any_traffic}
 use Rattle.ike.specs.Machines.{new_machine}
-use Rattle.gateway.specs.Outputs.{Counted, OutputView, Reply, Request as Requested, Sealed, Up}
+use Rattle.gateway.specs.Outputs.{Counted, Reply, Request as Requested, Sealed, Up}
 use Rattle.gateway.specs.States.{State}
 use Rattle.gateway.specs.WorkedRequests.{worked_reply, worked_request}
 use Rattle.gateway.specs.WorldHistories.{Happening}
@@ -38,32 +37,16 @@ use Rattle.gateway.specs.declared.world.stored.Child.{Child}
 use Rattle.gateway.specs.declared.world.stored.Datagram.{Datagram}
 use Rattle.gateway.specs.declared.world.stored.End.{End}
 use Rattle.gateway.specs.declared.world.stored.End.TheVariants.{A, B}
-use Rattle.gateway.specs.declared.world.stored.Event.{Event}
 use Rattle.gateway.specs.declared.world.stored.Keyed.{Keyed}
 use Rattle.gateway.specs.declared.world.stored.Mark.TheVariants as mark
 use Rattle.both_ends.specs.WorkedRecords.{answering_fresh, beginning_fresh, fresh_of, worked_record}
 use Rattle.both_ends.proofs.AuthLemmas.{auth_octets, worked_child}
 use Rattle.both_ends.proofs.InitLemmas.{answer_octets, request_octets}
 use Rattle.both_ends.proofs.RequestLemmas.{after}
-use Rattle.worked_run.specs.WorkedRuns.{all_protected, comes_to, config_at, new_end, new_ends, spi_at}
+use Rattle.both_ends.proofs.WorkedRecordLemmas.{waiting}
+use Rattle.worked_run.specs.WorkedRuns.{comes_to, config_at, new_end, new_ends, spi_at}
 
 -- ---- the associations
-
-abbrev pub first_request : Request
-first_request = new_request request_octets Begin 0
-
-abbrev pub beginning : Beginning
-beginning = record {
-  octets = request_octets;
-  outgoing = after none_issued first_request;
-  spi_i = beginning_fresh.spi;
-  secret = beginning_fresh.secret;
-  nonce = beginning_fresh.nonce;
-}
-
--- A's, which waits for the response to IKE_SA_INIT
-abbrev pub waiting : Association
-waiting = begun 1 beginning worked_child
 
 -- B's, which answered it
 abbrev pub opened : Association

@@ -20,7 +20,7 @@ use Rattle.gateway.specs.WorldHistories.{Happening, IsWorldTrail}
 use Rattle.gateway.specs.WorldPackets.{HasOneSender, HoldsSomePairOf, IsUnforgedTo}
 use Rattle.gateway.specs.WorldParties.{AreBothHeld, IsNeverMadeTwice}
 use Rattle.gateway.specs.WorldPromises.{ComesUnder, IsUnforgedByThen}
-use Rattle.gateway.specs.Worlds.{new_world, WorldState}
+use Rattle.gateway.specs.Worlds.{gateway_at, new_world, HoldsNothing, WorldState}
 use Rattle.gateway.specs.declared.input.Input.TheVariants as input
 use Rattle.gateway.specs.declared.world.stored.Child.{Child}
 use Rattle.gateway.specs.declared.world.stored.End.{End}
@@ -148,9 +148,10 @@ pub record IsWorkedRun {C : Type 0} (a b : C) : Type 0 where
   pub takes : map (λ h. h.event) happenings ≡ events_of exchanged
   pub says : map (λ h. h.said) happenings ≡ outputs_of exchanged
   pub trail : IsWorldTrail (λ _. run_meaning) (new_ends a b) happenings last
-  -- what is asked of the caller, of how both are set up, and of what is fresh
+  -- what is asked of the caller, of how both are set up, of what they hold at first, and of what is fresh
   pub can_be : CanBeMeant (asker_of run_meaning) run_meaning.plain_of
   pub set_up : (end : End) → IsConfig (config_at end)
+  pub holds_nothing : (end : End) → HoldsNothing (gateway_at end (new_ends a b))
   pub sealing : (number : ℕ) → number < 256 → HasSeal (fresh_of number)
   -- what is asked of the record of keys
   pub sound : IsWhollySound run_meaning.body_of run_meaning.plain_of worked_record (new_ends a b)
