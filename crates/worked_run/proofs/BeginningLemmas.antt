@@ -11,21 +11,15 @@ use Rattle.requests.specs.Timers.{due_from, waits}
 use Rattle.requests.specs.declared.timer.Timer.{Timer}
 use Rattle.sadb.specs.Database.{empty_table, Database, IsFull}
 use Rattle.sadb.specs.declared.pair.Pair.{Pair}
-use Rattle.sa_init.specs.Agreement.{IsAnswer}
-use Rattle.sa_init.specs.Cookies.{first_secret}
-use Rattle.sa_init.specs.Judging.{Accepted, IsAccepted, OfferView}
-use Rattle.sa_init.specs.Parts.{HasParts, PartsView}
-use Rattle.sa_init.specs.Reading.{GivesKeys}
-use Rattle.sa_init.specs.declared.answers.Agreed.{Agreed}
+use Rattle.sa_init.specs.Judging.{Accepted}
 use Rattle.sa_init.specs.declared.response.Response.TheVariants as response
 use Rattle.association.specs.Receiving as receiving
 use Rattle.association.specs.Receiving.{reception_by}
 use Rattle.association.specs.declared.phase.Association.{Association}
-use Rattle.association.specs.declared.phase.InitSent.{InitSent}
 use Rattle.association.specs.declared.phase.Request.{Request}
-use Rattle.initial.specs.Beginning.{Admits, Begins}
+use Rattle.initial.specs.Beginning.{Admits}
 use Rattle.initial.specs.Configs.{Setup}
-use Rattle.initial.specs.Reading.{waiting_of, ReadsResponse, TellsIdentity}
+use Rattle.initial.specs.Reading.{ReadsResponse, TellsIdentity}
 use Rattle.initial.specs.declared.beginning.Admitted.{Admitted}
 use Rattle.initial.specs.declared.reading.Continued.TheVariants as continued
 use Rattle.moments.specs.Due.{is_over}
@@ -45,13 +39,12 @@ use Rattle.gateway.specs.declared.world.stored.End.TheVariants.{A, B}
 use Rattle.gateway.proofs.PartyLemmas.{some_is}
 use Rattle.gateway.proofs.WorkedRequestLemmas.{none_asked}
 use Rattle.both_ends.specs.WorkedRecords.{answering_fresh, beginning_fresh, fresh_of, worked_record}
-use Rattle.both_ends.proofs.AcceptLemmas.{answer_accepted, chosen_is, worked_chosen}
-use Rattle.both_ends.proofs.AuthLemmas.{auth_chain, auth_octets, auth_sealed, plain_octets, worked_child}
-use Rattle.both_ends.proofs.InitLemmas.{answer_octets, answer_read, answer_sent, answered_message, asked_message, init_proposal, request_octets, request_read, request_sent}
+use Rattle.both_ends.proofs.AuthLemmas.{auth_chain, auth_octets, auth_sealed, plain_octets}
+use Rattle.both_ends.proofs.InitLemmas.{answer_octets, answer_read, answered_message, asked_message, request_octets, request_read}
 use Rattle.both_ends.proofs.OctetLemmas.{octets_if}
 use Rattle.both_ends.proofs.WorkedRecordLemmas as records
 use Rattle.both_ends.proofs.WorkedRecordLemmas.{accepted, answered, first_request, gives, init_sent, waiting, worked_agreed, worked_beginning, worked_offer}
-use Rattle.both_ends.proofs.RequestLemmas.{first_issued, first_waits, second_issued}
+use Rattle.both_ends.proofs.RequestLemmas.{first_waits, second_issued}
 use Rattle.worked_run.specs.WorkedRuns.{all_protected, config_at, new_end, new_ends, run_meaning, spi_at}
 use Rattle.worked_run.proofs.NewEndLemmas.{empty_is_sound, new_end_is_sound, reserved_is_sound, sealing, starts}
 use Rattle.worked_run.proofs.SoundnessLemmas.{sound_next, timely_alone, NoSpiIsLost, SoundnessStays}

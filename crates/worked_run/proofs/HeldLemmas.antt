@@ -1,5 +1,5 @@
 -- What the tables of the worked run hold is sound, and nothing of its associations is due.
-use Rattle.std.proofs.Common.{◌≡◌, ◌≢◌, ◌+◌, ◌<◌, ◌≤◌, ◌^◌, ◌||◌, ◌&&◌, inl, inr, ℕ, Bool, false, cond, [], Some, None, length, ap, arith, refl, subst, sym, ◌∙◌}
+use Rattle.std.proofs.Common.{◌≡◌, ◌+◌, ◌<◌, ◌≤◌, ◌^◌, ◌||◌, ◌&&◌, inl, inr, ℕ, Bool, false, cond, [], Some, None, length, ap, arith, refl, subst, sym, ◌∙◌}
 use Rattle.std.specs.Prelude.{not}
 use Rattle.std.proofs.lemmas.Bool.{eq-eqb, ne_eqb}
 use Rattle.std.proofs.lemmas.Bool.Decides.{eqb_tells}
@@ -122,9 +122,6 @@ asking_waits_for_none = taken_out map.empty refl 1 second_request
 probing_waits : (n : ℕ) (r : Request) → map.get probing.outgoing.outstanding n ≡ Some r → IsOnly 2 probe_request n r
 probing_waits n r is = only_there asking.outgoing.outstanding asking_waits_for_none 2 probe_request n r is
 
-counted_waits_for_none : counted.outgoing.outstanding ≡ map.empty
-counted_waits_for_none = taken_out asking.outgoing.outstanding asking_waits_for_none 2 probe_request
-
 pub asking_in_time : IsInTime 0 asking
 asking_in_time = in_time_if asking refl (omega arith) (λ n r is. absurd (none_found asking.outgoing.outstanding asking_waits_for_none n r is))
 
@@ -133,9 +130,3 @@ answering_in_time response = in_time_if (answering response) refl (omega arith) 
 
 pub probing_in_time : IsInTime 0 probing
 probing_in_time = in_time_if probing refl (omega arith) (λ n r is. ap (λ (x : Request). x.timer) (probing_waits n r is).content)
-
-pub probed_in_time : IsInTime 0 probed
-probed_in_time = in_time_if probed refl (omega arith) (λ n r is. absurd (none_found map.empty refl n r is))
-
-pub counted_in_time : IsInTime 0 counted
-counted_in_time = in_time_if counted refl (omega arith) (λ n r is. absurd (none_found counted.outgoing.outstanding counted_waits_for_none n r is))

@@ -1,5 +1,5 @@
 -- Both ends come to the keys in the first three steps, under which nothing comes yet (RFC 7296 sections 1.2 and 2.14).
-use Rattle.std.proofs.Common.{◌≡◌, ℕ, Bool, true, false, cond, ap, refl, ◌∙◌}
+use Rattle.std.proofs.Common.{◌≡◌, ℕ, Bool, ap, refl, ◌∙◌}
 use Rattle.std.specs.Prelude.{replicate, Some, None}
 use Rattle.base.specs.Octets.{Octets}
 use Rattle.association.specs.Phases.{keys_in}
@@ -10,7 +10,6 @@ use Rattle.both_ends.specs.WorkedRecords.{fresh_of, introduction_of, worked_reco
 use Rattle.both_ends.specs.WorldRecords.{CameToKeysAsInitiator, CameToKeysAsResponder}
 use Rattle.both_ends.proofs.CallerLemmas.{answering_is, beginning_is}
 use Rattle.both_ends.proofs.InitLemmas.{answer_octets, answer_read, answered_message, asked_message, request_octets, request_read}
-use Rattle.gateway.proofs.WorkedRequestLemmas.{same_association}
 use Rattle.both_ends.proofs.WorkedRecordLemmas.{answered_has, answered_parts, asked_has, asked_parts, init_sent, waiting}
 use Rattle.worked_ends.proofs.StateLemmas.{found_is}
 use Rattle.worked_run.specs.WorkedRuns.{run_meaning}

@@ -1,13 +1,11 @@
 -- The last five steps of the worked run take place: a packet is carried, and a probe is answered and its response counted. What comes under the keys
 -- had been sent, both ends hold the association, and of the child they hold what the premises on packets ask for.
-use Rattle.std.proofs.Common.{◌≡◌, ◌⊎◌, ◌<◌, ◌≤◌, ◌↔◌, ◌∷◌, inl, inr, ℕ, zero, suc, Bool, true, false, List, [], Option, Some, Contains, ap, arith, refl, subst, sym, ◌∙◌}
-use Rattle.std.specs.Prelude.{replicate, slice_get}
+use Rattle.std.proofs.Common.{◌≡◌, ◌⊎◌, ◌≤◌, ◌↔◌, ◌∷◌, inl, inr, ℕ, zero, suc, Bool, true, false, List, [], Option, Some, Contains, ap, arith, refl, subst, sym, ◌∙◌}
+use Rattle.std.specs.Prelude.{slice_get}
 use Rattle.std.proofs.lemmas.Bool.{true≢false}
 use Rattle.std.proofs.lemmas.List.Elements.{Contains-append_left, Contains-push}
 use Rattle.std.specs.List.{AllByRecursion}
-use Rattle.base.specs.Octets.{AreOctets, Octets}
-use Rattle.wire.specs.Messages.{Spells}
-use Rattle.wire.specs.declared.message.Message.{Message}
+use Rattle.base.specs.Octets.{Octets}
 use Rattle.replay.specs.Window.{unused_window}
 use Rattle.esp.specs.Worked.{worked_payload}
 use Rattle.suite.specs.Keys.{child_material, key_at}
@@ -17,7 +15,6 @@ use Rattle.sadb.specs.Database.{IsSoundTable}
 use Rattle.sadb.specs.declared.pair.Pair.{Pair}
 use Rattle.association.specs.declared.phase.Association.{Association}
 use Rattle.effects.specs.declared.taking.Effect.TheVariants as effect
-use Rattle.ike.specs.Moves.{HasSeal}
 use Rattle.ike.specs.Outputs.{asking_step, no_trace, stepped_of}
 use Rattle.ike.specs.Steps as ike
 use Rattle.ike.specs.declared.asking.Demand.TheVariants as demand

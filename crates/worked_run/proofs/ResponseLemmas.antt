@@ -18,7 +18,6 @@ use Rattle.exchange.specs.Headers.{sent_header}
 use Rattle.exchange.specs.Sealed.{IsSealed}
 use Rattle.exchange.specs.declared.headers.Role.TheVariants.{Initiator, Responder}
 use Rattle.deliveries.specs.Worked.{any_traffic}
-use Rattle.effects.specs.Keeping.{IsShort}
 use Rattle.both_ends.proofs.OctetLemmas.{octets_if}
 use Rattle.worked_ends.specs.WorkedMessages.{header_octets, proposal_of, selector_octets}
 use Rattle.worked_run.specs.WorkedRuns.{run_meaning}
@@ -77,9 +76,6 @@ message_octets flags first n = header_octets 35 flags 1 ++ (0 ∷ 0 ∷ 0 ∷ 13
 
 abbrev pub response_octets : Octets
 response_octets = message_octets 0x20 36 2
-
-pub response_is_short : IsShort response_octets
-response_is_short = omega arith
 
 -- ---- the messages
 

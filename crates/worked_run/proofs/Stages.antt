@@ -14,17 +14,16 @@ use Rattle.suite.specs.Keys.{first_child_keys}
 use Rattle.exchange.specs.declared.headers.Role.{Role}
 use Rattle.exchange.specs.declared.headers.Role.TheVariants.{Initiator, Responder}
 use Rattle.requests.specs.Incoming.{after_number_0, PeerRequests}
-use Rattle.requests.specs.Outgoing.{none_issued, number_0_answered, OwnRequests}
+use Rattle.requests.specs.Outgoing.{number_0_answered, OwnRequests}
 use Rattle.association.specs.declared.phase.Association.{Association}
 use Rattle.association.specs.declared.phase.Phase.TheVariants as phase
 use Rattle.association.specs.declared.phase.Request.{Request}
-use Rattle.association.specs.declared.purpose.Purpose.TheVariants.{Begin, Identify, Probe}
+use Rattle.association.specs.declared.purpose.Purpose.TheVariants.{Identify, Probe}
 use Rattle.children.specs.Pairs.{inbound_of, outbound_of}
 use Rattle.children.specs.Terms.{Terms}
-use Rattle.initial.specs.Beginning.{begun, half_open}
+use Rattle.initial.specs.Beginning.{half_open}
 use Rattle.initial.specs.Concluding.{established, widened, with_incoming, with_outgoing}
 use Rattle.initial.specs.Issuing.{new_request}
-use Rattle.initial.specs.declared.beginning.Beginning.{Beginning}
 use Rattle.deliveries.specs.Worked.{any_traffic}
 use Rattle.ike.specs.Machines.{new_machine}
 use Rattle.gateway.specs.Outputs.{Counted, Reply, Request as Requested, Sealed, Up}

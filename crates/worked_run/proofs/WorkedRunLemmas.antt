@@ -1,8 +1,6 @@
 -- The worked run takes place, step by step, and meets all premises.
-use Rattle.std.proofs.Common.{◌++◌, ◌∷◌, ℕ, Bool, Some, List, [], refl, subst, sym}
-use Rattle.std.specs.Prelude.{slice_get}
+use Rattle.std.proofs.Common.{◌++◌, ◌∷◌, ℕ, Bool, List, [], refl, subst}
 use Rattle.base.specs.Octets.{Octets}
-use Rattle.esp.specs.Worked.{worked_payload}
 use Rattle.effects.specs.Taking.{Meaning}
 use Rattle.gateway.specs.States.{IsSoundState}
 use Rattle.gateway.specs.WorldHistories.{Happening, IsWorldTrail}
@@ -35,7 +33,7 @@ followed_by {C} meaning_of [] gs old between new same later = subst (λ (w : Wor
 followed_by {C} meaning_of (h ∷ hs) gs old between new (begins_at, takes, others) later =
     (begins_at, takes, followed_by meaning_of hs gs h.after between new others later)
 
-exchanged : Exchanged
+abbrev exchanged : Exchanged
 exchanged = record {
   init_request = request_octets;
   init_response = answer_octets;
