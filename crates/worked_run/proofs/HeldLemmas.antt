@@ -24,7 +24,7 @@ use Rattle.worked_ends.specs.WorkedChildren as ends
 use Rattle.worked_ends.proofs.CarriedLemmas.{later_fits}
 use Rattle.worked_ends.proofs.TableLemmas.{few_pairs, lone_in, sound_table, unused_sound, IsFit}
 use Rattle.worked_ends.proofs.MapLemmas.{put_beside, put_there}
-use Rattle.worked_run.proofs.Stages.{answering, answering_table, asking, asking_table, counted, later_table, one_taken, pair_of, probe_request, probed, probing, second_request, table_with}
+use Rattle.worked_run.proofs.Stages.{answering, answering_table, asking, asking_table, later_table, one_taken, pair_of, probe_request, probing, second_request, table_with}
 
 -- ---- maps of one entry
 
