@@ -37,7 +37,7 @@ none_out = map.empty
 abbrev first_answered : set.FinSet nat_cmp
 first_answered = set.insert set.empty 0
 
-in_it : (numbers : set.FinSet nat_cmp) (k : ℕ) → HasNumber (set.insert numbers k) k
+pub in_it : (numbers : set.FinSet nat_cmp) (k : ℕ) → HasNumber (set.insert numbers k) k
 in_it numbers k = set.contains-insert nat_cmp_total numbers k k ∙ ap (λ b. b || set.contains numbers k) (unsigned_tied k k ∙ eq-eqb k k refl)
 
 pub second_issued : (request : Request) → IssuesNext number_0_answered request (after number_0_answered request)

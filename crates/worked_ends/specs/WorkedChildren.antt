@@ -259,10 +259,10 @@ all_arrive {C} config caller from fresh =
     packet_arrives config caller ∷ probe_arrives config caller from fresh ∷ response_arrives config caller from fresh ∷ []
 
 -- This takes place in a world that is sound under the keys and accounts for its windows, children and pairs, of two gateways whose states are
--- sound; no run from new ones leads there, since this caller agrees on no secret. The probe and its response come under the keys; no message that
--- does so was forged, and neither end came to them twice. No packet to the child was forged at either end, and it has one sender each way. Both
--- ends made the child, by one request under the keys, and hold a pair of it; and both hold the association afterwards, in both directions. The
--- packet goes up by the pair of the end that answered for the child.
+-- sound; no run from new ones leads there, since this caller agrees on no secret (a run from new ones stands in the crate above). The probe and its
+-- response come under the keys; no message that does so was forged, and neither end came to them twice. No packet to the child was forged at either end,
+-- and it has one sender each way. Both ends made the child, by one request under the keys, and hold a pair of it; and both hold the association
+-- afterwards, in both directions. The packet goes up by the pair of the end that answered for the child.
 pub record IsWorkedLink {C : Type 0} (config : Config) (caller : C) (from : Octets) (fresh : Fresh) : Type 0 where
   pub trail : IsWorldTrail (λ _. worked_meaning) (sealed_world config caller) (all_arrive config caller from fresh) (counted_world config caller)
   pub can_be : CanBeMeant worked_meaning

@@ -1,5 +1,5 @@
 -- The two new ends are rightly set up and sound, and what is fresh at their steps can be sealed with.
-use Rattle.std.proofs.Common.{◌≡◌, ◌+◌, ◌||◌, ◌<◌, ◌≤◌, inl, inr, ℕ, zero, suc, Bool, true, false, cond, [], Some, None, ap, arith, refl, sym, ◌∙◌}
+use Rattle.std.proofs.Common.{◌≡◌, ◌+◌, ◌||◌, ◌<◌, ◌≤◌, inl, inr, ℕ, zero, suc, Bool, true, false, cond, [], Some, None, ap, arith, refl, subst, sym, ◌∙◌}
 use Rattle.std.specs.FinMap as map
 use Rattle.std.specs.FinSet as set
 use Rattle.std.specs.Ordering.{nat_cmp}
@@ -11,6 +11,8 @@ use Rattle.esp.proofs.NumberLemmas.{contains-insert_nat}
 use Rattle.suite.specs.declared.key_record.KeyRecord.{KeyRecord}
 use Rattle.suite.specs.declared.keys.Keys.{Keys}
 use Rattle.base.specs.Octets.{AreOctets, Octets}
+use Rattle.policy.specs.Entries.{IsSoundEntry, IsSoundPolicy}
+use Rattle.policy.specs.declared.entry.Entry.{Entry}
 use Rattle.sadb.specs.Database.{empty_table, pair_at, Database, HasInbound, IsSoundTable, IsStart, WasGiven}
 use Rattle.sadb.specs.declared.pair.Pair.{Pair}
 use Rattle.association.specs.Receiving.{Opening}
@@ -26,10 +28,11 @@ use Rattle.gateway.specs.States.{IsSoundState, State}
 use Rattle.gateway.specs.Worlds.{new_world, HoldsNothing}
 use Rattle.gateway.specs.declared.world.stored.End.{End}
 use Rattle.gateway.specs.declared.world.stored.End.TheVariants.{A, B}
+use Rattle.gateway.proofs.PartyLemmas.{some_is}
 use Rattle.gateway.proofs.WorkedRequestLemmas.{none_there}
-use Rattle.both_ends.specs.WorkedRecords.{fresh_of, worked_record, CanBeMeant}
+use Rattle.both_ends.specs.WorkedRecords.{fresh_of, CanBeMeant, IsFresh}
 use Rattle.both_ends.proofs.CallerLemmas.{can_be as can_be_meant}
-use Rattle.worked_run.specs.WorkedRuns.{config_at, config_by, new_end, new_ends, run_meaning, spi_at}
+use Rattle.worked_run.specs.WorkedRuns.{all_protected, config_at, config_by, new_end, new_ends, run_meaning, spi_at}
 use Rattle.worked_run.proofs.Stages.{reserved_table}
 
 -- ---- the caller, what is fresh, and how both are set up
@@ -44,6 +47,17 @@ alike number (suc count) small = (small, alike number count small)
 pub sealing : (number : ℕ) → number < 256 → HasSeal (fresh_of number)
 sealing number small = record { octets = alike number 16 small; many = refl }
 
+pub is_fresh : (number : ℕ) → 1 ≤ number → number ≤ 8 → IsFresh (fresh_of number)
+is_fresh number least most = record {
+  named = λ is. absurd (omega (arith, least, is));
+  spi_fits = omega (arith, most);
+  nonce_long = refl;
+  nonce_octets = alike number 32 (omega (arith, most));
+  secret = record { whole = refl; octets = alike (number + 16) 32 (omega (arith, most)) };
+  seal_long = refl;
+  seal_octets = alike number 16 (omega (arith, most));
+}
+
 config_is : (own peer : ℕ) → own < 256 → peer < 256 → IsConfig (config_by own peer)
 config_is own peer own_fits peer_fits = record {
   own = record { kind = omega arith; octets = record { some = omega arith; few = omega arith; fits = (own_fits, tt) } };
@@ -55,6 +69,19 @@ config_is own peer own_fits peer_fits = record {
 pub set_up : (end : End) → IsConfig (config_at end)
 set_up A = config_is 1 2 (omega arith) (omega arith)
 set_up B = config_is 2 1 (omega arith) (omega arith)
+
+protected_is_sound : (place : ℕ) (e : Entry) → slice_get all_protected place ≡ Some e → IsSoundEntry e
+protected_is_sound zero e there = subst (λ (x : Entry). IsSoundEntry x) (some_is _ e there) (record {
+  local = omega arith;
+  remote = omega arith;
+  local_ports = omega arith;
+  remote_ports = omega arith;
+  family = refl;
+})
+protected_is_sound (suc place) e there = absurd cc
+
+pub policy_is_sound : IsSoundPolicy all_protected
+policy_is_sound = record { few = omega arith; each = protected_is_sound }
 
 pub starts : (end : End) → IsStart (spi_at end)
 starts A = record { least = omega arith; most = omega arith }
@@ -158,7 +185,8 @@ NewWorldsAreSound C =
     (body_of : Keys → Octets → Octets → Octets → Octets) (plain_of : Opening) (keys : KeyRecord) (a b : State C) → HoldsNothing a → HoldsNothing b
     → IsSoundState a → IsSoundState b → IsWhollySound body_of plain_of keys (new_world a b)
 
-pub new_ends_are_sound : {C : Type 0} → NewWorldsAreSound C → (a b : C) → IsWhollySound run_meaning.body_of run_meaning.plain_of worked_record (new_ends a b)
-new_ends_are_sound {C} are_sound a b =
-    are_sound run_meaning.body_of run_meaning.plain_of worked_record (new_end A a) (new_end B b) (new_end_holds_nothing A a) (new_end_holds_nothing B b)
+pub new_ends_are_sound : {C : Type 0} → NewWorldsAreSound C → (a b : C) (keys : KeyRecord)
+    → IsWhollySound run_meaning.body_of run_meaning.plain_of keys (new_ends a b)
+new_ends_are_sound {C} are_sound a b keys =
+    are_sound run_meaning.body_of run_meaning.plain_of keys (new_end A a) (new_end B b) (new_end_holds_nothing A a) (new_end_holds_nothing B b)
     (new_end_is_sound A a) (new_end_is_sound B b)

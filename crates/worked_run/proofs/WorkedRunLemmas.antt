@@ -13,18 +13,19 @@ use Rattle.gateway.specs.declared.world.stored.End.TheVariants.{A, B}
 use Rattle.both_ends.specs.WorkedRecords.{worked_record}
 use Rattle.both_ends.proofs.AuthLemmas.{auth_octets}
 use Rattle.both_ends.proofs.InitLemmas.{answer_octets, request_octets}
-use Rattle.worked_run.specs.WorkedRuns.{new_ends, run_meaning, Exchanged, IsWorkedRun}
+use Rattle.both_ends.proofs.RequestLemmas.{in_it}
+use Rattle.worked_run.specs.WorkedRuns.{new_ends, run_meaning, Exchanged, IsRunFromNewGateways}
 use Rattle.worked_run.proofs.AcceptingLemmas.{auth_request_was_sent, child_other_is_sound}
 use Rattle.worked_run.proofs.BeginningLemmas.{first_steps_are, told_one_is_sound, told_other_is_sound}
 use Rattle.worked_run.proofs.ConcludingLemmas.{auth_response_was_sent, child_one_is_sound, child_steps_are}
 use Rattle.worked_run.proofs.HeldLemmas.{answering_in_time, answering_table_is_sound, asking_in_time, asking_table_is_sound}
 use Rattle.worked_run.proofs.KeyedLemmas.{came_as_initiator, came_as_responder, none_comes_answering, none_comes_beginning, none_comes_telling}
 use Rattle.worked_run.proofs.LastLemmas.{all_at, answer_comes, answer_was_sent, answered_held, answered_there, asked_held, asked_there, both_are_held, both_are_held_back, last_steps_are, never_made_twice, none_comes_handing_up, none_comes_probing, none_comes_sealing, of_one, one_sender, one_sender_back, probe_comes, probe_was_sent, unforged_back, unforged_to, OneTime}
-use Rattle.worked_run.proofs.NewEndLemmas.{can_be, new_end_holds_nothing, new_ends_are_sound, sealing, set_up, NewWorldsAreSound}
+use Rattle.worked_run.proofs.NewEndLemmas.{can_be, is_fresh, new_end_holds_nothing, new_ends_are_sound, policy_is_sound, set_up, starts, NewWorldsAreSound}
 use Rattle.worked_run.proofs.ResponseLemmas.{response_octets}
 use Rattle.worked_run.proofs.SentLemmas.{OneMessage}
 use Rattle.worked_run.proofs.SoundnessLemmas.{NoSpiIsLost, SoundnessStays}
-use Rattle.worked_run.proofs.Stages.{accepts, all_steps, answered_child, answers, asked_child, begins, carried_octets, child_world, concludes, counted, counts, hands_up, is_there, last_world, probed, probes, seals, tells, told_world}
+use Rattle.worked_run.proofs.Stages.{accepts, all_steps, answered_child, answers, asked_child, begins, carried_octets, child_world, concludes, counted, counts, hands_up, is_there, last_world, probed, probes, probing, seals, tells, told_world, two_taken}
 
 -- what takes place after one list of steps goes on from where that ended
 followed_by : {C : Type 0} (meaning_of : C → Meaning) (hs gs : List (Happening C)) (old between new : WorldState C) → IsWorldTrail meaning_of old hs between
@@ -101,7 +102,7 @@ module _ {C : Type 0} (a b : C) where
         ),
       ) place h there response number octets
 
-  pub worked_run_is : SoundnessStays → NoSpiIsLost → OneMessage → OneTime → NewWorldsAreSound C → IsWorkedRun a b
+  pub worked_run_is : SoundnessStays → NoSpiIsLost → OneMessage → OneTime → NewWorldsAreSound C → IsRunFromNewGateways a b
   worked_run_is stays held one_message one_time are_sound = record {
     exchanged = exchanged;
     happenings = steps;
@@ -110,26 +111,34 @@ module _ {C : Type 0} (a b : C) where
     says = refl;
     trail = run_is stays held;
     can_be = can_be;
-    set_up = set_up;
+    configs = set_up;
+    policy = policy_is_sound;
+    starts = starts;
     holds_nothing = holds_nothing;
-    sealing = sealing;
+    fresh = is_fresh;
     sound = new_ends_are_sound are_sound a b;
     unforged = unforged_run one_message;
     once = never_made_twice a b response_octets one_time;
-    answering = answers a b;
+    responder_step = answers a b;
     answers = refl;
     as_responder = came_as_responder a b;
-    reading = tells a b;
+    initiator_step = tells a b;
     reads = refl;
     as_initiator = came_as_initiator a b;
-    asking_association = counted;
-    answering_association = probed;
+    asking = counted;
+    answering = probed;
     held = both_are_held a b response_octets;
     held_back = both_are_held_back a b response_octets;
-    probed = is_there a b response_octets;
+    established = refl;
+    established_back = refl;
+    window = refl;
+    window_back = refl;
+    in_effect = in_it (two_taken []).in_effect 2;
+    counted = in_it probing.outgoing.answered 2;
+    probe_step = is_there a b response_octets;
     probes = refl;
     request_comes = probe_comes a b response_octets;
-    counting = counts a b response_octets;
+    counting_step = counts a b response_octets;
     counts = refl;
     response_comes = answer_comes a b response_octets;
     asked = asked_child;
@@ -138,12 +147,15 @@ module _ {C : Type 0} (a b : C) where
     answered_there = answered_there a b response_octets;
     keyed = refl;
     of_one = of_one a b response_octets;
+    number_is = refl;
+    asked_end = refl;
+    asked_serial = refl;
+    answered_end = refl;
+    answered_serial = refl;
     asked_held = asked_held a b response_octets;
     answered_held = answered_held a b response_octets;
     unforged_to = unforged_to a b response_octets;
-    alone = one_sender a b response_octets;
+    one_sender = one_sender a b response_octets;
     unforged_back = unforged_back a b response_octets;
-    alone_back = one_sender_back a b response_octets;
-    ends_at = refl;
-    serial_is = refl;
+    one_sender_back = one_sender_back a b response_octets;
   }

@@ -1,17 +1,22 @@
--- A worked run of a world, for which the premises of what is promised of both ends are shown to hold: from two new gateways on an association and its
--- first child are set up, a packet is carried, and a probe is answered (RFC 7296 sections 1.2, 1.4 and 2.4; RFC 4301 sections 5.1 and 5.2).
-use Rattle.std.specs.Prelude.{◌≡◌, ◌<◌, ◌∷◌, false, true, ℕ, None, Some, List, [], Contains, map, replicate, slice_get}
+-- A worked run of a world, for which the premises of what is promised of both ends are shown to hold. It begins with two new gateways: they set up an
+-- association and its first child, a packet goes from A to B, and A's probe is answered (RFC 7296 sections 1.2, 1.4, 2.4, 2.14 and 2.15; RFC 4301
+-- sections 5.1 and 5.2; RFC 4303 sections 3.3 and 3.4).
+use Rattle.std.specs.Prelude.{◌≡◌, ◌≤◌, ◌∷◌, false, true, ℕ, None, Some, List, [], Contains, map, replicate, slice_get}
 use Rattle.base.specs.Octets.{Octets}
 use Rattle.base.specs.declared.address.Range.TheVariants.{V4}
 use Rattle.esp.specs.Worked.{worked_payload}
+use Rattle.policy.specs.Entries.{IsSoundPolicy}
 use Rattle.policy.specs.declared.entry.Action.TheVariants.{Protect}
 use Rattle.policy.specs.declared.entry.Entry.{Entry}
+use Rattle.sadb.specs.Database.{IsStart}
+use Rattle.suite.specs.declared.key_record.KeyRecord.{KeyRecord}
+use Rattle.requests.specs.Numbers.{HasNumber}
 use Rattle.association.specs.declared.phase.Association.{Association}
+use Rattle.association.specs.declared.phase.Phase.TheVariants.{Established}
 use Rattle.initial.specs.Configs.{IsConfig}
 use Rattle.initial.specs.declared.config.Config.{Config}
 use Rattle.initial.specs.declared.config.EndConfig.{EndConfig}
 use Rattle.effects.specs.Taking.{asker_of, Meaning}
-use Rattle.ike.specs.Moves.{HasSeal}
 use Rattle.gateway.specs.BothEnds.{IsWhollySound}
 use Rattle.gateway.specs.Outputs.{Counted, OutputView, Reply, Request, Sealed, Up}
 use Rattle.gateway.specs.States.{new_gateway, State}
@@ -26,12 +31,13 @@ use Rattle.gateway.specs.declared.world.stored.Child.{Child}
 use Rattle.gateway.specs.declared.world.stored.End.{End}
 use Rattle.gateway.specs.declared.world.stored.End.TheVariants.{A, B}
 use Rattle.gateway.specs.declared.world.stored.Event.{Event}
-use Rattle.both_ends.specs.WorkedRecords.{fresh_of, introduction_of, worked_asker, worked_plain_of, worked_record, CanBeMeant}
+use Rattle.both_ends.specs.WorkedRecords.{fresh_of, introduction_of, worked_asker, worked_plain_of, worked_record, CanBeMeant, IsFresh}
 use Rattle.both_ends.specs.WorldRecords.{CameToKeysAsInitiator, CameToKeysAsResponder}
 
 -- ---- how both are set up
 
--- A cipher that hides nothing, and one secret for all, as in the worked calls; whatever proof of an identity there is is accepted.
+-- A cipher that hides nothing, and one secret for all, as in the worked calls. Whatever proof of an identity there is is accepted, so identities are not
+-- exercised.
 abbrev pub run_meaning : Meaning
 run_meaning = record {
   cipher = worked_asker.cipher;
@@ -101,7 +107,7 @@ pub record Exchanged : Type 0 where
   pub probe : Octets
   pub probe_response : Octets
 
--- a datagram comes from the end of this number to this end, at the step that takes the fresh words of another number
+-- a datagram of IKE comes to this end, from the address of the end of the number `from`; what is fresh at the step is told by a number too
 abbrev pub comes_to : End → ℕ → Octets → ℕ → Event
 comes_to end from octets number = record { end = end; input = input.Ike (replicate 4 from) octets (fresh_of number) }
 
@@ -137,11 +143,12 @@ outputs_of e =
     ∷ []
 
 -- There is such a run, for a caller that there can be, of two gateways that are rightly set up and hold nothing, whose world is wholly sound under
--- each key record. No message that comes under the keys which both ends come to was forged, as it had been sent by then, and neither end comes to
--- them twice. Each end comes to them from what the other says of itself. Both hold the association at the end, in both directions; the probe and its
--- response come under the keys. Both ends make the child, by one request, and hold a pair of it at the end; no packet to it was forged at either end,
--- and it has one sender each way. The packet goes up by the pair of the end that answered for the child, whose serial is 1.
-pub record IsWorkedRun {C : Type 0} (a b : C) : Type 0 where
+-- every key record. What comes under the record of keys which both ends come to, the other end had sent before, and neither end comes to it twice: B as
+-- responder and A as initiator, each from what the other says of itself. At the end each holds the association, established, with one place counted for
+-- the other's requests; A's probe took effect at B, and was answered and counted. Both ends make the child, by the one request of IKE_AUTH, and hold a
+-- pair of it at the end, which has one sender each way; what is judged at B was sent by A. The packet goes up by B's pair. Nothing but answers goes from
+-- B to A, so of the child at A and of requests of B the premises hold, and say nothing.
+pub record IsRunFromNewGateways {C : Type 0} (a b : C) : Type 0 where
   pub exchanged : Exchanged
   pub happenings : List (Happening C)
   pub last : WorldState C
@@ -150,31 +157,39 @@ pub record IsWorkedRun {C : Type 0} (a b : C) : Type 0 where
   pub trail : IsWorldTrail (λ _. run_meaning) (new_ends a b) happenings last
   -- what is asked of the caller, of how both are set up, of what they hold at first, and of what is fresh
   pub can_be : CanBeMeant (asker_of run_meaning) run_meaning.plain_of
-  pub set_up : (end : End) → IsConfig (config_at end)
+  pub configs : (end : End) → IsConfig (config_at end)
+  pub policy : IsSoundPolicy all_protected
+  pub starts : (end : End) → IsStart (spi_at end)
   pub holds_nothing : (end : End) → HoldsNothing (gateway_at end (new_ends a b))
-  pub sealing : (number : ℕ) → number < 256 → HasSeal (fresh_of number)
+  pub fresh : (number : ℕ) → 1 ≤ number → number ≤ 8 → IsFresh (fresh_of number)
   -- what is asked of the record of keys
-  pub sound : IsWhollySound run_meaning.body_of run_meaning.plain_of worked_record (new_ends a b)
+  pub sound : (keys : KeyRecord) → IsWhollySound run_meaning.body_of run_meaning.plain_of keys (new_ends a b)
   pub unforged : IsUnforgedByThen (λ _. run_meaning) worked_record happenings
   pub once : IsNeverMadeTwice worked_record last.stored
   -- how each end comes to it
-  pub answering : Happening C
-  pub answers : slice_get happenings 1 ≡ Some answering
-  pub as_responder : CameToKeysAsResponder run_meaning.public_value answering (introduction_of (fresh_of 2)) (introduction_of (fresh_of 1)) worked_record
-  pub reading : Happening C
-  pub reads : slice_get happenings 2 ≡ Some reading
-  pub as_initiator : CameToKeysAsInitiator run_meaning.public_value reading (introduction_of (fresh_of 1)) (introduction_of (fresh_of 2)) worked_record
+  pub responder_step : Happening C
+  pub answers : slice_get happenings 1 ≡ Some responder_step
+  pub as_responder : CameToKeysAsResponder run_meaning.public_value responder_step (introduction_of (fresh_of 2)) (introduction_of (fresh_of 1)) worked_record
+  pub initiator_step : Happening C
+  pub reads : slice_get happenings 2 ≡ Some initiator_step
+  pub as_initiator : CameToKeysAsInitiator run_meaning.public_value initiator_step (introduction_of (fresh_of 1)) (introduction_of (fresh_of 2)) worked_record
   -- the association at the end, and what comes under its keys
-  pub asking_association : Association
-  pub answering_association : Association
-  pub held : AreBothHeld worked_record A last asking_association answering_association
-  pub held_back : AreBothHeld worked_record B last answering_association asking_association
-  pub probed : Happening C
-  pub probes : slice_get happenings 8 ≡ Some probed
-  pub request_comes : ComesUnder (λ _. run_meaning) worked_record false 2 exchanged.probe probed
-  pub counting : Happening C
-  pub counts : slice_get happenings 9 ≡ Some counting
-  pub response_comes : ComesUnder (λ _. run_meaning) worked_record true 2 exchanged.probe_response counting
+  pub asking : Association
+  pub answering : Association
+  pub held : AreBothHeld worked_record A last asking answering
+  pub held_back : AreBothHeld worked_record B last answering asking
+  pub established : asking.phase ≡ Established worked_record
+  pub established_back : answering.phase ≡ Established worked_record
+  pub window : asking.outgoing.window ≡ 1
+  pub window_back : answering.outgoing.window ≡ 1
+  pub in_effect : HasNumber answering.incoming.in_effect 2
+  pub counted : HasNumber asking.outgoing.answered 2
+  pub probe_step : Happening C
+  pub probes : slice_get happenings 8 ≡ Some probe_step
+  pub request_comes : ComesUnder (λ _. run_meaning) worked_record false 2 exchanged.probe probe_step
+  pub counting_step : Happening C
+  pub counts : slice_get happenings 9 ≡ Some counting_step
+  pub response_comes : ComesUnder (λ _. run_meaning) worked_record true 2 exchanged.probe_response counting_step
   -- the child
   pub asked : Child
   pub answered : Child
@@ -182,11 +197,14 @@ pub record IsWorkedRun {C : Type 0} (a b : C) : Type 0 where
   pub answered_there : Contains last.stored.children answered
   pub keyed : asked.keys ≡ worked_record
   pub of_one : AreOfOneRequest asked answered
+  pub number_is : asked.number ≡ 1
+  pub asked_end : asked.end ≡ A
+  pub asked_serial : asked.serial ≡ 1
+  pub answered_end : answered.end ≡ B
+  pub answered_serial : answered.serial ≡ 1
   pub asked_held : HoldsSomePairOf asked last
   pub answered_held : HoldsSomePairOf answered last
   pub unforged_to : IsUnforgedTo answered happenings last.stored
-  pub alone : HasOneSender answered last.stored
+  pub one_sender : HasOneSender answered last.stored
   pub unforged_back : IsUnforgedTo asked happenings last.stored
-  pub alone_back : HasOneSender asked last.stored
-  pub ends_at : answered.end ≡ B
-  pub serial_is : answered.serial ≡ 1
+  pub one_sender_back : HasOneSender asked last.stored
