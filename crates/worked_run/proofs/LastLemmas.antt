@@ -43,7 +43,7 @@ use Rattle.worked_run.specs.WorkedRuns.{all_protected, config_at, run_meaning}
 use Rattle.worked_run.proofs.AskingLemmas.{nothing_ended, probe_asks, probe_opens, probe_takes, reply_opens, reply_said, reply_takes}
 use Rattle.worked_run.proofs.HeldLemmas.{asking_table_is_sound, later_table_is_sound, probing_in_time}
 use Rattle.worked_run.proofs.NewEndLemmas.{sealing}
-use Rattle.worked_run.proofs.PacketLemmas.{it_is_received, it_is_sealed, one_number}
+use Rattle.worked_run.proofs.PacketLemmas.{addressed, it_is_received, it_is_sealed, judged, one_number}
 use Rattle.worked_run.proofs.SentLemmas.{was_sent, OneMessage}
 use Rattle.worked_run.proofs.SoundnessLemmas.{sound_next, timely_alone, NoSpiIsLost, SoundnessStays}
 use Rattle.worked_run.proofs.Stages.{accepts, all_keyed, all_steps, answered_child, answering, answers, asked_child, asking, asking_table, begins, both_children, carried_octets, carrying, child_world, concludes, counted, counts, delivered_world, end_with, hands_up, is_there, last_world, later_table, one_taken, pair_of, probed, probed_world, probes, probing, probing_world, sealed_world, seals, sent_alive, sent_answer, sent_auth, sent_packet, sent_probe, sent_request, sent_response, stored_of, table_with, tells}
@@ -371,7 +371,17 @@ module _ {C : Type 0} (a b : C) (response : Octets) where
   no_packet : (h : Happening C) → is_packet h.event.input ≡ false → (child : Child) (number : ℕ) (octets : Octets) → IsJudgedAt child number octets h → ⊥
   no_packet h none child number octets judged = true≢false (sym (ap is_packet judged.given) ∙ none)
 
-  -- the one packet was sent
+  -- the one packet is judged as number 1 at B, and it was sent
+  pub packet_comes : IsJudgedAt answered_child 1 carried_octets (hands_up a b response)
+  packet_comes = record {
+    end_is = refl;
+    given = refl;
+    pair = pair_of Responder 0 (unused_window 2);
+    addressed = addressed asking_key answering_key;
+    own = refl;
+    judged = judged asking_key answering_key;
+  }
+
   packet_was_sent : (number : ℕ) (octets : Octets) → IsJudgedAt answered_child number octets (hands_up a b response)
       → HasSentPacket A answered_child.inbound.spi answered_child.inbound.key number octets last
   packet_was_sent number octets judged =

@@ -32,7 +32,7 @@ use Rattle.gateway.proofs.PartyLemmas.{some_is}
 use Rattle.gateway.proofs.WorkedRequestLemmas.{none_there}
 use Rattle.both_ends.specs.WorkedRecords.{fresh_of, CanBeMeant, IsFresh}
 use Rattle.both_ends.proofs.CallerLemmas.{can_be as can_be_meant}
-use Rattle.worked_run.specs.WorkedRuns.{all_protected, config_at, config_by, new_end, new_ends, run_meaning, spi_at}
+use Rattle.worked_run.specs.WorkedRuns.{all_protected, config_at, config_by, new_end, new_ends, run_meaning, spi_at, IsTyped}
 use Rattle.worked_run.proofs.Stages.{reserved_table}
 
 -- ---- the caller, what is fresh, and how both are set up
@@ -82,6 +82,14 @@ protected_is_sound (suc place) e there = absurd cc
 
 pub policy_is_sound : IsSoundPolicy all_protected
 policy_is_sound = record { few = omega arith; each = protected_is_sound }
+
+typed_by : (own peer : ℕ) → own < 256 → peer < 256 → IsTyped (config_by own peer)
+typed_by own peer own_fits peer_fits =
+    record { own = (alike own 4 own_fits, refl); peer = (alike peer 4 peer_fits, refl); cookie_secret = (alike 0 32 (omega arith), refl) }
+
+pub typed : (end : End) → IsTyped (config_at end)
+typed A = typed_by 1 2 (omega arith) (omega arith)
+typed B = typed_by 2 1 (omega arith) (omega arith)
 
 pub starts : (end : End) → IsStart (spi_at end)
 starts A = record { least = omega arith; most = omega arith }

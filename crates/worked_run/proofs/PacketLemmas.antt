@@ -80,7 +80,7 @@ module _ (first second : Octets) where
   low_half_is : low_half carried ≡ 1
   low_half_is = packet_low_half by 1 4 worked_payload 2 carried carried_is
 
-  judged : Judges by (unused_window 2) carried 1
+  pub judged : Judges by (unused_window 2) carried 1
   judged = record {
     whole = packet_whole by 1 4 worked_payload 2 carried carried_is (omega arith);
     number = (sym low_half_is, omega arith);
@@ -158,7 +158,7 @@ module _ (first second : Octets) where
   lone : HasLone unused (lone_pair unused)
   lone = lone_in unused
 
-  addressed : IsAddressedTo (receiving_table (unused_window 2)) carried unused
+  pub addressed : IsAddressedTo (receiving_table (unused_window 2)) carried unused
   addressed = record {
     has_spi = let least = judged.whole.least in omega (arith, least);
     inbound = subst (λ (spi : ℕ). IsInbound (lone_pair unused) spi unused) (sym carried_spi) (lone_inbound unused (lone_pair unused) 512 lone fit);

@@ -250,10 +250,10 @@ module _ {C : Type 0} (a b : C) where
   }
 
   abbrev pub answers : Happening C
-  answers = record { before = begun_world; event = comes_to B 1 request_octets 2; said = Reply answer_octets None; after = answered_world }
+  answers = record { before = begun_world; event = comes_to B request_octets 2; said = Reply answer_octets None; after = answered_world }
 
   abbrev pub tells : Happening C
-  tells = record { before = answered_world; event = comes_to A 2 answer_octets 3; said = Requested 1 auth_octets; after = told_world }
+  tells = record { before = answered_world; event = comes_to A answer_octets 3; said = Requested 1 auth_octets; after = told_world }
 
   module _ (response : Octets) where
     abbrev pub all_keyed : List Keyed
@@ -301,10 +301,10 @@ module _ {C : Type 0} (a b : C) where
     last_world = record probed_world { a = end_with A a counted (asking_table 1) }
 
     abbrev pub accepts : Happening C
-    accepts = record { before = told_world; event = comes_to B 1 auth_octets 4; said = Reply response None; after = accepted_world }
+    accepts = record { before = told_world; event = comes_to B auth_octets 4; said = Reply response None; after = accepted_world }
 
     abbrev pub concludes : Happening C
-    concludes = record { before = accepted_world; event = comes_to A 2 response 5; said = Counted 1 (Some 1) None; after = child_world }
+    concludes = record { before = accepted_world; event = comes_to A response 5; said = Counted 1 (Some 1) None; after = child_world }
 
     abbrev pub seals : Happening C
     seals = record {
@@ -331,10 +331,10 @@ module _ {C : Type 0} (a b : C) where
     }
 
     abbrev pub is_there : Happening C
-    is_there = record { before = probing_world; event = comes_to B 1 worked_request 7; said = Reply worked_reply None; after = probed_world }
+    is_there = record { before = probing_world; event = comes_to B worked_request 7; said = Reply worked_reply None; after = probed_world }
 
     abbrev pub counts : Happening C
-    counts = record { before = probed_world; event = comes_to A 2 worked_reply 8; said = Counted 1 None None; after = last_world }
+    counts = record { before = probed_world; event = comes_to A worked_reply 8; said = Counted 1 None None; after = last_world }
 
     abbrev pub all_steps : List (Happening C)
     all_steps =

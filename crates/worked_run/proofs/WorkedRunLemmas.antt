@@ -20,8 +20,8 @@ use Rattle.worked_run.proofs.BeginningLemmas.{first_steps_are, told_one_is_sound
 use Rattle.worked_run.proofs.ConcludingLemmas.{auth_response_was_sent, child_one_is_sound, child_steps_are}
 use Rattle.worked_run.proofs.HeldLemmas.{answering_in_time, answering_table_is_sound, asking_in_time, asking_table_is_sound}
 use Rattle.worked_run.proofs.KeyedLemmas.{came_as_initiator, came_as_responder, none_comes_answering, none_comes_beginning, none_comes_telling}
-use Rattle.worked_run.proofs.LastLemmas.{all_at, answer_comes, answer_was_sent, answered_held, answered_there, asked_held, asked_there, both_are_held, both_are_held_back, last_steps_are, never_made_twice, none_comes_handing_up, none_comes_probing, none_comes_sealing, of_one, one_sender, one_sender_back, probe_comes, probe_was_sent, unforged_back, unforged_to, OneTime}
-use Rattle.worked_run.proofs.NewEndLemmas.{can_be, is_fresh, new_end_holds_nothing, new_ends_are_sound, policy_is_sound, set_up, starts, NewWorldsAreSound}
+use Rattle.worked_run.proofs.LastLemmas.{all_at, answer_comes, answer_was_sent, answered_held, answered_there, asked_held, asked_there, both_are_held, both_are_held_back, last_steps_are, never_made_twice, none_comes_handing_up, none_comes_probing, none_comes_sealing, of_one, one_sender, one_sender_back, packet_comes, probe_comes, probe_was_sent, unforged_back, unforged_to, OneTime}
+use Rattle.worked_run.proofs.NewEndLemmas.{can_be, is_fresh, new_end_holds_nothing, new_ends_are_sound, policy_is_sound, set_up, starts, typed, NewWorldsAreSound}
 use Rattle.worked_run.proofs.ResponseLemmas.{response_octets}
 use Rattle.worked_run.proofs.SentLemmas.{OneMessage}
 use Rattle.worked_run.proofs.SoundnessLemmas.{NoSpiIsLost, SoundnessStays}
@@ -112,6 +112,7 @@ module _ {C : Type 0} (a b : C) where
     trail = run_is stays held;
     can_be = can_be;
     configs = set_up;
+    typed = typed;
     policy = policy_is_sound;
     starts = starts;
     holds_nothing = holds_nothing;
@@ -152,6 +153,9 @@ module _ {C : Type 0} (a b : C) where
     asked_serial = refl;
     answered_end = refl;
     answered_serial = refl;
+    packet_step = hands_up a b response_octets;
+    delivers = refl;
+    packet_comes = packet_comes a b response_octets;
     asked_held = asked_held a b response_octets;
     answered_held = answered_held a b response_octets;
     unforged_to = unforged_to a b response_octets;

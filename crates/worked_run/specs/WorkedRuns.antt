@@ -1,8 +1,8 @@
 -- A worked run of a world, for which the premises of what is promised of both ends are shown to hold. It begins with two new gateways: they set up an
 -- association and its first child, a packet goes from A to B, and A's probe is answered (RFC 7296 sections 1.2, 1.4, 2.4, 2.14 and 2.15; RFC 4301
 -- sections 5.1 and 5.2; RFC 4303 sections 3.3 and 3.4).
-use Rattle.std.specs.Prelude.{◌≡◌, ◌≤◌, ◌∷◌, false, true, ℕ, None, Some, List, [], Contains, map, replicate, slice_get}
-use Rattle.base.specs.Octets.{Octets}
+use Rattle.std.specs.Prelude.{◌≡◌, ◌≤◌, ◌∷◌, false, true, ℕ, None, Some, List, [], Contains, length, map, replicate, slice_get}
+use Rattle.base.specs.Octets.{AreOctets, Octets}
 use Rattle.base.specs.declared.address.Range.TheVariants.{V4}
 use Rattle.esp.specs.Worked.{worked_payload}
 use Rattle.policy.specs.Entries.{IsSoundPolicy}
@@ -22,10 +22,10 @@ use Rattle.gateway.specs.Outputs.{Counted, OutputView, Reply, Request, Sealed, U
 use Rattle.gateway.specs.States.{new_gateway, State}
 use Rattle.gateway.specs.WorldChildren.{AreOfOneRequest}
 use Rattle.gateway.specs.WorldHistories.{Happening, IsWorldTrail}
-use Rattle.gateway.specs.WorldPackets.{HasOneSender, HoldsSomePairOf, IsUnforgedTo}
+use Rattle.gateway.specs.WorldPackets.{HasOneSender, HoldsSomePairOf, IsJudgedAt, IsUnforgedTo}
 use Rattle.gateway.specs.WorldParties.{AreBothHeld, IsNeverMadeTwice}
 use Rattle.gateway.specs.WorldPromises.{ComesUnder, IsUnforgedByThen}
-use Rattle.gateway.specs.Worlds.{gateway_at, new_world, HoldsNothing, WorldState}
+use Rattle.gateway.specs.Worlds.{gateway_at, new_world, other_end, HoldsNothing, WorldState}
 use Rattle.gateway.specs.declared.input.Input.TheVariants as input
 use Rattle.gateway.specs.declared.world.stored.Child.{Child}
 use Rattle.gateway.specs.declared.world.stored.End.{End}
@@ -95,6 +95,12 @@ new_end {C} end caller = new_gateway (config_at end) all_protected (spi_at end) 
 abbrev pub new_ends : {C : Type 0} → C → C → WorldState C
 new_ends {C} a b = new_world (new_end A a) (new_end B b)
 
+-- what the code's types say of a configuration, where nothing else does: addresses are of IPv4, and a secret has 32 octets
+pub record IsTyped (config : Config) : Type 0 where
+  pub own : AreOctets config.own.address × (length config.own.address ≡ 4)
+  pub peer : AreOctets config.peer.address × (length config.peer.address ≡ 4)
+  pub cookie_secret : AreOctets config.cookie_secret × (length config.cookie_secret ≡ 32)
+
 -- ---- what happens
 
 -- the datagrams of the run, in the order in which they are sent
@@ -107,24 +113,24 @@ pub record Exchanged : Type 0 where
   pub probe : Octets
   pub probe_response : Octets
 
--- a datagram of IKE comes to this end, from the address of the end of the number `from`; what is fresh at the step is told by a number too
-abbrev pub comes_to : End → ℕ → Octets → ℕ → Event
-comes_to end from octets number = record { end = end; input = input.Ike (replicate 4 from) octets (fresh_of number) }
+-- a datagram of IKE comes to this end, from the other's address; what is fresh at the step is told by a number
+abbrev pub comes_to : End → Octets → ℕ → Event
+comes_to end octets number = record { end = end; input = input.Ike (config_at (other_end end)).own.address octets (fresh_of number) }
 
 -- A is ordered to set up an association with a first child, by the first entry; the four messages come as they were sent. Then a packet goes out at A
 -- and comes to B; A is ordered to ask whether B is there, and the request and its response come.
 abbrev pub events_of : Exchanged → List Event
 events_of e =
     record { end = A; input = input.Start None 0 (fresh_of 1) }
-    ∷ comes_to B 1 e.init_request 2
-    ∷ comes_to A 2 e.init_response 3
-    ∷ comes_to B 1 e.auth_request 4
-    ∷ comes_to A 2 e.auth_response 5
+    ∷ comes_to B e.init_request 2
+    ∷ comes_to A e.init_response 3
+    ∷ comes_to B e.auth_request 4
+    ∷ comes_to A e.auth_response 5
     ∷ record { end = A; input = input.Outward worked_payload }
     ∷ record { end = B; input = input.Esp e.packet }
     ∷ record { end = A; input = input.Probe 1 (fresh_of 6) }
-    ∷ comes_to B 1 e.probe 7
-    ∷ comes_to A 2 e.probe_response 8
+    ∷ comes_to B e.probe 7
+    ∷ comes_to A e.probe_response 8
     ∷ []
 
 -- what comes of each
@@ -158,6 +164,7 @@ pub record IsRunFromNewGateways {C : Type 0} (a b : C) : Type 0 where
   -- what is asked of the caller, of how both are set up, of what they hold at first, and of what is fresh
   pub can_be : CanBeMeant (asker_of run_meaning) run_meaning.plain_of
   pub configs : (end : End) → IsConfig (config_at end)
+  pub typed : (end : End) → IsTyped (config_at end)
   pub policy : IsSoundPolicy all_protected
   pub starts : (end : End) → IsStart (spi_at end)
   pub holds_nothing : (end : End) → HoldsNothing (gateway_at end (new_ends a b))
@@ -202,6 +209,9 @@ pub record IsRunFromNewGateways {C : Type 0} (a b : C) : Type 0 where
   pub asked_serial : asked.serial ≡ 1
   pub answered_end : answered.end ≡ B
   pub answered_serial : answered.serial ≡ 1
+  pub packet_step : Happening C
+  pub delivers : slice_get happenings 6 ≡ Some packet_step
+  pub packet_comes : IsJudgedAt answered 1 exchanged.packet packet_step
   pub asked_held : HoldsSomePairOf asked last
   pub answered_held : HoldsSomePairOf answered last
   pub unforged_to : IsUnforgedTo answered happenings last.stored
