@@ -1,6 +1,7 @@
 mod RecordLemmas
 pub mod OctetLemmas
 pub mod InitLemmas
+pub mod SealedLemmas
 pub mod AuthLemmas
 pub mod CallerLemmas
 pub mod RequestLemmas

@@ -21,9 +21,10 @@ use Rattle.initial.specs.declared.beginning.Admitted.{Admitted}
 use Rattle.initial.specs.declared.beginning.Beginning.{Beginning}
 use Rattle.initial.specs.declared.reading.Continued.TheVariants as continued
 use Rattle.both_ends.specs.Records.{ComesToKeysAsInitiator, ComesToKeysAsResponder}
+use Rattle.wire.specs.Parts.{IsZero}
 use Rattle.both_ends.specs.WorkedRecords.{answering_fresh, beginning_fresh, introduction_of, worked_asker, worked_record, AreOfOneExchange, IsWorkedRecord}
 use Rattle.both_ends.proofs.AcceptLemmas.{answer_accepted, chosen_is, worked_chosen}
-use Rattle.both_ends.proofs.AuthLemmas.{auth_chain, auth_octets, auth_sealed, plain_octets, sendable, worked_child}
+use Rattle.both_ends.proofs.AuthLemmas.{auth_octets, plain_octets, request_chain, request_is, sendable, worked_child}
 use Rattle.both_ends.proofs.CallerLemmas.{answering_is, beginning_is, can_be, reading_is, set_up, worked_setup}
 use Rattle.both_ends.proofs.InitLemmas.{answer_octets, answer_read, answer_sent, answered_message, asked_message, init_proposal, request_octets, request_read, request_sent}
 use Rattle.both_ends.proofs.OctetLemmas.{octets_if}
@@ -137,7 +138,7 @@ tells : TellsIdentity worked_asker worked_setup waiting init_sent 0 answered_mes
 tells = record {
   request = first_request;
   outstanding = first_waits first_request;
-  sealed = record { first = 35; plain = plain_octets; spelled = auth_chain; octets = octets_if plain_octets refl; whole = auth_sealed };
+  sealed = record { first = 35; plain = plain_octets 1; spelled = request_chain IsZero refl; octets = octets_if (plain_octets 1) refl; whole = request_is IsZero refl };
   issued = second_issued second_request;
   content = refl;
 }

@@ -1,5 +1,5 @@
--- The worked packet is sealed by A's pair, and judged, opened and handed up by B's, whatever the keys of the child are.
-use Rattle.std.proofs.Common.{inl, inr, ◌≡◌, ◌+◌, ◌||◌, ◌&&◌, ◌++◌, ℕ, Bool, true, false, refl, sym, ap, ◌∙◌, subst, arith}
+-- The worked packet is sealed by A's pair, and judged, opened and handed up by B's, whatever the SPIs and the keys of the child are.
+use Rattle.std.proofs.Common.{inl, inr, ◌≡◌, ◌<◌, ◌+◌, ◌^◌, ◌||◌, ◌&&◌, ◌++◌, ℕ, Bool, true, false, [], Contains, refl, sym, ap, ◌∙◌, subst, arith}
 use Rattle.std.specs.Prelude.{nat_eq, nat_lt}
 use Rattle.std.specs.FinMap as map
 use Rattle.std.specs.FinSet as set
@@ -7,6 +7,8 @@ use Rattle.std.specs.Ordering.{nat_cmp}
 use Rattle.std.proofs.lemmas.Bool.{both_ways, lt-ltb, ne_eqb}
 use Rattle.std.proofs.lemmas.Bool.Decides.{eqb_tells}
 use Rattle.std.proofs.lemmas.List.{append_assoc}
+use Rattle.byteorder.specs.Endian.{big_bytes}
+use Rattle.byteorder.specs.Numbers.{big_number-reads_back}
 use Rattle.base.specs.Octets.{Octets}
 use Rattle.replay.specs.Window.{unused_window, IsSoundWindow, Seen, Takes}
 use Rattle.esp.specs.Judging.{low_half, Judges}
@@ -16,16 +18,23 @@ use Rattle.esp.specs.Worked.{worked_payload}
 use Rattle.esp.specs.declared.association.Association as esp
 use Rattle.esp.proofs.NumberLemmas.{contains-insert_nat}
 use Rattle.esp.proofs.PacketLemmas.{packet_contents, packet_low_half, packet_passes, packet_whole}
-use Rattle.sadb.specs.Database.{Database, IsInbound}
+use Rattle.sadb.specs.Database.{Database, IsInbound, PairMap}
 use Rattle.sadb.specs.declared.pair.Pair.{Pair}
 use Rattle.sadb.specs.declared.pair.State.TheVariants.{Live}
 use Rattle.traffic.specs.Outcomes.{Sealed, Up}
 use Rattle.traffic.specs.Receiving.{spi_of, IsAddressedTo, Receives}
 use Rattle.traffic.specs.Sending.{Sends}
 use Rattle.deliveries.specs.Worked.{any_traffic}
-use Rattle.worked_ends.specs.WorkedChildren.{all_protected, lone_pair, one_taken, table_with}
+use Rattle.gateway.specs.WorldPackets.{HasSentPacket}
+use Rattle.gateway.specs.Worlds.{datagram_of, simplex_of, Stored}
+use Rattle.gateway.specs.declared.input.Input.{Input}
+use Rattle.gateway.specs.declared.input.Input.TheVariants as input
+use Rattle.gateway.specs.declared.world.stored.Datagram.{Datagram}
+use Rattle.gateway.specs.declared.world.stored.End.TheVariants.{A}
+use Rattle.gateway.specs.declared.world.stored.Mark.TheVariants as mark
+use Rattle.worked_ends.specs.WorkedChildren.{all_protected, lone_pair, one_taken}
 use Rattle.worked_ends.proofs.FlowLemmas.{worked_covered, worked_decided, worked_flow, worked_traffic}
-use Rattle.worked_ends.proofs.TableLemmas.{lone_in, lone_inbound, none_taken, unused_sound, IsFit}
+use Rattle.worked_ends.proofs.TableLemmas.{lone_in, lone_inbound, none_taken, unused_sound, HasLone}
 
 with_true : (x m : Bool) → m ≡ true → x ≡ (x && m)
 with_true true m is = sym is
@@ -46,7 +55,7 @@ is_one n is = elim (eqb_tells n 1) [
       absurd (both_ways _ (beside ∙ none_taken n) is)
 ]
 
-one_sound : IsSoundWindow one_taken
+pub one_sound : IsSoundWindow one_taken
 one_sound = record {
   spans = omega arith;
   not_zero = λ n is. let same = is_one n is in omega (arith, same);
@@ -56,13 +65,18 @@ one_sound = record {
   fits = omega arith;
 }
 
--- by the key of what A sends, and by the key of what B sends
-module _ (first second : Octets) where
+-- the octets of an ESP packet
+abbrev esp_octets : Input → Octets
+esp_octets (input.Esp octets) = octets
+esp_octets _ = []
+
+-- by the SPI of what A sends and that of what B sends, and by the keys of both
+module _ (spi other : ℕ) (small : spi < 2 ^ 32) (first second : Octets) where
   abbrev by : esp.Association
-  by = record { spi = 256; key = first; extended = false }
+  by = record { spi = spi; key = first; extended = false }
 
   abbrev back : esp.Association
-  back = record { spi = 512; key = second; extended = false }
+  back = record { spi = other; key = second; extended = false }
 
   abbrev carried : Octets
   carried = packet by 1 4 worked_payload 2
@@ -89,24 +103,15 @@ module _ (first second : Octets) where
     state = Live;
   }
 
-  pub sender_fits : (last : ℕ) → IsFit (sender last) 512
-  sender_fits last = record { serial = refl; inbound = refl; window = unused_sound }
-
-  pub receiver_fits : IsFit (receiver (unused_window 2)) 256
-  receiver_fits = record { serial = refl; inbound = refl; window = unused_sound }
-
-  pub later_fits : IsFit (receiver one_taken) 256
-  later_fits = record { serial = refl; inbound = refl; window = one_sound }
-
   -- ---- the packet
 
   carried_is : IsPacket by 1 4 worked_payload 2 carried
   carried_is = record { octets = refl; aligned = refl; one_octet = omega arith; fits = omega arith }
 
-  pub low_half_is : low_half carried ≡ 1
+  low_half_is : low_half carried ≡ 1
   low_half_is = packet_low_half by 1 4 worked_payload 2 carried carried_is
 
-  judged : Judges by (unused_window 2) carried 1
+  pub judged : Judges by (unused_window 2) carried 1
   judged = record {
     whole = packet_whole by 1 4 worked_payload 2 carried carried_is (omega arith);
     number = (sym low_half_is, omega arith);
@@ -118,88 +123,102 @@ module _ (first second : Octets) where
   contents : IsContents carried 4 worked_payload
   contents = packet_contents by 1 4 worked_payload 2 carried carried_is
 
-  spi_of_head : (others : Octets) → spi_of (head by 1 ++ others) ≡ 256
-  spi_of_head others = refl
-
-  pub carried_spi : spi_of carried ≡ 256
+  carried_spi : spi_of carried ≡ spi
   carried_spi =
       let begins : Octets = head by 1 in
       let ends : Octets = trailer 2 4 in
       let check : Octets = check_value by 1 (begins ++ worked_payload ++ ends) in
-      let split : carried ≡ begins ++ (worked_payload ++ (ends ++ check)) =
-      append_assoc (begins ++ worked_payload) ends check ∙ append_assoc begins worked_payload (ends ++ check) in
-      ap spi_of split ∙ spi_of_head (worked_payload ++ (ends ++ check))
+      let low : Octets = big_bytes 4 1 in
+      let split : carried ≡ big_bytes 4 spi ++ (low ++ (worked_payload ++ (ends ++ check))) =
+      append_assoc (begins ++ worked_payload) ends check
+      ∙ append_assoc begins worked_payload (ends ++ check)
+      ∙ append_assoc (big_bytes 4 spi) low (worked_payload ++ (ends ++ check)) in
+      ap spi_of split ∙ big_number-reads_back 4 spi (low ++ (worked_payload ++ (ends ++ check))) (omega (arith, small))
 
-  -- ---- it is sealed
+  -- in any table, given these pairs
+  module _ (table : Database) where
+    abbrev with_pairs : PairMap → Database
+    with_pairs pairs = record table { pairs = pairs }
 
-  shortest : IsShortestPacket by 1 4 worked_payload carried
-  shortest = record { p = 2; packet = carried_is; shortest = λ q other is. (let aligned = is.aligned in omega (arith, aligned)) }
+    -- ---- it is sealed
 
-  abbrev table_before : Database
-  table_before = table_with 512 (lone_pair (sender 0))
+    shortest : IsShortestPacket by 1 4 worked_payload carried
+    shortest = record { p = 2; packet = carried_is; shortest = λ q other is. (let aligned = is.aligned in omega (arith, aligned)) }
 
-  abbrev table_after : Database
-  table_after = record table_before { pairs = map.insert table_before.pairs 1 (sender 1) }
+    alone : HasLone (sender 0) (lone_pair (sender 0))
+    alone = lone_in (sender 0)
 
-  pub it_is_sealed : Sends table_before all_protected worked_payload (Sealed 1 1 carried) table_after
-  it_is_sealed = record {
-    flow = worked_flow;
-    decided = worked_decided;
-    protects = record {
-      carrier = record {
-        carries = record { pair = sender 0; there = (lone_in (sender 0)).there; live = refl; covered = worked_covered };
-        greatest = λ other above carries. (let same = ((lone_in (sender 0)).only other carries.pair carries.there).serial_is in absurd (omega (arith, above, same)));
-      };
-      sealed = record {
-        pair = sender 0;
-        outbound = (sender 1).outbound;
-        sealed = record {
-          has_number = omega arith;
-          fits = omega arith;
-          number = refl;
-          last = refl;
-          packet = carried;
-          appended = refl;
-          shortest = shortest;
+    pub it_is_sealed : (after : PairMap) → after ≡ map.insert (lone_pair (sender 0)) 1 (sender 1)
+        → Sends (with_pairs (lone_pair (sender 0))) all_protected worked_payload (Sealed 1 1 carried) (with_pairs after)
+    it_is_sealed after is = record {
+      flow = worked_flow;
+      decided = worked_decided;
+      protects = record {
+        carrier = record {
+          carries = record { pair = sender 0; there = alone.there; live = refl; covered = worked_covered };
+          greatest = λ other above carries. (let same = (alone.only other carries.pair carries.there).number in absurd (omega (arith, above, same)));
         };
-        changed = record { there = (lone_in (sender 0)).there; content = refl };
+        sealed = record {
+          pair = sender 0;
+          outbound = (sender 1).outbound;
+          sealed = record {
+            has_number = omega arith;
+            fits = omega arith;
+            number = refl;
+            last = refl;
+            packet = carried;
+            appended = refl;
+            shortest = shortest;
+          };
+          changed = record { there = alone.there; content = ap with_pairs is };
+        };
       };
-    };
-  }
+    }
 
-  -- ---- it is received
+    -- ---- it is received
 
-  abbrev receiving_table : Database
-  receiving_table = table_with 256 (lone_pair (receiver (unused_window 2)))
+    abbrev unused : Pair
+    unused = receiver (unused_window 2)
 
-  abbrev received_table : Database
-  received_table = record receiving_table { pairs = map.insert receiving_table.pairs 1 (receiver one_taken) }
+    lone : HasLone unused (lone_pair unused)
+    lone = lone_in unused
 
-  addressed : IsAddressedTo receiving_table carried (receiver (unused_window 2))
-  addressed = record {
-    has_spi = let least = judged.whole.least in omega (arith, least);
-    inbound = subst (λ (spi : ℕ). IsInbound (lone_pair (receiver (unused_window 2))) spi (receiver (unused_window 2))) (sym carried_spi) (lone_inbound (receiver (unused_window 2)) (lone_pair (receiver (unused_window 2))) 256 (lone_in (receiver (unused_window 2))) receiver_fits);
-  }
+    pub addressed : IsAddressedTo (with_pairs (lone_pair unused)) carried unused
+    addressed = record {
+      has_spi = let least = judged.whole.least in omega (arith, least);
+      inbound = subst (λ (n : ℕ). IsInbound (lone_pair unused) n unused) (sym carried_spi)
+          (lone_inbound unused (lone_pair unused) spi lone (record { serial = refl; inbound = refl; window = unused_sound }));
+    }
 
-  pub it_is_received : Receives receiving_table carried (Up 1 1 worked_payload) received_table
-  it_is_received = record {
-    pair = receiver (unused_window 2);
-    addressed = addressed;
-    child_is = refl;
-    next = 4;
-    payload = worked_payload;
-    opened = record {
-      pair = receiver (unused_window 2);
-      inbound = record { association = by; window = one_taken };
-      opened = record { judged = judged; taken = record { association = refl; window = one_is_taken }; contents = contents };
-      changed = record { there = (lone_in (receiver (unused_window 2))).there; content = refl };
-    };
-    verdict_is = (refl, worked_traffic);
-  }
+    pub it_is_received : (after : PairMap) → after ≡ map.insert (lone_pair unused) 1 (receiver one_taken)
+        → Receives (with_pairs (lone_pair unused)) carried (Up 1 1 worked_payload) (with_pairs after)
+    it_is_received after is = record {
+      pair = unused;
+      addressed = addressed;
+      child_is = refl;
+      next = 4;
+      payload = worked_payload;
+      opened = record {
+        pair = unused;
+        inbound = record { association = by; window = one_taken };
+        opened = record { judged = judged; taken = record { association = refl; window = one_is_taken }; contents = contents };
+        changed = record { there = lone.there; content = ap with_pairs is };
+      };
+      verdict_is = (refl, worked_traffic);
+    }
 
-  -- to which pair whatsoever it is addressed, and as which number it is judged, the number is 1
-  pub one_number : (pair : Pair) (number : ℕ) (octets : Octets) → carried ≡ octets → IsAddressedTo receiving_table octets pair → Judges pair.inbound.association pair.inbound.window octets number → number ≡ 1
-  one_number pair number octets same addressed is =
-      let lone : pair ≡ receiver (unused_window 2) = ((lone_in (receiver (unused_window 2))).only pair.serial pair addressed.inbound.there).pair_is in
-      let of_lone : Judges by (unused_window 2) octets number = subst (λ (p : Pair). Judges p.inbound.association p.inbound.window octets number) lone is in
-      of_lone.number.0 ∙ ap low_half (sym same) ∙ low_half_is
+    -- What comes as the same octets is judged as number 1, so it had been sent where that packet had.
+    pub packet_was_sent : (stored : Stored) → Contains stored.sent (datagram_of A (mark.Esp (simplex_of by) 1) carried)
+        → (pair : Pair) (number : ℕ) (octets : Octets) → input.Esp carried ≡ input.Esp octets → IsAddressedTo (with_pairs (lone_pair unused)) octets pair
+        → Judges pair.inbound.association pair.inbound.window octets number → HasSentPacket A spi first number octets stored
+    packet_was_sent stored sent pair number octets given there is =
+        let same : carried ≡ octets = ap esp_octets given in
+        let found : pair ≡ unused = (lone.only pair.serial pair there.inbound.there).content in
+        let of_found : Judges by (unused_window 2) octets number = subst (λ (p : Pair). Judges p.inbound.association p.inbound.window octets number) found is in
+        let number_is : number ≡ 1 = of_found.number.0 ∙ ap low_half (sym same) ∙ low_half_is in
+        record {
+          by = simplex_of by;
+          spi_is = refl;
+          key_is = refl;
+          sent = subst (λ (d : Datagram). Contains stored.sent d) (λ i. datagram_of A (mark.Esp (simplex_of by) (sym number_is i)) (same i)) sent;
+        }

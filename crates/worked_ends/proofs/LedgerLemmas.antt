@@ -1,14 +1,12 @@
 -- The worked world is sound under the keys: what each end's numbers say was sent was sent, and what they say came was sent by the other.
-use Rattle.std.proofs.Common.{◌≡◌, ◌↔◌, ◌<◌, ◌≤◌, ◌∷◌, inl, inr, ℕ, zero, suc, Option, Some, None, List, [], Contains, cond, ap, arith, refl, subst, sym, ◌∙◌}
-use Rattle.std.proofs.lemmas.Bool.{true≢false, eq-eqb, ne_eqb}
+use Rattle.std.proofs.Common.{◌≡◌, ◌<◌, ◌≤◌, ◌∷◌, inl, inr, ℕ, zero, suc, Option, Some, None, List, [], Contains, cond, ap, arith, refl, subst, sym, ◌∙◌}
+use Rattle.std.proofs.lemmas.Bool.{true≢false}
 use Rattle.std.proofs.lemmas.Bool.Decides.{eqb_tells}
-use Rattle.std.specs.Cmp.{nat_cmp_total, unsigned_tied}
 use Rattle.std.specs.FinMap as map
 use Rattle.std.specs.FinSet as set
 use Rattle.std.specs.Option.{option_map}
 use Rattle.std.specs.Ordering.{nat_cmp}
 use Rattle.base.specs.Octets.{Octets}
-use Rattle.suite.specs.declared.key_record.KeyRecord.{KeyRecord}
 use Rattle.exchange.specs.declared.headers.Role.TheVariants.{Initiator}
 use Rattle.requests.specs.Numbers.{LacksNumber}
 use Rattle.association.specs.declared.phase.Association.{Association}
@@ -28,14 +26,12 @@ use Rattle.gateway.specs.declared.world.stored.End.TheVariants.{A, B}
 use Rattle.gateway.specs.declared.world.stored.Simplex.{Simplex}
 use Rattle.gateway.proofs.PartyLemmas.{has_ledger, some_is}
 use Rattle.gateway.proofs.WorkedRequestLemmas.{first_three, gap_of, lacks_if_not, no_reply, none_asked}
+use Rattle.gateway.proofs.WorkedWorldLemmas.{OneTime}
 use Rattle.worked_ends.specs.WorkedChildren.{answering_association, asking_association, carried_octets, carrying, sealed_world, three_numbers, three_taken, worked_stored}
 use Rattle.worked_ends.specs.WorkedMessages.{answering_octets, asking_octets, first_answering, first_asking, probe_octets}
+use Rattle.worked_ends.proofs.MapLemmas.{only_there, IsOnly}
 use Rattle.worked_ends.proofs.SentLemmas.{a_once, a_sent, answered_numbers, asked_numbers, b_once, b_sent, first_request_in, second_response_in, no_request, no_response, first_response_in, second_request_in, third_request_in, SentIsTold}
 use Rattle.worked_ends.proofs.WaitingLemmas.{waits_at}
-
--- how often a key record is in a list of one
-abbrev pub OneTime : Type 0
-OneTime = (keys k : KeyRecord) → times keys (k ∷ []) ≡ 1 ↔ (k ≡ keys)
 
 none_in : (n : ℕ) → LacksNumber set.empty n
 none_in n = set.contains-empty nat_cmp n
@@ -55,18 +51,8 @@ serial_is a s b one found = elim (eqb_tells a.serial s) [
 
 -- ---- the reply that is kept
 
-pub record IsTheReply (reply : Octets) (n : ℕ) (octets : Octets) : Type 0 where
-  pub number : n ≡ 2
-  pub reply_is : octets ≡ reply
-
-pub the_reply : (reply : Octets) (n : ℕ) (octets : Octets) → map.get (three_taken reply).kept n ≡ Some octets → IsTheReply reply n octets
-the_reply reply n octets is = elim (eqb_tells n 2) [
-  | inl (_, same) ↦ record {
-    number = same;
-    reply_is = sym (some_is reply octets (sym (map.get-insert nat_cmp_total first_taken.kept 2 reply n ∙ ap (λ b. cond b (Some reply) (map.get first_taken.kept n)) (unsigned_tied n 2 ∙ eq-eqb n 2 same)) ∙ is));
-  }
-  | inr (_, apart) ↦ absurd (no_reply n octets (sym (map.get-insert nat_cmp_total first_taken.kept 2 reply n ∙ ap (λ b. cond b (Some reply) (map.get first_taken.kept n)) (unsigned_tied n 2 ∙ ne_eqb n 2 apart)) ∙ is))
-]
+pub the_reply : (reply : Octets) (n : ℕ) (octets : Octets) → map.get (three_taken reply).kept n ≡ Some octets → IsOnly 2 reply n octets
+the_reply = only_there first_taken.kept refl 2
 
 -- ---- the ledgers, whatever the octets were
 
@@ -167,7 +153,7 @@ module _ (request reply asks answers : Octets) (by : Simplex) (carried : Octets)
       waits = λ n octets is. absurd (none_wait n octets _ refl is);
       kept = λ n octets is.
           let it = the_reply answers n octets is in
-          let same : response_of 2 answers ≡ response_of n octets = (λ i. response_of (sym it.number i) (sym it.reply_is i)) in
+          let same : response_of 2 answers ≡ response_of n octets = (λ i. response_of (sym it.number i) (sym it.content i)) in
           subst (λ (e : Entry). Contains from_b e) same
           (second_response_in request reply asks answers by carried probe_octets told);
     };

@@ -11,3 +11,7 @@ pub mod StateLemmas
 mod WindowLemmas
 mod WorkedChildLemmas
 pub mod MapLemmas
+pub mod TakenLemmas
+pub mod InformationalLemmas
+pub mod ArrivalLemmas
+pub mod SenderLemmas

@@ -1,92 +1,28 @@
 -- The messages of the worked world are spelled so, and seal their payloads; the two that made the child open to these.
-use Rattle.std.proofs.Common.{◌≡◌, ◌<◌, ◌^◌, ◌++◌, ◌∷◌, ℕ, Bool, true, false, List, [], ap, arith, refl}
+use Rattle.std.proofs.Common.{◌++◌, ◌∷◌, ℕ, Bool, true, false, List, [], arith, refl}
 use Rattle.std.specs.List.{AllByRecursion}
-use Rattle.byteorder.specs.Endian.{big_bytes}
 use Rattle.base.specs.Octets.{AreOctets, IsOctet, Octets}
 use Rattle.wire.specs.Messages.{SpellsHeader, SpellsWith}
-use Rattle.wire.specs.Parts.{IsMarked, IsZero}
+use Rattle.wire.specs.Parts.{IsZero}
 use Rattle.wire.specs.Payloads.{IsClear, SpellsChain, SpellsPayload, SpellsPayloads}
-use Rattle.wire.specs.Proposals.{SpellsProposal, SpellsTransform}
-use Rattle.wire.specs.Selectors.{SpellsSelectors}
 use Rattle.wire.specs.declared.message.Header.{Header}
 use Rattle.wire.specs.declared.message.Message.{Message}
 use Rattle.wire.specs.declared.payload.Payload.{Payload}
-use Rattle.wire.specs.declared.payload.Payload.TheVariants.{Nonce, Sa, Sealed, TsI, TsR}
-use Rattle.suite.specs.Choice.{without_attributes}
+use Rattle.wire.specs.declared.payload.Payload.TheVariants.{Nonce, Sealed}
 use Rattle.suite.specs.Sealing.{AreKeys}
 use Rattle.exchange.specs.Headers.{keys_of, sent_header}
 use Rattle.exchange.specs.declared.headers.Role.{Role}
 use Rattle.exchange.specs.declared.headers.Role.TheVariants.{Initiator, Responder}
-use Rattle.deliveries.specs.Worked.{any_traffic}
 use Rattle.gateway.specs.WorkedRequests.{worked_keys, worked_meaning}
 use Rattle.gateway.specs.WorldChildren.{OpensToPayloads, SealsPayloads}
 use Rattle.gateway.proofs.WorkedRequestLemmas.{whole_keys}
 use Rattle.both_ends.proofs.OctetLemmas.{octets_if}
-use Rattle.worked_ends.specs.WorkedMessages.{answering_octets, answering_payloads, asking_octets, asking_payloads, first_answering, bare_octets, first_asking, header_octets, message_octets, nonce_octets, nonce_of, payloads_of, plain_octets, probe_octets, proposal_of, sa_octets, encrypted_octets, selector_octets}
-
--- the octets of a header in front of the number
-abbrev fixed_octets : ℕ → ℕ → Octets
-fixed_octets exchange flags = 0 ∷ 0 ∷ 0 ∷ 0 ∷ 0 ∷ 0 ∷ 0 ∷ 1 ∷ 0 ∷ 0 ∷ 0 ∷ 0 ∷ 0 ∷ 0 ∷ 0 ∷ 2 ∷ 46 ∷ 0x20 ∷ exchange ∷ flags ∷ []
+use Rattle.both_ends.proofs.SealedLemmas.{answering_header_is, asking_header_is, sa_is, sealed_is, traffic_is, traffic_octets}
+use Rattle.worked_ends.specs.WorkedMessages.{answering_octets, answering_payloads, asking_octets, asking_payloads, first_answering, bare_octets, first_asking, header_octets, message_octets, nonce_octets, nonce_of, payloads_of, plain_octets, probe_octets, sa_octets, encrypted_octets}
 
 -- ---- the payloads, with whatever may stand in reserved octets
 
 module _ (Free : ℕ → Type 0) (free : Free 0) where
-  transform_is : (mark kind id : ℕ) → 0 ∷ id ∷ [] ≡ big_bytes 2 id → id < 256 → IsMarked Free mark (SpellsTransform Free (without_attributes kind id)) (mark ∷ 0 ∷ 0 ∷ 8 ∷ kind ∷ 0 ∷ 0 ∷ id ∷ [])
-  transform_is mark kind id spelled small = record {
-    reserved = 0;
-    inside = kind ∷ 0 ∷ 0 ∷ id ∷ [];
-    free = free;
-    part = record { spelled = refl; fits = omega arith };
-    content = record {
-      reserved = 0;
-      attributes = [];
-      free = free;
-      spelled = ap (λ (os : Octets). kind ∷ 0 ∷ (os ++ [])) spelled;
-      id = omega (arith, small);
-      each = refl;
-    };
-  }
-
-  proposal_is : (k : ℕ) → SpellsProposal Free (proposal_of k)
-      (1 ∷ 3 ∷ 4 ∷ 3 ∷ 0 ∷ 0 ∷ k ∷ 0 ∷ 3 ∷ 0 ∷ 0 ∷ 8 ∷ 1 ∷ 0 ∷ 0 ∷ 11 ∷ 3 ∷ 0 ∷ 0 ∷ 8 ∷ 3 ∷ 0 ∷ 0 ∷ 12 ∷ 0 ∷ 0 ∷ 0 ∷ 8 ∷ 5 ∷ 0 ∷ 0 ∷ 0 ∷ [])
-  proposal_is k = record {
-    transforms = 3 ∷ 0 ∷ 0 ∷ 8 ∷ 1 ∷ 0 ∷ 0 ∷ 11 ∷ 3 ∷ 0 ∷ 0 ∷ 8 ∷ 3 ∷ 0 ∷ 0 ∷ 12 ∷ 0 ∷ 0 ∷ 0 ∷ 8 ∷ 5 ∷ 0 ∷ 0 ∷ 0 ∷ [];
-    spelled = refl;
-    spi = omega arith;
-    count = omega arith;
-    each = record {
-      front = 3 ∷ 0 ∷ 0 ∷ 8 ∷ 1 ∷ 0 ∷ 0 ∷ 11 ∷ [];
-      rest = 3 ∷ 0 ∷ 0 ∷ 8 ∷ 3 ∷ 0 ∷ 0 ∷ 12 ∷ 0 ∷ 0 ∷ 0 ∷ 8 ∷ 5 ∷ 0 ∷ 0 ∷ 0 ∷ [];
-      joined = refl;
-      first = transform_is 3 1 11 refl (omega arith);
-      others = record {
-        front = 3 ∷ 0 ∷ 0 ∷ 8 ∷ 3 ∷ 0 ∷ 0 ∷ 12 ∷ [];
-        rest = 0 ∷ 0 ∷ 0 ∷ 8 ∷ 5 ∷ 0 ∷ 0 ∷ 0 ∷ [];
-        joined = refl;
-        first = transform_is 3 3 12 refl (omega arith);
-        others = transform_is 0 5 0 refl (omega arith);
-      };
-    };
-  }
-
-  sa_is : (k : ℕ) → SpellsPayload Free (Sa (proposal_of k ∷ [])) 40 (sa_octets k)
-  sa_is k = record {
-    second = 0;
-    body = 0 ∷ 0 ∷ 0 ∷ 36 ∷ 1 ∷ 3 ∷ 4 ∷ 3 ∷ 0 ∷ 0 ∷ k ∷ 0 ∷ 3 ∷ 0 ∷ 0 ∷ 8 ∷ 1 ∷ 0 ∷ 0 ∷ 11 ∷ 3 ∷ 0 ∷ 0 ∷ 8 ∷ 3 ∷ 0 ∷ 0 ∷ 12 ∷ 0 ∷ 0 ∷ 0 ∷ 8 ∷ 5 ∷ 0 ∷ 0 ∷ 0 ∷ [];
-    part = record { spelled = refl; fits = omega arith };
-    header = free;
-    inside = record {
-      each = record {
-        reserved = 0;
-        inside = 1 ∷ 3 ∷ 4 ∷ 3 ∷ 0 ∷ 0 ∷ k ∷ 0 ∷ 3 ∷ 0 ∷ 0 ∷ 8 ∷ 1 ∷ 0 ∷ 0 ∷ 11 ∷ 3 ∷ 0 ∷ 0 ∷ 8 ∷ 3 ∷ 0 ∷ 0 ∷ 12 ∷ 0 ∷ 0 ∷ 0 ∷ 8 ∷ 5 ∷ 0 ∷ 0 ∷ 0 ∷ [];
-        free = free;
-        part = record { spelled = refl; fits = omega arith };
-        content = proposal_is k;
-      };
-      numbered = omega arith;
-    };
-  }
-
   nonce_is : (filling : ℕ) → SpellsPayload Free (Nonce (nonce_of filling)) 44 (nonce_octets filling)
   nonce_is filling = record {
     second = 0;
@@ -96,145 +32,33 @@ module _ (Free : ℕ → Type 0) (free : Free 0) where
     inside = record { spelled = refl; some = omega arith; few = omega arith };
   }
 
-  abbrev selectors : Octets
-  selectors = 7 ∷ 0 ∷ 0 ∷ 16 ∷ 0 ∷ 0 ∷ 255 ∷ 255 ∷ 0 ∷ 0 ∷ 0 ∷ 0 ∷ 255 ∷ 255 ∷ 255 ∷ 255 ∷ []
-
-  selectors_are : SpellsSelectors Free any_traffic (1 ∷ 0 ∷ 0 ∷ 0 ∷ selectors)
-  selectors_are = record {
-    reserved_1 = 0;
-    reserved_2 = 0;
-    reserved_3 = 0;
-    free = (free, free, free);
-    selectors = selectors;
-    spelled = refl;
-    some = omega arith;
-    few = omega arith;
-    each = record {
-      front = selectors;
-      rest = [];
-      joined = refl;
-      first = record {
-        part = record { spelled = refl; fits = omega arith };
-        ports = omega arith;
-        port = omega arith;
-        addresses = omega arith;
-        fits = (omega arith, omega arith);
-      };
-      others = refl;
-    };
-  }
-
-  ts_i_is : SpellsPayload Free (TsI any_traffic) 45 (selector_octets 45)
-  ts_i_is = record { second = 0; body = 1 ∷ 0 ∷ 0 ∷ 0 ∷ selectors; part = record { spelled = refl; fits = omega arith }; header = free; inside = selectors_are }
-
-  ts_r_is : SpellsPayload Free (TsR any_traffic) 0 (selector_octets 0)
-  ts_r_is = record { second = 0; body = 1 ∷ 0 ∷ 0 ∷ 0 ∷ selectors; part = record { spelled = refl; fits = omega arith }; header = free; inside = selectors_are }
-
   chain_is : (k filling : ℕ) → SpellsPayloads Free 33 (payloads_of k filling) (plain_octets k filling)
   chain_is k filling = (
     refl,
     40,
     record {
       front = sa_octets k;
-      rest = nonce_octets filling ++ (selector_octets 45 ++ selector_octets 0);
+      rest = nonce_octets filling ++ traffic_octets;
       joined = refl;
-      first = sa_is k;
-      others = (
-        refl,
-        44,
-        record {
-          front = nonce_octets filling;
-          rest = selector_octets 45 ++ selector_octets 0;
-          joined = refl;
-          first = nonce_is filling;
-          others = (
-            refl,
-            45,
-            record {
-              front = selector_octets 45;
-              rest = selector_octets 0;
-              joined = refl;
-              first = ts_i_is;
-              others = (refl, 0, record { front = selector_octets 0; rest = []; joined = refl; first = ts_r_is; others = (refl, refl) });
-            },
-          );
-        },
-      );
+      first = sa_is Free free 40 k;
+      others = (refl, 44, record { front = nonce_octets filling; rest = traffic_octets; joined = refl; first = nonce_is filling; others = traffic_is Free free });
     },
   )
 
   -- the message with this header, of the one encrypted payload that holds them
   message_is : (flags k filling : ℕ) (h : Header) → SpellsHeader Free h 46 (header_octets 36 flags 2) → AreOctets (message_octets flags k filling)
       → SpellsWith Free (record { header = h; payloads = Sealed 33 (plain_octets k filling) ∷ [] }) (message_octets flags k filling)
-  message_is flags k filling h head octets = record {
-    first = 46;
-    header = header_octets 36 flags 2;
-    payloads = encrypted_octets k filling;
-    whole = refl;
-    head = head;
-    chain = (
-      refl,
-      33,
-      record {
-        front = encrypted_octets k filling;
-        rest = [];
-        joined = refl;
-        first = record { second = 0; body = plain_octets k filling; part = record { spelled = refl; fits = omega arith }; header = (refl, free); inside = refl };
-        others = (refl, refl);
-      },
-    );
-    limit = omega arith;
-    octets = octets;
-  }
-
-  pub asking_header_is : (exchange number : ℕ) → 0 ∷ 0 ∷ 0 ∷ number ∷ [] ≡ big_bytes 4 number → number < 2 ^ 32
-      → SpellsHeader Free (sent_header 1 2 exchange Initiator false number) 46 (header_octets exchange 0x08 number)
-  asking_header_is exchange number spelled fits = record {
-    flags = 8;
-    has_flags = record { low = 0; high = 0; value = refl; low_bits = omega arith; high_bits = omega arith; free = (free, free) };
-    spelled = ap (λ (os : Octets). fixed_octets exchange 0x08 ++ os) spelled;
-    spi_i = omega arith;
-    spi_r = omega arith;
-    minor = omega arith;
-    id = fits;
-  }
-
-  pub answering_header_is : (exchange number : ℕ) → 0 ∷ 0 ∷ 0 ∷ number ∷ [] ≡ big_bytes 4 number → number < 2 ^ 32
-      → SpellsHeader Free (sent_header 1 2 exchange Responder true number) 46 (header_octets exchange 0x20 number)
-  answering_header_is exchange number spelled fits = record {
-    flags = 32;
-    has_flags = record { low = 0; high = 0; value = refl; low_bits = omega arith; high_bits = omega arith; free = (free, free) };
-    spelled = ap (λ (os : Octets). fixed_octets exchange 0x20 ++ os) spelled;
-    spi_i = omega arith;
-    spi_r = omega arith;
-    minor = omega arith;
-    id = fits;
-  }
+  message_is flags k filling h head octets =
+      sealed_is Free free 33 (header_octets 36 flags 2) (plain_octets k filling) (encrypted_octets k filling) (message_octets flags k filling) h head
+      (record { spelled = refl; fits = omega arith }) refl (omega arith) octets
 
   -- the message with this header, whose encrypted payload is empty
   pub bare_is : (exchange flags number : ℕ) (h : Header) → SpellsHeader Free h 46 (header_octets exchange flags number)
       → AreOctets (bare_octets exchange flags number)
       → SpellsWith Free (record { header = h; payloads = Sealed 0 [] ∷ [] }) (bare_octets exchange flags number)
-  bare_is exchange flags number h head octets = record {
-    first = 46;
-    header = header_octets exchange flags number;
-    payloads = 0 ∷ 0 ∷ 0 ∷ 4 ∷ [];
-    whole = refl;
-    head = head;
-    chain = (
-      refl,
-      0,
-      record {
-        front = 0 ∷ 0 ∷ 0 ∷ 4 ∷ [];
-        rest = [];
-        joined = refl;
-        first = record { second = 0; body = []; part = record { spelled = refl; fits = omega arith }; header = (refl, free); inside = refl };
-        others = (refl, refl);
-      },
-    );
-    limit = omega arith;
-    octets = octets;
-  }
+  bare_is exchange flags number h head octets =
+      sealed_is Free free 0 (header_octets exchange flags number) [] (0 ∷ 0 ∷ 0 ∷ 4 ∷ []) (bare_octets exchange flags number) h head
+      (record { spelled = refl; fits = omega arith }) refl (omega arith) octets
 
 clear : (k filling : ℕ) → AllByRecursion IsClear (payloads_of k filling)
 clear k filling = (λ is. absurd (omega (arith, is)), (λ is. absurd (omega (arith, is)), (λ is. absurd (omega (arith, is)), (λ is. absurd (omega (arith, is)), tt))))

@@ -1,5 +1,6 @@
 -- Both gateways of the worked world are sound.
 use Rattle.std.proofs.Common.{◌≡◌, ◌<◌, ◌≤◌, ◌∷◌, inl, inr, ℕ, zero, suc, Bool, true, false, cond, [], Some, None, length, ap, arith, refl, subst, sym, ◌∙◌}
+use Rattle.std.specs.FinMap as map
 use Rattle.std.specs.FinSet as set
 use Rattle.std.specs.Ordering.{nat_cmp}
 use Rattle.std.specs.Prelude.{slice_get, slice_index_or}
@@ -9,13 +10,15 @@ use Rattle.suite.specs.declared.key_record.KeyRecord.{KeyRecord}
 use Rattle.requests.specs.Incoming.{IsLeftBehind}
 use Rattle.requests.specs.Numbers.{HasNumber}
 use Rattle.requests.specs.Timers.{due_from, waits}
+use Rattle.requests.specs.declared.timer.Timer.{Timer}
 use Rattle.sadb.specs.Database.{Database, IsSoundTable}
 use Rattle.association.specs.Closing.{HoldsSpi}
 use Rattle.association.specs.declared.phase.Association.{Association}
 use Rattle.association.specs.declared.phase.Request.{Request}
 use Rattle.initial.specs.Configs.{IsConfig}
 use Rattle.initial.specs.declared.config.Config.{Config}
-use Rattle.moments.specs.Held.{IsInTime}
+use Rattle.moments.specs.Due.{is_over}
+use Rattle.moments.specs.Held.{began, IsInTime}
 use Rattle.effects.specs.Keeping.{IsShort}
 use Rattle.effects.specs.Lengths.{AreWholeKeys}
 use Rattle.effects.specs.Waiting.{IsAskedLater}
@@ -87,7 +90,7 @@ sound_answering kept short table = record {
     one = λ number other spi first second. absurd (none_asked number first.request first.outstanding);
   };
   short = record {
-    replies = λ n reply is. subst (λ (octets : Octets). IsShort octets) (sym (the_reply kept n reply is).reply_is) short;
+    replies = λ n reply is. subst (λ (octets : Octets). IsShort octets) (sym (the_reply kept n reply is).content) short;
     requests = λ n request is. absurd (none_asked n request is);
     first = λ reply is. absurd cc;
   };
@@ -115,24 +118,26 @@ asking_as_allowed extended = record {
 pub answering_as_allowed : (kept : Octets) (extended : Bool) → AsksAsAllowed extended (answering_association kept)
 answering_as_allowed kept extended = record { first = λ child asks. absurd cc; further = λ n request further asks. absurd (none_asked n request asks) }
 
-pub asking_in_time : IsInTime 0 asking_association
-asking_in_time = record {
-  nothing_due = record {
-    held = refl;
-    none_due = λ n request is. subst (λ (r : Request). 0 < due_from r.timer) (sym (asked_alone n request is).content) (omega arith);
-  };
+-- what went out at the moment 0 and was not repeated
+abbrev first_timer : Timer
+first_timer = record { sent = 0; repeats = 0 }
+
+pub in_time_if : (a : Association) → is_over 0 a.phase ≡ false → began a.phase ≤ 0
+    → ((n : ℕ) (r : Request) → map.get a.outgoing.outstanding n ≡ Some r → r.timer ≡ first_timer) → IsInTime 0 a
+in_time_if a held since timers = record {
+  nothing_due = record { held = held; none_due = λ n r is. subst (λ (t : Timer). 0 < due_from t) (sym (timers n r is)) (omega arith) };
   begun = record {
-    since = omega arith;
-    sent = λ n request is. subst (λ (r : Request). r.timer.sent ≤ 0) (sym (asked_alone n request is).content) (omega arith);
-    often = λ n request is. subst (λ (r : Request). r.timer.repeats ≤ length waits) (sym (asked_alone n request is).content) (omega arith);
+    since = since;
+    sent = λ n r is. subst (λ (t : Timer). t.sent ≤ 0) (sym (timers n r is)) (omega arith);
+    often = λ n r is. subst (λ (t : Timer). t.repeats ≤ length waits) (sym (timers n r is)) (omega arith);
   };
 }
 
+pub asking_in_time : IsInTime 0 asking_association
+asking_in_time = in_time_if asking_association refl (omega arith) (λ n request is. ap (λ (r : Request). r.timer) (asked_alone n request is).content)
+
 pub answering_in_time : (kept : Octets) → IsInTime 0 (answering_association kept)
-answering_in_time kept = record {
-  nothing_due = record { held = refl; none_due = λ n request is. absurd (none_asked n request is) };
-  begun = record { since = omega arith; sent = λ n request is. absurd (none_asked n request is); often = λ n request is. absurd (none_asked n request is) };
-}
+answering_in_time kept = in_time_if (answering_association kept) refl (omega arith) (λ n request is. absurd (none_asked n request is))
 
 -- ---- the gateways
 

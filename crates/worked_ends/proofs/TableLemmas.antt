@@ -1,15 +1,15 @@
 -- A table of one pair is sound, and that pair is all that is found in it.
-use Rattle.std.proofs.Common.{◌≡◌, ◌≢◌, ◌+◌, ◌≤◌, ◌^◌, ℕ, Bool, true, false, cond, is_some, Some, None, refl, sym, ap, ◌∙◌, subst, arith, inl, inr}
-use Rattle.std.specs.Cmp.{nat_cmp_total, unsigned_tied}
+use Rattle.std.proofs.Common.{◌≡◌, ◌+◌, ◌≤◌, ◌^◌, ℕ, Bool, true, false, cond, Some, refl, sym, ap, ◌∙◌, subst, arith}
+use Rattle.std.specs.Cmp.{nat_cmp_total}
 use Rattle.std.specs.FinMap as map
 use Rattle.std.specs.FinSet as set
 use Rattle.std.specs.Ordering.{nat_cmp}
-use Rattle.std.proofs.lemmas.Bool.{both_ways, eq-eqb, ne_eqb}
-use Rattle.std.proofs.lemmas.Bool.Decides.{eqb_tells}
+use Rattle.std.proofs.lemmas.Bool.{both_ways}
 use Rattle.replay.specs.Window.{unused_window, IsSoundWindow}
 use Rattle.sadb.specs.Database.{pair_at, HasInbound, IsInbound, IsSoundTable, PairMap}
 use Rattle.sadb.specs.declared.pair.Pair.{Pair}
 use Rattle.worked_ends.specs.WorkedChildren.{lone_pair, table_with}
+use Rattle.worked_ends.proofs.MapLemmas.{only_there, put_again, put_there, IsOnly}
 
 pub none_taken : (n : ℕ) → set.contains (set.empty {R = nat_cmp}) n ≡ false
 none_taken n = set.contains-empty nat_cmp n
@@ -27,43 +27,17 @@ unused_sound = record {
 abbrev no_pairs : PairMap
 no_pairs = map.empty
 
-pub same_pair : (one other : Pair) → Some one ≡ Some other → one ≡ other
-same_pair one other is = cc
-
-no_pair : (serial : ℕ) (pair : Pair) → map.get no_pairs serial ≡ Some pair → ⊥
-no_pair serial pair there = let none : map.get no_pairs serial ≡ None = map.get-empty nat_cmp serial in cc
-
-inserted_here : (m : PairMap) (k q : ℕ) (v : Pair) → q ≡ k → map.get (map.insert m k v) q ≡ Some v
-inserted_here m k q v same = map.get-insert nat_cmp_total m k v q ∙ ap (λ (b : Bool). cond b (Some v) (map.get m q)) (unsigned_tied q k ∙ eq-eqb q k same)
-
-inserted_apart : (m : PairMap) (k q : ℕ) (v : Pair) → q ≢ k → map.get (map.insert m k v) q ≡ map.get m q
-inserted_apart m k q v apart = map.get-insert nat_cmp_total m k v q ∙ ap (λ (b : Bool). cond b (Some v) (map.get m q)) (unsigned_tied q k ∙ ne_eqb q k apart)
-
--- what is found is the one pair
-pub record IsLone (lone : Pair) (serial : ℕ) (pair : Pair) : Type 0 where
-  pub serial_is : serial ≡ 1
-  pub pair_is : pair ≡ lone
-
 -- the map has the one pair, under the serial 1
 pub record HasLone (lone : Pair) (pairs : PairMap) : Type 0 where
   pub there : pair_at pairs 1 ≡ Some lone
-  pub only : (serial : ℕ) (pair : Pair) → pair_at pairs serial ≡ Some pair → IsLone lone serial pair
-
-found_in : (m : PairMap) (lone : Pair) → ((serial : ℕ) (pair : Pair) → serial ≢ 1 → map.get m serial ≡ Some pair → ⊥) → HasLone lone (map.insert m 1 lone)
-found_in m lone none = record {
-  there = inserted_here m 1 1 lone refl;
-  only = λ serial pair there. elim (eqb_tells serial 1) [
-    | inl (_, same) ↦ record { serial_is = same; pair_is = sym (same_pair lone pair (sym (inserted_here m 1 serial lone same) ∙ there)) }
-    | inr (_, apart) ↦ absurd (none serial pair apart (sym (inserted_apart m 1 serial lone apart) ∙ there))
-  ];
-}
+  pub only : (serial : ℕ) (pair : Pair) → pair_at pairs serial ≡ Some pair → IsOnly 1 lone serial pair
 
 pub lone_in : (lone : Pair) → HasLone lone (lone_pair lone)
-lone_in lone = found_in no_pairs lone (λ serial pair apart there. no_pair serial pair there)
+lone_in lone = record { there = put_there no_pairs 1 1 lone refl; only = only_there no_pairs refl 1 lone }
 
 -- it may be put in another's place
 pub lone_in_place : (first lone : Pair) → HasLone lone (map.insert (lone_pair first) 1 lone)
-lone_in_place first lone = found_in (lone_pair first) lone (λ serial pair apart there. apart ((lone_in first).only serial pair there).serial_is)
+lone_in_place first lone = subst (λ (m : PairMap). HasLone lone m) (sym (put_again no_pairs 1 first lone)) (lone_in lone)
 
 one_more_at_most : (b : Bool) (n : ℕ) → cond b n (n + 1) ≤ n + 1
 one_more_at_most true n = omega arith
@@ -77,11 +51,7 @@ few_pairs lone =
     omega arith
 
 pub few_in_place : (first lone : Pair) → map.len (map.insert (lone_pair first) 1 lone) ≤ 1
-few_in_place first lone =
-    let m : PairMap = lone_pair first in
-    let len = map.len-insert nat_cmp_total m 1 lone ∙ ap (λ (b : Bool). cond b (map.len m) (map.len m + 1)) (ap is_some (lone_in first).there) in
-    let few = few_pairs first in
-    omega (arith, len, few)
+few_in_place first lone = subst (λ (m : PairMap). map.len m ≤ 1) (sym (put_again no_pairs 1 first lone)) (few_pairs lone)
 
 -- a pair with the serial 1, this inbound SPI and a sound window
 pub record IsFit (lone : Pair) (spi : ℕ) : Type 0 where
@@ -92,7 +62,7 @@ pub record IsFit (lone : Pair) (spi : ℕ) : Type 0 where
 of_inbound : (lone : Pair) (pairs : PairMap) (own : ℕ) → HasLone lone pairs → IsFit lone own → (serial spi : ℕ) → HasInbound pairs spi serial → (serial ≡ 1) × (spi ≡ own)
 of_inbound lone pairs own has fit serial spi is =
     let found = has.only serial is.pair is.there in
-    (found.serial_is, sym is.its_own ∙ ap (λ (p : Pair). p.inbound.association.spi) found.pair_is ∙ fit.inbound)
+    (found.number, sym is.its_own ∙ ap (λ (p : Pair). p.inbound.association.spi) found.content ∙ fit.inbound)
 
 -- it is the one with this SPI
 pub lone_inbound : (lone : Pair) (pairs : PairMap) (own : ℕ) → HasLone lone pairs → IsFit lone own → IsInbound pairs own lone
@@ -112,9 +82,9 @@ sound_table lone pairs spi has few fit least most =
       next = let none = set.len-empty nat_cmp in omega arith;
       few = let none = set.len-empty nat_cmp in omega (arith, none, few);
       reserved_given = λ other is. absurd (both_ways _ (none_taken other) is);
-      serial = λ serial pair there. (let found = has.only serial pair there in ap (λ (p : Pair). p.serial) found.pair_is ∙ fit.serial ∙ sym found.serial_is);
-      serial_given = λ serial pair there. (let is = (has.only serial pair there).serial_is in (omega (arith, is), omega (arith, is)));
-      window = λ serial pair there. subst (λ (p : Pair). IsSoundWindow p.inbound.window) (sym (has.only serial pair there).pair_is) fit.window;
+      serial = λ serial pair there. (let found = has.only serial pair there in ap (λ (p : Pair). p.serial) found.content ∙ fit.serial ∙ sym found.number);
+      serial_given = λ serial pair there. (let is = (has.only serial pair there).number in (omega (arith, is), omega (arith, is)));
+      window = λ serial pair there. subst (λ (p : Pair). IsSoundWindow p.inbound.window) (sym (has.only serial pair there).content) fit.window;
       spi_given = λ serial other is. (let same = (of_inbound lone pairs spi has fit serial other is).1 in record { from_start = omega (arith, same); before_next = omega (arith, same) });
       spi_taken = λ serial other is reserved. both_ways _ (none_taken other) reserved;
       apart = λ serial other spi first second. (of_inbound lone pairs _ has fit serial spi first).0 ∙ sym (of_inbound lone pairs _ has fit other spi second).0;

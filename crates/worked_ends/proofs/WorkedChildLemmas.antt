@@ -3,8 +3,6 @@ use Rattle.std.proofs.Common.{◌≡◌, ◌⊎◌, ◌<◌, ◌∷◌, inl, inr
 use Rattle.std.specs.Prelude.{slice_get}
 use Rattle.std.proofs.lemmas.List.Elements.{Contains-append_left, Contains-push}
 use Rattle.base.specs.Octets.{Octets}
-use Rattle.wire.specs.Messages.{Spells}
-use Rattle.wire.specs.declared.message.Message.{Message}
 use Rattle.replay.specs.Window.{unused_window}
 use Rattle.esp.specs.Worked.{worked_payload}
 use Rattle.exchange.specs.declared.headers.Role.TheVariants.{Initiator, Responder}
@@ -18,20 +16,19 @@ use Rattle.initial.specs.Configs.{IsConfig}
 use Rattle.initial.specs.declared.config.Config.{Config}
 use Rattle.effects.specs.Children.{Further}
 use Rattle.effects.specs.declared.taking.Effect.TheVariants as effect
-use Rattle.ike.specs.Machines.{has_serial}
+use Rattle.ike.specs.Machines.{has_serial, new_machine}
 use Rattle.ike.specs.Moves.{HasSeal}
 use Rattle.ike.specs.Outputs.{no_trace, stepped_of}
 use Rattle.traffic.specs.Outcomes as traffic
 use Rattle.gateway.specs.States.{IsSoundState}
 use Rattle.gateway.specs.WorkedRequests.{worked_keys, worked_meaning}
 use Rattle.gateway.specs.BothEnds.{IsWhollySound}
-use Rattle.gateway.specs.WorldChildren.{AccountsForChildren, AreEndsOfOneChild, AreOfOneRequest, AsksForItsChildren, IsStoredOf, WasAnsweredFor, WasAskedFor, WasMade}
+use Rattle.gateway.specs.WorldChildren.{AccountsForChildren, AreOfOneRequest, AsksForItsChildren, IsStoredOf, WasAnsweredFor, WasAskedFor, WasMade}
 use Rattle.gateway.specs.WorldHistories.{Happening}
-use Rattle.gateway.specs.WorldPackets.{AccountsForPairs, HasOneSender, HasSentPacket, HasStored, HoldsPairOf, IsJudgedAt, IsUnforgedTo, WasSealedAt, WasSealedBy}
+use Rattle.gateway.specs.WorldPackets.{AccountsForPairs, HasSentPacket, HasStored, HoldsPairOf, IsJudgedAt, IsUnforgedTo, WasSealedAt, WasSealedBy}
 use Rattle.gateway.specs.WorldParties.{HasSent, HoldsUnder}
 use Rattle.gateway.specs.WorldPromises.{ComesUnder, IsUnforged}
 use Rattle.gateway.specs.Worlds.{datagram_of, gateway_at, other_end, simplex_of, Stored, TakesEvent, WorldState}
-use Rattle.gateway.specs.declared.input.Input.{Input}
 use Rattle.gateway.specs.declared.input.Input.TheVariants as input
 use Rattle.gateway.specs.declared.world.stored.Child.{Child}
 use Rattle.gateway.specs.declared.world.stored.Datagram.{Datagram}
@@ -39,20 +36,24 @@ use Rattle.gateway.specs.declared.world.stored.End.{End}
 use Rattle.gateway.specs.declared.world.stored.End.TheVariants.{A, B}
 use Rattle.gateway.specs.declared.world.stored.Mark.TheVariants as mark
 use Rattle.gateway.specs.declared.world.stored.Simplex.{Simplex}
-use Rattle.gateway.proofs.PartyLemmas.{at_head, at_head_or_further, further_on, single, some_is}
+use Rattle.gateway.proofs.PartyLemmas.{at_head, further_on, some_is}
 use Rattle.gateway.proofs.WorkedRequestLemmas.{can_be, none_asked}
+use Rattle.gateway.proofs.WorkedWorldLemmas.{OneMessage, OneTime}
 use Rattle.worked_ends.specs.WorkedChildren.{answered_child, answering_association, answering_table, asked_child, asking_association, asking_table, all_protected, carried_octets, carrying, gateway_of, all_arrive, counted_association, later_table, lone_pair, one_taken, packet_arrives, pair_of, probe_arrives, probed_association, probed_stored, response_arrives, sealed_world, worked_stored, IsWorkedLink}
 use Rattle.worked_ends.specs.WorkedMessages.{alive_octets, answering_octets, answering_payloads, asking_octets, asking_payloads, first_answering, first_asking, nonce_of, probe_octets, proposal_of}
-use Rattle.worked_ends.proofs.CarriedLemmas.{it_is_received, it_is_sealed, one_number, later_fits, receiver_fits, sender_fits}
+use Rattle.worked_ends.proofs.ArrivalLemmas.{takes_alone, was_sent}
+use Rattle.worked_ends.proofs.CarriedLemmas.{it_is_received, it_is_sealed, one_sound, packet_was_sent}
 use Rattle.worked_ends.proofs.ChildLemmas.{answered_is, answered_stored, asked_is, asked_stored}
-use Rattle.worked_ends.proofs.LedgerLemmas.{made_once, world_sound, OneTime}
+use Rattle.worked_ends.proofs.InformationalLemmas.{nothing_ended, reply_by}
+use Rattle.worked_ends.proofs.LedgerLemmas.{made_once, world_sound}
 use Rattle.worked_ends.proofs.MessageLemmas.{request_opens, request_seals, response_opens, response_seals}
+use Rattle.worked_ends.proofs.SenderLemmas.{one_of_two, one_sender, one_sender_back}
 use Rattle.worked_ends.proofs.SentLemmas.{packet_there, third_request_there, second_response_there, sealed_is, second_request_there, SentIsTold}
-use Rattle.worked_ends.proofs.ProbeLemmas.{answer_spelled, answered, asked, asked_spelled, nothing_ended, alive_opens, probe_opens, reply_said, request_takes, response_takes}
+use Rattle.worked_ends.proofs.ProbeLemmas.{answer_spelled, answered, asked, asked_spelled, alive_opens, probe_opens, request_takes, response_takes}
 use Rattle.worked_ends.proofs.StateLemmas.{answering_as_allowed, answering_in_time, asking_as_allowed, asking_in_time, found_is, sound_answering, sound_asking, sound_state}
 use Rattle.worked_ends.proofs.WaitingLemmas.{asked_alone}
 use Rattle.worked_ends.proofs.WindowLemmas.{windows}
-use Rattle.worked_ends.proofs.TableLemmas.{few_in_place, few_pairs, lone_in, lone_in_place, sound_table}
+use Rattle.worked_ends.proofs.TableLemmas.{few_in_place, few_pairs, lone_in, lone_in_place, sound_table, unused_sound}
 
 -- the key of what A sends, and of what B sends
 abbrev asking_key : Octets
@@ -74,11 +75,6 @@ later_pair = pair_of Responder 0 one_taken
 of_one : AreOfOneRequest asked_child answered_child
 of_one = record { keys = refl; ends = refl; asked_is = refl; answered_is = refl; number = refl }
 
--- the octets of an ESP packet
-abbrev esp_octets : Input → Octets
-esp_octets (input.Esp octets) = octets
-esp_octets _ = []
-
 same_end : A ≡ B → ⊥
 same_end is = cc
 
@@ -97,10 +93,7 @@ asked_there : Contains stored.children asked_child
 asked_there = further_on answered_child (asked_child ∷ []) asked_child (at_head asked_child [])
 
 one_of : (child : Child) → Contains stored.children child → (answered_child ≡ child) ⊎ (asked_child ≡ child)
-one_of child there = elim (at_head_or_further answered_child (asked_child ∷ []) child there) [
-  | inl here ↦ inl here
-  | inr beyond ↦ inr (single asked_child child beyond)
-]
+one_of = one_of_two answered_child asked_child
 
 each_child : (P : Child → Type 0) → P answered_child → P asked_child → (child : Child) → Contains stored.children child → P child
 each_child P answered asked child there = elim (one_of child there) [
@@ -160,20 +153,6 @@ alone one other here there ends serials = elim (one_of one here) [
   ]
 ]
 
--- no other child of A's sends to B
-one_sender : HasOneSender answered_child stored
-one_sender other there end_is spi_is key_is = elim (one_of other there) [
-  | inl same ↦ absurd (same_end (sym end_is ∙ ap (λ (c : Child). c.end) (sym same)))
-  | inr same ↦ subst (λ (c : Child). AreEndsOfOneChild answered_child c) same (inr of_one)
-]
-
--- and no other child of B's sends to A
-one_sender_back : HasOneSender asked_child stored
-one_sender_back other there end_is spi_is key_is = elim (one_of other there) [
-  | inl same ↦ subst (λ (c : Child). AreEndsOfOneChild asked_child c) same (inl of_one)
-  | inr same ↦ absurd (same_end (ap (λ (c : Child). c.end) same ∙ end_is))
-]
-
 was_sealed : WasSealedBy all_protected asked_child 1 worked_payload carried_octets
 was_sealed = record {
   table = asking_table 0;
@@ -181,7 +160,7 @@ was_sealed = record {
   stood = (lone_in (pair_of Initiator 0 (unused_window 2))).there;
   stored_of = asked_stored 0 (unused_window 2);
   table_after = _;
-  sends = it_is_sealed asking_key answering_key;
+  sends = it_is_sealed 256 512 (omega arith) asking_key answering_key (asking_table 0) _ refl;
 }
 
 sealed_at : (end : End) (simplex : Simplex) (number : ℕ) (octets : Octets) → datagram_of A (mark.Esp by 1) carried_octets ≡ datagram_of end (mark.Esp simplex number) octets
@@ -204,10 +183,6 @@ sealed_at end simplex number octets is =
 
 -- ---- the world
 
--- what is known of messages
-abbrev pub OneMessage : Type 0
-OneMessage = (m n : Message) (b : Octets) → Spells m b → Spells n b → m ≡ n
-
 module _ {C : Type 0} (told : SentIsTold) (one_time : OneTime) (one_message : OneMessage)
     (config : Config) (caller : C) (is : IsConfig config) (from : Octets) (fresh : Fresh) (seal : HasSeal fresh) where
   abbrev world : WorldState C
@@ -228,15 +203,15 @@ module _ {C : Type 0} (told : SentIsTold) (one_time : OneTime) (one_message : On
   one_state : IsSoundState world.a
   one_state =
       sound_state config caller is asking_association (asking_table 1) (sound_asking (asking_table 1)) (asking_as_allowed config.extended) asking_in_time refl
-      (sound_table asking_pair (lone_pair asking_pair) 512 (lone_in asking_pair) (few_pairs asking_pair) (sender_fits asking_key answering_key 1)
-      (omega arith) (omega arith)) refl
+      (sound_table asking_pair (lone_pair asking_pair) 512 (lone_in asking_pair) (few_pairs asking_pair)
+      (record { serial = refl; inbound = refl; window = unused_sound }) (omega arith) (omega arith)) refl
 
   other_state : IsSoundState world.b
   other_state =
       sound_state config caller is (answering_association answering_octets) answering_table (sound_answering answering_octets (omega arith) answering_table)
       (answering_as_allowed answering_octets config.extended) (answering_in_time answering_octets) refl
       (sound_table answering_pair (lone_pair answering_pair) 256 (lone_in answering_pair) (few_pairs answering_pair)
-      (receiver_fits asking_key answering_key) (omega arith) (omega arith)) refl
+      (record { serial = refl; inbound = refl; window = unused_sound }) (omega arith) (omega arith)) refl
 
   happens : TakesEvent (λ _. worked_meaning) arrival.event arrival.before arrival.said arrival.after
   happens = record {
@@ -246,7 +221,7 @@ module _ {C : Type 0} (told : SentIsTold) (one_time : OneTime) (one_message : On
     gateway = gateway_of config caller (answering_association answering_octets) later_table;
     traces = record {
       kept = refl;
-      does = (record { machine = refl; traced = refl }, record { outcome = traffic.Up 1 1 worked_payload; receives = it_is_received asking_key answering_key; output = refl });
+      does = (record { machine = refl; traced = refl }, record { outcome = traffic.Up 1 1 worked_payload; receives = it_is_received 256 512 (omega arith) asking_key answering_key answering_table _ refl; output = refl });
     };
     content = refl;
   }
@@ -257,34 +232,19 @@ module _ {C : Type 0} (told : SentIsTold) (one_time : OneTime) (one_message : On
       sound_state config caller is (answering_association answering_octets) later_table (sound_answering answering_octets (omega arith) later_table)
       (answering_as_allowed answering_octets config.extended) (answering_in_time answering_octets) refl
       (sound_table later_pair later_table.pairs 256 (lone_in_place answering_pair later_pair) (few_in_place answering_pair later_pair)
-      (later_fits asking_key answering_key) (omega arith) (omega arith)) refl
+      (record { serial = refl; inbound = refl; window = one_sound }) (omega arith) (omega arith)) refl
 
   probe_happens : TakesEvent (λ _. worked_meaning) probe.event probe.before probe.said probe.after
   probe_happens = record {
     sound = later_state;
     fresh = seal;
-    trace = (stepped_of 1 3 (effect.Replied reply_said)).trace;
+    trace = (stepped_of 1 3 (effect.Replied (reply_by alive_octets))).trace;
     gateway = gateway_of config caller probed_association later_table;
     traces = record {
       kept = refl;
       does = inl (record {
-        stepped = stepped_of 1 3 (effect.Replied reply_said);
-        steps = (
-          refl,
-          inr (record {
-            message = asked;
-            spelled = asked_spelled;
-            done = record {
-              association = answering_association answering_octets;
-              there = refl;
-              effect = effect.Replied reply_said;
-              changed = probed_association;
-              takes = request_takes answering_octets _ _;
-              said = refl;
-              content = refl;
-            };
-          }),
-        );
+        stepped = stepped_of 1 3 (effect.Replied (reply_by alive_octets));
+        steps = takes_alone (new_machine config) all_protected from fresh asked_spelled refl refl (request_takes answering_octets _ _);
         output = refl;
         traced = refl;
       });
@@ -302,22 +262,7 @@ module _ {C : Type 0} (told : SentIsTold) (one_time : OneTime) (one_message : On
       kept = refl;
       does = inl (record {
         stepped = stepped_of 1 3 (effect.Counted nothing_ended);
-        steps = (
-          refl,
-          inr (record {
-            message = answered;
-            spelled = answer_spelled;
-            done = record {
-              association = asking_association;
-              there = refl;
-              effect = effect.Counted nothing_ended;
-              changed = counted_association;
-              takes = response_takes _ _;
-              said = refl;
-              content = refl;
-            };
-          }),
-        );
+        steps = takes_alone (new_machine config) all_protected from fresh answer_spelled refl refl (response_takes _ _);
         output = refl;
         traced = refl;
       });
@@ -349,14 +294,14 @@ module _ {C : Type 0} (told : SentIsTold) (one_time : OneTime) (one_message : On
   }
 
   stored_at : (end : End) (serial : ℕ) (pair : Pair) → pair_at (gateway_at end world).table.pairs serial ≡ Some pair → HasStored end serial world.stored
-  stored_at A serial pair there = record { child = asked_child; there = asked_there; end_is = refl; serial_is = sym ((lone_in asking_pair).only serial pair there).serial_is }
-  stored_at B serial pair there = record { child = answered_child; there = answered_there; end_is = refl; serial_is = sym ((lone_in answering_pair).only serial pair there).serial_is }
+  stored_at A serial pair there = record { child = asked_child; there = asked_there; end_is = refl; serial_is = sym ((lone_in asking_pair).only serial pair there).number }
+  stored_at B serial pair there = record { child = answered_child; there = answered_there; end_is = refl; serial_is = sym ((lone_in answering_pair).only serial pair there).number }
 
   asked_same : (pair : Pair) → HoldsPairOf asked_child pair world → IsStoredOf asked_child pair
-  asked_same pair held = subst (λ (p : Pair). IsStoredOf asked_child p) (sym ((lone_in asking_pair).only 1 pair held).pair_is) (asked_stored 1 (unused_window 2))
+  asked_same pair held = subst (λ (p : Pair). IsStoredOf asked_child p) (sym ((lone_in asking_pair).only 1 pair held).content) (asked_stored 1 (unused_window 2))
 
   answered_same : (pair : Pair) → HoldsPairOf answered_child pair world → IsStoredOf answered_child pair
-  answered_same pair held = subst (λ (p : Pair). IsStoredOf answered_child p) (sym ((lone_in answering_pair).only 1 pair held).pair_is) (answered_stored 0 (unused_window 2))
+  answered_same pair held = subst (λ (p : Pair). IsStoredOf answered_child p) (sym ((lone_in answering_pair).only 1 pair held).content) (answered_stored 0 (unused_window 2))
 
   sealed_by : (end : End) (simplex : Simplex) (number : ℕ) (octets : Octets) → Contains world.stored.sent (datagram_of end (mark.Esp simplex number) octets)
       → WasSealedAt (gateway_at end world).entries end simplex number octets world.stored
@@ -394,25 +339,15 @@ module _ {C : Type 0} (told : SentIsTold) (one_time : OneTime) (one_message : On
 
   request_was_sent : (response : Bool) (number : ℕ) (octets : Octets) → ComesUnder (λ _. worked_meaning) worked_keys response number octets probe
       → HasSent A worked_keys response number octets last
-  request_was_sent response number octets comes =
-      let same : probe_octets ≡ octets = comes.datagram in
-      let spelled : Spells comes.opens.message probe_octets = subst (λ (o : Octets). Spells comes.opens.message o) (sym same) comes.opens.spelled in
-      let message : asked ≡ comes.opens.message = one_message asked comes.opens.message probe_octets asked_spelled spelled in
-      let is_response : false ≡ response = ap (λ (m : Message). m.header.flags.response) message ∙ comes.opens.is_response in
-      let number_is : 3 ≡ number = ap (λ (m : Message). m.header.id) message ∙ comes.opens.number_is in
-      subst (λ (d : Datagram). Contains last.sent d) (λ i. datagram_of A (mark.Ike worked_keys (is_response i) (number_is i)) (same i))
+  request_was_sent =
+      was_sent one_message (λ _. worked_meaning) worked_keys probe asked probe_octets asked_spelled (λ octets same. same) A last
       (still_sent (datagram_of A (mark.Ike worked_keys false 3) probe_octets)
       (third_request_there first_asking first_answering asking_octets answering_octets by carried_octets probe_octets))
 
   response_was_sent : (response : Bool) (number : ℕ) (octets : Octets) → ComesUnder (λ _. worked_meaning) worked_keys response number octets answer
       → HasSent B worked_keys response number octets last
-  response_was_sent response number octets comes =
-      let same : alive_octets ≡ octets = comes.datagram in
-      let spelled : Spells comes.opens.message alive_octets = subst (λ (o : Octets). Spells comes.opens.message o) (sym same) comes.opens.spelled in
-      let message : answered ≡ comes.opens.message = one_message answered comes.opens.message alive_octets answer_spelled spelled in
-      let is_response : true ≡ response = ap (λ (m : Message). m.header.flags.response) message ∙ comes.opens.is_response in
-      let number_is : 3 ≡ number = ap (λ (m : Message). m.header.id) message ∙ comes.opens.number_is in
-      subst (λ (d : Datagram). Contains last.sent d) (λ i. datagram_of B (mark.Ike worked_keys (is_response i) (number_is i)) (same i))
+  response_was_sent =
+      was_sent one_message (λ _. worked_meaning) worked_keys answer answered alive_octets answer_spelled (λ octets same. same) B last
       (Contains-push world.stored.sent (datagram_of B (mark.Ike worked_keys true 3) alive_octets))
 
   unforged : IsUnforged (λ _. worked_meaning) worked_keys (all_arrive config caller from fresh) last
@@ -425,16 +360,10 @@ module _ {C : Type 0} (told : SentIsTold) (one_time : OneTime) (one_message : On
   judged_is_sent : (number : ℕ) (octets : Octets) → IsJudgedAt answered_child number octets arrival
       → HasSentPacket A answered_child.inbound.spi answered_child.inbound.key number octets last
   judged_is_sent number octets judged =
-      let same : carried_octets ≡ octets = ap esp_octets judged.given in
-      let number_is : number ≡ 1 = one_number asking_key answering_key judged.pair number octets same judged.addressed judged.judged in
-      record {
-        by = simplex_of carrying;
-        spi_is = refl;
-        key_is = refl;
-        sent = subst (λ (d : Datagram). Contains last.sent d) (λ i. datagram_of A (mark.Esp (simplex_of carrying) (sym number_is i)) (same i))
-            (still_sent (datagram_of A (mark.Esp by 1) carried_octets)
-            (packet_there first_asking first_answering asking_octets answering_octets by carried_octets probe_octets));
-      }
+      packet_was_sent 256 512 (omega arith) asking_key answering_key answering_table last
+      (still_sent (datagram_of A (mark.Esp by 1) carried_octets)
+      (packet_there first_asking first_answering asking_octets answering_octets by carried_octets probe_octets))
+      judged.pair number octets judged.given judged.addressed judged.judged
 
   -- the probe and its response are no packets
   no_packet : (given octets : Octets) → input.Ike from given fresh ≡ input.Esp octets → ⊥
@@ -495,9 +424,9 @@ module _ {C : Type 0} (told : SentIsTold) (one_time : OneTime) (one_message : On
     asked_held = record { pair = asking_pair; held = (lone_in asking_pair).there };
     answered_held = record { pair = later_pair; held = (lone_in_place answering_pair later_pair).there };
     unforged_to = unforged_to;
-    alone = one_sender;
+    alone = one_sender asked_child answered_child of_one stored one_of;
     unforged_back = unforged_back;
-    alone_back = one_sender_back;
+    alone_back = one_sender_back asked_child answered_child of_one stored one_of;
     ends_at = refl;
     goes_up = refl;
   }

@@ -1,10 +1,7 @@
 -- B takes IKE_AUTH: A is who it is to be, so the association is established, and its first child is made (RFC 7296 sections 1.2 and 2.15).
-use Rattle.std.proofs.Common.{◌≡◌, ◌+◌, ◌<◌, ◌≤◌, ◌||◌, ◌∷◌, inl, inr, ℕ, zero, suc, Bool, false, cond, is_some, Option, Some, None, [], All, Any, Contains, ap, arith, refl, subst, sym, ◌∙◌}
+use Rattle.std.proofs.Common.{◌≡◌, ◌<◌, ◌≤◌, ◌∷◌, inl, inr, ℕ, zero, suc, Bool, false, Option, Some, None, [], All, Any, Contains, ap, arith, refl, subst, sym}
 use Rattle.std.specs.Prelude.{replicate, slice_get}
-use Rattle.std.proofs.lemmas.Bool.{eq-eqb, ne_eqb}
-use Rattle.std.proofs.lemmas.Bool.Decides.{eqb_tells}
 use Rattle.std.proofs.lemmas.List.Elements.{All-cons}
-use Rattle.std.specs.Cmp.{nat_cmp_total, unsigned_tied}
 use Rattle.std.specs.FinMap as map
 use Rattle.std.specs.FinSet as set
 use Rattle.std.specs.Option.{option_to_list}
@@ -24,7 +21,7 @@ use Rattle.exchange.specs.declared.sealed.Plain.{Plain}
 use Rattle.policy.specs.Narrowing.{HasAllCommonPoints, IsNarrowed, IsNarrowing}
 use Rattle.policy.specs.Points.{HasPorts, HoldsPoint, IsCommonPart, IsNonempty}
 use Rattle.policy.specs.declared.point.Point.{Point}
-use Rattle.requests.specs.Incoming.{after_number_0, IsFreshRequest, IsLeftBehind, PeerRequests, TakesRequest}
+use Rattle.requests.specs.Incoming.{after_number_0, PeerRequests, TakesRequest}
 use Rattle.requests.specs.declared.incoming.Judgement.TheVariants as judged
 use Rattle.replay.specs.Window.{unused_window}
 use Rattle.sadb.specs.Database.{empty_table, pair_at, Database, IsFull, IsSoundTable}
@@ -42,90 +39,46 @@ use Rattle.initial.specs.declared.deciding.Decision.TheVariants as decision
 use Rattle.moments.specs.Held.{IsInTime}
 use Rattle.effects.specs.Taking.{TakesMessage}
 use Rattle.effects.specs.declared.taking.Effect.TheVariants as effect
-use Rattle.ike.specs.Machines.{new_machine, setup_at, Machine}
-use Rattle.ike.specs.Moves.{HasSeal}
+use Rattle.ike.specs.Machines.{new_machine, setup_at}
 use Rattle.ike.specs.Outputs.{stepped_of}
 use Rattle.ike.specs.Steps as ike
 use Rattle.ike.specs.declared.output.MadeChild.{MadeChild}
 use Rattle.ike.specs.declared.output.Stepped.{Stepped}
-use Rattle.association.specs.declared.phase.Association.{Association}
 use Rattle.gateway.specs.States.{IsSoundState}
 use Rattle.gateway.specs.WorldParties.{HasSent}
 use Rattle.gateway.specs.WorldPromises.{ComesUnder}
 use Rattle.gateway.specs.Worlds.{child_with, TakesEvent}
-use Rattle.gateway.specs.declared.world.stored.End.{End}
 use Rattle.gateway.specs.declared.world.stored.End.TheVariants.{A, B}
 use Rattle.gateway.proofs.PartyLemmas.{at_head, further_on, some_is}
-use Rattle.gateway.proofs.WorkedRequestLemmas.{first_two, gap_of, lacks_if_not, none_there, IsUpTo}
+use Rattle.gateway.proofs.WorkedRequestLemmas.{no_reply, none_there, IsUpTo}
+use Rattle.gateway.proofs.WorkedWorldLemmas.{OneMessage}
 use Rattle.esp.proofs.NumberLemmas.{contains-insert_nat}
 use Rattle.both_ends.specs.WorkedRecords.{fresh_of, worked_record}
-use Rattle.both_ends.proofs.OctetLemmas.{octets_if}
 use Rattle.worked_ends.specs.WorkedMessages.{proposal_of, spi_octets}
+use Rattle.worked_ends.proofs.ArrivalLemmas.{alone, takes_alone, was_sent}
 use Rattle.worked_ends.proofs.MapLemmas.{put_there}
+use Rattle.worked_ends.proofs.TakenLemmas.{fresh_next, one_more, takes_next}
 use Rattle.worked_run.specs.WorkedRuns.{all_protected, config_at, run_meaning, spi_at}
-use Rattle.both_ends.proofs.AuthLemmas.{auth_octets}
+use Rattle.both_ends.proofs.AuthLemmas.{asked, auth_octets, plain_octets, request_payloads}
 use Rattle.both_ends.proofs.InitLemmas.{answer_octets, request_octets}
-use Rattle.worked_run.proofs.ResponseLemmas.{asked, asked_spelled, plain_octets, request_payloads, request_read, response_octets, response_sealed}
-use Rattle.worked_run.proofs.SentLemmas.{was_sent, OneMessage}
+use Rattle.worked_run.proofs.NewEndLemmas.{sealing}
+use Rattle.worked_run.proofs.ResponseLemmas.{asked_spelled, request_read, response_octets, response_sealed}
 use Rattle.worked_run.proofs.SoundnessLemmas.{sound_next, timely_alone, NoSpiIsLost, SoundnessStays}
 use Rattle.worked_run.proofs.Stages.{accepts, agreed_terms, all_keyed, answering, answering_table, child_world, end_with, opened, pair_of, reserved_table, sent_answer, sent_auth, sent_request, sent_response, stored_of, telling, told_world, two_taken, world_of}
 
 -- ---- the requests that B took
 
 first_one : IsUpTo after_number_0.in_effect 1
-first_one = record {
-  has = λ n less. contains-insert_nat set.empty 0 n ∙ ap (λ (b : Bool). b || set.contains {R = nat_cmp} set.empty n) (eq-eqb n 0 (omega (arith, less)));
-  only = λ n is. elim (eqb_tells n 0) [
-    | inl (_, same) ↦ omega (arith, same)
-    | inr (_, apart) ↦
-        let beside = contains-insert_nat set.empty 0 n ∙ ap (λ (b : Bool). b || set.contains {R = nat_cmp} set.empty n) (ne_eqb n 0 apart) in
-        absurd (none_there n (sym beside ∙ is))
-  ];
-}
+first_one = one_more set.empty 0 (record { has = λ n less. absurd (omega (arith, less)); only = λ n is. absurd (none_there n is) })
 
 -- with room for so many replies
 abbrev with_room : ℕ → PeerRequests
 with_room room = record after_number_0 { room = room }
 
-fresh_one : (room : ℕ) → IsFreshRequest (with_room room) 1
-fresh_one room = record {
-  not_in_effect = lacks_if_not after_number_0.in_effect 1 (λ is. let less = first_one.only 1 is in absurd (omega (arith, less)));
-  gap = 1;
-  is_gap = gap_of after_number_0.in_effect 1 first_one;
-  inside = omega arith;
-}
-
-module _ (reply : Octets) where
-  near_one : ¬ IsLeftBehind (two_taken reply) 1
-  near_one behind = let less = first_two.only behind.later behind.in_effect in let far = behind.far in absurd (omega (arith, less, far))
-
-  kept_alone : (n : ℕ) (octets : Octets) → map.get (two_taken reply).kept n ≡ Some octets → n ≡ 1
-  kept_alone n octets is = elim (eqb_tells n 1) [
-    | inl (_, same) ↦ same
-    | inr (_, apart) ↦
-        let beside = map.get-insert nat_cmp_total after_number_0.kept 1 reply n
-        ∙ ap (λ (b : Bool). cond b (Some reply) (map.get after_number_0.kept n)) (unsigned_tied n 1 ∙ ne_eqb n 1 apart) in
-        let none : Some octets ≡ None = sym is ∙ beside ∙ map.get-empty nat_cmp n in
-        absurd cc
-  ]
-
-  one_kept : map.len (two_taken reply).kept ≡ map.len after_number_0.kept + 1
-  one_kept =
-      map.len-insert nat_cmp_total after_number_0.kept 1 reply
-      ∙ ap (λ (b : Bool). cond b (map.len after_number_0.kept) (map.len after_number_0.kept + 1)) (ap is_some (map.get-empty nat_cmp 1))
-
-  taken : TakesRequest (with_room 1) 1 reply (two_taken reply)
-  taken = record {
-    fresh = fresh_one 1;
-    in_effect = refl;
-    size = refl;
-    kept = λ n octets. (
-      λ is. (is, λ behind. near_one (subst (λ (m : ℕ). IsLeftBehind (two_taken reply) m) (kept_alone n octets is) behind)),
-      λ both. both.0,
-    );
-    own_reply = put_there after_number_0.kept 1 1 reply refl;
-    room = let len = one_kept in omega (arith, len);
-  }
+taken : (reply : Octets) → TakesRequest (with_room 1) 1 reply (two_taken reply)
+taken reply =
+    takes_next (with_room 1) 1 refl first_one reply (λ n octets is. absurd (no_reply n octets is))
+    (let none = map.len-empty nat_cmp Octets in omega (arith, none))
 
 -- ---- the proposal of either end is acceptable
 
@@ -300,7 +253,7 @@ reply_said = record { octets = response_octets; child = Some 1; closed = false }
 request_takes : TakesMessage run_meaning setup opened before_table auth_octets asked (effect.Replied reply_said) (answering response_octets) answering_table
 request_takes = record {
   reception = receiving.TakesEffect request_plain;
-  received = record { judgement = judged.Fresh; number = fresh_one 0; whole = refl };
+  received = record { judgement = judged.Fresh; number = fresh_next (with_room 0) 1 refl first_one; whole = refl };
   done = record {
     opened = at_half;
     was = refl;
@@ -320,34 +273,12 @@ request_takes = record {
 
 -- ---- the step
 
--- a machine that holds this association alone
-abbrev pub machine_with : End → Association → Machine
-machine_with end a = record (new_machine (config_at end)) { held = record { next = 2; associations = a ∷ [] } }
-
 abbrev stepped : Stepped
 stepped = stepped_of 1 1 (effect.Replied reply_said)
 
-steps : ike.Steps run_meaning all_protected (ike.Message (replicate 4 1) auth_octets (fresh_of 4)) (machine_with B opened) before_table stepped
-    (machine_with B (answering response_octets)) answering_table
-steps = (
-  refl,
-  inr (record {
-    message = asked;
-    spelled = asked_spelled;
-    done = record {
-      association = opened;
-      there = refl;
-      effect = effect.Replied reply_said;
-      changed = answering response_octets;
-      takes = request_takes;
-      said = refl;
-      content = refl;
-    };
-  }),
-)
-
-seal_4 : HasSeal (fresh_of 4)
-seal_4 = record { octets = octets_if (fresh_of 4).seal refl; many = refl }
+steps : ike.Steps run_meaning all_protected (ike.Message (replicate 4 1) auth_octets (fresh_of 4)) (alone (new_machine (config_at B)) opened) before_table stepped
+    (alone (new_machine (config_at B)) (answering response_octets)) answering_table
+steps = takes_alone (new_machine (config_at B)) all_protected (replicate 4 1) (fresh_of 4) asked_spelled refl refl request_takes
 
 abbrev pair : Pair
 pair = pair_of Responder 0 (unused_window 2)
@@ -364,7 +295,7 @@ module _ {C : Type 0} (a b : C) where
       (accepts a b response_octets).after
   accepts_is sound = record {
     sound = sound;
-    fresh = seal_4;
+    fresh = sealing 4 (omega arith);
     trace = stepped.trace;
     gateway = end_with B b (answering response_octets) answering_table;
     traces = record { kept = refl; does = inl (record { stepped = stepped; steps = steps; output = refl; traced = refl }) };

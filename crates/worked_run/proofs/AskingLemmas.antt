@@ -1,10 +1,7 @@
 -- A asks whether B is there; that takes effect at B and is answered, and A counts the response, whatever reply B kept before.
-use Rattle.std.proofs.Common.{◌≡◌, ◌+◌, ◌<◌, inl, inr, ℕ, Bool, true, false, cond, is_some, List, [], ◌∷◌, Some, None, Option, ap, arith, refl, subst, sym, ◌∙◌}
+use Rattle.std.proofs.Common.{◌≡◌, ◌+◌, ◌<◌, inl, ℕ, true, false, List, [], ◌∷◌, Some, Option, ap, arith, refl, sym, ◌∙◌}
 use Rattle.std.proofs.lemmas.Bool.{true≢false}
-use Rattle.std.proofs.lemmas.Bool.Decides.{eqb_tells}
-use Rattle.std.specs.Cmp.{nat_cmp_total}
 use Rattle.std.specs.FinMap as map
-use Rattle.std.specs.Ordering.{nat_cmp}
 use Rattle.base.specs.Octets.{Octets}
 use Rattle.wire.specs.Messages.{SpellsPlainly}
 use Rattle.wire.specs.Numbers.{INFORMATIONAL}
@@ -14,8 +11,7 @@ use Rattle.suite.specs.declared.fresh.Fresh.{Fresh}
 use Rattle.exchange.specs.Headers.{keys_of}
 use Rattle.exchange.specs.Sealed.{IsSealed}
 use Rattle.exchange.specs.declared.headers.Role.TheVariants.{Initiator, Responder}
-use Rattle.exchange.specs.declared.sealed.Plain.{Plain}
-use Rattle.requests.specs.Incoming.{IsFreshRequest, IsLeftBehind, TakesRequest}
+use Rattle.requests.specs.Incoming.{TakesRequest}
 use Rattle.requests.specs.Outgoing.{MayIssue}
 use Rattle.requests.specs.declared.incoming.Judgement.TheVariants as judged
 use Rattle.sadb.specs.Database.{Database}
@@ -27,25 +23,26 @@ use Rattle.association.specs.declared.phase.Request.{Request}
 use Rattle.association.specs.declared.purpose.Purpose.TheVariants as purpose
 use Rattle.initial.specs.Configs.{Setup}
 use Rattle.initial.specs.Issuing.{IssuesNext}
-use Rattle.initial.specs.declared.answering.Answered.{Answered}
 use Rattle.initial.specs.declared.config.Config.{Config}
-use Rattle.initial.specs.declared.ending.Ended.{Ended}
 use Rattle.informational.specs.Asking.{request_message}
 use Rattle.informational.specs.declared.ordering.Order.TheVariants as order
 use Rattle.effects.specs.Openings.{OpensAsMessage}
-use Rattle.effects.specs.Taking.{has_asked, DoesAnswer, TakesMessage}
+use Rattle.effects.specs.Taking.{TakesMessage}
 use Rattle.effects.specs.declared.taking.Effect.TheVariants as effect
 use Rattle.ike.specs.Asking.{AsksThat}
 use Rattle.ike.specs.Machines.{Held}
 use Rattle.ike.specs.Outputs.{asking_step}
 use Rattle.gateway.specs.WorkedRequests.{worked_reply, worked_request}
-use Rattle.gateway.proofs.WorkedRequestLemmas.{answer_spelled, answered, asked, asked_spelled, first_three, first_two, gap_of, lacks_if_not}
+use Rattle.gateway.proofs.WorkedRequestLemmas.{answer_spelled, answered, asked, asked_spelled, first_two}
 use Rattle.both_ends.specs.WorkedRecords.{worked_record}
 use Rattle.both_ends.proofs.OctetLemmas.{octets_if}
-use Rattle.worked_ends.proofs.MessageLemmas.{answering_header_is, asking_header_is, bare_is}
-use Rattle.worked_ends.proofs.MapLemmas.{put_beside, put_there}
+use Rattle.both_ends.proofs.SealedLemmas.{answering_header_is, asking_header_is}
+use Rattle.worked_ends.proofs.MessageLemmas.{bare_is}
+use Rattle.worked_ends.proofs.InformationalLemmas.{empty_plain, is_answered, is_counted, nothing_ended, opens_bare, reply_by}
+use Rattle.worked_ends.proofs.MapLemmas.{none_found, only_there, put_there}
+use Rattle.worked_ends.proofs.TakenLemmas.{fresh_next, one_kept, takes_next}
 use Rattle.worked_run.specs.WorkedRuns.{run_meaning}
-use Rattle.worked_run.proofs.HeldLemmas.{asking_waits_for_none, none_found, only_there}
+use Rattle.worked_run.proofs.HeldLemmas.{asking_waits_for_none}
 use Rattle.worked_run.proofs.Stages.{answering, asking, counted, probe_request, probed, probing}
 
 -- ---- the octets
@@ -56,36 +53,11 @@ asked_plainly = bare_is IsZero refl 37 8 2 asked.header (asking_header_is IsZero
 answered_plainly : SpellsPlainly answered worked_reply
 answered_plainly = bare_is IsZero refl 37 32 2 answered.header (answering_header_is IsZero refl 37 2 refl (omega arith)) (octets_if worked_reply refl)
 
-abbrev empty_plain : Plain
-empty_plain = record { first = 0; octets = [] }
-
 pub probe_opens : (response : Octets) → OpensAsMessage run_meaning.plain_of (answering response) Initiator false 2 worked_request
-probe_opens response = record {
-  message = asked;
-  spelled = asked_spelled;
-  spis = refl;
-  from_sender = refl;
-  is_response = refl;
-  number_is = refl;
-  keys = worked_record;
-  keyed = refl;
-  plain = empty_plain;
-  opened = refl;
-}
+probe_opens response = opens_bare run_meaning.plain_of (answering response) Initiator false 2 worked_record worked_request asked_spelled refl refl refl
 
 pub reply_opens : OpensAsMessage run_meaning.plain_of probing Responder true 2 worked_reply
-reply_opens = record {
-  message = answered;
-  spelled = answer_spelled;
-  spis = refl;
-  from_sender = refl;
-  is_response = refl;
-  number_is = refl;
-  keys = worked_record;
-  keyed = refl;
-  plain = empty_plain;
-  opened = refl;
-}
+reply_opens = opens_bare run_meaning.plain_of probing Responder true 2 worked_record worked_reply answer_spelled refl refl refl
 
 -- ---- the probe goes out
 
@@ -158,86 +130,20 @@ module _ (config : Config) (entries : List Entry) (fresh : Fresh) where
 
 -- ---- it takes effect
 
-fresh_two : (response : Octets) → IsFreshRequest (answering response).incoming 2
-fresh_two response = record {
-  not_in_effect = lacks_if_not (answering response).incoming.in_effect 2 (λ is. let less = first_two.only 2 is in absurd (omega (arith, less)));
-  gap = 2;
-  is_gap = gap_of (answering response).incoming.in_effect 2 first_two;
-  inside = omega arith;
-}
-
-near_two : ¬ IsLeftBehind probed.incoming 2
-near_two behind = let less = first_three.only behind.later behind.in_effect in let far = behind.far in absurd (omega (arith, less, far))
-
--- the reply before is given up
-one_behind : IsLeftBehind probed.incoming 1
-one_behind = record { later = 2; in_effect = first_three.has 2 (omega arith); far = omega arith }
-
-abbrev none_kept : map.FinMap nat_cmp Octets
-none_kept = map.empty
-
-one_kept : (k : ℕ) (v : Octets) → map.len (map.insert none_kept k v) ≡ map.len none_kept + 1
-one_kept k v =
-    map.len-insert nat_cmp_total none_kept k v
-    ∙ ap (λ (b : Bool). cond b (map.len none_kept) (map.len none_kept + 1)) (ap is_some (map.get-empty nat_cmp k))
+last_kept : (response : Octets) (n : ℕ) (octets : Octets) → map.get (answering response).incoming.kept n ≡ Some octets → n + 1 ≡ 2
+last_kept response n octets is = let one = (only_there map.empty refl 1 response n octets is).number in omega (arith, one)
 
 taken : (response : Octets) → TakesRequest (answering response).incoming 2 worked_reply probed.incoming
-taken response = record {
-  fresh = fresh_two response;
-  in_effect = refl;
-  size = refl;
-  kept = λ n octets. elim (eqb_tells n 2) [
-    | inl (_, same) ↦ (
-      λ is. (
-        put_there (answering response).incoming.kept 2 n worked_reply same ∙ sym (put_there none_kept 2 n worked_reply same) ∙ is,
-        λ behind. near_two (subst (λ (m : ℕ). IsLeftBehind probed.incoming m) same behind),
-      ),
-      λ both. put_there none_kept 2 n worked_reply same ∙ sym (put_there (answering response).incoming.kept 2 n worked_reply same) ∙ both.0,
-    )
-    | inr (_, apart) ↦ (
-      λ is. absurd (apart (only_there none_kept refl 2 worked_reply n octets is).number),
-      λ both.
-          let it = only_there none_kept refl 1 response n octets (sym (put_beside (answering response).incoming.kept 2 n worked_reply apart) ∙ both.0) in
-          absurd (both.1 (subst (λ (m : ℕ). IsLeftBehind probed.incoming m) (sym it.number) one_behind)),
-    )
-  ];
-  own_reply = put_there none_kept 2 2 worked_reply refl;
-  room = let now = one_kept 2 worked_reply in let before = one_kept 1 response in omega (arith, now, before);
-}
-
-abbrev pub reply_said : Answered
-reply_said = record { octets = worked_reply; child = None; closed = false }
+taken response =
+    takes_next (answering response).incoming 2 refl first_two worked_reply (last_kept response) (let one = one_kept 1 response in omega (arith, one))
 
 pub probe_takes : (response : Octets) (setup : Setup) (table : Database)
-    → TakesMessage run_meaning setup (answering response) table worked_request asked (effect.Replied reply_said) probed table
+    → TakesMessage run_meaning setup (answering response) table worked_request asked (effect.Replied (reply_by worked_reply)) probed table
 probe_takes response setup table = record {
   reception = receiving.TakesEffect empty_plain;
-  received = record { judgement = judged.Fresh; number = fresh_two response; whole = refl };
-  done = record {
-    keys = worked_record;
-    established = refl;
-    payloads = Some [];
-    read = record { clear = tt; payloads = (refl, refl); octets = tt };
-    sealed = record { first = 0; plain = []; spelled = (refl, refl); octets = tt; whole = answered_plainly };
-    incoming = probed.incoming;
-    ready = (answering response).incoming;
-    prepared = record { content = refl; room = omega arith };
-    taken = taken response;
-    child = refl;
-    closed = refl;
-    concluded = (
-      refl,
-      record {
-        its_own = λ place d less. absurd (omega (arith, less));
-        removed = record {
-          kept = λ serial pair. (λ there. (there, λ among. absurd (omega (arith, among.1))), λ both. both.0);
-          content = refl;
-          room = omega arith;
-          no_more = omega arith;
-        };
-      },
-    );
-  };
+  received = record { judgement = judged.Fresh; number = fresh_next (answering response).incoming 2 refl first_two; whole = refl };
+  done = is_answered setup (answering response) table 2 run_meaning worked_record worked_reply probed.incoming refl
+      (record { first = 0; plain = []; spelled = (refl, refl); octets = tt; whole = answered_plainly }) (taken response);
 }
 
 -- ---- the response is counted
@@ -245,37 +151,10 @@ probe_takes response setup table = record {
 probe_waits : map.get probing.outgoing.outstanding 2 ≡ Some probe_request
 probe_waits = put_there asking.outgoing.outstanding 2 2 probe_request refl
 
-abbrev pub nothing_ended : Ended
-nothing_ended = record { child = None; closed = false }
-
-counts_it : (setup : Setup) (table : Database) → DoesAnswer false setup probing table 2 empty_plain (effect.Counted nothing_ended) counted table
-counts_it setup table = record {
-  payloads = Some [];
-  read = record { clear = tt; payloads = (refl, refl); octets = tt };
-  request = probe_request;
-  outgoing = counted.outgoing;
-  counted = record { there = probe_waits; content = refl };
-  child = refl;
-  closed = refl;
-  concluded = (
-    refl,
-    record {
-      its_own = λ place d less. absurd (omega (arith, less));
-      removed = record {
-        kept = λ serial pair. (λ there. (there, λ among. absurd (omega (arith, among.1))), λ both. both.0);
-        content = refl;
-        room = omega arith;
-        no_more = omega arith;
-      };
-    },
-  );
-}
-
 pub reply_takes : (setup : Setup) (table : Database)
     → TakesMessage run_meaning setup probing table worked_reply answered (effect.Counted nothing_ended) counted table
 reply_takes setup table = record {
   reception = receiving.Answers empty_plain;
   received = sym (ap (λ (o : Option Request). reception_by probing.phase 37 o (Some empty_plain)) probe_waits);
-  done = subst (λ (b : Bool). DoesAnswer b setup probing table 2 empty_plain (effect.Counted nothing_ended) counted table)
-      (sym (ap has_asked probe_waits)) (counts_it setup table);
+  done = is_counted setup probing table 2 worked_request probe_request.timer probe_waits;
 }

@@ -1,14 +1,10 @@
 -- The first three steps: A begins, B answers, and A reads the answer and tells who it is (RFC 7296 sections 1.2 and 2.14).
-use Rattle.std.proofs.Common.{◌≡◌, ◌<◌, ◌≤◌, ◌∷◌, inl, inr, ℕ, Bool, true, false, cond, Option, Some, None, [], length, ap, arith, refl, subst, sym, ◌∙◌}
-use Rattle.std.specs.Prelude.{nat_eq, replicate}
-use Rattle.std.specs.Cmp.{nat_cmp_total, unsigned_tied}
+use Rattle.std.proofs.Common.{◌∷◌, inl, inr, ℕ, Option, None, [], ap, arith, refl, sym}
+use Rattle.std.specs.Prelude.{replicate}
 use Rattle.std.specs.FinMap as map
 use Rattle.std.specs.FinSet as set
 use Rattle.std.specs.Ordering.{nat_cmp}
-use Rattle.std.proofs.lemmas.Bool.{eq-eqb, ne_eqb}
-use Rattle.std.proofs.lemmas.Bool.Decides.{eqb_tells}
-use Rattle.requests.specs.Timers.{due_from, waits}
-use Rattle.requests.specs.declared.timer.Timer.{Timer}
+use Rattle.wire.specs.Parts.{IsZero}
 use Rattle.sadb.specs.Database.{empty_table, Database, IsFull}
 use Rattle.sadb.specs.declared.pair.Pair.{Pair}
 use Rattle.sa_init.specs.Judging.{Accepted}
@@ -22,8 +18,7 @@ use Rattle.initial.specs.Configs.{Setup}
 use Rattle.initial.specs.Reading.{ReadsResponse, TellsIdentity}
 use Rattle.initial.specs.declared.beginning.Admitted.{Admitted}
 use Rattle.initial.specs.declared.reading.Continued.TheVariants as continued
-use Rattle.moments.specs.Due.{is_over}
-use Rattle.moments.specs.Held.{began, IsInTime}
+use Rattle.moments.specs.Held.{IsInTime}
 use Rattle.effects.specs.Taking.{asker_of, TakesMessage}
 use Rattle.effects.specs.declared.taking.Effect.TheVariants as effect
 use Rattle.ike.specs.Machines.{new_machine, setup_at, Machine}
@@ -36,15 +31,17 @@ use Rattle.gateway.specs.WorldHistories.{IsWorldTrail}
 use Rattle.gateway.specs.Worlds.{TakesEvent}
 use Rattle.gateway.specs.declared.world.stored.End.{End}
 use Rattle.gateway.specs.declared.world.stored.End.TheVariants.{A, B}
-use Rattle.gateway.proofs.PartyLemmas.{some_is}
 use Rattle.gateway.proofs.WorkedRequestLemmas.{none_asked}
 use Rattle.both_ends.specs.WorkedRecords.{answering_fresh, beginning_fresh, fresh_of, worked_record}
-use Rattle.both_ends.proofs.AuthLemmas.{auth_chain, auth_octets, auth_sealed, plain_octets}
+use Rattle.both_ends.proofs.AuthLemmas.{auth_octets, plain_octets, request_chain, request_is}
 use Rattle.both_ends.proofs.InitLemmas.{answer_octets, answer_read, answered_message, asked_message, request_octets, request_read}
 use Rattle.both_ends.proofs.OctetLemmas.{octets_if}
 use Rattle.both_ends.proofs.WorkedRecordLemmas as records
 use Rattle.both_ends.proofs.WorkedRecordLemmas.{accepted, answered, first_request, gives, init_sent, waiting, worked_agreed, worked_beginning, worked_offer}
 use Rattle.both_ends.proofs.RequestLemmas.{first_waits, second_issued}
+use Rattle.worked_ends.proofs.ArrivalLemmas.{alone, takes_alone}
+use Rattle.worked_ends.proofs.MapLemmas.{only_there}
+use Rattle.worked_ends.proofs.StateLemmas.{in_time_if}
 use Rattle.worked_run.specs.WorkedRuns.{all_protected, config_at, new_end, new_ends, run_meaning, spi_at}
 use Rattle.worked_run.proofs.NewEndLemmas.{empty_is_sound, new_end_is_sound, reserved_is_sound, sealing, starts}
 use Rattle.worked_run.proofs.SoundnessLemmas.{sound_next, timely_alone, NoSpiIsLost, SoundnessStays}
@@ -52,7 +49,7 @@ use Rattle.worked_run.proofs.Stages.{answers, begins, end_with, opened, reserved
 
 -- an end's machine that holds this association alone
 abbrev machine_with : End → Association → Machine
-machine_with end a = record (new_machine (config_at end)) { held = record { next = 2; associations = a ∷ [] } }
+machine_with end a = alone (new_machine (config_at end)) a
 
 -- A's table, from its first step on
 abbrev first_table : Database
@@ -130,7 +127,7 @@ tells_identity : TellsIdentity (asker_of run_meaning) reading_setup waiting init
 tells_identity = record {
   request = first_request;
   outstanding = first_waits first_request;
-  sealed = record { first = 35; plain = plain_octets; spelled = auth_chain; octets = octets_if plain_octets refl; whole = auth_sealed };
+  sealed = record { first = 35; plain = plain_octets 1; spelled = request_chain IsZero refl; octets = octets_if (plain_octets 1) refl; whole = request_is IsZero refl };
   issued = second_issued second_request;
   content = refl;
 }
@@ -150,74 +147,18 @@ told_step = stepped_of 1 0 (effect.AsksAuth auth_octets)
 
 tell_steps : Steps run_meaning all_protected (Message (replicate 4 2) answer_octets (fresh_of 3)) (machine_with A waiting) first_table told_step
     (machine_with A telling) first_table
-tell_steps = (
-  refl,
-  inr (record {
-    message = answered_message;
-    spelled = answer_read;
-    done = record {
-      association = waiting;
-      there = refl;
-      effect = effect.AsksAuth auth_octets;
-      changed = telling;
-      takes = reads_message;
-      said = refl;
-      content = refl;
-    };
-  }),
-)
+tell_steps = takes_alone (new_machine (config_at A)) all_protected (replicate 4 2) (fresh_of 3) answer_read refl refl reads_message
 
 -- ---- nothing is due at the moment 0
 
-abbrev none_out : map.FinMap nat_cmp Request
-none_out = map.empty
+waiting_in_time : IsInTime 0 waiting
+waiting_in_time = in_time_if waiting refl (omega arith) (λ n r is. ap (λ (x : Request). x.timer) (only_there map.empty refl 0 first_request n r is).content)
 
-inserted : (number n : ℕ) (lone : Request) (is : Bool) → nat_eq n number ≡ is → map.get (map.insert none_out number lone) n ≡ cond is (Some lone) (map.get none_out n)
-inserted number n lone is told =
-    map.get-insert nat_cmp_total none_out number lone n ∙ ap (λ b. cond b (Some lone) (map.get none_out n)) (unsigned_tied n number ∙ told)
+telling_in_time : IsInTime 0 telling
+telling_in_time = in_time_if telling refl (omega arith) (λ n r is. ap (λ (x : Request). x.timer) (only_there map.empty refl 1 second_request n r is).content)
 
-waits_alone : (number n : ℕ) (lone request : Request) → map.get (map.insert none_out number lone) n ≡ Some request → request ≡ lone
-waits_alone number n lone request is = elim (eqb_tells n number) [
-  | inl (_, same) ↦ sym (some_is lone request (sym (inserted number n lone true (eq-eqb n number same)) ∙ is))
-  | inr (_, apart) ↦ absurd (none_asked n request (sym (inserted number n lone false (ne_eqb n number apart)) ∙ is))
-]
-
--- the timer of a request that went out at this moment
-abbrev just_sent : Timer
-just_sent = record { sent = 0; repeats = 0 }
-
-timer_is : (number n : ℕ) (lone request : Request) (outstanding : map.FinMap nat_cmp Request) → outstanding ≡ map.insert none_out number lone → lone.timer ≡ just_sent
-    → map.get outstanding n ≡ Some request → request.timer ≡ just_sent
-timer_is number n lone request outstanding are now is =
-    let same = waits_alone number n lone request (sym (ap (λ (m : map.FinMap nat_cmp Request). map.get m n) are) ∙ is) in
-    ap (λ (r : Request). r.timer) same ∙ now
-
--- of an association whose one request did
-just_asked : (a : Association) (number : ℕ) (lone : Request) → a.outgoing.outstanding ≡ map.insert none_out number lone → lone.timer ≡ just_sent
-    → is_over 0 a.phase ≡ false → began a.phase ≤ 0 → IsInTime 0 a
-just_asked a number lone are now held since = record {
-  nothing_due = record {
-    held = held;
-    none_due = λ n request is. subst (λ (t : Timer). 0 < due_from t) (sym (timer_is number n lone request a.outgoing.outstanding are now is)) (omega arith);
-  };
-  begun = record {
-    since = since;
-    sent = λ n request is. subst (λ (t : Timer). t.sent ≤ 0) (sym (timer_is number n lone request a.outgoing.outstanding are now is)) (omega arith);
-    often = λ n request is. subst (λ (t : Timer). t.repeats ≤ length waits) (sym (timer_is number n lone request a.outgoing.outstanding are now is)) (omega arith);
-  };
-}
-
-pub waiting_in_time : IsInTime 0 waiting
-waiting_in_time = just_asked waiting 0 first_request refl refl refl (omega arith)
-
-pub telling_in_time : IsInTime 0 telling
-telling_in_time = just_asked telling 1 second_request refl refl refl (omega arith)
-
-pub opened_in_time : IsInTime 0 opened
-opened_in_time = record {
-  nothing_due = record { held = refl; none_due = λ n request is. absurd (none_asked n request is) };
-  begun = record { since = omega arith; sent = λ n request is. absurd (none_asked n request is); often = λ n request is. absurd (none_asked n request is) };
-}
+opened_in_time : IsInTime 0 opened
+opened_in_time = in_time_if opened refl (omega arith) (λ n r is. absurd (none_asked n r is))
 
 -- ---- the three steps, and the ends after them
 

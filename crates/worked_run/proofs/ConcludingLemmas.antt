@@ -1,6 +1,6 @@
 -- A takes the response to IKE_AUTH: B is who it is to be, so the association is established, and its first child is made (RFC 7296 sections 1.2 and
 -- 2.15).
-use Rattle.std.proofs.Common.{◌≡◌, ◌∷◌, inl, inr, ℕ, zero, suc, Bool, false, true, Option, Some, [], ap, arith, refl, subst, sym}
+use Rattle.std.proofs.Common.{◌≡◌, ◌∷◌, inl, ℕ, zero, suc, Bool, false, true, Option, Some, [], ap, arith, refl, subst, sym}
 use Rattle.std.specs.Prelude.{replicate, slice_get}
 use Rattle.std.specs.FinMap as map
 use Rattle.std.specs.FinSet as set
@@ -31,7 +31,6 @@ use Rattle.moments.specs.Held.{IsInTime}
 use Rattle.effects.specs.Taking.{TakesMessage}
 use Rattle.effects.specs.declared.taking.Effect.TheVariants as effect
 use Rattle.ike.specs.Machines.{new_machine, setup_at}
-use Rattle.ike.specs.Moves.{HasSeal}
 use Rattle.ike.specs.Outputs.{stepped_of}
 use Rattle.ike.specs.Steps as ike
 use Rattle.ike.specs.declared.output.MadeChild.{MadeChild}
@@ -44,17 +43,18 @@ use Rattle.gateway.specs.Worlds.{child_with, TakesEvent}
 use Rattle.gateway.specs.declared.world.stored.Datagram.{Datagram}
 use Rattle.gateway.specs.declared.world.stored.End.TheVariants.{A, B}
 use Rattle.gateway.proofs.PartyLemmas.{at_head, further_on, some_is}
+use Rattle.gateway.proofs.WorkedWorldLemmas.{OneMessage}
 use Rattle.esp.proofs.NumberLemmas.{contains-insert_nat}
 use Rattle.both_ends.specs.WorkedRecords.{fresh_of, worked_record}
-use Rattle.both_ends.proofs.OctetLemmas.{octets_if}
 use Rattle.worked_ends.specs.WorkedMessages.{proposal_of}
+use Rattle.worked_ends.proofs.ArrivalLemmas.{alone, takes_alone, was_sent}
 use Rattle.worked_ends.proofs.MapLemmas.{put_there}
 use Rattle.worked_run.specs.WorkedRuns.{all_protected, config_at, run_meaning, spi_at}
-use Rattle.worked_run.proofs.AcceptingLemmas.{acceptable, accepts_is, all_3, any_selector, chosen, chosen_is, machine_with, some_point}
-use Rattle.both_ends.proofs.AuthLemmas.{worked_child}
+use Rattle.worked_run.proofs.AcceptingLemmas.{acceptable, accepts_is, all_3, any_selector, chosen, chosen_is, some_point}
+use Rattle.both_ends.proofs.AuthLemmas.{plain_octets, worked_child}
 use Rattle.both_ends.proofs.InitLemmas.{answer_octets}
-use Rattle.worked_run.proofs.ResponseLemmas.{answer_spelled, answered, plain_octets, response_octets, response_payloads, response_read}
-use Rattle.worked_run.proofs.SentLemmas.{was_sent, OneMessage}
+use Rattle.worked_run.proofs.NewEndLemmas.{sealing}
+use Rattle.worked_run.proofs.ResponseLemmas.{answer_spelled, answered, response_octets, response_payloads, response_read}
 use Rattle.worked_run.proofs.SoundnessLemmas.{sound_next, timely_alone, NoSpiIsLost, SoundnessStays}
 use Rattle.worked_run.proofs.Stages.{accepted_world, accepts, agreed_terms, all_keyed, answered_child, answering, answering_table, asking, asking_table, child_world, concludes, end_with, pair_of, reserved_table, second_request, sent_answer, sent_auth, sent_request, sent_response, stored_of, telling, told_world, two_answered, world_of}
 
@@ -155,27 +155,9 @@ response_takes = record {
 abbrev stepped : Stepped
 stepped = stepped_of 1 1 (effect.Counted child_made)
 
-steps : ike.Steps run_meaning all_protected (ike.Message (replicate 4 2) response_octets (fresh_of 5)) (machine_with A telling) before_table stepped
-    (machine_with A asking) (asking_table 0)
-steps = (
-  refl,
-  inr (record {
-    message = answered;
-    spelled = answer_spelled;
-    done = record {
-      association = telling;
-      there = refl;
-      effect = effect.Counted child_made;
-      changed = asking;
-      takes = response_takes;
-      said = refl;
-      content = refl;
-    };
-  }),
-)
-
-seal_5 : HasSeal (fresh_of 5)
-seal_5 = record { octets = octets_if (fresh_of 5).seal refl; many = refl }
+steps : ike.Steps run_meaning all_protected (ike.Message (replicate 4 2) response_octets (fresh_of 5)) (alone (new_machine (config_at A)) telling) before_table stepped
+    (alone (new_machine (config_at A)) asking) (asking_table 0)
+steps = takes_alone (new_machine (config_at A)) all_protected (replicate 4 2) (fresh_of 5) answer_spelled refl refl response_takes
 
 abbrev pair : Pair
 pair = pair_of Initiator 0 (unused_window 2)
@@ -192,7 +174,7 @@ module _ {C : Type 0} (a b : C) where
       (concludes a b response_octets).after
   concludes_is sound = record {
     sound = sound;
-    fresh = seal_5;
+    fresh = sealing 5 (omega arith);
     trace = stepped.trace;
     gateway = end_with A a asking (asking_table 0);
     traces = record { kept = refl; does = inl (record { stepped = stepped; steps = steps; output = refl; traced = refl }) };

@@ -1,7 +1,8 @@
 -- The last five steps of the worked run take place: a packet is carried, and a probe is answered and its response counted. What comes under the keys
 -- had been sent, both ends hold the association, and of the child they hold what the premises on packets ask for.
-use Rattle.std.proofs.Common.{◌≡◌, ◌⊎◌, ◌≤◌, ◌↔◌, ◌∷◌, inl, inr, ℕ, zero, suc, Bool, true, false, List, [], Option, Some, Contains, ap, arith, refl, subst, sym, ◌∙◌}
-use Rattle.std.specs.Prelude.{slice_get}
+use Rattle.std.proofs.Common.{◌≡◌, ◌≤◌, ◌∷◌, inl, ℕ, zero, suc, Bool, true, false, List, [], Option, Some, Contains, ap, arith, refl, subst, sym, ◌∙◌}
+use Rattle.std.specs.FinMap as map
+use Rattle.std.specs.Prelude.{replicate, slice_get}
 use Rattle.std.proofs.lemmas.Bool.{true≢false}
 use Rattle.std.proofs.lemmas.List.Elements.{Contains-append_left, Contains-push}
 use Rattle.std.specs.List.{AllByRecursion}
@@ -15,38 +16,41 @@ use Rattle.sadb.specs.Database.{IsSoundTable}
 use Rattle.sadb.specs.declared.pair.Pair.{Pair}
 use Rattle.association.specs.declared.phase.Association.{Association}
 use Rattle.effects.specs.declared.taking.Effect.TheVariants as effect
+use Rattle.ike.specs.Machines.{new_machine}
 use Rattle.ike.specs.Outputs.{asking_step, no_trace, stepped_of}
 use Rattle.ike.specs.Steps as ike
 use Rattle.ike.specs.declared.asking.Demand.TheVariants as demand
 use Rattle.lockstep.specs.Parties.{times}
 use Rattle.traffic.specs.Outcomes as traffic
 use Rattle.gateway.specs.States.{IsSoundState}
-use Rattle.gateway.specs.WorldChildren.{AreEndsOfOneChild, AreOfOneRequest}
+use Rattle.gateway.specs.WorldChildren.{AreOfOneRequest}
 use Rattle.gateway.specs.WorldHistories.{Happening, IsWorldTrail}
 use Rattle.gateway.specs.WorldPackets.{HasOneSender, HasSentPacket, HoldsSomePairOf, IsJudgedAt, IsUnforgedTo}
 use Rattle.gateway.specs.WorldParties.{AreBothHeld, HasSent, IsNeverMadeTwice}
 use Rattle.gateway.specs.WorldPromises.{ComesUnder}
 use Rattle.gateway.specs.WorkedRequests.{worked_reply, worked_request}
-use Rattle.gateway.specs.Worlds.{datagram_of, mark_by, other_end, simplex_of, Stored, TakesEvent, WorldState}
+use Rattle.gateway.specs.Worlds.{datagram_of, mark_by, other_end, Stored, TakesEvent, WorldState}
 use Rattle.gateway.specs.declared.input.Input.{Input}
 use Rattle.gateway.specs.declared.input.Input.TheVariants as input
 use Rattle.gateway.specs.declared.world.stored.Child.{Child}
-use Rattle.gateway.specs.declared.world.stored.Datagram.{Datagram}
 use Rattle.gateway.specs.declared.world.stored.End.{End}
 use Rattle.gateway.specs.declared.world.stored.End.TheVariants.{A, B}
-use Rattle.gateway.specs.declared.world.stored.Mark.TheVariants as mark
-use Rattle.gateway.proofs.PartyLemmas.{at_head, at_head_or_further, further_on, single, some_is}
+use Rattle.gateway.proofs.PartyLemmas.{at_head, further_on, some_is}
 use Rattle.gateway.proofs.WorkedRequestLemmas.{answer_spelled, answered, asked, asked_spelled}
+use Rattle.gateway.proofs.WorkedWorldLemmas.{OneMessage, OneTime}
 use Rattle.both_ends.specs.WorkedRecords.{fresh_of, worked_record}
+use Rattle.worked_ends.proofs.ArrivalLemmas.{takes_alone, was_sent}
+use Rattle.worked_ends.proofs.CarriedLemmas.{addressed, it_is_received, it_is_sealed, judged, packet_was_sent}
+use Rattle.worked_ends.proofs.InformationalLemmas.{nothing_ended, reply_by}
+use Rattle.worked_ends.proofs.MapLemmas.{put_again}
+use Rattle.worked_ends.proofs.SenderLemmas.{one_of_two, one_sender, one_sender_back}
 use Rattle.worked_ends.proofs.TableLemmas.{lone_in}
 use Rattle.worked_run.specs.WorkedRuns.{all_protected, config_at, run_meaning}
-use Rattle.worked_run.proofs.AskingLemmas.{nothing_ended, probe_asks, probe_opens, probe_takes, reply_opens, reply_said, reply_takes}
+use Rattle.worked_run.proofs.AskingLemmas.{probe_asks, probe_opens, probe_takes, reply_opens, reply_takes}
 use Rattle.worked_run.proofs.HeldLemmas.{asking_table_is_sound, later_table_is_sound, probing_in_time}
 use Rattle.worked_run.proofs.NewEndLemmas.{sealing}
-use Rattle.worked_run.proofs.PacketLemmas.{addressed, it_is_received, it_is_sealed, judged, one_number}
-use Rattle.worked_run.proofs.SentLemmas.{was_sent, OneMessage}
 use Rattle.worked_run.proofs.SoundnessLemmas.{sound_next, timely_alone, NoSpiIsLost, SoundnessStays}
-use Rattle.worked_run.proofs.Stages.{accepts, all_keyed, all_steps, answered_child, answering, answers, asked_child, asking, asking_table, begins, both_children, carried_octets, carrying, child_world, concludes, counted, counts, delivered_world, end_with, hands_up, is_there, last_world, later_table, one_taken, pair_of, probed, probed_world, probes, probing, probing_world, sealed_world, seals, sent_alive, sent_answer, sent_auth, sent_packet, sent_probe, sent_request, sent_response, stored_of, table_with, tells}
+use Rattle.worked_run.proofs.Stages.{accepts, all_keyed, all_steps, answered_child, answering, answering_table, answers, asked_child, asking, asking_table, begins, both_children, carried_octets, child_world, concludes, counted, counts, delivered_world, end_with, hands_up, is_there, last_world, later_table, one_taken, pair_of, probed, probed_world, probes, probing, probing_world, sealed_world, seals, sent_alive, sent_answer, sent_auth, sent_packet, sent_probe, sent_request, sent_response, stored_of, table_with, tells}
 
 -- the key of what A sends, and of what B sends
 abbrev asking_key : Octets
@@ -54,10 +58,6 @@ asking_key = key_at 0 (child_material worked_record.sk_d worked_record.nonce_i w
 
 abbrev answering_key : Octets
 answering_key = key_at 1 (child_material worked_record.sk_d worked_record.nonce_i worked_record.nonce_r)
-
--- what the clause `one` of the law `lockstep::laws::what_was_sent_under_keys_is_told` says: how often a key record is in a list of one
-abbrev pub OneTime : Type 0
-OneTime = (keys k : KeyRecord) → times keys (k ∷ []) ≡ 1 ↔ (k ≡ keys)
 
 once_in : OneTime → (keys : KeyRecord) (made : List KeyRecord) → made ≡ keys ∷ [] → times keys made ≤ 1
 once_in one_time keys made is =
@@ -108,10 +108,6 @@ abbrev is_packet : Input → Bool
 is_packet (input.Esp octets) = true
 is_packet _ = false
 
-abbrev esp_octets : Input → Octets
-esp_octets (input.Esp octets) = octets
-esp_octets _ = []
-
 same_end : A ≡ B → ⊥
 same_end is = cc
 
@@ -137,7 +133,12 @@ module _ {C : Type 0} (a b : C) (response : Octets) where
       kept = refl;
       does = (
         record { machine = refl; traced = refl },
-        inl (record { outcome = traffic.Sealed 1 1 carried_octets; sends = it_is_sealed asking_key answering_key; output = refl }),
+        inl (record {
+          outcome = traffic.Sealed 1 1 carried_octets;
+          sends = it_is_sealed 512 256 (omega arith) asking_key answering_key (asking_table 0) (asking_table 1).pairs
+              (sym (put_again map.empty 1 (pair_of Initiator 0 (unused_window 2)) (pair_of Initiator 1 (unused_window 2))));
+          output = refl;
+        }),
       );
     };
     content = ap by_pair (sym (lone_in (pair_of Initiator 1 (unused_window 2))).there);
@@ -154,7 +155,12 @@ module _ {C : Type 0} (a b : C) (response : Octets) where
       kept = refl;
       does = (
         record { machine = refl; traced = refl },
-        record { outcome = traffic.Up 1 1 worked_payload; receives = it_is_received asking_key answering_key; output = refl },
+        record {
+          outcome = traffic.Up 1 1 worked_payload;
+          receives = it_is_received 512 256 (omega arith) asking_key answering_key answering_table later_table.pairs
+              (sym (put_again map.empty 1 (pair_of Responder 0 (unused_window 2)) (pair_of Responder 0 one_taken)));
+          output = refl;
+        },
       );
     };
     content = refl;
@@ -189,28 +195,13 @@ module _ {C : Type 0} (a b : C) (response : Octets) where
   answers_it sound = record {
     sound = sound_delivered sound;
     fresh = sealing 7 (omega arith);
-    trace = (stepped_of 1 2 (effect.Replied reply_said)).trace;
+    trace = (stepped_of 1 2 (effect.Replied (reply_by worked_reply))).trace;
     gateway = end_with B b probed later_table;
     traces = record {
       kept = refl;
       does = inl (record {
-        stepped = stepped_of 1 2 (effect.Replied reply_said);
-        steps = (
-          refl,
-          inr (record {
-            message = asked;
-            spelled = asked_spelled;
-            done = record {
-              association = answering response;
-              there = refl;
-              effect = effect.Replied reply_said;
-              changed = probed;
-              takes = probe_takes response _ _;
-              said = refl;
-              content = refl;
-            };
-          }),
-        );
+        stepped = stepped_of 1 2 (effect.Replied (reply_by worked_reply));
+        steps = takes_alone (new_machine (config_at B)) all_protected (replicate 4 1) (fresh_of 7) asked_spelled refl refl (probe_takes response _ _);
         output = refl;
         traced = refl;
       });
@@ -236,22 +227,7 @@ module _ {C : Type 0} (a b : C) (response : Octets) where
       kept = refl;
       does = inl (record {
         stepped = stepped_of 1 2 (effect.Counted nothing_ended);
-        steps = (
-          refl,
-          inr (record {
-            message = answered;
-            spelled = answer_spelled;
-            done = record {
-              association = probing;
-              there = refl;
-              effect = effect.Counted nothing_ended;
-              changed = counted;
-              takes = reply_takes _ _;
-              said = refl;
-              content = refl;
-            };
-          }),
-        );
+        steps = takes_alone (new_machine (config_at A)) all_protected (replicate 4 2) (fresh_of 8) answer_spelled refl refl (reply_takes _ _);
         output = refl;
         traced = refl;
       });
@@ -349,24 +325,12 @@ module _ {C : Type 0} (a b : C) (response : Octets) where
   pub answered_held : HoldsSomePairOf answered_child (last_world a b response)
   answered_held = record { pair = pair_of Responder 0 one_taken; held = (lone_in (pair_of Responder 0 one_taken)).there }
 
-  one_of : (child : Child) → Contains last.children child → (answered_child ≡ child) ⊎ (asked_child ≡ child)
-  one_of child there = elim (at_head_or_further answered_child (asked_child ∷ []) child there) [
-    | inl here ↦ inl here
-    | inr beyond ↦ inr (single asked_child child beyond)
-  ]
-
   -- no other child of A's sends to B, and none of B's to A
-  pub one_sender : HasOneSender answered_child last
-  one_sender other there end_is spi_is key_is = elim (one_of other there) [
-    | inl same ↦ absurd (same_end (sym end_is ∙ ap (λ (c : Child). c.end) (sym same)))
-    | inr same ↦ subst (λ (c : Child). AreEndsOfOneChild answered_child c) same (inr of_one)
-  ]
+  pub alone : HasOneSender answered_child last
+  alone = one_sender asked_child answered_child of_one last (one_of_two answered_child asked_child)
 
-  pub one_sender_back : HasOneSender asked_child last
-  one_sender_back other there end_is spi_is key_is = elim (one_of other there) [
-    | inl same ↦ subst (λ (c : Child). AreEndsOfOneChild asked_child c) same (inl of_one)
-    | inr same ↦ absurd (same_end (ap (λ (c : Child). c.end) same ∙ end_is))
-  ]
+  pub alone_back : HasOneSender asked_child last
+  alone_back = one_sender_back asked_child answered_child of_one last (one_of_two answered_child asked_child)
 
   no_packet : (h : Happening C) → is_packet h.event.input ≡ false → (child : Child) (number : ℕ) (octets : Octets) → IsJudgedAt child number octets h → ⊥
   no_packet h none child number octets judged = true≢false (sym (ap is_packet judged.given) ∙ none)
@@ -377,24 +341,18 @@ module _ {C : Type 0} (a b : C) (response : Octets) where
     end_is = refl;
     given = refl;
     pair = pair_of Responder 0 (unused_window 2);
-    addressed = addressed asking_key answering_key;
+    addressed = addressed 512 256 (omega arith) asking_key answering_key answering_table;
     own = refl;
-    judged = judged asking_key answering_key;
+    judged = judged 512 256 (omega arith) asking_key answering_key;
   }
 
-  packet_was_sent : (number : ℕ) (octets : Octets) → IsJudgedAt answered_child number octets (hands_up a b response)
+  judged_is_sent : (number : ℕ) (octets : Octets) → IsJudgedAt answered_child number octets (hands_up a b response)
       → HasSentPacket A answered_child.inbound.spi answered_child.inbound.key number octets last
-  packet_was_sent number octets judged =
-      let same : carried_octets ≡ octets = ap esp_octets judged.given in
-      let number_is : number ≡ 1 = one_number asking_key answering_key judged.pair number octets same judged.addressed judged.judged in
-      record {
-        by = simplex_of carrying;
-        spi_is = refl;
-        key_is = refl;
-        sent = subst (λ (d : Datagram). Contains last.sent d) (λ i. datagram_of A (mark.Esp (simplex_of carrying) (sym number_is i)) (same i))
-            (Contains-append_left (sent_request ∷ sent_answer ∷ sent_auth ∷ sent_response response ∷ sent_packet ∷ []) (sent_probe ∷ sent_alive ∷ []) sent_packet
-            (Contains-push (sent_request ∷ sent_answer ∷ sent_auth ∷ sent_response response ∷ []) sent_packet));
-      }
+  judged_is_sent number octets judged =
+      packet_was_sent 512 256 (omega arith) asking_key answering_key answering_table last
+      (Contains-append_left (sent_request ∷ sent_answer ∷ sent_auth ∷ sent_response response ∷ sent_packet ∷ []) (sent_probe ∷ sent_alive ∷ []) sent_packet
+      (Contains-push (sent_request ∷ sent_answer ∷ sent_auth ∷ sent_response response ∷ []) sent_packet))
+      judged.pair number octets judged.given judged.addressed judged.judged
 
   -- only one step takes an ESP packet
   each_step : (P : Happening C → Type 0) → ((h : Happening C) → is_packet h.event.input ≡ false → P h) → P (hands_up a b response)
@@ -421,7 +379,7 @@ module _ {C : Type 0} (a b : C) (response : Octets) where
   unforged_to place number octets =
       each_step
       (λ (h : Happening C). IsJudgedAt answered_child number octets h → HasSentPacket A answered_child.inbound.spi answered_child.inbound.key number octets last)
-      (λ h none judged. absurd (no_packet h none answered_child number octets judged)) (packet_was_sent number octets) place
+      (λ h none judged. absurd (no_packet h none answered_child number octets judged)) (judged_is_sent number octets) place
 
   -- no packet came to A
   pub unforged_back : IsUnforgedTo asked_child (all_steps a b response) last

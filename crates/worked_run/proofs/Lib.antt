@@ -1,6 +1,5 @@
 mod Stages
 mod SoundnessLemmas
-mod SentLemmas
 mod NewEndLemmas
 mod BeginningLemmas
 mod KeyedLemmas
@@ -8,7 +7,6 @@ mod ResponseLemmas
 mod AcceptingLemmas
 mod ConcludingLemmas
 mod HeldLemmas
-mod PacketLemmas
 mod AskingLemmas
 mod LastLemmas
 mod WorkedRunLemmas

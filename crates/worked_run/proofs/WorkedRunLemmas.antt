@@ -8,6 +8,7 @@ use Rattle.gateway.specs.WorldParties.{HasSent}
 use Rattle.gateway.specs.WorldPromises.{ComesUnder, IsUnforgedByThen}
 use Rattle.gateway.specs.Worlds.{gateway_at, other_end, HoldsNothing, WorldState}
 use Rattle.gateway.specs.WorkedRequests.{worked_reply, worked_request}
+use Rattle.gateway.proofs.WorkedWorldLemmas.{OneMessage, OneTime}
 use Rattle.gateway.specs.declared.world.stored.End.{End}
 use Rattle.gateway.specs.declared.world.stored.End.TheVariants.{A, B}
 use Rattle.both_ends.specs.WorkedRecords.{worked_record}
@@ -20,10 +21,9 @@ use Rattle.worked_run.proofs.BeginningLemmas.{first_steps_are, told_one_is_sound
 use Rattle.worked_run.proofs.ConcludingLemmas.{auth_response_was_sent, child_one_is_sound, child_steps_are}
 use Rattle.worked_run.proofs.HeldLemmas.{answering_in_time, answering_table_is_sound, asking_in_time, asking_table_is_sound}
 use Rattle.worked_run.proofs.KeyedLemmas.{came_as_initiator, came_as_responder, none_comes_answering, none_comes_beginning, none_comes_telling}
-use Rattle.worked_run.proofs.LastLemmas.{all_at, answer_comes, answer_was_sent, answered_held, answered_there, asked_held, asked_there, both_are_held, both_are_held_back, last_steps_are, never_made_twice, none_comes_handing_up, none_comes_probing, none_comes_sealing, of_one, one_sender, one_sender_back, packet_comes, probe_comes, probe_was_sent, unforged_back, unforged_to, OneTime}
+use Rattle.worked_run.proofs.LastLemmas.{all_at, alone, alone_back, answer_comes, answer_was_sent, answered_held, answered_there, asked_held, asked_there, both_are_held, both_are_held_back, last_steps_are, never_made_twice, none_comes_handing_up, none_comes_probing, none_comes_sealing, of_one, packet_comes, probe_comes, probe_was_sent, unforged_back, unforged_to}
 use Rattle.worked_run.proofs.NewEndLemmas.{can_be, is_fresh, new_end_holds_nothing, new_ends_are_sound, policy_is_sound, set_up, starts, typed, NewWorldsAreSound}
 use Rattle.worked_run.proofs.ResponseLemmas.{response_octets}
-use Rattle.worked_run.proofs.SentLemmas.{OneMessage}
 use Rattle.worked_run.proofs.SoundnessLemmas.{NoSpiIsLost, SoundnessStays}
 use Rattle.worked_run.proofs.Stages.{accepts, all_steps, answered_child, answers, asked_child, begins, carried_octets, child_world, concludes, counted, counts, hands_up, is_there, last_world, probed, probes, probing, seals, tells, told_world, two_taken}
 
@@ -159,7 +159,7 @@ module _ {C : Type 0} (a b : C) where
     asked_held = asked_held a b response_octets;
     answered_held = answered_held a b response_octets;
     unforged_to = unforged_to a b response_octets;
-    one_sender = one_sender a b response_octets;
+    one_sender = alone a b response_octets;
     unforged_back = unforged_back a b response_octets;
-    one_sender_back = one_sender_back a b response_octets;
+    one_sender_back = alone_back a b response_octets;
   }
