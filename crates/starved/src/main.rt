@@ -34,8 +34,13 @@ fn main(rt: HostRuntime) -> ExitCode {
 fn play(alloc: Global) -> Result<u32, Trouble> {
     let mut one = Link::new(alloc)?;
     let mut another = Link::new(alloc)?;
+    go_both(alloc, &mut one, &mut another)
+}
+
+/// Both go the way, the first whole before the other, and have to send the same.
+fn go_both(alloc: Global, one: &mut Link, another: &mut Link) -> Result<u32, Trouble> {
     let refused = one.go(alloc)?.saturating_add(another.go(alloc)?);
-    if one.has_sent_as(&another) {
+    if one.has_sent_as(another) {
         Ok(refused)
     } else {
         Err(Trouble::Other)

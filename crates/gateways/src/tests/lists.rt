@@ -1,28 +1,21 @@
 //! Lists of inputs at one gateway, and of events at two.
-ghost use Rattle.gateway.specs.Worlds.{HoldsNothing};
-
 use super::asserts::same;
 use caller::ScriptCaller;
-use gateway::{
-    Child, Datagram, End, Event, Gateway, Input, Mark, Output, RunFault, World, run, run_world,
-};
-use samples::{message, order};
+use gateway::{Child, Datagram, End, Event, Input, Mark, Output, RunFault, World, run, run_world};
+use samples::{SampleFault, gateway, message, order};
 use std::alloc::Global;
 use std::panic::Expect;
 use std::process::Abort;
 
-/// A gateway to which nothing happened.
-fn gateway(rt: &impl Abort, alloc: Global, end: End) -> Gateway<ScriptCaller>
-    ensures { HoldsNothing result }
-{
-    samples::gateway(alloc, end).expect(rt, "a gateway")
-}
-
 /// Two gateways to which nothing happened.
 fn world(rt: &impl Abort, alloc: Global) -> World<ScriptCaller> {
-    let a = gateway(rt, alloc, End::A);
-    let b = gateway(rt, alloc, End::B);
-    World::new(alloc, a, b)
+    new_world(alloc).expect(rt, "two gateways")
+}
+
+fn new_world(alloc: Global) -> Result<World<ScriptCaller>, SampleFault> {
+    let a = gateway(alloc, End::A)?;
+    let b = gateway(alloc, End::B)?;
+    Ok(World::new(alloc, a, b))
 }
 
 /// Datagram `place` of a world comes to the other end.
@@ -169,7 +162,7 @@ fn are_refused(rt: &impl Abort, outputs: &[Output<'_>], wanted: &[u8]) {
 // The third has an SPI that is in use.
 #[test]
 fn inputs_by_one_call(rt: HostRuntime) {
-    let mut gateway = gateway(&rt, rt.alloc(), End::A);
+    let mut gateway = gateway(rt.alloc(), End::A).expect(&rt, "a gateway");
     let inputs = orders(&rt, rt.alloc(), &[1, 2, 1, 3]);
     let mut outputs = Vec::new(rt.alloc());
     run(rt.alloc(), &mut gateway, &inputs, &mut outputs).expect(&rt, "room");

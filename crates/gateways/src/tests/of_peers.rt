@@ -1,21 +1,26 @@
 //! Two gateways with the caller that real peers speak with: AES-256 in CBC mode, the 2048-bit group, and shared keys.
+ghost use Rattle.std.specs.Prelude.{IfOk};
 ghost use Rattle.gateway.specs.Worlds.{HoldsNothing};
 
 use super::asserts::{add, holds, same};
 use base::Items;
 use gateway::{Datagram, End, Event, Gateway, Input, Output, World, run_world};
 use peers::{Peer, PeerCaller};
-use samples::{gateway_of, message, order, own_name};
+use samples::{SampleFault, gateway_of, message, order, own_name};
 use std::alloc::Global;
 use std::panic::Expect;
 use std::process::Abort;
+
+fn items(rt: &impl Abort, alloc: Global, octets: &[u8]) -> Items<u8> {
+    Items::from_slice(alloc, octets).expect(rt, "memory")
+}
 
 /// An end, as the other knows it by its secret.
 fn peer(rt: &impl Abort, alloc: Global, end: End, secret: &[u8; 11]) -> Peer {
     Peer {
         kind: 2,
-        id: Items::from_slice(alloc, &own_name(end)).expect(rt, "memory"),
-        secret: Items::from_slice(alloc, secret).expect(rt, "memory"),
+        id: items(rt, alloc, &own_name(end)),
+        secret: items(rt, alloc, secret),
     }
 }
 
@@ -23,7 +28,7 @@ fn peer(rt: &impl Abort, alloc: Global, end: End, secret: &[u8; 11]) -> Peer {
 fn caller(rt: &impl Abort, alloc: Global, own: &[u8; 11], peer: Peer) -> PeerCaller {
     let mut peers = Items::new(alloc);
     holds(rt, peers.push(peer).is_ok());
-    let own = Items::from_slice(alloc, own).expect(rt, "memory");
+    let own = items(rt, alloc, own);
     PeerCaller { own, peers }
 }
 
@@ -34,19 +39,27 @@ fn gateway(
     end: End,
     own: &[u8; 11],
     known: &[u8; 11],
-) -> Gateway<PeerCaller>
-    ensures { HoldsNothing result }
+) -> Result<Gateway<PeerCaller>, SampleFault>
+    ensures { IfOk result HoldsNothing }
 {
     let peer = peer(rt, alloc, end.other(), known);
     let caller = caller(rt, alloc, own, peer);
-    gateway_of(alloc, end, caller).expect(rt, "a gateway")
+    gateway_of(alloc, end, caller)
 }
 
 /// Two gateways to which nothing happened. A knows B by B's secret, and B knows A by this one.
 fn world(rt: &impl Abort, alloc: Global, known: &[u8; 11]) -> World<PeerCaller> {
-    let a = gateway(rt, alloc, End::A, b"secret of a", b"secret of b");
-    let b = gateway(rt, alloc, End::B, b"secret of b", known);
-    World::new(alloc, a, b)
+    new_world(rt, alloc, known).expect(rt, "two gateways")
+}
+
+fn new_world(
+    rt: &impl Abort,
+    alloc: Global,
+    known: &[u8; 11],
+) -> Result<World<PeerCaller>, SampleFault> {
+    let a = gateway(rt, alloc, End::A, b"secret of a", b"secret of b")?;
+    let b = gateway(rt, alloc, End::B, b"secret of b", known)?;
+    Ok(World::new(alloc, a, b))
 }
 
 /// One more thing happens; answers whether it was refused or dropped.
@@ -96,6 +109,13 @@ fn are_sent(rt: &impl Abort, datagrams: &[Datagram]) {
     }
 }
 
+/// Finds the four datagrams, the keys of both ends, and their children.
+fn is_agreed(rt: &impl Abort, world: &World<PeerCaller>) {
+    are_sent(rt, world.datagrams());
+    same(rt, world.key_records().len(), 2);
+    same(rt, world.children().len(), 2);
+}
+
 /// A packet of IPv4 from A's protected network to B's, or back.
 fn packet(rt: &impl Abort, alloc: Global, end: End) -> Input {
     let [a, b] = [0, 1];
@@ -123,8 +143,7 @@ fn arrives(
     end: End,
     place: u64,
 ) -> bool {
-    let octets = world.datagram(place).unwrap_or(&[]);
-    let octets = Items::from_slice(alloc, octets).expect(rt, "memory");
+    let octets = items(rt, alloc, world.datagram(place).unwrap_or(&[]));
     happens(rt, alloc, world, end, Input::Esp { octets })
 }
 
@@ -140,9 +159,7 @@ fn crosses(rt: &impl Abort, alloc: Global, world: &mut World<PeerCaller>, end: E
 fn packets_go_both_ways_once(rt: HostRuntime) {
     let mut world = world(&rt, rt.alloc(), b"secret of a");
     begin(&rt, rt.alloc(), &mut world);
-    are_sent(&rt, world.datagrams());
-    same(&rt, world.key_records().len(), 2);
-    same(&rt, world.children().len(), 2);
+    is_agreed(&rt, &world);
     crosses(&rt, rt.alloc(), &mut world, End::A, 5);
     crosses(&rt, rt.alloc(), &mut world, End::B, 6);
 }

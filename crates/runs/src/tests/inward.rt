@@ -143,14 +143,23 @@ fn are_as_without(rt: &impl Abort, found: &Later, wanted: &Later) {
     assert!(rt; found.is(wanted));
 }
 
+/// What B sends after its answer, which is repeated a thousand times by one list.
+fn after_a_thousand_repeats(rt: &impl Abort, alloc: Global) -> Later {
+    let mut asked = Asked::new(rt, alloc);
+    assert_eq!(rt; asked.repeat(rt, alloc, 1000), 1000);
+    asked.later(rt, alloc)
+}
+
+fn after_the_answer(rt: &impl Abort, alloc: Global) -> Later {
+    Asked::new(rt, alloc).later(rt, alloc)
+}
+
 // The repeats change nothing: what comes afterwards is what comes without them.
 #[test]
 fn a_thousand_repeats(rt: HostRuntime) {
-    let mut repeated = Asked::new(&rt, rt.alloc());
-    assert_eq!(rt; repeated.repeat(&rt, rt.alloc(), 1000), 1000);
-    let mut other = Asked::new(&rt, rt.alloc());
-    let wanted = other.later(&rt, rt.alloc());
-    are_as_without(&rt, &repeated.later(&rt, rt.alloc()), &wanted);
+    let found = after_a_thousand_repeats(&rt, rt.alloc());
+    let wanted = after_the_answer(&rt, rt.alloc());
+    are_as_without(&rt, &found, &wanted);
 }
 
 // To be run with each allocation failing in turn: what is prepared wants memory, and no answer does.

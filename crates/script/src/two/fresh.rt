@@ -19,8 +19,11 @@ pub fn fresh(alloc: Global, number: u64) -> Result<Fresh, AllocError> {
 
 /// The SHA-256 of a text that names the input and what the octets are for.
 fn words(alloc: Global, number: u64, purpose: &str) -> Result<[u8; 32], AllocError> {
-    let text = format!(in alloc; "fresh {number} {purpose}")?;
-    Ok(Sha256::digest(text.as_bytes()))
+    Ok(hash(&format!(in alloc; "fresh {number} {purpose}")?))
+}
+
+fn hash(text: &str) -> [u8; 32] {
+    Sha256::digest(text.as_bytes())
 }
 
 /// The first octets of a hash.
