@@ -33,8 +33,12 @@ fn main(rt: HostRuntime) -> ExitCode {
 /// Goes the way twice, and answers how many steps were refused for want of memory.
 fn play(alloc: Global) -> Result<u32, Trouble> {
     let mut one = Link::new(alloc)?;
+    play_beside(alloc, &mut one)
+}
+
+fn play_beside(alloc: Global, one: &mut Link) -> Result<u32, Trouble> {
     let mut another = Link::new(alloc)?;
-    go_both(alloc, &mut one, &mut another)
+    go_both(alloc, one, &mut another)
 }
 
 /// Both go the way, the first whole before the other, and have to send the same.

@@ -41,17 +41,14 @@ struct Game {
 /// So many packets.
 pub fn play(alloc: Global, packets: usize) -> Result<Played, Fail> {
     let mut game = Game::new(alloc)?;
-    game.begin(alloc)?;
-    for place in 0..packets {
-        game.turn(alloc, place)?;
-    }
+    game.play(alloc, packets)?;
     Ok(game.into_played())
 }
 
 impl Game {
     fn new(alloc: Global) -> Result<Game, Fail> {
-        let ends = Ends::new(alloc)?;
         let policy = policy(alloc, End::A)?;
+        let ends = Ends::new(alloc)?;
         Ok(Game {
             ends,
             policy,
@@ -73,6 +70,14 @@ impl Game {
 
     fn into_played(self) -> Played {
         self.played
+    }
+
+    fn play(&mut self, alloc: Global, packets: usize) -> Result<(), AllocError> {
+        self.begin(alloc)?;
+        for place in 0..packets {
+            self.turn(alloc, place)?;
+        }
+        Ok(())
     }
 
     /// One packet, and now and then a change before it.
