@@ -1,2 +1,3 @@
+pub mod Checking
 pub mod Ends
 pub mod Printing
