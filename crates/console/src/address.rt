@@ -1,5 +1,6 @@
 //! Addresses as text: four decimal numbers with dots, or eight groups of four hexadecimal digits with colons, none left out.
-ghost use Rattle.std.specs.Prelude.{◌≡◌};
+ghost use Rattle.std.specs.Prelude.{◌≡◌, IfOk, string_bytes};
+ghost use Rattle.console.specs.Addresses.{address_text, groups_text};
 
 use base::Address;
 use std::alloc::{AllocError, Global};
@@ -12,17 +13,27 @@ const GROUPS: usize = 8;
 const GROUP_DIGITS: usize = 4;
 
 /// An address as text, its hexadecimal digits in lower case.
-pub fn address_text(alloc: Global, address: Address) -> Result<String, AllocError> {
+#[tactic(auto, unfolding(std::specs::Net::Addr::IsIpv4OfBits, std::specs::Net::Addr::IsIpv6OfBits))]
+pub fn address_text(alloc: Global, address: Address) -> Result<String, AllocError>
+    ensures { IfOk result (λ text. string_bytes text ≡ address_text address) }
+{
     match address {
         Address::V4(number) => {
             let dotted = Ipv4Addr::from(number);
             format!(in alloc; "{dotted}")
         }
-        Address::V6(number) => {
-            let [a, b, c, d, e, f, g, h] = Ipv6Addr::from(number).segments();
-            format!(in alloc; "{a:04x}:{b:04x}:{c:04x}:{d:04x}:{e:04x}:{f:04x}:{g:04x}:{h:04x}")
-        }
+        Address::V6(number) => groups_text(alloc, Ipv6Addr::from(number).segments()),
     }
+}
+
+fn groups_text(alloc: Global, groups: [u16; GROUPS]) -> Result<String, AllocError>
+    ensures { IfOk result (λ text. string_bytes text ≡ groups_text groups) }
+{
+    let mut text = format!(in alloc; "{:04x}", groups[0])?;
+    for group in &groups[1..] {
+        write!(text, ":{group:04x}")?;
+    }
+    Ok(text)
 }
 
 /// The address that a text spells in one of the two forms, hexadecimal digits in either case; `None` where it spells none.

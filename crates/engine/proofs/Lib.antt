@@ -1,1 +1,3 @@
 mod SayingLemmas
+mod ShowingLemmas
+mod TellingLemmas

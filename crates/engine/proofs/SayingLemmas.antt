@@ -33,7 +33,7 @@ at_place (first ∷ lines) zero default below = refl
 at_place (first ∷ lines) (suc place) default below = at_place lines place default (omega (arith, below))
 
 -- a line that is refused ends it by its reason
-pub ends_at : {M : Type 0} (refuses : M → List ℕ → LineFault → Type 0) (lines : List Line) (texts : List (List ℕ)) (last behind : M) (why : LineFault) (number : ℕ) (old new : Option (List ℕ))
-    → StopsAt refuses lines texts last why number old new → EndsBy refuses lines texts last behind (Err (stop_of_line number why)) old new
-ends_at refuses lines texts last behind fault.Refused number old new stops = stops
-ends_at refuses lines texts last behind fault.Memory number old new stops = (number, stops)
+pub ends_at : {M : Type 0} (refuses : M → List ℕ → LineFault → M → Type 0) (lines : List Line) (texts : List (List ℕ)) (last behind : M) (why : LineFault) (old new : Option (List ℕ))
+    → (stops : StopsAt refuses lines texts last behind why old new) → EndsBy refuses lines texts last behind (Err (stop_of_line stops.line.number why)) old new
+ends_at refuses lines texts last behind fault.Refused old new stops = (stops, refl)
+ends_at refuses lines texts last behind fault.Memory old new stops = stops

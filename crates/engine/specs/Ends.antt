@@ -1,7 +1,11 @@
 -- How a command ends.
-use Rattle.std.specs.Prelude.{◌≡◌, ℕ, Result, Ok, Err}
+use Rattle.std.specs.Prelude.{◌≡◌, ◌++◌, ℕ, List, Option, Some, None, Result, Ok, Err, codes, decimal}
+use Rattle.std.specs.Io.KnownBytes.{Appends, Keeps}
 use Rattle.script.specs.declared.fault.LineFault.{LineFault}
 use Rattle.script.specs.declared.fault.LineFault.TheVariants as fault
+use Rattle.wire.specs.Fault.{fault_number, fault_offset}
+use Rattle.wire.specs.declared.fault.WireFault.{WireFault}
+use Rattle.wire.specs.declared.fault.WireFault.TheVariants as wire
 use Rattle.console.specs.declared.digits.HexFault.{HexFault}
 use Rattle.console.specs.declared.digits.HexFault.TheVariants as hex
 use Rattle.console.specs.declared.input.InputFault.{InputFault}
@@ -35,3 +39,35 @@ stop_of_digits hex.Memory = stop.Memory
 abbrev pub stop_of_line : ℕ → LineFault → Stop
 stop_of_line number fault.Refused = stop.Line number
 stop_of_line number fault.Memory = stop.Memory
+
+-- why a command stops whose octets are no message: the refusal's number, and where it points to a payload
+abbrev pub stop_at : ℕ → Option ℕ → Stop
+stop_at number None = stop.Message number
+stop_at number (Some offset) = stop.Payload number offset
+
+abbrev pub stop_of_fault : WireFault → Stop
+stop_of_fault wire.Memory = stop.Memory
+stop_of_fault other = stop_at (fault_number other) (fault_offset other)
+
+-- what is printed of it, without the end of the line
+abbrev pub stop_text : Stop → List ℕ
+stop_text stop.File = codes "refused file"
+stop_text stop.Hex = codes "refused hex"
+stop_text (stop.Message number) = codes "refused E" ++ decimal number
+stop_text (stop.Payload number offset) = codes "refused E" ++ decimal number ++ codes " at " ++ decimal offset
+stop_text (stop.Line number) = codes "line " ++ decimal number ++ codes " refused"
+stop_text stop.Memory = codes "no memory"
+stop_text stop.Output = codes "the output was not written"
+
+-- what a writer holds, where it is known, grew by a beginning of the line that tells it, or by all of it
+pub record Tells (why : Stop) (old new : Option (List ℕ)) : Type 0 where
+  pub written : List ℕ
+  pub left : List ℕ
+  pub parts : stop_text why ++ codes "\n" ≡ written ++ left
+  pub appended : Appends old new written
+
+-- nothing more goes out where the work is done or the output can't be written; else the line that tells why, or a beginning of it
+abbrev pub EndsWith : Result Unit Stop → Option (List ℕ) → Option (List ℕ) → Type 0
+EndsWith (Ok _) old new = Keeps old new
+EndsWith (Err stop.Output) old new = Keeps old new
+EndsWith (Err why) old new = Tells why old new

@@ -1,3 +1,4 @@
 pub mod Checking
 pub mod Ends
 pub mod Printing
+pub mod Showing

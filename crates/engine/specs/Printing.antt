@@ -5,7 +5,7 @@ use Rattle.script.specs.declared.fault.LineFault.{LineFault}
 use Rattle.script.specs.declared.fault.LineFault.TheVariants as fault
 use Rattle.script.specs.declared.lines.Line.{Line}
 use Rattle.console.specs.declared.status.Status.{Status}
-use Rattle.engine.specs.Ends.{status_of, IsQuiet}
+use Rattle.engine.specs.Ends.{status_of, EndsWith}
 use Rattle.engine.specs.declared.stop.Stop.{Stop}
 use Rattle.engine.specs.declared.stop.Stop.TheVariants as stop
 
@@ -37,32 +37,35 @@ pub record BreaksOff {M : Type 0} (texts : List (List ℕ)) (last behind : M) (o
   pub appended : Appends old new (whole_text before ++ written)
 
 -- The next line is refused for this reason, and all that was said before is written.
-pub record StopsAt {M : Type 0} (refuses : M → List ℕ → LineFault → Type 0) (lines : List Line) (texts : List (List ℕ)) (last : M) (why : LineFault) (number : ℕ) (old new : Option (List ℕ)) : Type 0 where
+pub record StopsAt {M : Type 0} (refuses : M → List ℕ → LineFault → M → Type 0) (lines : List Line) (texts : List (List ℕ)) (last behind : M) (why : LineFault) (old new : Option (List ℕ)) : Type 0 where
   pub line : Line
   pub there : slice_get lines (length texts) ≡ Some line
-  pub number_is : number ≡ line.number
-  pub refused : refuses last line.text.now why
+  pub refused : refuses last line.text.now why behind
   pub appended : Appends old new (whole_text texts)
 
 -- how it ends, after these texts, by the outcome
-abbrev pub EndsBy : {M : Type 0} → (M → List ℕ → LineFault → Type 0) → List Line → List (List ℕ) → M → M → Result Unit Stop → Option (List ℕ) → Option (List ℕ) → Type 0
+abbrev pub EndsBy : {M : Type 0} → (M → List ℕ → LineFault → M → Type 0) → List Line → List (List ℕ) → M → M → Result Unit Stop → Option (List ℕ) → Option (List ℕ) → Type 0
 EndsBy refuses lines texts last behind (Ok _) old new = Completes lines texts last behind old new
 EndsBy refuses lines texts last behind (Err stop.Output) old new = BreaksOff texts last behind old new
-EndsBy refuses lines texts last behind (Err (stop.Line number)) old new = StopsAt refuses lines texts last fault.Refused number old new
-EndsBy refuses lines texts last behind (Err stop.Memory) old new = (number : ℕ) × StopsAt refuses lines texts last fault.Memory number old new
-EndsBy refuses lines texts last behind outcome old new = ⊥
+EndsBy refuses lines texts last behind (Err (stop.Line number)) old new = (stops : StopsAt refuses lines texts last behind fault.Refused old new) × (number ≡ stops.line.number)
+EndsBy refuses lines texts last behind (Err stop.Memory) old new = StopsAt refuses lines texts last behind fault.Memory old new
+EndsBy refuses lines texts last behind (Err stop.File) old new = ⊥
+EndsBy refuses lines texts last behind (Err stop.Hex) old new = ⊥
+EndsBy refuses lines texts last behind (Err (stop.Message number)) old new = ⊥
+EndsBy refuses lines texts last behind (Err (stop.Payload number offset)) old new = ⊥
 
 -- What goes out is what the machine says in turn: at all lines, or up to the first that it refuses, or to where it can't be written.
-pub record Prints {M : Type 0} (says : M → List ℕ → List ℕ → M → Type 0) (refuses : M → List ℕ → LineFault → Type 0) (machine behind : M) (lines : List Line) (outcome : Result Unit Stop) (old new : Option (List ℕ)) : Type 0 where
+pub record Prints {M : Type 0} (says : M → List ℕ → List ℕ → M → Type 0) (refuses : M → List ℕ → LineFault → M → Type 0) (machine behind : M) (lines : List Line) (outcome : Result Unit Stop) (old new : Option (List ℕ)) : Type 0 where
   pub texts : List (List ℕ)
   pub last : M
   pub in_turn : SaysInTurn says machine lines texts last
   pub ends : EndsBy refuses lines texts last behind outcome old new
 
--- So it is printed, and the status tells whether all was; after all was, or where the output can't be written, nothing more goes out.
-pub record Plays {M : Type 0} (says : M → List ℕ → List ℕ → M → Type 0) (refuses : M → List ℕ → LineFault → Type 0) (machine behind : M) (lines : List Line) (status : Status) (old new : Option (List ℕ)) : Type 0 where
+-- The status is 0 exactly where all was played and printed. Else the line that tells why goes out, or a beginning of it, unless the
+-- output can't be written any more.
+pub record Plays {M : Type 0} (says : M → List ℕ → List ℕ → M → Type 0) (refuses : M → List ℕ → LineFault → M → Type 0) (machine behind : M) (lines : List Line) (status : Status) (old new : Option (List ℕ)) : Type 0 where
   pub outcome : Result Unit Stop
   pub printed : Option (List ℕ)
   pub prints : Prints says refuses machine behind lines outcome old printed
   pub status_is : status ≡ status_of outcome
-  pub quiet : IsQuiet outcome → new ≡ printed
+  pub ends : EndsWith outcome printed new

@@ -1,7 +1,7 @@
 //! Checking exact values.
-ghost use Rattle.std.specs.Prelude.{◌≡◌, ◌≤◌, OnOk};
+ghost use Rattle.std.specs.Prelude.{◌≡◌, ◌≤◌};
 ghost use Rattle.std.specs.Io.KnownBytes.{Appends};
-ghost use Rattle.engine.specs.Checking.{report_line};
+ghost use Rattle.engine.specs.Checking.{report_line, Checks, ReportsBy};
 
 use crate::stop::{Stop, end};
 use console::{Status, write_whole};
@@ -12,24 +12,26 @@ use vectors::{ENTRIES, Report, check_all};
 /// Computes the exact values of [`check_all`], compares each with what it should be, prints how many passed, failed and could not be
 /// looked at for want of memory, and answers the exit status.
 ///
-/// The status is 0 where all passed and all of the output is written, and else 1.
+/// The status is 0 where all passed and all of the output is written, and else 1. Where a write fails it is a beginning of the line
+/// that was written, and nothing after it; for want of memory `no memory` is printed in its place.
 pub fn check<W: Write>(alloc: Global, writer: &mut W) -> u8
+    ensures checks { Checks ENTRIES result (W.contents writer.old) (W.contents writer.new) }
     ensures code { result ≤ 1 }
     ensures done { result ≡ 0 →
         Appends (W.contents writer.old) (W.contents writer.new) (report_line ENTRIES 0 0) }
 {
     let report = check_all(alloc);
-    let told = end(tell(alloc, report, writer), writer);
+    let status = end(print_report(alloc, report, writer), writer);
     if report.failed == 0 && report.unread == 0 {
-        told.code()
+        status.code()
     } else {
         Status::Refused.code()
     }
 }
 
-fn tell<W: Write>(alloc: Global, report: Report, writer: &mut W) -> Result<(), Stop>
-    ensures { OnOk result (Appends (W.contents writer.old) (W.contents writer.new)
-        (report_line report.passed report.failed report.unread)) }
+fn print_report<W: Write>(alloc: Global, report: Report, writer: &mut W) -> Result<(), Stop>
+    ensures { ReportsBy (report_line report.passed report.failed report.unread) result
+        (W.contents writer.old) (W.contents writer.new) }
 {
     let Report {
         passed,

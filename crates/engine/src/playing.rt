@@ -45,7 +45,7 @@ fn play_script<R: Read, W: Write>(
 /// the status.
 ///
 /// Whatever the machine: what goes out, where the writer tells its octets, is what the machine says in turn, at all lines, or up to the
-/// first that it refuses; where a write fails, a beginning of that, and nothing more, not even why.
+/// first that it refuses, and then the line that tells why; where a write fails, a beginning of that, and nothing more.
 pub fn play_lines<P: Player, W: Write>(player: &mut P, lines: &[Line], writer: &mut W) -> Status
     ensures plays { Plays P.says P.refuses player.old player.new lines.now result
         (W.contents writer.old) (W.contents writer.new) }
@@ -66,14 +66,14 @@ fn print_lines<P: Player, W: Write>(
     for line in lines {
         match player.play(line.text) {
             Ok(text) => write_whole(writer, text.as_bytes())?,
-            Err(fault) => return Err(stop_at(line.number, fault)),
+            Err(fault) => return Err(stop_of_line(line.number, fault)),
         }
     }
     Ok(())
 }
 
 /// Why a line that is not played, with its number from 1, stops the program.
-fn stop_at(number: usize, fault: LineFault) -> Stop
+fn stop_of_line(number: usize, fault: LineFault) -> Stop
     ensures { result ≡ stop_of_line number fault }
 {
     match fault {

@@ -56,7 +56,7 @@ impl Player for One {
     // Of what it prints, and of what it refuses, nothing is told.
     ghost says = { λ _ _ _ _. ⊤ };
 
-    ghost refuses = { λ _ _ _. ⊤ };
+    ghost refuses = { λ _ _ _ _. ⊤ };
 
     fn play(&mut self, line: &[u8]) -> Result<String, LineFault> {
         let directive = Directive::read(self.alloc, line)?;

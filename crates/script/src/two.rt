@@ -48,7 +48,7 @@ impl Player for Two {
     // Of what it prints, and of what it refuses, nothing is told.
     ghost says = { λ _ _ _ _. ⊤ };
 
-    ghost refuses = { λ _ _ _. ⊤ };
+    ghost refuses = { λ _ _ _ _. ⊤ };
 
     fn play(&mut self, line: &[u8]) -> Result<String, LineFault> {
         match Directive::read(self.alloc, line)? {

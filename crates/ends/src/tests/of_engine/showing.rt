@@ -1,5 +1,6 @@
 //! Messages shown over readers and writers in memory. They and their lines were written by a Python program of its own.
 use crate::tests::asserts::same;
+use crate::tests::streams::{Narrow, Slow};
 use console::MOST_OCTETS;
 use engine::show;
 use std::alloc::Global;
@@ -228,4 +229,59 @@ fn sizes_of_files(rt: HostRuntime) {
     expect_shown(&rt, text.as_slice(), BARE_SHOWN, 0);
     text.push(b' ').expect(&rt, "memory");
     expect_shown(&rt, text.as_slice(), "refused file\n", 1);
+}
+
+#[test]
+fn a_slow_reader_is_read_to_its_end(rt: HostRuntime) {
+    let mut reader = Slow::new(COOKIE.as_bytes(), None);
+    let mut printed = Vec::new(rt.alloc());
+    same(&rt, show(rt.alloc(), &mut reader, &mut printed), 0);
+    same(&rt, printed.as_slice(), COOKIE_SHOWN.as_bytes());
+}
+
+#[test]
+fn a_failed_read_refuses_the_file(rt: HostRuntime) {
+    for left in 0..=COOKIE.len() {
+        let mut reader = Slow::new(COOKIE.as_bytes(), Some(left));
+        let mut printed = Vec::new(rt.alloc());
+        same(&rt, show(rt.alloc(), &mut reader, &mut printed), 1);
+        same(&rt, printed.as_slice(), b"refused file\n".as_slice());
+    }
+}
+
+#[test]
+fn after_a_failed_write_nothing_is_printed(rt: HostRuntime) {
+    let shown = COOKIE_SHOWN.as_bytes();
+    for room in 0..shown.len() {
+        for gives_up in [false, true] {
+            let mut writer = Narrow::new(rt.alloc(), room, gives_up);
+            same(
+                &rt,
+                show(rt.alloc(), &mut COOKIE.as_bytes(), &mut writer),
+                1,
+            );
+            same(&rt, writer.written.as_slice(), &shown[..room]);
+        }
+    }
+    let mut writer = Narrow::new(rt.alloc(), shown.len(), false);
+    same(
+        &rt,
+        show(rt.alloc(), &mut COOKIE.as_bytes(), &mut writer),
+        0,
+    );
+    same(&rt, writer.written.as_slice(), shown);
+}
+
+#[test]
+fn a_refusal_that_is_not_written(rt: HostRuntime) {
+    let refusal = b"refused E5 at 28\n";
+    let text =
+        "0102030405060708000000000000000021202208000000000000003400000018000000140003040100000100000000080100000b";
+    for room in 0..refusal.len() {
+        for gives_up in [false, true] {
+            let mut writer = Narrow::new(rt.alloc(), room, gives_up);
+            same(&rt, show(rt.alloc(), &mut text.as_bytes(), &mut writer), 1);
+            same(&rt, writer.written.as_slice(), &refusal[..room]);
+        }
+    }
 }

@@ -70,11 +70,10 @@ returns-in-Err g c =
     let why = c.in-Err.fault in
     let old = g.W.Write.contents c.args.writer.now in
     let new = g.W.Write.contents c.loop-line.writer in
-    let stopped : c.stop_at.result ≡ stop_of_line line.number why = c.stop_at.ensures in
-    let stops : StopsAt g.P.Player.refuses lines before.texts c.loop-line.player why line.number old new = record {
+    let stopped : c.stop_of_line.result ≡ stop_of_line line.number why = c.stop_of_line.ensures in
+    let stops : StopsAt g.P.Player.refuses lines before.texts c.loop-line.player c.play.new.self why old new = record {
       line = line;
       there = subst (λ (k : ℕ). slice_get lines k ≡ Some line) (sym before.count_is) (at_place lines index nothing (omega (arith, c.loop-line-test.true)));
-      number_is = refl;
       refused = c.in-Err.ensures.refused;
       appended = before.written;
     } in
@@ -83,5 +82,5 @@ returns-in-Err g c =
       texts = before.texts;
       last = c.loop-line.player;
       in_turn = before.in_turn;
-      ends = ends_at g.P.Player.refuses lines before.texts c.loop-line.player c.play.new.self why line.number old new stops;
+      ends = ends_at g.P.Player.refuses lines before.texts c.loop-line.player c.play.new.self why old new stops;
     })

@@ -1,8 +1,7 @@
 //! Reads, writes and growths that fail.
 use crate::tests::asserts::same;
+use crate::tests::streams::{Narrow, Slow};
 use engine::play;
-use std::alloc::Global;
-use std::io::{Error, ErrorKind, Read, Result, Write};
 
 const SCRIPT: &[u8] =
     b"one\nsa 256 0b0b0b0b0b0b0b0b0b0b0b0b0b0b0b0b0b0b0b0b0b0b0b0b0b0b0b0b0b0b0b0b 2 no\nseal 4 c0ffee\ndeliver 1\ndeliver 1\nprint 1\ndamage 1 8 80\n";
@@ -10,87 +9,9 @@ const SCRIPT: &[u8] =
 const PRINTED: &[u8] =
     b"sealed 1 number 1 length 32\nup number 1 next 4 c0ffee\nE16\npacket 0000010000000001c0ffee010203030474c505746d1ecc920ae2ebaa8b27793e\nE16\n";
 
-/// Gives one octet at each second read, and is interrupted at the others; fails once `fails_at` octets were given.
-#[derive(Drop)]
-struct Slow<'a> {
-    left: &'a [u8],
-    fails_at: Option<usize>,
-    is_interrupted: bool,
-}
-
-impl Read for Slow<'_> {
-    fn read(&mut self, buffer: &mut [u8]) -> Result<usize> {
-        self.is_interrupted = !self.is_interrupted;
-        if self.is_interrupted {
-            return Err(Error::from(ErrorKind::Interrupted));
-        }
-        if self.fails_at == Some(self.left.len()) {
-            return Err(Error::from(ErrorKind::BrokenPipe));
-        }
-        match (self.left.split_first(), buffer.first_mut()) {
-            (Some((octet, left)), Some(place)) => {
-                *place = *octet;
-                self.left = left;
-                Ok(1)
-            }
-            _ => Ok(0),
-        }
-    }
-}
-
-/// Takes at most three octets at each second write, and is interrupted at the others; once `room` octets were written, the
-/// next write fails, or takes nothing, and all after it would succeed.
-#[derive(Drop)]
-struct Narrow {
-    written: Vec<u8>,
-    room: usize,
-    gives_up: bool,
-    is_interrupted: bool,
-}
-
-impl Narrow {
-    fn new(alloc: Global, room: usize, gives_up: bool) -> Narrow {
-        Narrow {
-            written: Vec::new(alloc),
-            room,
-            gives_up,
-            is_interrupted: false,
-        }
-    }
-}
-
-impl Write for Narrow {
-    fn write(&mut self, text: &[u8]) -> Result<usize> {
-        self.is_interrupted = !self.is_interrupted;
-        if self.is_interrupted {
-            return Err(Error::from(ErrorKind::Interrupted));
-        }
-        if self.room == 0 {
-            self.room = usize::MAX;
-            return if self.gives_up {
-                Ok(0)
-            } else {
-                Err(Error::from(ErrorKind::BrokenPipe))
-            };
-        }
-        let count = text.len().min(3).min(self.room);
-        self.written.extend_from_slice(&text[..count])?;
-        self.room -= count;
-        Ok(count)
-    }
-
-    fn flush(&mut self) -> Result<()> {
-        Ok(())
-    }
-}
-
 #[test]
 fn a_slow_reader_is_read_to_its_end(rt: HostRuntime) {
-    let mut reader = Slow {
-        left: SCRIPT,
-        fails_at: None,
-        is_interrupted: false,
-    };
+    let mut reader = Slow::new(SCRIPT, None);
     let mut printed = Vec::new(rt.alloc());
     same(&rt, play(rt.alloc(), &mut reader, &mut printed), 0);
     same(&rt, printed.as_slice(), PRINTED);
@@ -99,11 +20,7 @@ fn a_slow_reader_is_read_to_its_end(rt: HostRuntime) {
 #[test]
 fn a_failed_read_refuses_the_file(rt: HostRuntime) {
     for left in 0..=SCRIPT.len() {
-        let mut reader = Slow {
-            left: SCRIPT,
-            fails_at: Some(left),
-            is_interrupted: false,
-        };
+        let mut reader = Slow::new(SCRIPT, Some(left));
         let mut printed = Vec::new(rt.alloc());
         same(&rt, play(rt.alloc(), &mut reader, &mut printed), 1);
         same(&rt, printed.as_slice(), b"refused file\n".as_slice());
