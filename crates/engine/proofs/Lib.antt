@@ -1,3 +1,3 @@
+mod EndingLemmas
 mod SayingLemmas
 mod ShowingLemmas
-mod TellingLemmas

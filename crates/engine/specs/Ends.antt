@@ -1,5 +1,5 @@
 -- How a command ends.
-use Rattle.std.specs.Prelude.{◌≡◌, ◌++◌, ℕ, List, Option, Some, None, Result, Ok, Err, codes, decimal}
+use Rattle.std.specs.Prelude.{◌≡◌, ◌⊎◌, ◌++◌, ℕ, List, Option, Some, None, Result, Ok, Err, codes, decimal}
 use Rattle.std.specs.Io.KnownBytes.{Appends, Keeps}
 use Rattle.script.specs.declared.fault.LineFault.{LineFault}
 use Rattle.script.specs.declared.fault.LineFault.TheVariants as fault
@@ -10,6 +10,7 @@ use Rattle.console.specs.declared.digits.HexFault.{HexFault}
 use Rattle.console.specs.declared.digits.HexFault.TheVariants as hex
 use Rattle.console.specs.declared.input.InputFault.{InputFault}
 use Rattle.console.specs.declared.input.InputFault.TheVariants as input
+use Rattle.console.specs.Output.{AppendsBeginning}
 use Rattle.console.specs.declared.status.Status.{Status}
 use Rattle.console.specs.declared.status.Status.TheVariants.{Done, Refused}
 use Rattle.engine.specs.declared.stop.Stop.{Stop}
@@ -59,15 +60,12 @@ stop_text (stop.Line number) = codes "line " ++ decimal number ++ codes " refuse
 stop_text stop.Memory = codes "no memory"
 stop_text stop.Output = codes "the output was not written"
 
--- what a writer holds, where it is known, grew by a beginning of the line that tells it, or by all of it
-pub record Tells (why : Stop) (old new : Option (List ℕ)) : Type 0 where
-  pub written : List ℕ
-  pub left : List ℕ
-  pub parts : stop_text why ++ codes "\n" ≡ written ++ left
-  pub appended : Appends old new written
+-- the line that tells it
+abbrev pub stop_line : Stop → List ℕ
+stop_line why = stop_text why ++ codes "\n"
 
 -- nothing more goes out where the work is done or the output can't be written; else the line that tells why, or a beginning of it
 abbrev pub EndsWith : Result Unit Stop → Option (List ℕ) → Option (List ℕ) → Type 0
 EndsWith (Ok _) old new = Keeps old new
 EndsWith (Err stop.Output) old new = Keeps old new
-EndsWith (Err why) old new = Tells why old new
+EndsWith (Err why) old new = Appends old new (stop_line why) ⊎ AppendsBeginning old new (stop_line why)

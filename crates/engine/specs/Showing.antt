@@ -144,49 +144,52 @@ payloads_text offset (payload ∷ payloads) = payload_text offset payload ++ pay
 abbrev pub message_text : Message → ℕ → List ℕ
 message_text message size = header_text message.header size ++ payloads_text HEADER_LENGTH message.payloads
 
--- The digits of the whole file spell the octets.
-pub record HasDigits (file : Option (List ℕ)) (octets : List ℕ) : Type 0 where
-  pub text : List ℕ
-  pub whole : IsWholeFile file text
-  pub digits : decode_of (digits_of text) ≡ Ok octets
-
--- The whole file has something else than digits, or an odd count of them.
-pub record HasOtherThanDigits (file : Option (List ℕ)) : Type 0 where
-  pub text : List ℕ
-  pub whole : IsWholeFile file text
-  pub none : IsErr (decode_of (digits_of text))
-
--- The file has a message that is shown by this text.
-pub record IsShownBy (file : Option (List ℕ)) (text : List ℕ) : Type 0 where
+-- The digits spell the octets of a message, which this text shows.
+pub record IsShownBy (digits text : List ℕ) : Type 0 where
   pub octets : List ℕ
   pub message : Message
-  pub digits : HasDigits file octets
+  pub decoded : decode_of (digits_of digits) ≡ Ok octets
   pub spelled : Spells message octets
   pub text_is : text ≡ message_text message (length octets)
 
--- The file's octets are no message for this reason.
-pub record IsFaultyBy (file : Option (List ℕ)) (why : Stop) : Type 0 where
+-- The digits spell octets that are no message for this reason.
+pub record IsFaultyBy (digits : List ℕ) (why : Stop) : Type 0 where
   pub octets : List ℕ
   pub fault : WireFault
-  pub digits : HasDigits file octets
+  pub decoded : decode_of (digits_of digits) ≡ Ok octets
   pub first : IsFaultOf octets fault
   pub why_is : why ≡ stop_of_fault fault
 
--- why nothing of the file is shown; that a read failed, or that memory was wanted, can't be said
-abbrev pub IsRefusedBy : Option (List ℕ) → Stop → Type 0
-IsRefusedBy file stop.Hex = HasOtherThanDigits file
-IsRefusedBy file (stop.Message number) = IsFaultyBy file (stop.Message number)
-IsRefusedBy file (stop.Payload number offset) = IsFaultyBy file (stop.Payload number offset)
-IsRefusedBy file stop.File = Unit {0}
-IsRefusedBy file stop.Memory = Unit {0}
-IsRefusedBy file (stop.Line number) = ⊥
-IsRefusedBy file stop.Output = ⊥
+-- why nothing is shown of a text; that memory was wanted can't be said
+abbrev pub IsRefusedBy : List ℕ → Stop → Type 0
+IsRefusedBy digits stop.Hex = IsErr (decode_of (digits_of digits))
+IsRefusedBy digits (stop.Message number) = IsFaultyBy digits (stop.Message number)
+IsRefusedBy digits (stop.Payload number offset) = IsFaultyBy digits (stop.Payload number offset)
+IsRefusedBy digits stop.Memory = Unit {0}
+IsRefusedBy digits stop.File = ⊥
+IsRefusedBy digits (stop.Line number) = ⊥
+IsRefusedBy digits stop.Output = ⊥
 
--- all of the message's text goes out, or a beginning of it where the output can't be written, or nothing
+-- The whole file is shown by this text.
+pub record HasShown (file : Option (List ℕ)) (text : List ℕ) : Type 0 where
+  pub digits : List ℕ
+  pub whole : IsWholeFile file digits
+  pub shown : IsShownBy digits text
+
+-- Nothing is shown of the whole file for this reason.
+pub record HasNone (file : Option (List ℕ)) (why : Stop) : Type 0 where
+  pub digits : List ℕ
+  pub whole : IsWholeFile file digits
+  pub refused : IsRefusedBy digits why
+
+-- all of the message's text goes out, or a beginning of it where the output can't be written, or nothing; that a read failed, or that memory
+-- was wanted, can't be said
 abbrev pub ShowsBy : Option (List ℕ) → Result Unit Stop → Option (List ℕ) → Option (List ℕ) → Type 0
-ShowsBy file (Ok _) old new = (text : List ℕ) × IsShownBy file text × Appends old new text
-ShowsBy file (Err stop.Output) old new = (text : List ℕ) × IsShownBy file text × AppendsBeginning old new text
-ShowsBy file (Err why) old new = IsRefusedBy file why × Keeps old new
+ShowsBy file (Ok _) old new = (text : List ℕ) × HasShown file text × Appends old new text
+ShowsBy file (Err stop.Output) old new = (text : List ℕ) × HasShown file text × AppendsBeginning old new text
+ShowsBy file (Err stop.File) old new = Keeps old new
+ShowsBy file (Err stop.Memory) old new = Keeps old new
+ShowsBy file (Err why) old new = HasNone file why × Keeps old new
 
 -- The status is 0 exactly where all was shown. Else the line that tells why goes out, or a beginning of it, unless the output can't be
 -- written any more.

@@ -1,6 +1,6 @@
 //! Showing an IKE message.
-ghost use Rattle.std.specs.Prelude.{◌≡◌, ◌≤◌};
-ghost use Rattle.engine.specs.Showing.{Shows, ShowsBy};
+ghost use Rattle.std.specs.Prelude.{◌≤◌, string_bytes, IfErr, IfOk};
+ghost use Rattle.engine.specs.Showing.{IsRefusedBy, IsShownBy, Shows, ShowsBy};
 
 mod lines;
 
@@ -34,11 +34,19 @@ fn show_message<R: Read, W: Write>(
     ensures { ShowsBy (R.remaining reader.old) result
         (W.contents writer.old) (W.contents writer.new) }
 {
-    let text = read_whole(alloc, reader)?;
-    let mut octets = Vec::new(alloc);
-    read_hex(&text, &mut octets)?;
-    let message = decode_message(alloc, &octets)?;
-    let lines = lines::of_message(alloc, &message, octets.len())?;
+    let digits = read_whole(alloc, reader)?;
+    let lines = shown(alloc, &digits)?;
     write_whole(writer, lines.as_bytes())?;
     Ok(())
+}
+
+/// The lines of the message whose octets the digits spell.
+fn shown(alloc: Global, digits: &[u8]) -> Result<String, Stop>
+    ensures shown { IfOk result (λ text. IsShownBy digits.now (string_bytes text)) }
+    ensures refused { IfErr result (λ why. IsRefusedBy digits.now why) }
+{
+    let mut octets = Vec::new(alloc);
+    read_hex(digits, &mut octets)?;
+    let message = decode_message(alloc, &octets)?;
+    Ok(lines::of_message(alloc, &message, octets.len())?)
 }

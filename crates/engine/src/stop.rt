@@ -1,7 +1,9 @@
 //! Why the program stops, and how it ends.
-ghost use Rattle.std.specs.Prelude.{◌≡◌, ◌≤◌};
+ghost use Rattle.std.specs.Prelude.{◌≡◌, ◌≤◌, OnErr, OnOk};
+ghost use Rattle.std.specs.Io.KnownBytes.{Appends};
+ghost use Rattle.console.specs.Output.{AppendsBeginning};
 ghost use Rattle.console.specs.Status.{exit_code};
-ghost use Rattle.engine.specs.Ends.{status_of, IsQuiet, EndsWith, Tells};
+ghost use Rattle.engine.specs.Ends.{status_of, stop_line, IsQuiet, EndsWith};
 
 use arrayvec::ArrayString;
 use console::{HexFault, InputFault, Status, Unwritten, write_whole};
@@ -138,16 +140,21 @@ pub fn end<W: Write>(outcome: Result<(), Stop>, writer: &mut W) -> Status
         return Status::Done;
     };
     if stop != Stop::Output {
-        write_reason(stop, writer);
+        let _ = write_reason(stop, writer);
     }
     Status::Refused
 }
 
-fn write_reason<W: Write>(stop: Stop, writer: &mut W)
-    ensures { Tells stop (W.contents writer.old) (W.contents writer.new) }
+/// Writes the line that tells it.
+fn write_reason<W: Write>(stop: Stop, writer: &mut W) -> Result<(), Unwritten>
+    ensures whole { OnOk result
+        (Appends (W.contents writer.old) (W.contents writer.new) (stop_line stop)) }
+    ensures beginning { OnErr result
+        (AppendsBeginning (W.contents writer.old) (W.contents writer.new) (stop_line stop)) }
 {
     let mut line = ArrayString::<LINE_LIMIT>::new();
-    if writeln!(line, "{stop}").is_ok() {
-        let _ = write_whole(writer, line.as_bytes());
+    match writeln!(line, "{stop}") {
+        Ok(()) => write_whole(writer, line.as_bytes()),
+        Err(_) => Err(Unwritten),
     }
 }
