@@ -2,7 +2,7 @@
 """Counts the instructions of single pieces of the gateway's work, beside the compressions of SHA-256 that docs/MEASURES.md promises,
 and times the caller for real peers.
 
-Builds crates/measures and runs it under valgrind (callgrind), each piece twice with two counts: the difference is the cost of
+Builds crates/tool_costs and runs it under valgrind (callgrind), each piece twice with two counts: the difference is the cost of
 the work alone, without the start of the program. What is timed runs without valgrind, in the same way. Prints tables, and ends with
 status 1 where a piece costs less than its compressions or more than OVERHEAD above them, or takes longer than its LIMITS.
 """

@@ -1,5 +1,5 @@
 #!/usr/bin/env python3
-"""Times sealing and opening of lists of packets beside one by one: builds crates/speed for the default target and for x86-64-v3, runs it, and
+"""Times sealing and opening of lists of packets beside one by one: builds crates/tool_times for the default target and for x86-64-v3, runs it, and
 prints the ratios of docs/MEASURES.md. Ends with status 1 where a list is slower than its packets one by one, or not as much faster as
 LEAST says. For a machine that does nothing else.
 """

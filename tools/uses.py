@@ -1,5 +1,5 @@
 #!/usr/bin/env python3
-"""Compares the uses on the crates' pages with the tests of crates/uses: the page of NAME (crates/NAME/src/lib.rt) shows what the test
+"""Compares the uses on the crates' pages with the tests of crates/test_pages: the page of NAME (crates/NAME/src/lib.rt) shows what the test
 the_page_of_NAME does. With --write it writes the pages. Ends with status 1 where one differs.
 """
 import pathlib

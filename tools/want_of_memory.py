@@ -1,7 +1,7 @@
 #!/usr/bin/env python3
-"""Refuses each allocation of crates/starved in turn, alone and with all after it, and looks at what the program says of it.
+"""Refuses each allocation of crates/tool_memory in turn, alone and with all after it, and looks at what the program says of it.
 
-From anywhere, after (cd crates/starved && rt run): python3 tools/want_of_memory.py. The C library's allocator is put aside by a small
+From anywhere, after (cd crates/tool_memory && rt run): python3 tools/want_of_memory.py. The C library's allocator is put aside by a small
 library of C, which is built with cc. Alone, the program has to find that all is as with memory, or that memory was wanted for its own
 lists (status 3). With all after it refused, it can only find that nothing was changed by what was refused (status 3). It is no part of the
 gate. Ends with status 1 where the program says anything else, or doesn't end by itself.

@@ -31,8 +31,8 @@
 mod command;
 
 use command::{Command, CommandFault};
-use console::Status;
-use engine::{Stop, check, end, play, show};
+use gw_console::Status;
+use gw_engine::{Stop, check, end, play, show};
 use std::alloc::Global;
 use std::fs::File;
 use std::io;

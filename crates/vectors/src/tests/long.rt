@@ -1,7 +1,7 @@
 //! Inputs as long as they may be.
 use crate::tests::asserts::{granted, same};
-use console::{hex_text, read_hex};
 use exchange::{leading_cookie, returned_cookie};
+use gw_console::{hex_text, read_hex};
 
 #[test]
 fn a_cookie_of_64_octets_is_brought_back(rt: HostRuntime) {

@@ -4,7 +4,7 @@ ghost use Rattle.wire.specs.declared.fault.WireFault.{WireFault};
 
 use crate::tests::asserts::{granted, holds, same};
 use base::Items;
-use caller::ScriptCaller;
+use caller_script::ScriptCaller;
 use exchange::laws::{sealed_messages_open, short_messages_can_be_sent};
 use exchange::{Notice, Plain, open_message, seal_message};
 use std::alloc::Global;

@@ -1,6 +1,0 @@
-use Rattle.std.proofs.Common.{◌≡◌, ◌++◌, string_bytes, take, codes, flat_map}
-use Rattle.console.specs.Digits.{hexadecimal}
-use Rattle.console.proofs.address.groups_text.Given as goal
-
-abbrev pub invariant-loop-group : goal.invariant-loop-group
-invariant-loop-group l = string_bytes l.text ≡ string_bytes l.initial.text ++ flat_map (λ group. codes ":" ++ hexadecimal 4 group) (take l.group-index l.group-items)

@@ -1,6 +1,0 @@
-use Rattle.std.proofs.Common.{◌≡◌, string_bytes, take, flat_map}
-use Rattle.engine.specs.Showing.{attribute_text}
-use Rattle.engine.proofs.showing.lines.of_attributes.Given as goal
-
-abbrev pub invariant-loop-attribute : goal.invariant-loop-attribute
-invariant-loop-attribute l = string_bytes l.text ≡ flat_map attribute_text (take l.attribute-index l.attributes)

@@ -1,6 +1,0 @@
-use Rattle.std.proofs.Common.{◌≡◌, string_bytes, take, flat_map}
-use Rattle.engine.specs.Showing.{proposal_text}
-use Rattle.engine.proofs.showing.lines.of_proposals.Given as goal
-
-abbrev pub invariant-loop-proposal : goal.invariant-loop-proposal
-invariant-loop-proposal l = string_bytes l.lines ≡ flat_map proposal_text (take l.proposal-index l.proposals)

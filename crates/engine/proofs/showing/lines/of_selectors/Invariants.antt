@@ -1,6 +1,0 @@
-use Rattle.std.proofs.Common.{◌≡◌, string_bytes, take, flat_map}
-use Rattle.engine.specs.Showing.{selector_text}
-use Rattle.engine.proofs.showing.lines.of_selectors.Given as goal
-
-abbrev pub invariant-loop-selector : goal.invariant-loop-selector
-invariant-loop-selector l = string_bytes l.lines ≡ flat_map selector_text (take l.selector-index l.selectors)

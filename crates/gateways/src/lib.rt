@@ -1,9 +1,0 @@
-//! Whole gateways, and the machine of one end, by the library's calls, as far as no script shows them: scripts play them in the crate
-//! `ends`. The crate `vectors` says why tests stand apart.
-//!
-//! `lists`, `flood`, `notices` and `of_peers` have gateways step by step, `of_ike` the machine of one end by its own step; the crate `samples`
-//! has what they are made with.
-#![tactic(auto)]
-
-#[cfg(test)]
-mod tests;

@@ -1,0 +1,71 @@
+-- What goes out while a script is played, and how that ends.
+use Rattle.std.specs.Prelude.{◌≡◌, ◌≤◌, ℕ, List, [], ◌∷◌, ◌++◌, length, slice_get, Option, Some, Result, Ok, Err}
+use Rattle.std.specs.Io.KnownBytes.{Appends}
+use Rattle.gw_script.specs.declared.fault.LineFault.{LineFault}
+use Rattle.gw_script.specs.declared.fault.LineFault.TheVariants as fault
+use Rattle.gw_script.specs.declared.lines.Line.{Line}
+use Rattle.gw_console.specs.declared.status.Status.{Status}
+use Rattle.gw_engine.specs.Ends.{status_of, EndsWith}
+use Rattle.gw_engine.specs.declared.stop.Stop.{Stop}
+use Rattle.gw_engine.specs.declared.stop.Stop.TheVariants as stop
+
+-- the texts, one after the other
+abbrev pub whole_text : List (List ℕ) → List ℕ
+whole_text [] = []
+whole_text (text ∷ texts) = text ++ whole_text texts
+
+-- in turn, a machine says these texts at the first so many lines, and becomes the last machine
+abbrev pub SaysInTurn : {M : Type 0} → (M → List ℕ → List ℕ → M → Type 0) → M → List Line → List (List ℕ) → M → Type 0
+SaysInTurn says machine lines [] last = machine ≡ last
+SaysInTurn says machine [] (text ∷ texts) last = ⊥
+SaysInTurn {M} says machine (line ∷ lines) (text ∷ texts) last = (next : M) × says machine line.text.now text next × SaysInTurn says next lines texts last
+
+-- All lines are played, and all that was said is written.
+pub record Completes {M : Type 0} (lines : List Line) (texts : List (List ℕ)) (last behind : M) (old new : Option (List ℕ)) : Type 0 where
+  pub all : length texts ≡ length lines
+  pub machine : behind ≡ last
+  pub appended : Appends old new (whole_text texts)
+
+-- What was said last is written in part, and all before it whole.
+pub record BreaksOff {M : Type 0} (texts : List (List ℕ)) (last behind : M) (old new : Option (List ℕ)) : Type 0 where
+  pub before : List (List ℕ)
+  pub written : List ℕ
+  pub left : List ℕ
+  pub some : 1 ≤ length left
+  pub texts_are : texts ≡ before ++ (written ++ left) ∷ []
+  pub machine : behind ≡ last
+  pub appended : Appends old new (whole_text before ++ written)
+
+-- The next line is refused for this reason, and all that was said before is written.
+pub record StopsAt {M : Type 0} (refuses : M → List ℕ → LineFault → M → Type 0) (lines : List Line) (texts : List (List ℕ)) (last behind : M) (why : LineFault) (old new : Option (List ℕ)) : Type 0 where
+  pub line : Line
+  pub there : slice_get lines (length texts) ≡ Some line
+  pub refused : refuses last line.text.now why behind
+  pub appended : Appends old new (whole_text texts)
+
+-- how it ends, after these texts, by the outcome
+abbrev pub EndsBy : {M : Type 0} → (M → List ℕ → LineFault → M → Type 0) → List Line → List (List ℕ) → M → M → Result Unit Stop → Option (List ℕ) → Option (List ℕ) → Type 0
+EndsBy refuses lines texts last behind (Ok _) old new = Completes lines texts last behind old new
+EndsBy refuses lines texts last behind (Err stop.Output) old new = BreaksOff texts last behind old new
+EndsBy refuses lines texts last behind (Err (stop.Line number)) old new = (stops : StopsAt refuses lines texts last behind fault.Refused old new) × (number ≡ stops.line.number)
+EndsBy refuses lines texts last behind (Err stop.Memory) old new = StopsAt refuses lines texts last behind fault.Memory old new
+EndsBy refuses lines texts last behind (Err stop.File) old new = ⊥
+EndsBy refuses lines texts last behind (Err stop.Hex) old new = ⊥
+EndsBy refuses lines texts last behind (Err (stop.Message number)) old new = ⊥
+EndsBy refuses lines texts last behind (Err (stop.Payload number offset)) old new = ⊥
+
+-- What goes out is what the machine says in turn: at all lines, or up to the first that it refuses, or to where it can't be written.
+pub record Prints {M : Type 0} (says : M → List ℕ → List ℕ → M → Type 0) (refuses : M → List ℕ → LineFault → M → Type 0) (machine behind : M) (lines : List Line) (outcome : Result Unit Stop) (old new : Option (List ℕ)) : Type 0 where
+  pub texts : List (List ℕ)
+  pub last : M
+  pub in_turn : SaysInTurn says machine lines texts last
+  pub ends : EndsBy refuses lines texts last behind outcome old new
+
+-- The status is 0 exactly where all was played and printed. Else the line that tells why goes out, or a beginning of it, unless the
+-- output can't be written any more.
+pub record Plays {M : Type 0} (says : M → List ℕ → List ℕ → M → Type 0) (refuses : M → List ℕ → LineFault → M → Type 0) (machine behind : M) (lines : List Line) (status : Status) (old new : Option (List ℕ)) : Type 0 where
+  pub outcome : Result Unit Stop
+  pub printed : Option (List ℕ)
+  pub prints : Prints says refuses machine behind lines outcome old printed
+  pub status_is : status ≡ status_of outcome
+  pub ends : EndsWith outcome printed new

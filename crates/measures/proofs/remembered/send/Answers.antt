@@ -1,5 +1,0 @@
--- A memory that holds nothing is right.
-use Rattle.measures.proofs.remembered.send.Goals as goal
-
-pub turns-requires : goal.turns-requires
-turns-requires c = c.answers_stay_right.ensures.none _ _ _ c.new-flows.ensures

@@ -1,6 +1,0 @@
-use Rattle.std.proofs.Common.{◌/◌, length}
-use Rattle.peers.proofs.ChainingLemmas.{IsEncrypted}
-use Rattle.peers.proofs.chaining.encrypt.Given as goal
-
-abbrev pub invariant-loop-i : goal.invariant-loop-i
-invariant-loop-i l = IsEncrypted l.cipher l.before l.initial.text l.text l.previous (length l.initial.text / 16) l.i

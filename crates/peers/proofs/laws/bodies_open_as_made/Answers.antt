@@ -1,5 +1,0 @@
-use Rattle.peers.proofs.OpenedLemmas.{opens_exactly}
-use Rattle.peers.proofs.laws.bodies_open_as_made.Goals as goal
-
-pub returns : goal.returns
-returns c = opens_exactly

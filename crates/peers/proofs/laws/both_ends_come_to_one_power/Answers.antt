@@ -1,5 +1,0 @@
-use Rattle.peers.proofs.AgreedLemmas.{both_come_to_it}
-use Rattle.peers.proofs.laws.both_ends_come_to_one_power.Goals as goal
-
-pub returns : goal.returns
-returns c = both_come_to_it

@@ -1,5 +1,0 @@
-use Rattle.peers.proofs.ProvedLemmas.{accepted_exactly}
-use Rattle.peers.proofs.laws.proofs_are_of_the_first_peer.Goals as goal
-
-pub returns : goal.returns
-returns c = accepted_exactly

@@ -1,7 +1,0 @@
-use Rattle.std.proofs.Common.{◌≡◌, drop}
-use Rattle.peers.specs.SharedKeys.{proved_by}
-use Rattle.peers.proofs.shared_key.is_proved.Given as goal
-
--- no peer so far has the identity
-abbrev pub invariant-loop-peer : goal.invariant-loop-peer
-invariant-loop-peer l = proved_by (drop l.peer-index l.peers) l.kind l.id l.octets l.proof ≡ proved_by l.peers l.kind l.id l.octets l.proof

@@ -1,0 +1,52 @@
+//! `tool_memory`: two gateways that may be refused memory anywhere, beside two that go the same way.
+//!
+//! Both pairs agree on an association and its first child, carry a packet, make a further child, ask, ask again once the time is over, delete a
+//! child and close. Where a step is refused for want of memory (E10, E20, E24, E27) it must have changed nothing that can be seen, and its
+//! input is given again. At the end both pairs have sent the same octets: so it is as if what was refused had never come, no SPI is
+//! lost, and timers are as they were. `tools/want_of_memory.py` runs this program with each of its allocations refused in turn, alone and
+//! with all after it.
+//!
+//! It prints what was found. The exit status is 0 where all is as it should be, 1 where it isn't, and 3 where memory was wanted twice in a
+//! row, or for the program's own lists.
+#![tactic(auto)]
+
+mod link;
+
+use link::{Link, Trouble};
+use std::alloc::Global;
+use std::process::ExitCode;
+
+fn main(rt: HostRuntime) -> ExitCode {
+    let (said, status) = match play(rt.alloc()) {
+        Ok(0) => ("all as with memory, nothing refused", 0),
+        Ok(_) => ("all as with memory, one step refused and given again", 0),
+        Err(Trouble::Changed) => ("a refusal changed something", 1),
+        Err(Trouble::Other) => ("another answer than with memory", 1),
+        Err(Trouble::Memory) => ("no memory", 3),
+    };
+    match println!(rt; "{said}") {
+        Ok(()) => ExitCode::from(status),
+        Err(_) => ExitCode::from(1),
+    }
+}
+
+/// Goes the way twice, and answers how many steps were refused for want of memory.
+fn play(alloc: Global) -> Result<u32, Trouble> {
+    let mut one = Link::new(alloc)?;
+    play_beside(alloc, &mut one)
+}
+
+fn play_beside(alloc: Global, one: &mut Link) -> Result<u32, Trouble> {
+    let mut another = Link::new(alloc)?;
+    go_both(alloc, one, &mut another)
+}
+
+/// Both go the way, the first whole before the other, and have to send the same.
+fn go_both(alloc: Global, one: &mut Link, another: &mut Link) -> Result<u32, Trouble> {
+    let refused = one.go(alloc)?.saturating_add(another.go(alloc)?);
+    if one.has_sent_as(another) {
+        Ok(refused)
+    } else {
+        Err(Trouble::Other)
+    }
+}
