@@ -1,5 +1,5 @@
 #!/usr/bin/env python3
-"""Prints the table of docs/MEASURES.md: of each crate the lines of code, tests, definitions and proofs, and its must-fail edits."""
+"""Prints of each crate the lines of code, tests, definitions and proofs, and its must-fail edits. python3 tools/lines.py"""
 import pathlib
 
 crates = pathlib.Path(__file__).resolve().parent.parent / "crates"

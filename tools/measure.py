@@ -13,8 +13,8 @@ import sys
 import tempfile
 import time
 
-CRATE = pathlib.Path(__file__).resolve().parent.parent / "crates" / "measures"
-PROGRAM = CRATE / "out" / "measures"
+CRATE = pathlib.Path(__file__).resolve().parent.parent / "crates" / "tool_costs"
+PROGRAM = CRATE / "out" / "tool_costs"
 
 # How far above its compressions a piece may cost, where there are more than a few of them.
 OVERHEAD = 0.05

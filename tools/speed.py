@@ -10,7 +10,7 @@ import subprocess
 import sys
 import tempfile
 
-CRATE = pathlib.Path(__file__).resolve().parent.parent / "crates" / "speed"
+CRATE = pathlib.Path(__file__).resolve().parent.parent / "crates" / "tool_times"
 TARGETS = {"default": [], "x86-64-v3": ["--cpu=x86-64-v3"]}
 
 # The count of packets and the sizes of their payloads, in turn.
@@ -36,7 +36,7 @@ def built(folder, target, flags):
     """The program, built for a target."""
     subprocess.run(["rt", "run", *flags, "--", "seal", "1", "1", "64"], cwd=CRATE, check=True, stdout=subprocess.DEVNULL)
     program = pathlib.Path(folder) / target
-    shutil.copy(CRATE / "out" / "speed", program)
+    shutil.copy(CRATE / "out" / "tool_times", program)
     return program
 
 

@@ -7,7 +7,7 @@ import re
 import sys
 
 ROOT = pathlib.Path(__file__).resolve().parent.parent
-TESTS = ROOT / "crates" / "uses" / "src" / "tests"
+TESTS = ROOT / "crates" / "test_pages" / "src" / "tests"
 TEST = re.compile(r"^fn the_page_of_(\w+)\(.*\{\n((?:    .*\n|\n)*?)    Ok\(\(\)\)\n\}$", re.M)
 USE = re.compile(r"(?:^//!.*\n)*?(^//! ```(?:rust|text)\n(?:^//!.*\n)*?^//! ```\n)", re.M)
 
@@ -25,8 +25,9 @@ def pages():
 
 
 def main():
-    differ = []
+    differ, found_none = [], True
     for name, page, wanted in pages():
+        found_none = False
         text = page.read_text()
         found = USE.search(text)
         if found and found[1] == wanted:
@@ -36,9 +37,11 @@ def main():
             page.write_text(text.replace(found[1], wanted, 1))
     for name in differ:
         print(f"the page of {name} shows another use than its test")
-    if not differ:
+    if found_none:
+        print(f"no test of a page is in {TESTS}")
+    elif not differ:
         print("all pages show what their tests do")
-    return 1 if differ else 0
+    return 1 if differ or found_none else 0
 
 
 sys.exit(main())

@@ -12,7 +12,7 @@ import subprocess
 import sys
 import tempfile
 
-PROGRAM = pathlib.Path(__file__).resolve().parent.parent / "crates" / "starved" / "out" / "starved"
+PROGRAM = pathlib.Path(__file__).resolve().parent.parent / "crates" / "tool_memory" / "out" / "tool_memory"
 
 # Counts the calls, from 1, and refuses the one of number REFUSED, or all from it on where ONWARD is set.
 ALLOCATOR = r"""

@@ -5,7 +5,7 @@ ghost use Rattle.aes.specs.State.{inv_mix_columns, mix_columns, row_times};
 
 use crate::state::{State, cell};
 
-/// MIXCOLUMNS (section 5.1.3).
+// MIXCOLUMNS (section 5.1.3).
 pub(crate) fn mix_columns(state: &State) -> State
     ensures { result ≡ mix_columns state.now }
 {
@@ -22,7 +22,7 @@ pub(crate) fn mix_columns(state: &State) -> State
     mixed
 }
 
-/// INVMIXCOLUMNS (section 5.3.3).
+// INVMIXCOLUMNS (section 5.3.3).
 pub(crate) fn inverse_mix_columns(state: &State) -> State
     ensures { result ≡ inv_mix_columns state.now }
 {
@@ -39,14 +39,14 @@ pub(crate) fn inverse_mix_columns(state: &State) -> State
     mixed
 }
 
-/// The row 02 03 01 01 times a column.
+// The row 02 03 01 01 times a column.
 fn mixed_octet(a: u8, b: u8, c: u8, d: u8) -> u8
     ensures { result ≡ row_times 0x02 0x03 0x01 0x01 a b c d }
 {
     xtimes(a ^ b) ^ b ^ c ^ d
 }
 
-/// The row 0e 0b 0d 09 times a column: 8 stands in each of its four factors, 4 in two and 2 in two.
+// The row 0e 0b 0d 09 times a column: 8 stands in each of its four factors, 4 in two and 2 in two.
 fn inverse_mixed_octet(a: u8, b: u8, c: u8, d: u8) -> u8
     ensures { result ≡ row_times 0x0e 0x0b 0x0d 0x09 a b c d }
 {
@@ -56,7 +56,7 @@ fn inverse_mixed_octet(a: u8, b: u8, c: u8, d: u8) -> u8
     eight ^ four ^ two ^ b ^ c ^ d
 }
 
-/// XTIMES (section 4.2): the product with x.
+// XTIMES (section 4.2): the product with x.
 fn xtimes(octet: u8) -> u8
     ensures { result ≡ xtimes octet }
 {

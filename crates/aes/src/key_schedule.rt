@@ -4,19 +4,19 @@ ghost use Rattle.aes.specs.KeyExpansion.{added_octet, key_expansion, next_word, 
 
 use crate::substitution::sub_byte;
 
-/// The rounds of the cipher.
+// The rounds of the cipher.
 pub(crate) const ROUNDS: usize = 14;
 
-/// The words of a key.
+// The words of a key.
 const KEY_WORDS: usize = 8;
 
-/// The words of a key schedule, four for each round key.
+// The words of a key schedule, four for each round key.
 const WORDS: usize = 60;
 
-/// The octets of the round keys, one after the other.
+// The octets of the round keys, one after the other.
 pub(crate) type Schedule = [u8; 240];
 
-/// KEYEXPANSION of a key.
+// KEYEXPANSION of a key.
 pub(crate) fn key_expansion(key: &[u8; 32]) -> Schedule
     ensures { result ≡ key_expansion key.now }
 {
@@ -28,7 +28,7 @@ pub(crate) fn key_expansion(key: &[u8; 32]) -> Schedule
     schedule
 }
 
-/// The key's words, with zeros in place of the others.
+// The key's words, with zeros in place of the others.
 fn begun(key: &[u8; 32]) -> Schedule
     ensures { result ≡ key.now ++ replicate 208 0 }
 {
@@ -37,7 +37,7 @@ fn begun(key: &[u8; 32]) -> Schedule
     schedule
 }
 
-/// The word that follows the words so far.
+// The word that follows the words so far.
 fn next_word(words: &[u8]) -> [u8; 4]
     requires some { 32 ≤ length words.now }
     requires few { length words.now < 240 }
@@ -51,7 +51,7 @@ fn next_word(words: &[u8]) -> [u8; 4]
     word
 }
 
-/// An octet of what the word i adds to the word before it by a whole key.
+// An octet of what the word i adds to the word before it by a whole key.
 fn added_octet(words: &[u8], i: usize, r: usize) -> u8
     requires some { 8 ≤ i }
     requires few { i < 60 }
@@ -68,7 +68,7 @@ fn added_octet(words: &[u8], i: usize, r: usize) -> u8
     }
 }
 
-/// An octet of Rcon\[j\].
+// An octet of Rcon\[j\].
 fn round_constant(j: usize, r: usize) -> u8
     requires some { 1 ≤ j }
     requires few { j ≤ 8 }

@@ -5,10 +5,10 @@ ghost use Rattle.aes.specs.State.{add_round_key, cell, inv_shift_rows, inv_sub_b
 use crate::key_schedule::{ROUNDS, Schedule};
 use crate::substitution::{inverse_sub_byte, sub_byte};
 
-/// Four rows and four columns, column by column (section 3.4).
+// Four rows and four columns, column by column (section 3.4).
 pub(crate) type State = [u8; 16];
 
-/// The octet of a row and a column.
+// The octet of a row and a column.
 pub(crate) fn cell(state: &State, row: usize, column: usize) -> u8
     requires row { row < 4 }
     requires column { column < 4 }
@@ -17,7 +17,7 @@ pub(crate) fn cell(state: &State, row: usize, column: usize) -> u8
     state[row + 4 * column]
 }
 
-/// SUBBYTES (section 5.1.1).
+// SUBBYTES (section 5.1.1).
 pub(crate) fn sub_bytes(state: &State) -> State
     ensures { result ≡ sub_bytes state.now }
 {
@@ -28,7 +28,7 @@ pub(crate) fn sub_bytes(state: &State) -> State
     substituted
 }
 
-/// INVSUBBYTES (section 5.3.2).
+// INVSUBBYTES (section 5.3.2).
 pub(crate) fn inverse_sub_bytes(state: &State) -> State
     ensures { result ≡ inv_sub_bytes state.now }
 {
@@ -39,7 +39,7 @@ pub(crate) fn inverse_sub_bytes(state: &State) -> State
     substituted
 }
 
-/// SHIFTROWS (section 5.1.2).
+// SHIFTROWS (section 5.1.2).
 pub(crate) fn shift_rows(state: &State) -> State
     ensures { result ≡ shift_rows state.now }
 {
@@ -50,7 +50,7 @@ pub(crate) fn shift_rows(state: &State) -> State
     shifted
 }
 
-/// INVSHIFTROWS (section 5.3.1).
+// INVSHIFTROWS (section 5.3.1).
 pub(crate) fn inverse_shift_rows(state: &State) -> State
     ensures { result ≡ inv_shift_rows state.now }
 {
@@ -61,7 +61,7 @@ pub(crate) fn inverse_shift_rows(state: &State) -> State
     shifted
 }
 
-/// ADDROUNDKEY (section 5.1.4).
+// ADDROUNDKEY (section 5.1.4).
 pub(crate) fn add_round_key(schedule: &Schedule, round: usize, state: &State) -> State
     requires { round ≤ ROUNDS }
     ensures { result ≡ add_round_key schedule.now round state.now }

@@ -9,17 +9,17 @@ use Rattle.wire.specs.declared.payload.Payload.TheVariants.{Notify}
 use Rattle.exchange.specs.Counting.{first_some}
 
 -- the window of an end that tells none
-abbrev pub LEAST_WINDOW : ℕ
-LEAST_WINDOW = 1
+abbrev pub WINDOW_LEAST : ℕ
+WINDOW_LEAST = 1
 
 -- the widest window that counts, a limit of this implementation
-abbrev pub WIDEST_WINDOW : ℕ
-WIDEST_WINDOW = 16
+abbrev pub WINDOW_LIMIT : ℕ
+WINDOW_LIMIT = 16
 
 -- a window that counts as it is
 pub record IsWindow (window : ℕ) : Type 0 where
-  pub least : LEAST_WINDOW ≤ window
-  pub widest : window ≤ WIDEST_WINDOW
+  pub least : WINDOW_LEAST ≤ window
+  pub widest : window ≤ WINDOW_LIMIT
 
 -- an end tells its window by a notice with no protocol and no SPI (section 3.10), and a number of four octets
 abbrev pub window_payload : ℕ → Payload
@@ -27,11 +27,11 @@ window_payload window = Notify 0 [] SET_WINDOW_SIZE (to_be_bytes w32 window)
 
 -- where its window is not the one that it has untold
 abbrev pub window_notices : ℕ → List Payload
-window_notices window = if nat_lt LEAST_WINDOW window then window_payload window ∷ [] else []
+window_notices window = if nat_lt WINDOW_LEAST window then window_payload window ∷ [] else []
 
 -- 0 counts as 1, and more than 16 as 16
 abbrev pub window_within : ℕ → ℕ
-window_within number = min (max number LEAST_WINDOW) WIDEST_WINDOW
+window_within number = min (max number WINDOW_LEAST) WINDOW_LIMIT
 
 -- the window that a notice tells: of this type, with four octets
 abbrev pub told_window : ℕ → Octets → Option ℕ
@@ -45,4 +45,4 @@ window_in _ = None
 
 -- the first notice that tells a window counts
 abbrev pub peer_window : List Payload → ℕ
-peer_window payloads = unwrap_or (first_some window_in payloads) LEAST_WINDOW
+peer_window payloads = unwrap_or (first_some window_in payloads) WINDOW_LEAST

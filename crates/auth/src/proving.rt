@@ -92,7 +92,7 @@ pub fn prove<C: Proof>(
     auth_over(alloc, caller, &octets)
 }
 
-/// The AUTH payload over octets. By the law of the caller's trait its proof fits.
+// The AUTH payload over octets. By the law of the caller's trait its proof fits.
 fn auth_over<C: Proof>(alloc: Global, caller: &C, octets: &[u8]) -> Result<Payload, AllocError>
     ensures made { IfOk result (λ payload. payload
         ≡ Auth (C.own_method caller.now) (C.proof_of caller.now octets.now)) }
@@ -138,7 +138,7 @@ pub fn is_proved<C: Proof>(
     caller.check(alloc, kind, id, method, &octets, proof)
 }
 
-/// What an end of this identity proves.
+// What an end of this identity proves.
 fn octets_to_prove(
     alloc: Global,
     identity: &Identity,

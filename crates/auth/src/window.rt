@@ -10,10 +10,10 @@ use wire::Payload;
 use wire::numbers::SET_WINDOW_SIZE;
 
 // The window of an end that tells none.
-const LEAST_WINDOW: u8 = 1;
+const WINDOW_LEAST: u8 = 1;
 
 // The widest window that counts, a limit of this implementation.
-const WIDEST_WINDOW: u8 = 16;
+const WINDOW_LIMIT: u8 = 16;
 
 /// The notice SET_WINDOW_SIZE by which an end tells its window, 1 to 16 requests (RFC 7296, section 2.3), with protocol 0 and no
 /// SPI. An error is for want of memory alone.
@@ -38,7 +38,7 @@ pub(crate) fn push_window(
     requires { IsWindow window }
     ensures { OnOk result (payloads.new ≡ payloads.old ++ window_notices window) }
 {
-    if window > LEAST_WINDOW {
+    if window > WINDOW_LEAST {
         payloads.push(window_notice(alloc, window)?)?;
     }
     Ok(())
@@ -55,7 +55,7 @@ pub fn peer_window(payloads: &[Payload]) -> u8
             return window;
         }
     }
-    LEAST_WINDOW
+    WINDOW_LEAST
 }
 
 fn window_in(payload: &Payload) -> Option<u8>
@@ -81,5 +81,5 @@ fn told_window(octets: &[u8]) -> Option<u8>
 fn window_within(number: u32) -> u8
     ensures { result ≡ window_within number }
 {
-    number.clamp(u32::from(LEAST_WINDOW), u32::from(WIDEST_WINDOW)) as u8
+    number.clamp(u32::from(WINDOW_LEAST), u32::from(WINDOW_LIMIT)) as u8
 }

@@ -9,7 +9,7 @@ use modp::Element;
 use std::alloc::{AllocError, Global};
 use suite::Agreement;
 
-/// The group's number (RFC 3526, section 3).
+// The group's number (RFC 3526, section 3).
 const GROUP: u16 = 14;
 
 /// A public value is refused that has not 256 octets or spells no number below the prime, and so is a shared secret of 0, 1 or the prime

@@ -4,12 +4,12 @@ ghost use Rattle.caller_peer.specs.Chaining.{both, cbc_decrypted, cbc_encrypted}
 
 use aes::Aes256;
 
-/// The octets of a block.
+// The octets of a block.
 pub(crate) const BLOCK: usize = 16;
 
 type Block = [u8; BLOCK];
 
-/// Encrypts whole blocks in place, behind the block before them.
+// Encrypts whole blocks in place, behind the block before them.
 pub(crate) fn encrypt(cipher: &Aes256, before: &Block, text: &mut [u8])
     requires { length text.old % 16 ≡ 0 }
     ensures { text.new ≡ cbc_encrypted cipher.now before.now (length text.old / 16) text.old }
@@ -22,7 +22,7 @@ pub(crate) fn encrypt(cipher: &Aes256, before: &Block, text: &mut [u8])
     }
 }
 
-/// Decrypts whole blocks in place, behind the block before them.
+// Decrypts whole blocks in place, behind the block before them.
 pub(crate) fn decrypt(cipher: &Aes256, before: &Block, text: &mut [u8])
     requires { length text.old % 16 ≡ 0 }
     ensures { text.new ≡ cbc_decrypted cipher.now before.now (length text.old / 16) text.old }
@@ -36,7 +36,7 @@ pub(crate) fn decrypt(cipher: &Aes256, before: &Block, text: &mut [u8])
     }
 }
 
-/// The block that a slice is.
+// The block that a slice is.
 pub(crate) fn block_of(octets: &[u8]) -> Block
     requires { length octets.now ≡ BLOCK }
     ensures { result ≡ octets.now }
@@ -46,7 +46,7 @@ pub(crate) fn block_of(octets: &[u8]) -> Block
     block
 }
 
-/// The exclusive or of two blocks.
+// The exclusive or of two blocks.
 pub(crate) fn both(one: &Block, other: &Block) -> Block
     ensures { result ≡ both one.now other.now }
 {

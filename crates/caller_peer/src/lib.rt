@@ -14,7 +14,7 @@
 //!
 //! ```rust
 //! use base::Items;
-//! use peers::{Peer, PeerCaller};
+//! use caller_peer::{Peer, PeerCaller};
 //! use suite::Agreement;
 //!
 //! let peer = Peer {

@@ -13,10 +13,10 @@ use mac::icv;
 use std::alloc::AllocError;
 use suite::{Cipher, Keys, Sealer};
 
-/// ENCR_AES_CBC (RFC 7296, section 3.3.2).
+// ENCR_AES_CBC (RFC 7296, section 3.3.2).
 const AES_CBC: u16 = 12;
 
-/// The octets of a check value (RFC 4868, section 2.3).
+// The octets of a check value (RFC 4868, section 2.3).
 const CHECK_VALUE: usize = 16;
 
 /// The 16 fresh octets are a body's initialization vector: in CBC mode nobody may foretell them (RFC 3602, section 3; RFC 7296, section
@@ -99,7 +99,7 @@ impl Sealer for PeerCaller {
     ghost size_bounded = { sizes };
 }
 
-/// Appends vector and encrypted blocks, for which there is room.
+// Appends vector and encrypted blocks, for which there is room.
 fn append_encrypted(keys: &Keys, plain: &[u8], vector: &[u8; BLOCK], out: &mut Vec<u8>)
     requires room { vec_len out.old + (16 + 16 * blocks_of (length plain.now)) ≤ vec_capacity out.old }
     ensures appended { out.new.items ≡ out.old.items ++ encrypted_part keys.now plain.now vector.now }
@@ -113,7 +113,7 @@ fn append_encrypted(keys: &Keys, plain: &[u8], vector: &[u8; BLOCK], out: &mut V
     encrypt(&Aes256::new(&keys.encryption), vector, text);
 }
 
-/// Appends the blocks of a body, decrypted.
+// Appends the blocks of a body, decrypted.
 fn append_decrypted(keys: &Keys, body: &[u8], out: &mut Vec<u8>) -> Result<(), AllocError>
     requires long { 32 ≤ length body.now }
     requires whole { length body.now % 16 ≡ 0 }
@@ -132,7 +132,7 @@ fn append_decrypted(keys: &Keys, body: &[u8], out: &mut Vec<u8>) -> Result<(), A
     Ok(())
 }
 
-/// Appends all parts, for which there is room.
+// Appends all parts, for which there is room.
 fn append(out: &mut Vec<u8>, parts: &[&[u8]])
     requires { vec_len out.old + length (flat_map (λ part. part.now) parts.now) ≤ vec_capacity out.old }
     ensures items { out.new.items ≡ out.old.items ++ flat_map (λ part. part.now) parts.now }
@@ -143,7 +143,7 @@ fn append(out: &mut Vec<u8>, parts: &[&[u8]])
     }
 }
 
-/// The pad length for a plain text of so many octets, and a block that begins with padding and pad length.
+// The pad length for a plain text of so many octets, and a block that begins with padding and pad length.
 #[tactic(auto, unfolding(crate::specs::Bodies::padding))]
 fn padding(plain: usize) -> ([u8; BLOCK], usize)
     ensures length { result.1 ≡ pad_length plain }
@@ -155,7 +155,7 @@ fn padding(plain: usize) -> ([u8; BLOCK], usize)
     (padding, pad)
 }
 
-/// The octets before padding and pad length, if there are so many. The last block alone is decrypted.
+// The octets before padding and pad length, if there are so many. The last block alone is decrypted.
 fn plain_len(keys: &Keys, body: &[u8]) -> Option<usize>
     requires long { 48 ≤ length body.now }
     requires whole { length body.now % 16 ≡ 0 }
@@ -167,7 +167,7 @@ fn plain_len(keys: &Keys, body: &[u8]) -> Option<usize>
     (body.len() - BLOCK - CHECK_VALUE - 1).checked_sub(usize::from(pad))
 }
 
-/// The last block of a body, decrypted.
+// The last block of a body, decrypted.
 fn last_block(keys: &Keys, body: &[u8]) -> [u8; BLOCK]
     requires long { 48 ≤ length body.now }
     requires whole { length body.now % 16 ≡ 0 }
@@ -179,7 +179,7 @@ fn last_block(keys: &Keys, body: &[u8]) -> [u8; BLOCK]
     both(&Aes256::new(&keys.encryption).decrypt_block(&last), &before)
 }
 
-/// The check value over what stands before the body, vector and encrypted blocks.
+// The check value over what stands before the body, vector and encrypted blocks.
 #[tactic(auto, unfolding(crate::specs::Bodies::check_value))]
 fn check_value(keys: &Keys, head: &[u8], sealed: &[u8]) -> [u8; CHECK_VALUE]
     ensures { result ≡ check_value keys.now head.now sealed.now }
@@ -187,7 +187,7 @@ fn check_value(keys: &Keys, head: &[u8], sealed: &[u8]) -> [u8; CHECK_VALUE]
     icv(&keys.integrity, &[head, sealed])
 }
 
-/// Whether a body has a vector, a block or more and the right check value.
+// Whether a body has a vector, a block or more and the right check value.
 #[tactic(auto, unfolding(crate::specs::Bodies::is_intact))]
 fn is_intact(keys: &Keys, head: &[u8], body: &[u8]) -> bool
     ensures { result ≡ is_intact keys.now head.now body.now }

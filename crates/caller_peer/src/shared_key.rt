@@ -9,7 +9,7 @@ use std::alloc::{AllocError, Global};
 use std::fmt;
 use suite::Proof;
 
-/// Shared Key Message Integrity Code (RFC 7296, section 3.8).
+// Shared Key Message Integrity Code (RFC 7296, section 3.8).
 const SHARED_KEY_METHOD: u8 = 2;
 
 /// A peer that is known by a secret shared with it.
@@ -67,7 +67,7 @@ impl Proof for PeerCaller {
     ghost proof_fits = { λ caller. proof_fits caller.own };
 }
 
-/// What a secret proves octets with.
+// What a secret proves octets with.
 #[tactic(auto, unfolding(crate::specs::SharedKeys::proof_under))]
 fn proof_under(secret: &[u8], octets: &[u8]) -> [u8; 32]
     ensures { result ≡ proof_under secret.now octets.now }
@@ -75,7 +75,7 @@ fn proof_under(secret: &[u8], octets: &[u8]) -> [u8; 32]
     hmac(&hmac(secret, &[b"Key Pad for IKEv2"]), &[octets])
 }
 
-/// Whether octets were proved under a secret that is not empty.
+// Whether octets were proved under a secret that is not empty.
 #[tactic(auto, unfolding(crate::specs::SharedKeys::proves_under))]
 fn is_proved_under(secret: &[u8], octets: &[u8], proof: &[u8]) -> bool
     ensures { result ≡ proves_under secret.now octets.now proof.now }
@@ -83,7 +83,7 @@ fn is_proved_under(secret: &[u8], octets: &[u8], proof: &[u8]) -> bool
     !secret.is_empty() && proof == proof_under(secret, octets).as_slice()
 }
 
-/// Whether the first peer with an identity has proved octets under its own secret.
+// Whether the first peer with an identity has proved octets under its own secret.
 fn is_proved(peers: &[Peer], kind: u8, id: &[u8], octets: &[u8], proof: &[u8]) -> bool
     ensures { result ≡ proved_by peers.now kind id.now octets.now proof.now }
 {

@@ -8,7 +8,7 @@ use base::Items;
 use std::alloc::{AllocError, Global};
 use suite::Agreement;
 
-/// Its group's number, of those for private use (RFC 7296 section 3.3.2).
+// Its group's number, of those for private use (RFC 7296 section 3.3.2).
 const GROUP: u16 = 65002;
 
 impl Agreement for ScriptCaller {
@@ -47,7 +47,7 @@ impl Agreement for ScriptCaller {
     ghost public_fits = { public_fits };
 }
 
-/// Octet by octet.
+// Octet by octet.
 fn exclusive_or(a: &[u8; 32], b: &[u8]) -> [u8; 32]
     requires { length b.now ≡ 32 }
     ensures { result ≡ exclusive_or a.now b.now }

@@ -8,10 +8,10 @@ use mac::icv;
 use std::alloc::AllocError;
 use suite::{Cipher, Keys, Sealer};
 
-/// Its transform's ID, of those for private use (RFC 7296 section 3.3.2).
+// Its transform's ID, of those for private use (RFC 7296 section 3.3.2).
 const CIPHER: u16 = 65001;
 
-/// The octets that a body has behind its plain text.
+// The octets that a body has behind its plain text.
 const TAIL: usize = 17;
 
 impl Sealer for ScriptCaller {
@@ -82,7 +82,7 @@ impl Sealer for ScriptCaller {
     ghost size_bounded = { sizes };
 }
 
-/// An octet 00, and the check value over head, plain text and that octet.
+// An octet 00, and the check value over head, plain text and that octet.
 fn tail_of(keys: &Keys, head: &[u8], plain: &[u8]) -> [u8; TAIL]
     ensures { result ≡ tail_of keys.now head.now plain.now }
 {

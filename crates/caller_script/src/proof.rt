@@ -9,7 +9,7 @@ use mac::hmac;
 use std::alloc::{AllocError, Global};
 use suite::Proof;
 
-/// Shared Key Message Integrity Code (RFC 7296 section 3.8).
+// Shared Key Message Integrity Code (RFC 7296 section 3.8).
 const SHARED_KEY_METHOD: u8 = 2;
 
 impl Proof for ScriptCaller {
@@ -45,7 +45,7 @@ impl Proof for ScriptCaller {
     ghost proof_fits = { λ _. proof_fits };
 }
 
-/// What the shared secret proves octets with.
+// What the shared secret proves octets with.
 #[tactic(auto, unfolding(crate::specs::Meaning::keyed_proof))]
 fn keyed_proof(octets: &[u8]) -> [u8; 32]
     ensures { result ≡ keyed_proof octets.now }

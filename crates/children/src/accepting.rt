@@ -40,7 +40,7 @@ pub fn accept(
     Ok(Some(pair))
 }
 
-/// The terms of an acceptable answer.
+// The terms of an acceptable answer.
 fn accepted_terms<'a>(answer: &'a [Payload], asked: &Asked) -> Option<Agreed<'a>>
     ensures { MatchOption result (IsUnacceptable asked.now answer.now)
         (λ agreed. AreAcceptedTerms asked.now answer.now (terms_of agreed)) }

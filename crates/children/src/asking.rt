@@ -37,7 +37,7 @@ pub fn ask(alloc: Global, asked: &Asked) -> Result<ChildPayloads, AllocError>
     })
 }
 
-/// A list of one item.
+// A list of one item.
 pub(crate) fn lone<T: Drop>(alloc: Global, item: T) -> Result<Items<T>, AllocError>
     ensures { IfOk result (λ items. items ≡ item ∷ []) }
 {

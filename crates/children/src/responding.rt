@@ -82,7 +82,7 @@ pub fn respond(
     Ok(Response::Made(made))
 }
 
-/// The answer's payloads and the responder's pair, on these SPIs and selectors.
+// The answer's payloads and the responder's pair, on these SPIs and selectors.
 fn make(
     alloc: Global,
     setting: &Setting,
@@ -121,7 +121,7 @@ fn make(
     Ok(Made { payloads, pair })
 }
 
-/// The one proposal of the answer, with this end's SPI (RFC 7296, section 3.3.1).
+// The one proposal of the answer, with this end's SPI (RFC 7296, section 3.3.1).
 fn answered_proposals(
     alloc: Global,
     wanted: &Wanted,

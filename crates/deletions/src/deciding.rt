@@ -10,7 +10,7 @@ use sadb::Table;
 use std::alloc::{AllocError, Global};
 use wire::Payload;
 
-/// The most SPIs that one message may name, a limit of this implementation.
+// The most SPIs that one message may name, a limit of this implementation.
 const NAMED_LIMIT: usize = 512;
 
 /// What is made of a request of INFORMATIONAL (RFC 7296, section 1.4).

@@ -17,7 +17,7 @@ pub struct DeletedPairs {
     pub inbound_spis: Items<u32>,
 }
 
-/// The pairs of an IKE association that go where its peer names these SPIs, which are worked through in order.
+// The pairs of an IKE association that go where its peer names these SPIs, which are worked through in order.
 pub(crate) fn find_deleted(
     alloc: Global,
     table: &Table,

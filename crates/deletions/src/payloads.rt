@@ -8,7 +8,7 @@ use std::alloc::{AllocError, Global};
 use wire::Payload;
 use wire::numbers::ESP_PROTOCOL;
 
-/// One Delete of ESP that names these SPIs (RFC 7296, section 3.11).
+// One Delete of ESP that names these SPIs (RFC 7296, section 3.11).
 pub(crate) fn esp_deletion(alloc: Global, spis: &[u32]) -> Result<Items<Payload>, AllocError>
     ensures payloads { IfOk result (λ payloads. payloads ≡ esp_deletion spis.now) }
     ensures fits { IfOk result (λ payloads. length spis.now ≤ named_limit → CanBeSent payloads) }
@@ -24,7 +24,7 @@ pub(crate) fn esp_deletion(alloc: Global, spis: &[u32]) -> Result<Items<Payload>
     )
 }
 
-/// A list of one payload.
+// A list of one payload.
 pub(crate) fn lone(alloc: Global, payload: Payload) -> Result<Items<Payload>, AllocError>
     ensures { IfOk result (λ payloads. payloads ≡ payload ∷ []) }
 {

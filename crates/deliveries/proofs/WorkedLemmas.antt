@@ -13,7 +13,7 @@ use Rattle.base.specs.declared.address.Address.TheVariants as address
 use Rattle.base.specs.declared.address.Family.TheVariants as family
 use Rattle.base.specs.declared.address.Range.TheVariants.{V4}
 use Rattle.replay.specs.Window.{IsSoundWindow, Seen, Takes, unused_window}
-use Rattle.replay.specs.WindowFacts.{takes_sound}
+use Rattle.replay.proofs.WindowFacts.{takes_sound}
 use Rattle.esp.specs.Delivery.{greatest}
 use Rattle.esp.specs.Judging.{IsNumber, Judges, low_half}
 use Rattle.esp.specs.Packet.{check_value, head, IsContents, IsPacket, PassesIntegrity, trailer}

@@ -35,7 +35,7 @@ use Rattle.association.specs.declared.purpose.Purpose.TheVariants.{Identify}
 use Rattle.suite.specs.declared.fresh.Fresh.{Fresh}
 use Rattle.suite.specs.declared.sealer.Cipher.{Cipher}
 use Rattle.sa_init.specs.Judging.{OfferView}
-use Rattle.auth.specs.Windows.{IsWindow, WIDEST_WINDOW}
+use Rattle.auth.specs.Windows.{IsWindow, WINDOW_LIMIT}
 use Rattle.initial.specs.Answering.{outcome_of, IsHalfOpen}
 use Rattle.initial.specs.Beginning.{begun, Admits, Begins}
 use Rattle.initial.specs.declared.beginning.Admitted.{Admitted}
@@ -217,8 +217,8 @@ established_open (phase.Closed keys at) = refl
 record AwaitsWindows (setup : Setup) (role : Role) (number : ℕ) (a : Association) (o : Outcome) : Type 0 where
   role_is : a.role ≡ role
   number_is : number ≡ 1
-  own : a.incoming.size ≤ WIDEST_WINDOW
-  peers : a.outgoing.window ≤ WIDEST_WINDOW
+  own : a.incoming.size ≤ WINDOW_LIMIT
+  peers : a.outgoing.window ≤ WINDOW_LIMIT
   configured : IsWindow setup.config.window
   tells : TellsWindow o
 

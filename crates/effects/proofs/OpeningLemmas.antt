@@ -25,7 +25,7 @@ use Rattle.sadb.specs.Database.{Database}
 use Rattle.auth.specs.Answers.{answering_payloads}
 use Rattle.auth.specs.Proofs.{proved_identity, proving_of, ProvingView}
 use Rattle.auth.specs.Requests.{auth_request}
-use Rattle.auth.specs.Windows.{window_notices, window_payload, LEAST_WINDOW}
+use Rattle.auth.specs.Windows.{window_notices, window_payload, WINDOW_LEAST}
 use Rattle.auth.specs.declared.child.ChildAnswer.{ChildAnswer}
 use Rattle.auth.specs.declared.child.ChildAnswer.TheVariants as answered
 use Rattle.auth.specs.declared.identity.Identity.{Identity}
@@ -118,13 +118,13 @@ reply_clear own_method proof_of setup opened (decision.Accepted answer window) =
     both_clear (proved_identity Responder own_method proof_of setup.config.own.identity (own_proving opened)) (answering_payloads (child_answer answer) ++ window_notices setup.config.window)
     (λ same. omega (arith, same), (λ same. omega (arith, same), tt))
     (both_clear (answering_payloads (child_answer answer)) (window_notices setup.config.window) (answering_clear (child_answer answer))
-    (window_clear (nat_lt LEAST_WINDOW setup.config.window) setup.config.window))
+    (window_clear (nat_lt WINDOW_LEAST setup.config.window) setup.config.window))
 
 request_clear : (own_method : ℕ) (proof_of : Octets → Octets) (own : Identity) (what : ProvingView) (child : ChildPayloads) (window : ℕ) → AreClear (auth_request own_method proof_of own what child window)
 request_clear own_method proof_of own what child window =
     both_clear (proved_identity Initiator own_method proof_of own what) (child_payloads child ++ window_notices window)
     (λ same. omega (arith, same), (λ same. omega (arith, same), tt))
-    (both_clear (child_payloads child) (window_notices window) (child_clear child) (window_clear (nat_lt LEAST_WINDOW window) window))
+    (both_clear (child_payloads child) (window_notices window) (child_clear child) (window_clear (nat_lt WINDOW_LEAST window) window))
 
 -- ---- what this end sends
 

@@ -13,7 +13,7 @@ use Rattle.exchange.specs.declared.notices.Notice.{Notice}
 use Rattle.auth.specs.Answers.{auth_answer}
 use Rattle.auth.specs.Proofs.{proved_identity, ProvingView}
 use Rattle.auth.specs.Requests.{auth_request}
-use Rattle.auth.specs.Windows.{window_payload, LEAST_WINDOW}
+use Rattle.auth.specs.Windows.{window_payload, WINDOW_LEAST}
 use Rattle.auth.specs.declared.child.ChildAnswer.TheVariants as answered
 use Rattle.auth.specs.declared.identity.Identity.{Identity}
 use Rattle.children.specs.Asking.{HasChildPayloads}
@@ -31,11 +31,11 @@ told_has false Responder own_method proof_of own what child window = record { sa
 
 pub request_has : (own_method : ℕ) (proof_of : Octets → Octets) (own : Identity) (what : ProvingView) (child : ChildPayloads) (window : ℕ)
     → HasChildPayloads (auth_request own_method proof_of own what child window) child
-request_has own_method proof_of own what child window = told_has (nat_lt LEAST_WINDOW window) Initiator own_method proof_of own what child window
+request_has own_method proof_of own what child window = told_has (nat_lt WINDOW_LEAST window) Initiator own_method proof_of own what child window
 
 pub answer_has : (own_method : ℕ) (proof_of : Octets → Octets) (own : Identity) (what : ProvingView) (child : ChildPayloads) (window : ℕ)
     → HasChildPayloads (auth_answer own_method proof_of own what (answered.Payloads child) window) child
-answer_has own_method proof_of own what child window = told_has (nat_lt LEAST_WINDOW window) Responder own_method proof_of own what child window
+answer_has own_method proof_of own what child window = told_has (nat_lt WINDOW_LEAST window) Responder own_method proof_of own what child window
 
 -- ---- an SA in an answer
 
@@ -66,7 +66,7 @@ told_sa false own_method proof_of own what child window proposals (suc (suc (suc
 -- an answer that makes a child has the child's
 pub answer_sa : (own_method : ℕ) (proof_of : Octets → Octets) (own : Identity) (what : ProvingView) (child : ChildPayloads) (window : ℕ) (proposals : List Proposal)
     → Contains (auth_answer own_method proof_of own what (answered.Payloads child) window) (Sa proposals) → child.proposals ≡ proposals
-answer_sa own_method proof_of own what child window proposals has = told_sa (nat_lt LEAST_WINDOW window) own_method proof_of own what child window proposals has
+answer_sa own_method proof_of own what child window proposals has = told_sa (nat_lt WINDOW_LEAST window) own_method proof_of own what child window proposals has
 
 told_without : (told : Bool) (own_method : ℕ) (proof_of : Octets → Octets) (own : Identity) (what : ProvingView) (notice : Notice) (window : ℕ) (proposals : List Proposal)
     → Contains (proved_identity Responder own_method proof_of own what ++ payload_of_notice notice ∷ [] ++ told_if told window) (Sa proposals) → ⊥
@@ -80,7 +80,7 @@ told_without false own_method proof_of own what notice window proposals (suc (su
 -- one that makes no child has none
 pub answer_without : (own_method : ℕ) (proof_of : Octets → Octets) (own : Identity) (what : ProvingView) (notice : Notice) (window : ℕ) (proposals : List Proposal)
     → Contains (auth_answer own_method proof_of own what (answered.Notice notice) window) (Sa proposals) → ⊥
-answer_without own_method proof_of own what notice window proposals has = told_without (nat_lt LEAST_WINDOW window) own_method proof_of own what notice window proposals has
+answer_without own_method proof_of own what notice window proposals has = told_without (nat_lt WINDOW_LEAST window) own_method proof_of own what notice window proposals has
 
 pub notice_without : (notice : Notice) (proposals : List Proposal) → Contains (payload_of_notice notice ∷ []) (Sa proposals) → ⊥
 notice_without notice proposals (zero, below, at) = none_is _ proposals refl at

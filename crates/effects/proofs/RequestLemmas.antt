@@ -40,7 +40,7 @@ use Rattle.association.specs.declared.phase.Phase.TheVariants as phase
 use Rattle.association.specs.declared.phase.Request.{Request}
 use Rattle.association.specs.declared.purpose.Purpose.TheVariants.{Begin, Identify}
 use Rattle.auth.specs.Proofs.{Accepts}
-use Rattle.auth.specs.Windows.{peer_window, IsWindow, WIDEST_WINDOW}
+use Rattle.auth.specs.Windows.{peer_window, IsWindow, WINDOW_LIMIT}
 use Rattle.initial.specs.Answering.{outcome_of, AnswersAuth}
 use Rattle.initial.specs.Beginning.{begun, Admits, Begins}
 use Rattle.initial.specs.Concluding.{established, widened, with_incoming, with_outgoing, ConcludesBy}
@@ -296,7 +296,7 @@ auth_peers setup a table (outcome.Establishes pair window) child new new_table k
 })
 
 -- it is 16 at most from then on
-narrow : (old new : Association) → old.outgoing.window ≤ WIDEST_WINDOW → BoundsPeersWindow old new → new.outgoing.window ≤ WIDEST_WINDOW
+narrow : (old new : Association) → old.outgoing.window ≤ WINDOW_LIMIT → BoundsPeersWindow old new → new.outgoing.window ≤ WINDOW_LIMIT
 narrow old new before (inl same) = omega (arith, before, same)
 narrow old new before (inr widened) = omega (arith, before, widened.window, widened.is_window.widest)
 

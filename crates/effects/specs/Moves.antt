@@ -15,7 +15,7 @@ use Rattle.association.specs.Phases.{keys_in}
 use Rattle.association.specs.Receiving.{is_closed}
 use Rattle.association.specs.declared.phase.Association.{Association}
 use Rattle.association.specs.declared.phase.Request.{Request}
-use Rattle.auth.specs.Windows.{WIDEST_WINDOW}
+use Rattle.auth.specs.Windows.{WINDOW_LIMIT}
 use Rattle.effects.specs.declared.taking.Effect.{Effect}
 use Rattle.effects.specs.declared.taking.Effect.TheVariants as effect
 
@@ -97,9 +97,9 @@ pub record WidensWindows (role : Role) (number : ℕ) (old new : Ledger) : Type 
   pub role_is : old.role ≡ role
   pub number_is : number ≡ 1
   pub wider : old.size ≤ new.size
-  pub most : new.size ≤ WIDEST_WINDOW
+  pub most : new.size ≤ WINDOW_LIMIT
   pub peers_wider : old.window ≤ new.window
-  pub peers_most : new.window ≤ WIDEST_WINDOW
+  pub peers_most : new.window ≤ WINDOW_LIMIT
 
 -- both windows stay as they are but for that
 abbrev pub KeepWindows : Role → ℕ → Ledger → Ledger → Type 0

@@ -16,7 +16,7 @@ use Rattle.association.specs.Receiving.{admits, opened_by, Opening}
 use Rattle.association.specs.declared.phase.Association.{Association}
 use Rattle.association.specs.declared.phase.Phase.{Phase}
 use Rattle.association.specs.declared.phase.Phase.TheVariants.{Established, Closed}
-use Rattle.auth.specs.Windows.{peer_window, WIDEST_WINDOW}
+use Rattle.auth.specs.Windows.{peer_window, WINDOW_LIMIT}
 use Rattle.informational.specs.Orders.{IsEstablished}
 use Rattle.initial.specs.Answering.{IsHalfOpen}
 use Rattle.initial.specs.Ending.{IsAuthSent}
@@ -87,7 +87,7 @@ pub record IsSoundlyHeld (a : Association) : Type 0 where
   pub issued : AreIssued a.outgoing
   pub took_none : IsInitSent a.phase ⊎ IsAuthSent a.phase → TookNoRequest a
   pub took_first : IsHalfOpen a.phase → TookFirstRequest a
-  pub peers : a.outgoing.window ≤ WIDEST_WINDOW
+  pub peers : a.outgoing.window ≤ WINDOW_LIMIT
 
 -- what a message leaves of the peer's requests, once IKE_AUTH is done: their window stays as wide
 pub record StaysConcluded (old new : Association) : Type 0 where

@@ -98,7 +98,7 @@ pub fn take_message<C: Sealer + Agreement + Proof>(
     }
 }
 
-/// What a message is, with a copy of the reply that goes out again.
+// What a message is, with a copy of the reply that goes out again.
 #[derive(Drop)]
 enum Taken {
     Refused(MessageFault),

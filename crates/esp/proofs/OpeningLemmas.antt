@@ -7,7 +7,7 @@ use Rattle.std.proofs.lemmas.Nat.{be_bytes_4}
 use Rattle.std.proofs.lemmas.Bool.{cases_lt}
 use Rattle.byteorder.specs.Endian.{big_bytes}
 use Rattle.replay.specs.Window.{Seen, Takes}
-use Rattle.replay.specs.WindowFacts.{fresh}
+use Rattle.replay.proofs.WindowFacts.{fresh}
 use Rattle.esp.specs.declared.association.Association.{Association}
 use Rattle.esp.specs.Packet.{number_limit, head, check_value, PassesIntegrity, IsContents}
 use Rattle.esp.specs.Judging.{low_half, IsNumber, Judges}

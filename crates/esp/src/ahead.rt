@@ -59,7 +59,7 @@ pub fn values_ahead(
     placed(asked, &values[..count])
 }
 
-/// What is asked of each packet: its covered octets, and the half of its number that is not sent.
+// What is asked of each packet: its covered octets, and the half of its number that is not sent.
 fn tasks_for<'a>(
     association: &'a Association,
     packets: &'a [Vec<u8>],
@@ -77,7 +77,7 @@ fn tasks_for<'a>(
     tasks
 }
 
-/// The octets of a packet that its check value covers.
+// The octets of a packet that its check value covers.
 fn covered_of(packet: &[u8]) -> &[u8]
     requires { CHECK ≤ length packet.now }
     ensures { result.now ≡ take (length packet.now - CHECK) packet.now }
@@ -85,7 +85,7 @@ fn covered_of(packet: &[u8]) -> &[u8]
     &packet[..packet.len() - CHECK]
 }
 
-/// The values, each at the place of the packet that it was asked for.
+// The values, each at the place of the packet that it was asked for.
 fn placed(asked: &[Asked], values: &[[u8; CHECK]]) -> [Option<Ahead>; GROUP]
     requires same { length values.now ≡ length asked.now }
     requires places { All (λ one. one.place < GROUP) asked.now }

@@ -31,7 +31,7 @@ pub fn write_check_values(
     write_all(payloads, &values[..count], packets);
 }
 
-/// Computes the check value of each packet.
+// Computes the check value of each packet.
 fn compute_all(
     association: &Association,
     last: u64,
@@ -51,7 +51,7 @@ fn compute_all(
     icv_all(&tasks[..payloads.len()], values);
 }
 
-/// What is asked of each packet: its covered octets, and the half of its number that is not sent.
+// What is asked of each packet: its covered octets, and the half of its number that is not sent.
 fn tasks_of<'a>(
     association: &'a Association,
     payloads: &[&[u8]],
@@ -75,7 +75,7 @@ fn tasks_of<'a>(
     tasks
 }
 
-/// The high halves of so many numbers after `last`.
+// The high halves of so many numbers after `last`.
 fn high_halves(last: u64, count: usize) -> [[u8; 4]; GROUP]
     requires few { count ≤ GROUP }
     requires numbers { last + count < 2 ^ 64 }
@@ -88,7 +88,7 @@ fn high_halves(last: u64, count: usize) -> [[u8; 4]; GROUP]
     halves
 }
 
-/// Writes each check value behind the octets that it covers.
+// Writes each check value behind the octets that it covers.
 fn write_all(payloads: &[&[u8]], values: &[[u8; CHECK]], packets: &mut [u8])
     requires fit { (i : ℕ) → i < length payloads.now → FitsPacket (get_or (payloads_of payloads.now) i []) }
     requires size { packets_size (covered_sizes payloads.now) ≤ length packets.old }

@@ -114,7 +114,7 @@ impl<W: Window> Inbound<W> {
         self.open_with(packet, None)
     }
 
-    /// Opens a packet as [`Inbound::open`] does, with its check value where it was computed ahead for its number.
+    // Opens a packet as [`Inbound::open`] does, with its check value where it was computed ahead for its number.
     fn open_with<'a>(
         &mut self,
         packet: &'a [u8],
@@ -142,7 +142,7 @@ impl<W: Window> Inbound<W> {
         })
     }
 
-    /// The packet's number, if it has one that was not taken.
+    // The packet's number, if it has one that was not taken.
     fn fresh_number(&self, packet: &[u8]) -> Result<u64, EspFault>
         ensures fresh { IfOk result (IsFreshNumber self.now packet.now) }
         ensures refused { IfErr result (IsOpeningRefusal self.now.association self.now.window packet.now) }
@@ -161,7 +161,7 @@ impl<W: Window> Inbound<W> {
         }
     }
 
-    /// The number that a low half stands for.
+    // The number that a low half stands for.
     fn number_of(&self, low: u32) -> Option<u64>
         ensures some { IfSome result (IsNumber self.now.association.extended self.now.window low) }
         ensures none { IfNone result
@@ -174,8 +174,8 @@ impl<W: Window> Inbound<W> {
         }
     }
 
-    /// Whether the packet's last octets are the check value for this number over the rest. A value that was computed ahead
-    /// for another number is of no use.
+    // Whether the packet's last octets are the check value for this number over the rest. A value that was computed ahead
+    // for another number is of no use.
     fn is_intact(&self, packet: &[u8], number: u64, ahead: Option<Ahead>) -> bool
         requires long { 16 ≤ length packet.now }
         requires ahead { IfSome ahead (IsAhead self.now.association packet.now) }
@@ -221,7 +221,7 @@ impl<W: Window> Inbound<W> {
         self.answer_each(packets, out)
     }
 
-    /// Opens packets in order, in groups.
+    // Opens packets in order, in groups.
     fn answer_each(&mut self, packets: &[Vec<u8>], out: &mut Vec<Answer>) -> Result<(), ListFault>
         requires { All (BeginsWithItsSpi self.old.association) (octets_of packets.now) }
         ensures all { OnOk result (AnswersFirst W.may_want (length packets.now) self.old
@@ -243,8 +243,8 @@ impl<W: Window> Inbound<W> {
         Ok(())
     }
 
-    /// Opens packets in order, at most as many as a group has; answers how many. Check values are computed ahead where that
-    /// gains time: a list of one packet, as most are, needs none of the arrays.
+    // Opens packets in order, at most as many as a group has; answers how many. Check values are computed ahead where that
+    // gains time: a list of one packet, as most are, needs none of the arrays.
     fn answer_group(&mut self, packets: &[Vec<u8>], out: &mut Vec<Answer>) -> usize
         requires mine { All (BeginsWithItsSpi self.old.association) (octets_of packets.now) }
         requires few { length packets.now ≤ GROUP }
@@ -266,7 +266,7 @@ impl<W: Window> Inbound<W> {
         self.answer_with(packets, &ahead, out)
     }
 
-    /// The packets that have a number that was not taken, as the receiver is now; and how many.
+    // The packets that have a number that was not taken, as the receiver is now; and how many.
     fn fresh_packets(&self, packets: &[Vec<u8>]) -> ([Asked; GROUP], usize)
         requires { length packets.now ≤ GROUP }
         ensures asked { All (IsAsked (octets_of packets.now)) (take result.1 result.0) }
@@ -292,8 +292,8 @@ impl<W: Window> Inbound<W> {
         (asked, count)
     }
 
-    /// Opens packets in order, each after the place of its answer was reserved, with the check values that were computed
-    /// ahead; answers how many.
+    // Opens packets in order, each after the place of its answer was reserved, with the check values that were computed
+    // ahead; answers how many.
     fn answer_with(
         &mut self,
         packets: &[Vec<u8>],
@@ -319,7 +319,7 @@ impl<W: Window> Inbound<W> {
         packets.len()
     }
 
-    /// Opens one packet of a list.
+    // Opens one packet of a list.
     fn answer(&mut self, packet: &[u8], ahead: Option<Ahead>) -> Answer
         requires mine { BeginsWithItsSpi self.old.association packet.now }
         requires ahead { IfSome ahead (IsAhead self.old.association packet.now) }

@@ -9,7 +9,7 @@ use std::convert::AsSlice;
 /// as for 64, are counted in, and of a list that is opened that each packet's number is judged once more.
 pub const FEWEST: usize = 6;
 
-/// How many messages may be so unequal that no eight of them gain.
+// How many messages may be so unequal that no eight of them gain.
 const FEW: usize = 16;
 
 /// Whether check values of these packets, or of packets with these payloads, are computed side by side. Among a few none may
@@ -21,7 +21,7 @@ pub fn gain_by_lanes<T: AsSlice<u8>>(packets: &[T]) -> bool
     packets.len() > FEW || packets.len() >= FEWEST && are_alike(packets)
 }
 
-/// Whether lanes are full enough for so long as the longest message takes.
+// Whether lanes are full enough for so long as the longest message takes.
 fn are_alike<T: AsSlice<u8>>(packets: &[T]) -> bool {
     let mut all: usize = 0;
     let mut most = 0;

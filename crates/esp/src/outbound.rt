@@ -11,12 +11,12 @@ use crate::association::Association;
 use crate::check_values::{GROUP, write_check_values};
 use crate::key::IntegrityKey;
 use crate::load::gain_by_lanes;
-use crate::packet::{CHECK, HEAD, MOST_PAYLOAD, TAIL, head_of, least_padding};
+use crate::packet::{CHECK, HEAD, PAYLOAD_LIMIT, TAIL, head_of, least_padding};
 use crate::progress::Progress;
 use crate::{EspFault, SealStop};
 use std::marker::Model;
 
-/// The padding is a beginning of these octets (RFC 4303 section 2.4).
+// The padding is a beginning of these octets (RFC 4303 section 2.4).
 const PADDING: [u8; 3] = [1, 2, 3];
 
 /// The sender's end of an association: it seals payloads into packets.
@@ -92,7 +92,7 @@ impl Outbound {
         self.seal_one(next, payload, out)
     }
 
-    /// Seals a payload as [`Outbound::seal`] does, in no more memory than its packet has room in.
+    // Seals a payload as [`Outbound::seal`] does, in no more memory than its packet has room in.
     fn seal_one(&mut self, next: u8, payload: &[u8], out: &mut Vec<u8>) -> Result<u64, EspFault>
         ensures sealed { IfOk result (λ number.
             Seals self.old next payload.now out.old.items number self.new out.new.items) }
@@ -145,7 +145,7 @@ impl Outbound {
         Ok(())
     }
 
-    /// Seals payloads, at most as many as a group has; answers how far they came.
+    // Seals payloads, at most as many as a group has; answers how far they came.
     fn seal_group(&mut self, next: u8, payloads: &[&[u8]], out: &mut Vec<u8>) -> Progress
         requires { length payloads.now ≤ GROUP }
         ensures first { SealsFirst result.done self.old next (payloads_of payloads.now)
@@ -161,7 +161,7 @@ impl Outbound {
         }
     }
 
-    /// Seals payloads in order by a call for each; answers how far they came.
+    // Seals payloads in order by a call for each; answers how far they came.
     fn seal_each(&mut self, next: u8, payloads: &[&[u8]], out: &mut Vec<u8>) -> Progress
         ensures first { SealsFirst result.done self.old next (payloads_of payloads.now)
             out.old.items self.new out.new.items }
@@ -183,7 +183,7 @@ impl Outbound {
         }
     }
 
-    /// Seals payloads in order, with their check values computed side by side; answers how far they came.
+    // Seals payloads in order, with their check values computed side by side; answers how far they came.
     fn seal_side_by_side(&mut self, next: u8, payloads: &[&[u8]], out: &mut Vec<u8>) -> Progress
         requires { length payloads.now ≤ GROUP }
         ensures first { SealsFirst result.done self.old next (payloads_of payloads.now)
@@ -204,7 +204,7 @@ impl Outbound {
         progress
     }
 
-    /// Lays packets in order, up to the first that is refused; answers how far they came.
+    // Lays packets in order, up to the first that is refused; answers how far they came.
     fn lay_all(&mut self, next: u8, payloads: &[&[u8]], out: &mut Vec<u8>) -> Progress
         ensures first { LaysFirst result.done self.old next (payloads_of payloads.now)
             out.old.items self.new out.new.items }
@@ -226,7 +226,7 @@ impl Outbound {
         }
     }
 
-    /// Appends a packet, with zeros in the place of its check value. Refused as [`Outbound::seal`] is.
+    // Appends a packet, with zeros in the place of its check value. Refused as [`Outbound::seal`] is.
     fn lay(&mut self, next: u8, payload: &[u8], out: &mut Vec<u8>) -> Result<(), EspFault>
         ensures laid { OnOk result (Lays self.old next payload.now out.old.items self.new out.new.items) }
         ensures refused { IfErr result (λ fault. IsSealRefusal self.old payload.now fault
@@ -242,7 +242,7 @@ impl Outbound {
         Ok(())
     }
 
-    /// The number and the padding of the next packet, for which there is room from then on.
+    // The number and the padding of the next packet, for which there is room from then on.
     fn prepare(&self, payload: &[u8], out: &mut Vec<u8>) -> Result<(u64, usize), EspFault>
         ensures ready { IfOk result (λ found. IsReady self.now payload.now found.0 found.1) }
         ensures enough { IfOk result (λ found.
@@ -257,7 +257,7 @@ impl Outbound {
         let Some(number) = self.association.number_after(self.last) else {
             return Err(EspFault::Exhausted);
         };
-        if payload.len() > MOST_PAYLOAD {
+        if payload.len() > PAYLOAD_LIMIT {
             return Err(EspFault::PayloadSize);
         }
         let pad = least_padding(payload.len());
@@ -271,7 +271,7 @@ impl Outbound {
     }
 }
 
-/// Appends a packet, for which there is room.
+// Appends a packet, for which there is room.
 fn append_packet(
     out: &mut Vec<u8>,
     association: &Association,
@@ -294,7 +294,7 @@ fn append_packet(
     append(out, &[&check]);
 }
 
-/// Appends a packet, for which there is room, with zeros in the place of its check value.
+// Appends a packet, for which there is room, with zeros in the place of its check value.
 fn append_without_check_value(
     out: &mut Vec<u8>,
     association: &Association,
@@ -324,7 +324,7 @@ fn append_without_check_value(
     );
 }
 
-/// Appends the parts, for which there is room, one after the other.
+// Appends the parts, for which there is room, one after the other.
 fn append(out: &mut Vec<u8>, parts: &[&[u8]])
     requires { vec_len out.old + length (joined_parts parts.now) ≤ vec_capacity out.old }
     ensures items { out.new.items ≡ out.old.items ++ joined_parts parts.now }

@@ -19,17 +19,17 @@ pub const CHECK: usize = 16;
 pub const TAIL: usize = 2;
 
 /// The longest payload that is sealed, in octets.
-pub const MOST_PAYLOAD: usize = 16_384;
+pub const PAYLOAD_LIMIT: usize = 16_384;
 
 /// The shortest packet that is opened, in octets: one of no payload, with two octets of padding.
-pub const LEAST_PACKET: usize = HEAD + 2 + TAIL + CHECK;
+pub const PACKET_LEAST: usize = HEAD + 2 + TAIL + CHECK;
 
-/// The longest packet that is opened, in octets: [`MOST_PAYLOAD`] and the longest padding, which is 254 octets there.
-pub const MOST_PACKET: usize = 16_664;
+/// The longest packet that is opened, in octets: [`PAYLOAD_LIMIT`] and the longest padding, which is 254 octets there.
+pub const PACKET_LIMIT: usize = 16_664;
 
 /// The least padding with which payload, padding, pad length and next header fill whole words of four octets.
 pub fn least_padding(payload: usize) -> usize
-    requires { payload ≤ MOST_PAYLOAD }
+    requires { payload ≤ PAYLOAD_LIMIT }
     ensures value { result ≡ pad_of payload }
     ensures aligned { (payload + result + 2) % 4 ≡ 0 }
     ensures least { result < 4 }
@@ -39,7 +39,7 @@ pub fn least_padding(payload: usize) -> usize
 
 /// The octets that a check value covers in the packet of a payload of so many.
 pub fn covered_size(payload: usize) -> usize
-    requires { payload ≤ MOST_PAYLOAD }
+    requires { payload ≤ PAYLOAD_LIMIT }
     ensures { result ≡ covered_size payload }
 {
     HEAD + payload + least_padding(payload) + TAIL
@@ -49,7 +49,7 @@ pub fn covered_size(payload: usize) -> usize
 pub fn is_judged_length(octets: usize) -> bool
     ensures { IsTrue result ↔ IsJudgedLength octets }
 {
-    octets % 4 == 0 && octets >= LEAST_PACKET && octets <= MOST_PACKET
+    octets % 4 == 0 && octets >= PACKET_LEAST && octets <= PACKET_LIMIT
 }
 
 /// SPI and low half of the number, as a packet begins.
@@ -103,7 +103,7 @@ pub fn contents(packet: &[u8]) -> Option<(u8, usize)>
     }
 }
 
-/// Whether the octets are 1, 2, .. .
+// Whether the octets are 1, 2, .. .
 fn is_padding(octets: &[u8]) -> bool
     ensures { IsTrue result ↔ (octets.now ≡ padding (length octets.now)) }
 {

@@ -17,7 +17,7 @@ pub struct Answer {
     pub treatment: Treatment,
 }
 
-/// An answer, and when it was noted. What was noted before the memory last forgot counts no more.
+// An answer, and when it was noted. What was noted before the memory last forgot counts no more.
 #[derive(Clone, Copy)]
 struct Note {
     epoch: u64,
@@ -95,7 +95,7 @@ impl FlowMemory {
         treatment
     }
 
-    /// What a place holds about a flow.
+    // What a place holds about a flow.
     fn recall(&self, place: usize, flow: &Flow) -> Option<Treatment>
         ensures { IfSome result
             (λ treatment. Holds self.now (record { flow = flow.now; treatment = treatment })) }
@@ -108,7 +108,7 @@ impl FlowMemory {
         }
     }
 
-    /// Makes the places, where there are none and there is memory for them.
+    // Makes the places, where there are none and there is memory for them.
     fn make_places(&mut self)
         ensures no_more { HoldsNoMore self.old self.new }
         ensures made { 0 < length self.new → 4096 ≤ length self.new }
@@ -118,7 +118,7 @@ impl FlowMemory {
         }
     }
 
-    /// Notes an answer at a place, if the place was made.
+    // Notes an answer at a place, if the place was made.
     fn note(&mut self, place: usize, answer: Answer)
         ensures notes { Notes self.old answer self.new }
         ensures noted { place < length self.old → Holds self.new answer }
@@ -133,7 +133,7 @@ impl FlowMemory {
     }
 }
 
-/// Whether two flows agree in all that they are, their ports too.
+// Whether two flows agree in all that they are, their ports too.
 fn is_same(one: &Flow, other: &Flow) -> bool
     ensures { IsTrue result ↔ (one.now ≡ other.now) }
 {

@@ -20,7 +20,7 @@ pub enum Treatment {
 }
 
 impl Treatment {
-    /// Whether it counts still: the pair that it names, if it names one, is Live.
+    // Whether it counts still: the pair that it names, if it names one, is Live.
     pub(crate) fn counts(self, table: &Table) -> bool
         ensures { IsTrue result ↔ Counts table.now.pairs self }
     {
@@ -45,7 +45,7 @@ pub fn look_up(table: &Table, policy: &Policy, flow: &Flow) -> Treatment
     }
 }
 
-/// Whether the pair with this serial is there, and Live.
+// Whether the pair with this serial is there, and Live.
 fn stands(table: &Table, serial: u32) -> bool
     ensures { IsTrue result ↔ IsLive table.now.pairs serial }
 {

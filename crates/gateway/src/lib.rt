@@ -11,7 +11,7 @@
 //! ```rust
 //! use auth::Identity;
 //! use base::{Items, Range};
-//! use caller::ScriptCaller; // hides nothing: for real peers it is peers::PeerCaller
+//! use caller_script::ScriptCaller; // hides nothing: for real peers it is caller_peer::PeerCaller
 //! use gateway::{Gateway, Input, Output};
 //! use initial::{Config, EndConfig};
 //! use policy::{Action, Entry, Policy};

@@ -23,7 +23,7 @@ use suite::{Agreement, Proof, Sealer};
 use traffic::laws::no_pair_comes;
 use traffic::{admit, receive, send_remembering};
 
-/// Takes an input of any kind.
+// Takes an input of any kind.
 pub(crate) fn take<'a, C: Sealer + Agreement + Proof>(
     alloc: Global,
     input: &'a Input,
@@ -128,7 +128,7 @@ pub(crate) fn take<'a, C: Sealer + Agreement + Proof>(
     }
 }
 
-/// Has the machine of IKE take a step.
+// Has the machine of IKE take a step.
 fn step_ike<'a, C: Sealer + Agreement + Proof>(
     alloc: Global,
     input: &IkeInput<'_>,
@@ -167,7 +167,7 @@ fn step_ike<'a, C: Sealer + Agreement + Proof>(
     traced
 }
 
-/// Forgets what is remembered of flows, where a child was made: its pair may carry them from now on.
+// Forgets what is remembered of flows, where a child was made: its pair may carry them from now on.
 fn forget_with(flows: &mut FlowMemory, child: Option<MadeChild>)
     ensures { MatchOption child (flows.new ≡ flows.old) (λ _. HoldsNone flows.new) }
 {

@@ -115,7 +115,7 @@ impl<C> World<C> {
 }
 
 impl<C: Sealer + Agreement + Proof> World<C> {
-    /// What happens at one end. Refused for want of memory for what is stored, and then nothing happens.
+    // What happens at one end. Refused for want of memory for what is stored, and then nothing happens.
     pub(crate) fn happen<'a>(
         &mut self,
         alloc: Global,

@@ -77,12 +77,12 @@ pub fn read<'a>(alloc: Global, words: &'a [String]) -> Result<Command<'a>, Comma
     }
 }
 
-/// The path of the one file that a command takes.
+// The path of the one file that a command takes.
 fn file_of<'a>(found: &clap::ArgMatches<'a>) -> Result<&'a str, CommandFault> {
     found.get_str("file").ok_or(CommandFault::Words)
 }
 
-/// A command that takes one file.
+// A command that takes one file.
 fn with_file<'a>(alloc: Global, name: &'a str) -> Result<clap::Command<'a>, AllocError> {
     let file = Arg::new(alloc, "file")
         .required(true)

@@ -39,14 +39,14 @@ use std::io;
 use std::io::{Read, Write};
 use std::process::ExitCode;
 
-/// The path at which the runtime's standard input is read, and no file opened: there may be no leave to open it.
+// The path at which the runtime's standard input is read, and no file opened: there may be no leave to open it.
 const STANDARD_INPUT: &str = "/dev/stdin";
 
 fn main(rt: HostRuntime) -> ExitCode {
     ExitCode::from(run(&rt))
 }
 
-/// Does what the command line asks for, and answers the exit status.
+// Does what the command line asks for, and answers the exit status.
 fn run(rt: &HostRuntime) -> u8 {
     let words = match command::words(rt) {
         Ok(words) => words,
@@ -58,7 +58,7 @@ fn run(rt: &HostRuntime) -> u8 {
     }
 }
 
-/// Nothing is printed of words that are no command.
+// Nothing is printed of words that are no command.
 fn refuse(rt: &HostRuntime, fault: CommandFault) -> u8 {
     match fault {
         CommandFault::Words => Status::BadCommand.code(),
@@ -74,14 +74,14 @@ fn follow(rt: &HostRuntime, command: Command) -> u8 {
     }
 }
 
-/// What is done with a file.
+// What is done with a file.
 #[derive(Clone, Copy)]
 enum Use {
     Played,
     Shown,
 }
 
-/// Does it with the file at a path.
+// Does it with the file at a path.
 fn follow_with(rt: &HostRuntime, file: &str, is: Use) -> u8 {
     let mut writer = io::writer(rt);
     if file == STANDARD_INPUT {
@@ -93,7 +93,7 @@ fn follow_with(rt: &HostRuntime, file: &str, is: Use) -> u8 {
     }
 }
 
-/// Does it with what the reader has.
+// Does it with what the reader has.
 fn act<R: Read, W: Write>(alloc: Global, is: Use, reader: &mut R, writer: &mut W) -> u8 {
     match is {
         Use::Played => play(alloc, reader, writer),

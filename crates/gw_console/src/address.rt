@@ -6,10 +6,10 @@ use base::Address;
 use std::alloc::{AllocError, Global};
 use std::net::{Ipv4Addr, Ipv6Addr};
 
-/// The groups of an IPv6 address, of 16 bits each.
+// The groups of an IPv6 address, of 16 bits each.
 const GROUPS: usize = 8;
 
-/// The digits of a group.
+// The digits of a group.
 const GROUP_DIGITS: usize = 4;
 
 /// An address as text, its hexadecimal digits in lower case.
@@ -57,7 +57,7 @@ fn read_groups(text: &str) -> Option<u128> {
     (count == GROUPS).then_some(number)
 }
 
-/// A group has four digits and no sign.
+// A group has four digits and no sign.
 fn read_group(group: &str) -> Option<u16> {
     let digits = group.as_bytes();
     if digits.len() != GROUP_DIGITS || !digits.iter().all(|digit| digit.is_ascii_hexdigit()) {

@@ -30,7 +30,7 @@ impl From<AllocError> for HexFault {
     }
 }
 
-/// Whether the octet stands between digits and means nothing: a space, a tab, or part of a line end.
+// Whether the octet stands between digits and means nothing: a space, a tab, or part of a line end.
 fn is_blank(octet: u8) -> bool
     ensures { result ≡ is_blank octet }
 {

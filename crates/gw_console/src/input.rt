@@ -6,15 +6,15 @@ use std::alloc::{AllocError, Global};
 use std::io::{ErrorKind, Read};
 
 /// The largest file that is read, in octets.
-pub const MOST_OCTETS: usize = 1_048_576;
+pub const FILE_LIMIT: usize = 1_048_576;
 
-/// How many octets are asked of the reader at once.
+// How many octets are asked of the reader at once.
 const CHUNK: usize = 4096;
 
 /// Why a file was not read.
 #[derive(Clone, Copy, Debug, PartialEq, Eq)]
 pub enum InputFault {
-    /// A read failed, or there are more than [`MOST_OCTETS`] octets.
+    /// A read failed, or there are more than [`FILE_LIMIT`] octets.
     File,
     /// There was no memory for its octets.
     Memory,
@@ -33,7 +33,7 @@ impl From<AllocError> for InputFault {
 
 /// All that the reader has.
 ///
-/// Refused: [`InputFault::File`] where a read fails, or there are more than [`MOST_OCTETS`] octets; [`InputFault::Memory`].
+/// Refused: [`InputFault::File`] where a read fails, or there are more than [`FILE_LIMIT`] octets; [`InputFault::Memory`].
 pub fn read_whole<R: Read>(alloc: Global, reader: &mut R) -> Result<Vec<u8>, InputFault>
     ensures { IfOk result (λ octets. IsWholeFile (R.remaining reader.old) octets.items) }
 {
@@ -42,7 +42,7 @@ pub fn read_whole<R: Read>(alloc: Global, reader: &mut R) -> Result<Vec<u8>, Inp
     for _ in 0..u64::MAX {
         match reader.read(&mut chunk) {
             Ok(0) => return Ok(octets),
-            Ok(count) if octets.len() + count > MOST_OCTETS => return Err(InputFault::File),
+            Ok(count) if octets.len() + count > FILE_LIMIT => return Err(InputFault::File),
             Ok(count) => octets.extend_from_slice(&chunk[..count])?,
             Err(fault) if fault.kind() == ErrorKind::Interrupted => {}
             Err(_) => return Err(InputFault::File),

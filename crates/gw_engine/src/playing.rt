@@ -72,7 +72,7 @@ fn print_lines<P: Player, W: Write>(
     Ok(())
 }
 
-/// Why a line that is not played, with its number from 1, stops the program.
+// Why a line that is not played, with its number from 1, stops the program.
 fn stop_of_line(number: usize, fault: LineFault) -> Stop
     ensures { result ≡ stop_of_line number fault }
 {

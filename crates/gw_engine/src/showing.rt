@@ -40,7 +40,7 @@ fn show_message<R: Read, W: Write>(
     Ok(())
 }
 
-/// The lines of the message whose octets the digits spell.
+// The lines of the message whose octets the digits spell.
 fn shown(alloc: Global, digits: &[u8]) -> Result<String, Stop>
     ensures shown { IfOk result (λ text. IsShownBy digits.now (string_bytes text)) }
     ensures refused { IfErr result (λ why. IsRefusedBy digits.now why) }

@@ -13,7 +13,7 @@ use std::fmt::Write as _;
 use std::io::Write;
 use wire::WireFault;
 
-/// No line that tells why the program stops is longer, in octets.
+// No line that tells why the program stops is longer, in octets.
 const LINE_LIMIT: usize = 64;
 
 /// Why the program stops before its work is done. Its text is what the program then prints.
@@ -145,7 +145,7 @@ pub fn end<W: Write>(outcome: Result<(), Stop>, writer: &mut W) -> Status
     Status::Refused
 }
 
-/// Writes the line that tells it.
+// Writes the line that tells it.
 fn write_reason<W: Write>(stop: Stop, writer: &mut W) -> Result<(), Unwritten>
     ensures whole { OnOk result
         (Appends (W.contents writer.old) (W.contents writer.new) (stop_line stop)) }

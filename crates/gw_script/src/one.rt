@@ -40,7 +40,7 @@ impl One {
         }
     }
 
-    /// Follows the first directive.
+    // Follows the first directive.
     fn begin(&mut self, directive: Directive) -> Result<Report, LineFault> {
         let Directive::Agree(terms) = directive else {
             return Err(LineFault::Refused);

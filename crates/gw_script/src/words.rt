@@ -109,7 +109,7 @@ impl<'a> Words<'a> {
     }
 }
 
-/// The parts of a word before its first hyphen and behind it.
+// The parts of a word before its first hyphen and behind it.
 fn parts(word: &[u8]) -> Result<(&[u8], &[u8]), LineFault> {
     let hyphen = word
         .iter()
@@ -128,7 +128,7 @@ fn port(digits: &[u8]) -> Result<u16, LineFault> {
     u16::try_from(number).map_err(|_| LineFault::Refused)
 }
 
-/// The number that the digits spell, if it has 64 bits.
+// The number that the digits spell, if it has 64 bits.
 fn decimal(digits: &[u8]) -> Option<u64> {
     if digits.is_empty() {
         return None;

@@ -32,7 +32,7 @@ pub enum Demand {
     DeleteIke { ike: u32 },
 }
 
-/// Asks the peer what is ordered.
+// Asks the peer what is ordered.
 pub(crate) fn ask<C: Sealer>(
     alloc: Global,
     setup: &Setup<'_, C>,
@@ -132,7 +132,7 @@ fn ask_at<C: Sealer>(
     Ok(issued)
 }
 
-/// Asks the peer of the association with this serial for a further child, with these selectors of this end's side and of the peer's.
+// Asks the peer of the association with this serial for a further child, with these selectors of this end's side and of the peer's.
 pub(crate) fn ask_further<C: Sealer>(
     alloc: Global,
     setup: &Setup<'_, C>,

@@ -10,7 +10,7 @@ use exchange::Role;
 use std::alloc::{AllocError, Global};
 use std::marker::Model;
 
-/// Associations in the order in which they were made, and the serial of the next one.
+// Associations in the order in which they were made, and the serial of the next one.
 #[derive(Drop)]
 pub(crate) struct Held {
     // One past the greatest serial that there is where all are used up.
@@ -70,7 +70,7 @@ impl Held {
     }
 }
 
-/// Whether no new association can have the SPI: it is zero, or this end uses it.
+// Whether no new association can have the SPI: it is zero, or this end uses it.
 pub(crate) fn is_bad_spi(spi: u64, associations: &[Association]) -> bool
     ensures { result ≡ is_bad_spi spi associations.now }
 {
@@ -99,21 +99,21 @@ fn spi_by_role(role: Role, spi_i: u64, spi_r: u64) -> u64
     }
 }
 
-/// Whether an association with this serial is held.
+// Whether an association with this serial is held.
 pub(crate) fn has_serial(serial: u32, associations: &[Association]) -> bool
     ensures { result ≡ list_any (has_serial serial) associations.now }
 {
     associations.iter().any(|a| a.serial == serial)
 }
 
-/// The association with this serial.
+// The association with this serial.
 pub(crate) fn association_of(serial: u32, associations: &[Association]) -> Option<&Association>
     ensures { option_copied result ≡ association_of serial associations.now }
 {
     associations.iter().find(|a| a.serial == serial)
 }
 
-/// How many associations are half open.
+// How many associations are half open.
 pub(crate) fn half_open_count(associations: &[Association]) -> usize
     ensures { result ≡ half_open_count associations.now }
 {
@@ -135,7 +135,7 @@ fn is_half_open(association: &Association) -> bool
     }
 }
 
-/// The place of the half-open association that these octets made, if there is one.
+// The place of the half-open association that these octets made, if there is one.
 pub(crate) fn answered_place(associations: &[Association], octets: &[u8]) -> Option<usize>
     ensures { result ≡ position (is_answered octets.now) associations.now }
 {

@@ -29,7 +29,7 @@ use wire::laws::what_is_spelled_has_no_fault;
 use wire::numbers::IKE_SA_INIT;
 use wire::{Header, Message, WireFault, decode_message};
 
-/// Takes a datagram from an IPv4 address.
+// Takes a datagram from an IPv4 address.
 pub(crate) fn take_datagram<C: Sealer + Agreement + Proof>(
     alloc: Global,
     setup: &Setup<'_, C>,

@@ -20,7 +20,7 @@ use sadb::{Spi, Table};
 use std::alloc::{AllocError, Global};
 use suite::{Agreement, Proof, Sealer};
 
-/// Asks for the child of an entry of the policy, by its number: with a new association, or under the one with this serial.
+// Asks for the child of an entry of the policy, by its number: with a new association, or under the one with this serial.
 pub(crate) fn start<C: Sealer + Agreement + Proof>(
     alloc: Global,
     setup: &Setup<'_, C>,
@@ -122,7 +122,7 @@ fn further_by<C: Sealer + Agreement + Proof>(
     ask_further(alloc, setup, held, table, ike, &local, &remote)
 }
 
-/// What may be begun: an association of this serial, by this entry.
+// What may be begun: an association of this serial, by this entry.
 #[derive(Clone, Copy)]
 struct Allowed {
     serial: u32,

@@ -10,7 +10,7 @@ use moments::tick;
 use sadb::Table;
 use std::alloc::{AllocError, Global};
 
-/// Does what is due at a moment.
+// Does what is due at a moment.
 pub(crate) fn take_moment(
     alloc: Global,
     held: &mut Held,

@@ -97,7 +97,7 @@ pub fn answer_auth<C: Sealer + Proof>(
     })
 }
 
-/// A reply, and what it brings the association to.
+// A reply, and what it brings the association to.
 #[derive(Drop)]
 struct Reply {
     octets: Items<u8>,
@@ -146,7 +146,7 @@ fn make_reply<C: Sealer + Proof>(
     Ok(Reply { octets, outcome })
 }
 
-/// What a reply says, and what it brings the association to.
+// What a reply says, and what it brings the association to.
 #[derive(Drop)]
 struct Content {
     payloads: Items<Payload>,

@@ -120,7 +120,7 @@ pub fn read_response<C: Sealer + Agreement + Proof>(
     }
 }
 
-/// IKE_SA_INIT with a cookie.
+// IKE_SA_INIT with a cookie.
 #[derive(Drop)]
 struct Again {
     octets: Items<u8>,

@@ -11,7 +11,7 @@ use crate::rounds::compress;
 use crate::words::choose;
 use std::simd::prelude::*;
 
-/// The words of the block at `index` of message `j`.
+// The words of the block at `index` of message `j`.
 #[inline(always)]
 fn row(messages: &[Message<'_>], j: usize, index: usize) -> [u32; 16]
     requires { j < length messages.now }
@@ -23,7 +23,7 @@ fn row(messages: &[Message<'_>], j: usize, index: usize) -> [u32; 16]
     words(messages[j].block(index))
 }
 
-/// The words of each message's block at `index`.
+// The words of each message's block at `index`.
 #[inline(always)]
 fn words_at(messages: &[Message<'_>], index: usize) -> [u32x8; 16]
     requires { length messages.now ≡ 8 }
@@ -43,7 +43,7 @@ fn words_at(messages: &[Message<'_>], index: usize) -> [u32x8; 16]
     ])
 }
 
-/// 1 where message `j` has a block at `index`, and else 0.
+// 1 where message `j` has a block at `index`, and else 0.
 #[inline(always)]
 fn is_live(messages: &[Message<'_>], j: usize, index: usize) -> u32
     requires { j < length messages.now }
@@ -52,7 +52,7 @@ fn is_live(messages: &[Message<'_>], j: usize, index: usize) -> u32
     u32::from(index < messages[j].count)
 }
 
-/// 1 in each lane whose message has a block at `index`, and 0 in the others.
+// 1 in each lane whose message has a block at `index`, and 0 in the others.
 #[inline(always)]
 fn live(messages: &[Message<'_>], index: usize) -> u32x8
     requires { length messages.now ≡ 8 }
@@ -71,7 +71,7 @@ fn live(messages: &[Message<'_>], index: usize) -> u32x8
     ])
 }
 
-/// In each lane `other` where that of `test` is 0, and else `state`.
+// In each lane `other` where that of `test` is 0, and else `state`.
 #[inline(always)]
 fn choose_state(test: u32x8, state: &[u32x8; 8], other: &[u32x8; 8]) -> [u32x8; 8]
     ensures { (j : ℕ) → IsLane j
@@ -89,7 +89,7 @@ fn choose_state(test: u32x8, state: &[u32x8; 8], other: &[u32x8; 8]) -> [u32x8; 
     ]
 }
 
-/// Each lane's state after the block at `index`, if its message has one.
+// Each lane's state after the block at `index`, if its message has one.
 fn step(state: [u32x8; 8], messages: &[Message<'_>], index: usize) -> [u32x8; 8]
     requires { length messages.now ≡ 8 }
     ensures { (j : ℕ) → IsLane j → (m : Message) (octets start : List ℕ) → slice_get messages.now j ≡ Some m
@@ -101,7 +101,7 @@ fn step(state: [u32x8; 8], messages: &[Message<'_>], index: usize) -> [u32x8; 8]
     choose_state(live(messages, index), &next, &state)
 }
 
-/// The blocks of the longest message.
+// The blocks of the longest message.
 fn most_blocks(messages: &[Message<'_>]) -> usize
     ensures { (j : ℕ) (m : Message) → slice_get messages.now j ≡ Some m → m.count ≤ result }
 {
@@ -112,7 +112,7 @@ fn most_blocks(messages: &[Message<'_>]) -> usize
     most
 }
 
-/// Each lane's state after the blocks of its message.
+// Each lane's state after the blocks of its message.
 pub(crate) fn absorb(start: [u32x8; 8], messages: &[Message<'_>]) -> [u32x8; 8]
     requires { length messages.now ≡ 8 }
     ensures { (j : ℕ) → IsLane j → (m : Message) (octets : List ℕ) → slice_get messages.now j ≡ Some m

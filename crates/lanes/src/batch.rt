@@ -7,11 +7,11 @@ use crate::eight::icv_eight;
 use crate::order::{BATCH, blocks_at, next_eight, places_by_blocks};
 use crate::task::Task;
 
-/// From how many messages of one length on eight lanes take less time than one lane alone. The default build gains 1.7 times by
-/// full lanes, so eight lanes take there the time of 4.7 messages; a build for AVX2 gains 4 times.
+// From how many messages of one length on eight lanes take less time than one lane alone. The default build gains 1.7 times by
+// full lanes, so eight lanes take there the time of 4.7 messages; a build for AVX2 gains 4 times.
 const FEWEST: usize = 5;
 
-/// Writes the check values of the messages at the first places, each computed alone.
+// Writes the check values of the messages at the first places, each computed alone.
 fn write_one_by_one(tasks: &[Task<'_>], values: &mut [[u8; 16]], places: &[usize; 8], count: usize)
     requires same { length values.old ≡ length tasks.now }
     requires count { count ≤ 8 }
@@ -24,7 +24,7 @@ fn write_one_by_one(tasks: &[Task<'_>], values: &mut [[u8; 16]], places: &[usize
     }
 }
 
-/// Writes the check values of the messages at eight places, computed side by side.
+// Writes the check values of the messages at eight places, computed side by side.
 fn write_side_by_side(tasks: &[Task<'_>], values: &mut [[u8; 16]], places: &[usize; 8])
     requires same { length values.old ≡ length tasks.now }
     requires fit { (j : ℕ) → IsLane j → FitsALane tasks.now (slice_index places.now j) }
@@ -36,7 +36,7 @@ fn write_side_by_side(tasks: &[Task<'_>], values: &mut [[u8; 16]], places: &[usi
     }
 }
 
-/// Whether the messages at these places can go into lanes.
+// Whether the messages at these places can go into lanes.
 fn fit_lanes(tasks: &[Task<'_>], places: &[usize; 8]) -> bool
     requires { (j : ℕ) → IsLane j → slice_index places.now j < length tasks.now }
     ensures { IsTrue result ↔ ((j : ℕ) → IsLane j → FitsALane tasks.now (slice_index places.now j)) }
@@ -49,7 +49,7 @@ fn fit_lanes(tasks: &[Task<'_>], places: &[usize; 8]) -> bool
     true
 }
 
-/// Whether eight lanes take less time for the messages at the first places than one lane alone.
+// Whether eight lanes take less time for the messages at the first places than one lane alone.
 fn is_worth_lanes(tasks: &[Task<'_>], places: &[usize; 8], count: usize) -> bool
     requires { count ≤ 8 }
 {
@@ -63,7 +63,7 @@ fn is_worth_lanes(tasks: &[Task<'_>], places: &[usize; 8], count: usize) -> bool
     all / FEWEST >= most
 }
 
-/// Writes the check values of the messages at the first places.
+// Writes the check values of the messages at the first places.
 fn write_group(tasks: &[Task<'_>], values: &mut [[u8; 16]], places: &[usize; 8], count: usize)
     requires same { length values.old ≡ length tasks.now }
     requires count { count ≤ 8 }
@@ -77,7 +77,7 @@ fn write_group(tasks: &[Task<'_>], values: &mut [[u8; 16]], places: &[usize; 8],
     }
 }
 
-/// Writes the check value of each message, at most 64 of them.
+// Writes the check value of each message, at most 64 of them.
 fn write_batch(tasks: &[Task<'_>], values: &mut [[u8; 16]])
     requires same { length values.old ≡ length tasks.now }
     requires few { length tasks.now ≤ BATCH }

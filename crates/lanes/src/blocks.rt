@@ -13,7 +13,7 @@ fn word(block: &[u8], at: usize) -> u32
     u32::from_be_bytes([block[at], block[at + 1], block[at + 2], block[at + 3]])
 }
 
-/// The words of a block.
+// The words of a block.
 #[inline(always)]
 pub(crate) fn words(block: &[u8]) -> [u32; 16]
     requires { length block.now ≡ 64 }
@@ -50,7 +50,7 @@ fn column<const N: usize>(rows: [[u32; N]; 8], k: usize) -> u32x8
     ])
 }
 
-/// Each of eight states in a lane of its own.
+// Each of eight states in a lane of its own.
 #[inline(always)]
 pub(crate) fn states_in_lanes(rows: [[u32; 8]; 8]) -> [u32x8; 8]
     ensures { (j : ℕ) → IsLane j → length (slice_index_or rows j []) ≡ 8
@@ -68,7 +68,7 @@ pub(crate) fn states_in_lanes(rows: [[u32; 8]; 8]) -> [u32x8; 8]
     ]
 }
 
-/// The words of one lane.
+// The words of one lane.
 #[inline(always)]
 pub(crate) fn state_of_lane(state: &[u32x8; 8], j: usize) -> [u32; 8]
     requires { IsLane j }
@@ -86,7 +86,7 @@ pub(crate) fn state_of_lane(state: &[u32x8; 8], j: usize) -> [u32; 8]
     ]
 }
 
-/// The words of eight blocks, each block in a lane of its own.
+// The words of eight blocks, each block in a lane of its own.
 #[inline(always)]
 pub(crate) fn words_in_lanes(rows: [[u32; 16]; 8]) -> [u32x8; 16]
     ensures { (j : ℕ) → IsLane j → length (slice_index_or rows j []) ≡ 16

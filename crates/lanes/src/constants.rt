@@ -1,6 +1,6 @@
 //! The constants of SHA-256.
 
-/// K of FIPS 180-4, section 4.2.2.
+// K of FIPS 180-4, section 4.2.2.
 pub(crate) const ROUND_CONSTANTS: [u32; 64] = [
     0x428a_2f98,
     0x7137_4491,
@@ -68,7 +68,7 @@ pub(crate) const ROUND_CONSTANTS: [u32; 64] = [
     0xc671_78f2,
 ];
 
-/// The hash value before the first block (section 5.3.3).
+// The hash value before the first block (section 5.3.3).
 pub(crate) const INITIAL_HASH: [u32; 8] = [
     0x6a09_e667,
     0xbb67_ae85,

@@ -15,7 +15,7 @@ use crate::tagging::{first_octets, tags};
 use crate::task::Task;
 use std::simd::prelude::*;
 
-/// The state behind the inner pad of the key at a place.
+// The state behind the inner pad of the key at a place.
 fn inner_state(tasks: &[Task<'_>], place: usize) -> [u32; 8]
     requires { FitsALane tasks.now place }
     ensures { (task : Task) → slice_get tasks.now place ≡ Some task
@@ -24,7 +24,7 @@ fn inner_state(tasks: &[Task<'_>], place: usize) -> [u32; 8]
     tasks[place].key.inner_state()
 }
 
-/// The state behind the outer pad of the key at a place.
+// The state behind the outer pad of the key at a place.
 fn outer_state(tasks: &[Task<'_>], place: usize) -> [u32; 8]
     requires { FitsALane tasks.now place }
     ensures { (task : Task) → slice_get tasks.now place ≡ Some task
@@ -33,7 +33,7 @@ fn outer_state(tasks: &[Task<'_>], place: usize) -> [u32; 8]
     tasks[place].key.outer_state()
 }
 
-/// The blocks of the message at a place.
+// The blocks of the message at a place.
 fn message<'a>(tasks: &[Task<'a>], place: usize) -> Message<'a>
     requires { FitsALane tasks.now place }
     ensures { (task : Task) → slice_get tasks.now place ≡ Some task
@@ -42,7 +42,7 @@ fn message<'a>(tasks: &[Task<'a>], place: usize) -> Message<'a>
     tasks[place].message()
 }
 
-/// Each lane's state behind the inner pad of its key.
+// Each lane's state behind the inner pad of its key.
 fn inner_states(tasks: &[Task<'_>], places: &[usize; 8]) -> [u32x8; 8]
     requires { (j : ℕ) → IsLane j → FitsALane tasks.now (slice_index places.now j) }
     ensures { (j : ℕ) → IsLane j → (task : Task) → slice_get tasks.now (slice_index places.now j) ≡ Some task
@@ -60,7 +60,7 @@ fn inner_states(tasks: &[Task<'_>], places: &[usize; 8]) -> [u32x8; 8]
     ])
 }
 
-/// Each lane's state behind the outer pad of its key.
+// Each lane's state behind the outer pad of its key.
 fn outer_states(tasks: &[Task<'_>], places: &[usize; 8]) -> [u32x8; 8]
     requires { (j : ℕ) → IsLane j → FitsALane tasks.now (slice_index places.now j) }
     ensures { (j : ℕ) → IsLane j → (task : Task) → slice_get tasks.now (slice_index places.now j) ≡ Some task
@@ -78,7 +78,7 @@ fn outer_states(tasks: &[Task<'_>], places: &[usize; 8]) -> [u32x8; 8]
     ])
 }
 
-/// Each lane's tag, as words.
+// Each lane's tag, as words.
 fn tags_at(tasks: &[Task<'_>], places: &[usize; 8]) -> [u32x8; 8]
     requires { (j : ℕ) → IsLane j → FitsALane tasks.now (slice_index places.now j) }
     ensures { (j : ℕ) → IsLane j → (task : Task) → slice_get tasks.now (slice_index places.now j) ≡ Some task
@@ -101,7 +101,7 @@ fn tags_at(tasks: &[Task<'_>], places: &[usize; 8]) -> [u32x8; 8]
     )
 }
 
-/// The check value of lane `j`: the first half of its tag.
+// The check value of lane `j`: the first half of its tag.
 fn value(tags: &[u32x8; 8], j: usize) -> [u8; 16]
     requires { IsLane j }
     ensures { result ≡ take 16 (digest_bytes (lane j tags.now) 8) }
@@ -109,7 +109,7 @@ fn value(tags: &[u32x8; 8], j: usize) -> [u8; 16]
     first_octets(&state_of_lane(tags, j))
 }
 
-/// The check values of the messages at eight places.
+// The check values of the messages at eight places.
 pub(crate) fn icv_eight(tasks: &[Task<'_>], places: &[usize; 8]) -> [[u8; 16]; 8]
     requires { (j : ℕ) → IsLane j → FitsALane tasks.now (slice_index places.now j) }
     ensures { (j : ℕ) → IsLane j → (task : Task) → slice_get tasks.now (slice_index places.now j) ≡ Some task

@@ -52,14 +52,14 @@ impl LaneKey {
         self.key.icv(&[octets, more])
     }
 
-    /// SHA-256 as it stands behind the inner pad.
+    // SHA-256 as it stands behind the inner pad.
     pub(crate) fn inner_state(&self) -> [u32; 8]
         ensures { result ≡ state_behind (pad_with 0x36 (hmac_block self.now)) }
     {
         self.inner
     }
 
-    /// SHA-256 as it stands behind the outer pad.
+    // SHA-256 as it stands behind the outer pad.
     pub(crate) fn outer_state(&self) -> [u32; 8]
         ensures { result ≡ state_behind (pad_with 0x5c (hmac_block self.now)) }
     {

@@ -3,13 +3,13 @@ ghost use Rattle.std.specs.Prelude.{◌≡◌, length};
 
 use crate::padding::{end_len, ending};
 
-/// The octets of a block of SHA-256.
+// The octets of a block of SHA-256.
 const BLOCK_LEN: usize = 64;
 
-/// The most octets that the second part may have, so that two blocks are enough to end a message.
+// The most octets that the second part may have, so that two blocks are enough to end a message.
 pub(crate) const MOST_MORE: usize = 56;
 
-/// A message that follows a first block, the key's.
+// A message that follows a first block, the key's.
 #[derive(Drop)]
 pub(crate) struct Message<'a> {
     octets: &'a [u8],
@@ -25,7 +25,7 @@ impl<'a> Message<'a> {
     ghost use Rattle.lanes.specs.Padding.{after_a_block};
     ghost use Rattle.lanes.specs.Message.{HasBlocks};
 
-    /// The message whose two parts follow a block.
+    // The message whose two parts follow a block.
     pub(crate) fn new(octets: &'a [u8], more: &[u8]) -> Message<'a>
         requires { length more.now ≤ MOST_MORE }
         ensures { HasBlocks result (after_a_block (octets.now ++ more.now)) }
@@ -41,7 +41,7 @@ impl<'a> Message<'a> {
         }
     }
 
-    /// The block at `index`; past the last one it is any block.
+    // The block at `index`; past the last one it is any block.
     pub(crate) fn block(&self, index: usize) -> &[u8]
         ensures whole { length result.now ≡ 64 }
         ensures block { (octets : List ℕ) → HasBlocks self.now octets → index < self.now.count

@@ -7,10 +7,10 @@ ghost use Rattle.lanes.specs.Lane.{IsLane};
 use crate::task::Task;
 use std::cmp::Reverse;
 
-/// The most messages that are put in order at once.
+// The most messages that are put in order at once.
 pub(crate) const BATCH: usize = 64;
 
-/// The blocks of the message at a place.
+// The blocks of the message at a place.
 pub(crate) fn blocks_at(tasks: &[Task<'_>], place: usize) -> usize {
     match tasks.get(place) {
         Some(task) => task.block_count(),
@@ -18,7 +18,7 @@ pub(crate) fn blocks_at(tasks: &[Task<'_>], place: usize) -> usize {
     }
 }
 
-/// Each place in turn.
+// Each place in turn.
 fn all_places() -> [usize; BATCH]
     ensures { result ≡ range_with_len 0 64 }
 {
@@ -29,7 +29,7 @@ fn all_places() -> [usize; BATCH]
     places
 }
 
-/// The places of the messages, those of messages with as many blocks side by side, and those of the longest first.
+// The places of the messages, those of messages with as many blocks side by side, and those of the longest first.
 pub(crate) fn places_by_blocks(tasks: &[Task<'_>]) -> [usize; BATCH]
     requires { length tasks.now ≤ BATCH }
     ensures { IsPermutation (range_with_len 0 (length tasks.now)) (take (length tasks.now) result) }
@@ -39,7 +39,7 @@ pub(crate) fn places_by_blocks(tasks: &[Task<'_>]) -> [usize; BATCH]
     places
 }
 
-/// The place whose message goes into lane `j`.
+// The place whose message goes into lane `j`.
 fn place_for(places: &[usize; BATCH], start: usize, end: usize, j: usize) -> usize
     requires start { start < end }
     requires end { end ≤ BATCH }
@@ -54,7 +54,7 @@ fn place_for(places: &[usize; BATCH], start: usize, end: usize, j: usize) -> usi
     }
 }
 
-/// The next eight places. Where fewer are left, the first of them stands in each lane that is left over.
+// The next eight places. Where fewer are left, the first of them stands in each lane that is left over.
 pub(crate) fn next_eight(places: &[usize; BATCH], start: usize, end: usize) -> [usize; 8]
     requires start { start < end }
     requires end { end ≤ BATCH }

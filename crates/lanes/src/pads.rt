@@ -48,7 +48,7 @@ fn initial() -> [u32x8; 8]
     ]
 }
 
-/// The states behind the inner pad and behind the outer one, each from a lane.
+// The states behind the inner pad and behind the outer one, each from a lane.
 pub(crate) fn states(key: &[u8; 32]) -> ([u32; 8], [u32; 8])
     ensures { HasStates key.now result.0 result.1 }
 {

@@ -14,7 +14,7 @@ use crate::rounds::compress;
 use crate::words::each;
 use std::simd::prelude::*;
 
-/// The words of the block that follows the outer pad: the digest of the inner hash, and the padding of both.
+// The words of the block that follows the outer pad: the digest of the inner hash, and the padding of both.
 #[inline(always)]
 fn outer_words(digest: &[u32x8; 8]) -> [u32x8; 16]
     ensures { (j : ℕ) → IsLane j → ((k : ℕ) → slice_index (lane j digest.now) k < 2 ^ 32)
@@ -42,7 +42,7 @@ fn outer_words(digest: &[u32x8; 8]) -> [u32x8; 16]
     ]
 }
 
-/// Each lane's tag, as words: that of its message under the key whose states it begins with.
+// Each lane's tag, as words: that of its message under the key whose states it begins with.
 pub(crate) fn tags(inner: [u32x8; 8], outer: [u32x8; 8], messages: &[Message<'_>]) -> [u32x8; 8]
     requires { length messages.now ≡ 8 }
     ensures { (j : ℕ) → IsLane j → (m : Message) (key octets : List ℕ) → slice_get messages.now j ≡ Some m
@@ -54,7 +54,7 @@ pub(crate) fn tags(inner: [u32x8; 8], outer: [u32x8; 8], messages: &[Message<'_>
     compress(outer, outer_words(&digests))
 }
 
-/// The first 16 octets of a tag, from its words.
+// The first 16 octets of a tag, from its words.
 pub(crate) fn first_octets(tag: &[u32; 8]) -> [u8; 16]
     ensures { result ≡ take 16 (digest_bytes tag.now 8) }
 {

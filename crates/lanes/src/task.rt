@@ -26,7 +26,7 @@ impl<'a> Task<'a> {
         self.key.icv(self.octets, self.more)
     }
 
-    /// The message as the blocks that a lane takes.
+    // The message as the blocks that a lane takes.
     pub(crate) fn message(&self) -> Message<'a>
         requires { length self.now.more.now ≤ MOST_MORE }
         ensures { HasBlocks result (after_a_block (message_of self.now)) }
@@ -34,14 +34,14 @@ impl<'a> Task<'a> {
         Message::new(self.octets, self.more)
     }
 
-    /// The blocks that the message and its padding take behind the key's, where its second part is short enough for a lane.
+    // The blocks that the message and its padding take behind the key's, where its second part is short enough for a lane.
     pub(crate) fn block_count(&self) -> usize
         ensures { length self.now.more.now ≤ MOST_MORE → result ≡ (length (message_of self.now) + 72) / 64 }
     {
         (self.octets.len() + self.more.len().min(MOST_MORE) + 72) / 64
     }
 
-    /// Whether the message can go into a lane.
+    // Whether the message can go into a lane.
     pub(crate) fn fits_a_lane(&self) -> bool
         ensures { IsTrue result ↔ (length self.now.more.now ≤ MOST_MORE) }
     {

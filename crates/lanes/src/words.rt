@@ -6,7 +6,7 @@ ghost use Rattle.lanes.specs.Lane.{IsLane};
 
 use std::simd::prelude::*;
 
-/// One word in each lane.
+// One word in each lane.
 #[inline(always)]
 pub(crate) fn each(word: u32) -> u32x8
     ensures { (j : ℕ) → IsLane j → slice_index result j ≡ word }
@@ -21,7 +21,7 @@ pub(crate) fn add(a: u32x8, b: u32x8) -> u32x8
     a + b
 }
 
-/// In each lane `other` where that of `test` is 0, and else `word`.
+// In each lane `other` where that of `test` is 0, and else `word`.
 #[inline(always)]
 pub(crate) fn choose(test: u32x8, word: u32x8, other: u32x8) -> u32x8
     ensures { (j : ℕ) → IsLane j → slice_index result j
@@ -46,7 +46,7 @@ pub(crate) fn maj(x: u32x8, y: u32x8, z: u32x8) -> u32x8
     (x & y) ^ (x & z) ^ (y & z)
 }
 
-/// Each word turned by some bits to the right.
+// Each word turned by some bits to the right.
 #[inline(always)]
 fn turned(x: u32x8, by: u32) -> u32x8
     requires some { 0 < by }
@@ -56,7 +56,7 @@ fn turned(x: u32x8, by: u32) -> u32x8
     (x >> by) | (x << (32 - by))
 }
 
-/// Each word moved by some bits to the right.
+// Each word moved by some bits to the right.
 #[inline(always)]
 fn shifted(x: u32x8, by: u32) -> u32x8
     requires { by < 32 }

@@ -1,7 +1,7 @@
 -- No message of the worked world tells a window, and none is counted.
 use Rattle.std.proofs.Common.{◌⊎◌, ◌≤◌, inl, inr, ℕ, Bool, [], subst, arith}
 use Rattle.base.specs.Octets.{Octets}
-use Rattle.auth.specs.Windows.{LEAST_WINDOW}
+use Rattle.auth.specs.Windows.{WINDOW_LEAST}
 use Rattle.association.specs.declared.phase.Association.{Association}
 use Rattle.initial.specs.Configs.{IsConfig}
 use Rattle.initial.specs.declared.config.Config.{Config}
@@ -23,7 +23,7 @@ use Rattle.laws_worked_world.proofs.StateLemmas.{found_is}
 abbrev Tells : ℕ → Entry → Type 0
 Tells window e = TellsWindow worked_meaning.body_of worked_keys e.response e.number window e.octets
 
-module _ (window : ℕ) (least : LEAST_WINDOW ≤ window) where
+module _ (window : ℕ) (least : WINDOW_LEAST ≤ window) where
   first_request_tells : Tells window (request_of 1 first_asking)
   first_request_tells = record { exchange = 35; payloads = []; sealed = first_request_seals; tells = least }
 

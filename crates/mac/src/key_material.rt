@@ -10,7 +10,7 @@ use crate::keyed_hash::HmacKey;
 const BLOCK: usize = 32;
 
 // The most octets: 255 blocks, since a block's number has one octet.
-const MOST: usize = 255 * BLOCK;
+const MATERIAL_LIMIT: usize = 255 * BLOCK;
 
 /// Fills `out` with the first octets of prf+ over HMAC-SHA-256 (RFC 7296, section 2.13), under a key
 /// of any number of octets. The parts of the seed are joined.
@@ -21,7 +21,7 @@ pub fn prf_plus(key: &[u8], seed_parts: &[&[u8]], out: &mut [u8]) -> Result<(), 
         × (out.new ≡ prf_plus key.now (flat_map (λ part. part.now) seed_parts.now) (length out.old)) }
     ensures too_much { 8160 < length out.old → (result ≡ Err MacFault.TooMuch) × (out.new ≡ out.old) }
 {
-    if out.len() > MOST {
+    if out.len() > MATERIAL_LIMIT {
         return Err(MacFault::TooMuch);
     }
     let key = HmacKey::new(key);

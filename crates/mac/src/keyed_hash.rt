@@ -57,7 +57,7 @@ impl HmacKey {
         }
     }
 
-    /// The first 32 octets of the block that the key fills: the whole key, where it has so many.
+    // The first 32 octets of the block that the key fills: the whole key, where it has so many.
     pub(crate) fn first_octets(&self) -> [u8; 32]
         ensures { result ≡ take 32 self.now }
     {

@@ -11,24 +11,24 @@ use requests::{Due, Outgoing, Timer};
 use std::alloc::{AllocError, Global};
 use wire::numbers::IKE_SA_INIT;
 
-/// How long an association is held that is half open, in milliseconds.
-const HALF_OPEN_LIMIT: u64 = 30_000;
+// How long an association is held that is half open, in milliseconds.
+const HALF_OPEN_TIME: u64 = 30_000;
 
-/// How long one is held that is closed.
-const CLOSED_LIMIT: u64 = 120_000;
+// How long one is held that is closed.
+const CLOSED_TIME: u64 = 120_000;
 
-/// Whether it is held no longer.
+// Whether it is held no longer.
 pub(crate) fn is_over(association: &Association, now: u64) -> bool
     ensures { result ≡ is_over now association.now.phase }
 {
     match &association.phase {
-        Phase::HalfOpen(opened) => now.saturating_sub(opened.made) >= HALF_OPEN_LIMIT,
-        Phase::Closed { at, .. } => now.saturating_sub(*at) >= CLOSED_LIMIT,
+        Phase::HalfOpen(opened) => now.saturating_sub(opened.made) >= HALF_OPEN_TIME,
+        Phase::Closed { at, .. } => now.saturating_sub(*at) >= CLOSED_TIME,
         _ => false,
     }
 }
 
-/// Whether a request was sent for the last time and not answered in time.
+// Whether a request was sent for the last time and not answered in time.
 pub(crate) fn has_failed(association: &Association, now: u64) -> bool
     ensures { result ≡ has_failed now association.now }
 {
@@ -44,7 +44,7 @@ fn is_unanswered(request: &Request, now: u64) -> bool
     request.timer.due(now) == Due::Over
 }
 
-/// Adds the requests that are due, by rising number.
+// Adds the requests that are due, by rising number.
 pub(crate) fn append_due(
     alloc: Global,
     requests: &mut Items<Resent>,
@@ -96,7 +96,7 @@ fn resent(
     })
 }
 
-/// Notes of the requests that are due that they were sent at this moment. Takes no memory.
+// Notes of the requests that are due that they were sent at this moment. Takes no memory.
 pub(crate) fn send_again(alloc: Global, association: &mut Association, now: u64)
     ensures { SendsAgain now association.old association.new }
 {

@@ -54,7 +54,7 @@ impl Entry {
         }
     }
 
-    /// Whether no range ends before it starts, and both sides are of one family.
+    // Whether no range ends before it starts, and both sides are of one family.
     pub(crate) fn is_sound(&self) -> bool
         ensures { IsTrue result ↔ IsSoundEntry self.now }
     {

@@ -5,20 +5,20 @@ ghost use Rattle.policy.specs.Packets.{IsFragment, IsIpv4Flow, IsIpv4Packet, IsI
 
 use crate::fault::InnerFault;
 use crate::flow::Flow;
-use crate::packet::{LONGEST_PACKET, ports_of};
+use crate::packet::{INNER_LIMIT, ports_of};
 use base::Address;
 use byteorder::{BigEndian, ByteOrder};
 
-/// The version in the first four bits.
+// The version in the first four bits.
 pub(crate) const VERSION: u8 = 4;
 
-/// A header without options, in octets.
-const LEAST_HEADER: usize = 20;
+// A header without options, in octets.
+const HEADER_LEAST: usize = 20;
 
-/// The bit in octets 6 and 7 that tells of more fragments; below it stands the fragment offset.
+// The bit in octets 6 and 7 that tells of more fragments; below it stands the fragment offset.
 const MORE_FRAGMENTS: u16 = 1 << 13;
 
-/// The flow of a packet that says it is of version 4.
+// The flow of a packet that says it is of version 4.
 pub(crate) fn flow_of(octets: &[u8]) -> Result<Flow, InnerFault>
     requires { version_of octets.now ≡ 4 }
     ensures flow { IfOk result (IsIpv4Flow octets.now) }
@@ -39,25 +39,25 @@ pub(crate) fn flow_of(octets: &[u8]) -> Result<Flow, InnerFault>
     })
 }
 
-/// What follows the header of a packet.
+// What follows the header of a packet.
 fn content_of(octets: &[u8]) -> Option<&[u8]>
     requires { version_of octets.now ≡ 4 }
     ensures { MatchOption result (¬ IsIpv4Packet octets.now)
         (λ rest. IsIpv4Packet octets.now × (rest.now ≡ ipv4_content octets.now)) }
 {
-    if octets.len() < LEAST_HEADER || octets.len() > LONGEST_PACKET {
+    if octets.len() < HEADER_LEAST || octets.len() > INNER_LIMIT {
         return None;
     }
     let header = usize::from(octets[0] % 16) * 4;
     let total = usize::from(BigEndian::read_u16(&octets[2..]));
-    if header >= LEAST_HEADER && header <= octets.len() && total == octets.len() {
+    if header >= HEADER_LEAST && header <= octets.len() && total == octets.len() {
         Some(&octets[header..])
     } else {
         None
     }
 }
 
-/// Whether a packet is a fragment.
+// Whether a packet is a fragment.
 fn is_fragment(octets: &[u8]) -> bool
     requires { 20 ≤ length octets.now }
     ensures { IsTrue result ↔ IsFragment octets.now }
@@ -66,7 +66,7 @@ fn is_fragment(octets: &[u8]) -> bool
     field / MORE_FRAGMENTS % 2 == 1 || field % MORE_FRAGMENTS != 0
 }
 
-/// The number that stands in four octets from this one on.
+// The number that stands in four octets from this one on.
 fn address_at(octets: &[u8], place: usize) -> u32
     requires { place + 4 ≤ length octets.now }
     ensures { result ≡ big_number 4 (drop place octets.now) }

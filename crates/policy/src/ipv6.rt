@@ -5,17 +5,17 @@ ghost use Rattle.policy.specs.Packets.{IsExtensionHeader, IsIpv6Flow, IsIpv6Pack
 
 use crate::fault::InnerFault;
 use crate::flow::Flow;
-use crate::packet::{LONGEST_PACKET, ports_of};
+use crate::packet::{INNER_LIMIT, ports_of};
 use base::Address;
 use byteorder::{BigEndian, ByteOrder};
 
-/// The version in the first four bits.
+// The version in the first four bits.
 pub(crate) const VERSION: u8 = 6;
 
-/// The header, in octets.
+// The header, in octets.
 const HEADER: usize = 40;
 
-/// Next headers that are extension headers and no protocol (RFC 8200 section 4).
+// Next headers that are extension headers and no protocol (RFC 8200 section 4).
 const HOP_BY_HOP_OPTIONS: u8 = 0;
 
 const ROUTING: u8 = 43;
@@ -26,7 +26,7 @@ const AUTHENTICATION: u8 = 51;
 
 const DESTINATION_OPTIONS: u8 = 60;
 
-/// The flow of a packet that says it is of version 6.
+// The flow of a packet that says it is of version 6.
 pub(crate) fn flow_of(octets: &[u8]) -> Result<Flow, InnerFault>
     requires { version_of octets.now ≡ 6 }
     ensures flow { IfOk result (IsIpv6Flow octets.now) }
@@ -47,13 +47,13 @@ pub(crate) fn flow_of(octets: &[u8]) -> Result<Flow, InnerFault>
     })
 }
 
-/// What follows the header of a packet.
+// What follows the header of a packet.
 fn content_of(octets: &[u8]) -> Option<&[u8]>
     requires { version_of octets.now ≡ 6 }
     ensures { MatchOption result (¬ IsIpv6Packet octets.now)
         (λ rest. IsIpv6Packet octets.now × (rest.now ≡ ipv6_content octets.now)) }
 {
-    if octets.len() < HEADER || octets.len() > LONGEST_PACKET {
+    if octets.len() < HEADER || octets.len() > INNER_LIMIT {
         return None;
     }
     let payload = usize::from(BigEndian::read_u16(&octets[4..]));
@@ -73,7 +73,7 @@ fn is_extension_header(next_header: u8) -> bool
     )
 }
 
-/// The number that stands in sixteen octets from this one on.
+// The number that stands in sixteen octets from this one on.
 fn address_at(octets: &[u8], place: usize) -> u128
     requires { place + 16 ≤ length octets.now }
     ensures { result ≡ big_number 16 (drop place octets.now) }

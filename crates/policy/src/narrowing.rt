@@ -51,7 +51,7 @@ pub fn narrow(
     })
 }
 
-/// The part of each offered selector inside one side of an entry, where it has points.
+// The part of each offered selector inside one side of an entry, where it has points.
 fn narrow_list(
     alloc: Global,
     offered: &[Selector],
@@ -68,7 +68,7 @@ fn narrow_list(
     Ok(narrowed)
 }
 
-/// The entry that an offer is narrowed to.
+// The entry that an offer is narrowed to.
 fn chosen<'a>(
     entries: &'a [Entry],
     offered_i: &[Selector],
@@ -115,7 +115,7 @@ fn first_that_fits_some<'a>(
     None
 }
 
-/// Whether an entry protects the whole of the first selector of each list.
+// Whether an entry protects the whole of the first selector of each list.
 fn fits_first(entry: &Entry, offered_i: &[Selector], offered_r: &[Selector]) -> bool
     ensures { IsTrue result ↔ FitsFirst offered_i.now offered_r.now entry.now }
 {
@@ -124,7 +124,7 @@ fn fits_first(entry: &Entry, offered_i: &[Selector], offered_r: &[Selector]) -> 
         && holds_first(&entry.local_side(), offered_r)
 }
 
-/// Whether an entry protects something of each list.
+// Whether an entry protects something of each list.
 fn fits_some(entry: &Entry, offered_i: &[Selector], offered_r: &[Selector]) -> bool
     ensures { IsTrue result ↔ FitsSome offered_i.now offered_r.now entry.now }
 {
@@ -133,7 +133,7 @@ fn fits_some(entry: &Entry, offered_i: &[Selector], offered_r: &[Selector]) -> b
         && meets_offer(&entry.local_side(), offered_r)
 }
 
-/// Whether the first of the selectors has a point, and lies in the side.
+// Whether the first of the selectors has a point, and lies in the side.
 fn holds_first(side: &Selector, offered: &[Selector]) -> bool
     ensures { IsTrue result ↔ HoldsFirst side.now offered.now }
 {
@@ -143,7 +143,7 @@ fn holds_first(side: &Selector, offered: &[Selector]) -> bool
     }
 }
 
-/// Whether any of the selectors has points inside the side.
+// Whether any of the selectors has points inside the side.
 fn meets_offer(side: &Selector, offered: &[Selector]) -> bool
     ensures { IsTrue result ↔ MeetsOffer side.now offered.now }
 {

@@ -21,7 +21,7 @@ pub fn are_inside(answer: &[Selector], offered: &[Selector]) -> bool
     true
 }
 
-/// Whether a selector has a point, and lies in one of those offered.
+// Whether a selector has a point, and lies in one of those offered.
 fn is_inside_one(selector: &Selector, offered: &[Selector]) -> bool
     ensures { IsTrue result ↔ LiesInOffer offered.now selector.now }
 {

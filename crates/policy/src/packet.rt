@@ -11,10 +11,10 @@ use crate::{ipv4, ipv6};
 use base::Family;
 use byteorder::{BigEndian, ByteOrder};
 
-/// The longest packet, in octets, a limit of this implementation.
-pub(crate) const LONGEST_PACKET: usize = 16_384;
+// The longest packet, in octets, a limit of this implementation.
+pub(crate) const INNER_LIMIT: usize = 16_384;
 
-/// The two ports that TCP and UDP begin with, in octets.
+// The two ports that TCP and UDP begin with, in octets.
 const PORTS: usize = 4;
 
 /// The flow of a packet of IP version 4 or 6, whose addresses are both of the packet's version. The checksum of an IPv4
@@ -52,7 +52,7 @@ pub fn family_of_packet(packet: &[u8]) -> Option<Family>
     }
 }
 
-/// The ports that a packet's content begins with, where its protocol has ports.
+// The ports that a packet's content begins with, where its protocol has ports.
 pub(crate) fn ports_of(protocol: u8, content: &[u8]) -> Result<Option<Ports>, InnerFault>
     ensures ports { IfOk result (ArePorts protocol content.now) }
     ensures short { IfErr result (λ fault. (fault ≡ BadInner) × LacksPorts protocol content.now) }

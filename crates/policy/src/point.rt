@@ -12,15 +12,15 @@ pub struct Point {
     pub port: Option<u16>,
 }
 
-/// The protocol of selectors that hold points of every protocol.
+// The protocol of selectors that hold points of every protocol.
 pub(crate) const ANY_PROTOCOL: u8 = 0;
 
-/// The protocols whose ports are read.
+// The protocols whose ports are read.
 const TCP: u8 = 6;
 
 const UDP: u8 = 17;
 
-/// Whether the points of a protocol have ports.
+// Whether the points of a protocol have ports.
 pub(crate) fn has_ports(protocol: u8) -> bool
     ensures { IsTrue result ↔ HasPorts protocol }
 {

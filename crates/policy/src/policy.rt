@@ -11,7 +11,7 @@ use crate::selectors::holds;
 use base::Items;
 use std::marker::Model;
 
-/// The most entries that a policy may have, a limit of this implementation.
+// The most entries that a policy may have, a limit of this implementation.
 const ENTRY_LIMIT: usize = 256;
 
 /// Which way a flow goes.
@@ -82,7 +82,7 @@ impl Policy {
     }
 }
 
-/// Whether an entry holds both points of a flow.
+// Whether an entry holds both points of a flow.
 fn holds_flow(entry: &Entry, flow: &Flow, direction: Direction) -> bool
     ensures { IsTrue result ↔ HoldsFlow direction flow.now entry.now }
 {

@@ -5,7 +5,7 @@ ghost use Rattle.policy.specs.Points.{FitsPort, IsPortOf};
 
 use crate::point::{ANY_PROTOCOL, has_ports};
 
-/// A range of ports.
+// A range of ports.
 #[derive(Clone, Copy)]
 pub(crate) struct PortRange {
     pub(crate) start: u16,
@@ -20,21 +20,21 @@ impl PortRange {
         PortRange { start, end }
     }
 
-    /// Whether its end is not below its start.
+    // Whether its end is not below its start.
     pub(crate) fn is_ordered(self) -> bool
         ensures { IsTrue result ↔ (self.start ≤ self.end) }
     {
         self.start <= self.end
     }
 
-    /// Whether these are all ports.
+    // Whether these are all ports.
     pub(crate) fn is_whole(self) -> bool
         ensures { IsTrue result ↔ ((self.start ≡ 0) × (self.end ≡ 65535)) }
     {
         self.start == 0 && self.end == u16::MAX
     }
 
-    /// Whether a point of this protocol may have this port, and the port fits.
+    // Whether a point of this protocol may have this port, and the port fits.
     pub(crate) fn fits(self, protocol: u8, port: Option<u16>) -> bool
         ensures { IsTrue result ↔ (IsPortOf protocol port × FitsPort self.start self.end port) }
     {
@@ -44,7 +44,7 @@ impl PortRange {
         }
     }
 
-    /// Whether points of a protocol, 0 for any, may have a port of the range, or no port if they have none.
+    // Whether points of a protocol, 0 for any, may have a port of the range, or no port if they have none.
     pub(crate) fn has_port_of(self, protocol: u8) -> bool
         ensures { IsTrue result ↔ HasFittingPort protocol self.start self.end }
     {
@@ -55,14 +55,14 @@ impl PortRange {
         }
     }
 
-    /// Whether a range that is not empty lies in another.
+    // Whether a range that is not empty lies in another.
     pub(crate) fn lies_in(self, other: PortRange) -> bool
         ensures { IsTrue result ↔ ((other.start ≤ self.start) × (self.end ≤ other.end)) }
     {
         other.start <= self.start && self.end <= other.end
     }
 
-    /// The ports that lie in both.
+    // The ports that lie in both.
     pub(crate) fn common(self, other: PortRange) -> PortRange
         ensures start { result.start ≡ max self.start other.start }
         ensures end { result.end ≡ min self.end other.end }

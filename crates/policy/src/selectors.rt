@@ -18,7 +18,7 @@ pub fn covers(sources: &[Selector], targets: &[Selector], flow: &Flow) -> bool
     any_holds(targets, flow.target_point()) && any_holds(sources, flow.source_point())
 }
 
-/// Whether any of the selectors holds a point.
+// Whether any of the selectors holds a point.
 fn any_holds(selectors: &[Selector], point: Point) -> bool
     ensures { IsTrue result ↔ HoldsAny selectors.now point }
 {
@@ -30,7 +30,7 @@ fn any_holds(selectors: &[Selector], point: Point) -> bool
     false
 }
 
-/// Whether a selector holds a point.
+// Whether a selector holds a point.
 pub(crate) fn holds(selector: &Selector, point: Point) -> bool
     ensures { IsTrue result ↔ HoldsPoint selector.now point }
 {
@@ -39,7 +39,7 @@ pub(crate) fn holds(selector: &Selector, point: Point) -> bool
         && ports_of(selector).fits(point.protocol, point.port)
 }
 
-/// Whether a selector holds any point at all.
+// Whether a selector holds any point at all.
 pub(crate) fn has_point(selector: &Selector) -> bool
     ensures { IsTrue result ↔ IsNonempty (HoldsPoint selector.now) }
 {
@@ -47,7 +47,7 @@ pub(crate) fn has_point(selector: &Selector) -> bool
     ports_of(selector).has_port_of(selector.protocol) && addresses.is_ordered()
 }
 
-/// Whether a selector that has a point lies in another.
+// Whether a selector that has a point lies in another.
 pub(crate) fn lies_in(selector: &Selector, other: &Selector) -> bool
     requires { IsNonempty (HoldsPoint selector.now) }
     ensures { IsTrue result ↔ LiesIn (HoldsPoint selector.now) (HoldsPoint other.now) }
@@ -59,14 +59,14 @@ pub(crate) fn lies_in(selector: &Selector, other: &Selector) -> bool
         && ports.lies_in(ports_of(other))
 }
 
-/// Whether any point lies in both of two selectors.
+// Whether any point lies in both of two selectors.
 pub(crate) fn meets(one: &Selector, other: &Selector) -> bool
     ensures { IsTrue result ↔ Meets (HoldsPoint one.now) (HoldsPoint other.now) }
 {
     common_part(one, other).is_some()
 }
 
-/// The points that lie in both of two selectors, where there are any.
+// The points that lie in both of two selectors, where there are any.
 pub(crate) fn common_part(one: &Selector, other: &Selector) -> Option<Selector>
     ensures { MatchOption result (¬ Meets (HoldsPoint one.now) (HoldsPoint other.now))
         (IsCommonPart (HoldsPoint one.now) (HoldsPoint other.now)) }
@@ -83,7 +83,7 @@ pub(crate) fn common_part(one: &Selector, other: &Selector) -> Option<Selector>
     has_point(&part).then_some(part)
 }
 
-/// The protocol, or [`ANY_PROTOCOL`], that two selectors have in common.
+// The protocol, or [`ANY_PROTOCOL`], that two selectors have in common.
 fn common_protocol(one: u8, other: u8) -> Option<u8>
     ensures { MatchOption result (HaveNoCommonProtocol one other) (IsCommonProtocol one other) }
 {
@@ -96,7 +96,7 @@ fn common_protocol(one: u8, other: u8) -> Option<u8>
     }
 }
 
-/// Whether a selector of the first protocol may hold points of the second.
+// Whether a selector of the first protocol may hold points of the second.
 fn fits_protocol(wanted: u8, protocol: u8) -> bool
     ensures { IsTrue result ↔ FitsProtocol wanted protocol }
 {
@@ -110,7 +110,7 @@ fn ports_of(selector: &Selector) -> PortRange
     PortRange::new(selector.start_port, selector.end_port)
 }
 
-/// The range itself. It is taken apart and put together, so that it is known of its numbers that they fit their family.
+// The range itself. It is taken apart and put together, so that it is known of its numbers that they fit their family.
 fn range_of(addresses: Range) -> Range
     ensures same { result ≡ addresses }
     ensures fits { FitsRange result }

@@ -13,7 +13,7 @@ use Rattle.std.proofs.lemmas.List.{get_or-set_other, get_or-replicate, get_or_pa
 use Rattle.std.proofs.lemmas.Grind.{get_or-set_at}
 use Rattle.replay.specs.declared.window.Judgement.TheVariants.{Taken, Fresh}
 use Rattle.replay.specs.Window.{IsSoundWindow, Takes, judgement, unused_window}
-use Rattle.replay.specs.WindowFacts.{IsFresh}
+use Rattle.replay.proofs.WindowFacts.{IsFresh}
 use Rattle.replay.specs.Blocks.{IsRing, is_marked, is_twin, last_numbers, shown, span_of, place_of}
 use Rattle.replay.proofs.JudgementLemmas.{judged_in_span}
 

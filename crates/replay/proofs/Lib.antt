@@ -2,3 +2,4 @@ mod BlockCountLemmas
 mod BlockLemmas
 mod JudgementLemmas
 mod PlainLemmas
+pub mod WindowFacts

@@ -11,7 +11,7 @@ use Rattle.std.proofs.lemmas.Map.Views.{any-filter_same}
 use Rattle.std.proofs.lemmas.Map.Keys.{IsDistinct-push, IsDistinct-head, IsDistinct-tail, IsDistinct-cons}
 use Rattle.replay.specs.declared.window.Judgement.TheVariants.{Taken, Fresh}
 use Rattle.replay.specs.Window.{IsSoundWindow, listed, judgement, Takes}
-use Rattle.replay.specs.WindowFacts.{IsFresh}
+use Rattle.replay.proofs.WindowFacts.{IsFresh}
 use Rattle.replay.proofs.JudgementLemmas.{judged_in_span}
 
 nothing_taken : {P : Type 0} (q : ℕ) → set.contains {R = nat_cmp} set.empty q ≡ true → P

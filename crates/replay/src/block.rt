@@ -6,7 +6,7 @@ ghost use Rattle.replay.specs.Blocks.{IsRing, is_marked, is_twin, shown};
 use crate::{Judgement, ReplayFault, Window};
 use std::alloc::Global;
 
-/// The numbers of one block.
+// The numbers of one block.
 const BLOCK: u64 = 64;
 
 /// A window that keeps a bit for each number, in a ring of blocks of 64 bits (RFC 6479). Moving up clears the blocks that
@@ -68,7 +68,7 @@ impl Window for BlockWindow {
     ghost sound = { λ w. w.sound };
 }
 
-/// The place in the ring of the block that counts as the `block`th from the start.
+// The place in the ring of the block that counts as the `block`th from the start.
 fn place(blocks: &[u64], block: u64) -> usize
     requires { 1 ≤ length blocks.now }
     ensures { result ≡ block % length blocks.now }
@@ -76,7 +76,7 @@ fn place(blocks: &[u64], block: u64) -> usize
     (block % blocks.len() as u64) as usize
 }
 
-/// Whether the bit of a number is set.
+// Whether the bit of a number is set.
 fn is_set(blocks: &[u64], n: u64) -> bool
     requires { 1 ≤ length blocks.now }
     ensures { result ≡ is_marked blocks.now n }
@@ -84,7 +84,7 @@ fn is_set(blocks: &[u64], n: u64) -> bool
     (blocks[place(blocks, n / BLOCK)] >> (n % BLOCK)) & 1 == 1
 }
 
-/// Marks a fresh number, in the ring whose greatest number is `top`; a greater one moves the span up.
+// Marks a fresh number, in the ring whose greatest number is `top`; a greater one moves the span up.
 fn mark(blocks: &mut [u64], top: u64, n: u64)
     requires ring { IsRing top blocks.old }
     requires is_fresh { judgement (shown top blocks.old) n ≡ Judgement.Fresh }
@@ -98,7 +98,7 @@ fn mark(blocks: &mut [u64], top: u64, n: u64)
     set_bit(blocks, n);
 }
 
-/// Sets the bit of a number.
+// Sets the bit of a number.
 fn set_bit(blocks: &mut [u64], n: u64)
     requires { 1 ≤ length blocks.old }
     ensures length { length blocks.new ≡ length blocks.old }
@@ -109,7 +109,7 @@ fn set_bit(blocks: &mut [u64], n: u64)
     blocks[place] |= 1 << (n % BLOCK);
 }
 
-/// Clears the blocks behind `from`, up to `to`: all of the ring where they go round it.
+// Clears the blocks behind `from`, up to `to`: all of the ring where they go round it.
 fn clear_passed(blocks: &mut [u64], from: u64, to: u64)
     requires some_blocks { 1 ≤ length blocks.old }
     requires upwards { from ≤ to }

@@ -69,7 +69,7 @@ impl Window for PlainWindow {
     ghost sound = { λ w. w.sound };
 }
 
-/// Forgets the numbers below the span of `size` numbers that ends at `top`.
+// Forgets the numbers below the span of `size` numbers that ends at `top`.
 fn forget_below(taken: &mut Vec<u64>, top: u64, size: u64)
     ensures { taken.new.items ≡ filter (λ n. nat_lt (top - n) size) taken.old.items }
 {

@@ -11,7 +11,7 @@ ghost use Rattle.requests.specs.Storage.{IsNextItem, HasNoneAbove, is_above, nex
 use std::alloc::{AllocError, Global};
 use std::marker::Model;
 
-/// A few items, each under a number of its own.
+// A few items, each under a number of its own.
 #[derive(Drop)]
 pub(crate) struct ByNumber<T> {
     entries: Vec<(u32, T)>,
@@ -34,14 +34,14 @@ impl<T> Model for ByNumber<T> {
     ghost invariant = { λ a. StandOnce a.entries.items };
 }
 
-/// The place of the entry under a number.
+// The place of the entry under a number.
 fn place<T>(entries: &[(u32, T)], number: u32) -> Option<usize>
     ensures { result ≡ position (λ entry. entry.0 == number) entries.now }
 {
     entries.iter().position(|entry| entry.0 == number)
 }
 
-/// Whether a number lies above another one, or above none.
+// Whether a number lies above another one, or above none.
 fn is_above(low: Option<u32>, number: u32) -> bool
     ensures { result ≡ is_above low number }
 {
@@ -51,7 +51,7 @@ fn is_above(low: Option<u32>, number: u32) -> bool
     }
 }
 
-/// The least number above another one, or of all.
+// The least number above another one, or of all.
 fn next_number<T>(entries: &[(u32, T)], low: Option<u32>) -> Option<u32>
     ensures { result ≡ next_above low None entries.now }
 {
@@ -165,15 +165,5 @@ impl<T: Drop> ByNumber<T> {
         ensures room { self.new.room + map.len self.new.items ≡ self.old.room + map.len self.old.items }
     {
         self.entries.retain(|entry| first <= u64::from(entry.0));
-    }
-
-    /// Gives all items up.
-    pub fn clear(&mut self)
-        ensures { self.new ≡ record {
-          items = map.empty;
-          room = self.old.room + map.len self.old.items;
-        } }
-    {
-        self.entries.clear();
     }
 }

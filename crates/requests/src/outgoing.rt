@@ -4,7 +4,7 @@ ghost use Rattle.std.specs.Bool.{MatchBool};
 ghost use Rattle.std.specs.Fn.{FnReturnsAt};
 ghost use Rattle.std.specs.FinMap as map;
 ghost use Rattle.std.specs.Option.{option_copied};
-ghost use Rattle.requests.specs.Outgoing.{IsRequestRefusal, MayIssue, IsSoundOutgoing, HasSameOwnRequests, IssuesRequest, CountsAnswer, ReplacesRequest, WithdrawsRequest, GivesUpRequests};
+ghost use Rattle.requests.specs.Outgoing.{IsRequestRefusal, MayIssue, IsSoundOutgoing, HasSameOwnRequests, IssuesRequest, CountsAnswer, ReplacesRequest, WithdrawsRequest};
 ghost use Rattle.requests.specs.Outgoing.{IsOutstanding, IsNextOutstanding, IsAbove, SomeOutstanding, NoneOutstanding, none_issued, number_0_answered};
 
 use crate::RequestFault;
@@ -198,15 +198,6 @@ impl<T> Outgoing<T> {
             (NoneOutstanding self.now.outstanding (FnReturnsAt F.Fn test)) }
     {
         self.outstanding.any(test)
-    }
-}
-
-impl<T: Drop> Outgoing<T> {
-    /// Gives all outstanding requests up. Their numbers stay unanswered, and are never issued again. Takes no memory.
-    pub fn give_up(&mut self)
-        ensures { GivesUpRequests self.old self.new }
-    {
-        self.outstanding.clear();
     }
 }
 

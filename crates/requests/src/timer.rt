@@ -2,10 +2,10 @@
 ghost use Rattle.std.specs.Prelude.{◌≡◌, ◌+◌};
 ghost use Rattle.requests.specs.Timers.{IsDue, due_from};
 
-/// How long an answer is waited for before each time that a request goes out again, in milliseconds.
+// How long an answer is waited for before each time that a request goes out again, in milliseconds.
 const WAITS: [u64; 5] = [1000, 2000, 4000, 8000, 16_000];
 
-/// How long an answer is waited for after the last time, in milliseconds.
+// How long an answer is waited for after the last time, in milliseconds.
 const LAST_WAIT: u64 = 16_000;
 
 /// What is to be done about a request at a moment.
@@ -55,7 +55,7 @@ impl Timer {
         }
     }
 
-    /// The wait that stands next.
+    // The wait that stands next.
     fn wait(&self) -> u64
         ensures { due_from self.now ≡ self.now.sent + result }
     {

@@ -16,8 +16,8 @@ use Rattle.sa_init.specs.declared.response.Response.TheVariants.{Cookie, Keys, U
 use Rattle.sa_init.specs.declared.response.Waiting.{Waiting}
 
 -- Cookies that an initiator brings back, one after the other, before it gives up.
-abbrev pub COOKIE_LIMIT : ℕ
-COOKIE_LIMIT = 4
+abbrev pub COOKIES_TAKEN_LIMIT : ℕ
+COOKIES_TAKEN_LIMIT = 4
 
 -- what an initiator remembers of its request
 pub record WaitingView : Type 0 where
@@ -35,7 +35,7 @@ pub record AsksCookie (sent : WaitingView) (m : Message) (octets : Octets) : Typ
   pub asked : asked_cookie m.payloads ≡ Some octets
   pub unnamed : m.header.spi_r ≡ 0
   pub other : sent.cookie ≢ Some octets
-  pub few : sent.cookies_taken < COOKIE_LIMIT
+  pub few : sent.cookies_taken < COOKIES_TAKEN_LIMIT
 
 -- The response has the parts of an answer that accepts what was offered, and names an SPI.
 pub record IsAcceptance (cipher : Cipher) (group : ℕ) (m : Message) (parts : PartsView) : Type 0 where

@@ -31,4 +31,4 @@ pub use judging::{
     ASSOCIATION_LIMIT, COOKIE_THRESHOLD, HALF_OPEN_LIMIT, Judgement, Offer, Sender, judge,
 };
 pub use requests::request;
-pub use response::{COOKIE_LIMIT, Response, Waiting, read};
+pub use response::{COOKIES_TAKEN_LIMIT, Response, Waiting, read};

@@ -14,7 +14,7 @@ use suite::{Agreement, KeyRecord, Sealer, Wanted, accept, ike_keys};
 use wire::Message;
 
 /// So many cookies an initiator brings back at most, one after the other.
-pub const COOKIE_LIMIT: u8 = 4;
+pub const COOKIES_TAKEN_LIMIT: u8 = 4;
 
 /// What an initiator remembers of its request.
 #[derive(Clone, Copy)]
@@ -43,7 +43,7 @@ pub enum Response<'a> {
 /// What an initiator makes of a response to its request. An error is for want of memory alone.
 ///
 /// [`Response::Cookie`] where a cookie is the only payload, the responder's SPI is zero, the request did not carry the same cookie,
-/// and fewer than [`COOKIE_LIMIT`] were taken. [`Response::Keys`] where there is one SA, one KE and one Nonce, the SA accepts what
+/// and fewer than [`COOKIES_TAKEN_LIMIT`] were taken. [`Response::Keys`] where there is one SA, one KE and one Nonce, the SA accepts what
 /// was offered, the group is the caller's, the responder's SPI is not zero, and the agreement takes the public value.
 /// [`Response::Unfit`] otherwise. A payload that is not known is passed over, also where it is marked as critical: a rule of this
 /// implementation against RFC 7296 section 2.5, which has the initiator ignore such a response.
@@ -88,7 +88,10 @@ fn cookie_to_bring<'a>(message: &'a Message, sent: &Waiting<'_>) -> Option<&'a [
         (λ octets. AsksCookie (waiting_view sent.now) message.now octets.now) }
 {
     let octets = asked_cookie(message.payloads.as_slice())?;
-    if message.header.spi_r == 0 && sent.cookies_taken < COOKIE_LIMIT && is_another(sent, octets) {
+    if message.header.spi_r == 0
+        && sent.cookies_taken < COOKIES_TAKEN_LIMIT
+        && is_another(sent, octets)
+    {
         Some(octets)
     } else {
         None

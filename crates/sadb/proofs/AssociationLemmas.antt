@@ -20,19 +20,6 @@ belongs_by pairs ike serial pair here = (
   λ b. eq-eqb pair.ike ike (ap (λ (p : Pair). p.ike) (same_pair pair b.pair (here ∙ b.there)) ∙ b.its),
 )
 
-pub sends_by : (pairs : PairMap) (ike spi serial under : ℕ) (pair : Pair) → Some pair ≡ map.get pairs serial → pair.ike ≡ ike → under ≡ pair.outbound.association.spi
-    → IsTrue (nat_eq under spi) ↔ SendsUnder pairs ike spi serial
-sends_by pairs ike spi serial under pair here its is = (
-  λ equal. record { pair = pair; there = sym here; its = its; under = sym is ∙ eqb-true under spi equal },
-  λ s. eq-eqb under spi (is ∙ ap (λ (p : Pair). p.outbound.association.spi) (same_pair pair s.pair (here ∙ s.there)) ∙ s.under),
-)
-
-pub belongs_there : (pairs : PairMap) (ike serial : ℕ) → BelongsTo pairs ike serial → IsSome (map.get pairs serial)
-belongs_there pairs ike serial b = subst IsSome (sym b.there) refl
-
-pub sends_there : (pairs : PairMap) (ike spi serial : ℕ) → SendsUnder pairs ike spi serial → IsSome (map.get pairs serial)
-sends_there pairs ike spi serial s = subst IsSome (sym s.there) refl
-
 pub not_both : (b : Bool) → b ≡ false → b ≡ true → ⊥
 not_both b is_false is_true = cc
 

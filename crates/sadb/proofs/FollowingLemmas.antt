@@ -8,7 +8,7 @@ use Rattle.std.specs.Ordering.{nat_cmp}
 use Rattle.std.specs.FinMap as map
 use Rattle.std.specs.FinSet as set
 use Rattle.replay.specs.Window.{Seen, Takes}
-use Rattle.replay.specs.WindowFacts.{IsFresh, fresh, judged_fresh}
+use Rattle.replay.proofs.WindowFacts.{IsFresh, fresh, judged_fresh}
 use Rattle.esp.specs.Opening.{Refuses}
 use Rattle.esp.specs.Views.{Receiving}
 use Rattle.esp.specs.declared.fault.EspFault.{EspFault}

@@ -7,7 +7,7 @@ ghost use Rattle.std.specs.FinMap as map;
 ghost use Rattle.policy.specs.Decisions.{Covers};
 ghost use Rattle.replay.specs.Window.{IsSoundWindow};
 ghost use Rattle.sadb.specs.declared.pair.Pair as held;
-ghost use Rattle.sadb.specs.Database.{BelongsTo, Carries, IsAfter, IsForPair, IsNextOf, IsOutbound, IsSenderUnder, SealRefusalAt, SendsUnder};
+ghost use Rattle.sadb.specs.Database.{BelongsTo, Carries, IsAfter, IsForPair, IsNextOf, IsOutbound, SealRefusalAt};
 ghost use Rattle.sadb.specs.Storage.{MarksPair, OpensPair, RefusesPair, SealsPair, key_of};
 
 use crate::pair::{Pair, State};
@@ -17,7 +17,7 @@ use slab::Slab;
 use std::alloc::{AllocError, Global};
 use std::marker::Model;
 
-/// The pairs, in a slab, with the slab's key of each serial from 1 on.
+// The pairs, in a slab, with the slab's key of each serial from 1 on.
 #[derive(Drop)]
 pub(crate) struct Pairs {
     keys: Vec<Option<usize>>,
@@ -42,14 +42,14 @@ impl Model for Pairs {
     ghost invariant = { λ a. IsIndexed a.keys.items a.slab };
 }
 
-/// The slab's key of a serial.
+// The slab's key of a serial.
 fn key(keys: &[Option<usize>], serial: u32) -> Option<usize>
     ensures { result ≡ key_of keys.now serial }
 {
     *keys.get((serial as usize).checked_sub(1)?)?
 }
 
-/// Whether a pair carries a flow outward.
+// Whether a pair carries a flow outward.
 fn carries(pair: &Pair, flow: &Flow) -> bool
     ensures { IsTrue result ↔
         ((pair.now.state ≡ State.Live) × Covers pair.now.local pair.now.remote flow.now) }
@@ -238,31 +238,6 @@ impl Pairs {
         for other in serial.saturating_add(1)..self.next() {
             if self.belongs_to(other, ike) {
                 return Some(other);
-            }
-        }
-        None
-    }
-
-    /// Whether a serial is that of a pair of an IKE association that sends under an SPI.
-    fn sends_under(&self, serial: u32, ike: u32, spi: u32) -> bool
-        ensures { IsTrue result ↔ SendsUnder self.now.pairs ike spi serial }
-    {
-        match self.get(serial) {
-            Some(pair) => pair.ike == ike && pair.outbound.spi() == spi,
-            None => false,
-        }
-    }
-
-    /// The least serial of a pair of an IKE association that sends under an SPI.
-    pub fn sender_under(&self, ike: u32, spi: u32) -> Option<u32>
-        requires { self.now.next < 2 ^ 32 }
-        ensures some { IfSome result (IsSenderUnder self.now.pairs ike spi) }
-        ensures none { IfNone result ((serial : ℕ) → ¬ SendsUnder self.now.pairs ike spi serial) }
-    {
-        self.invariants_hold();
-        for serial in 0..self.next() {
-            if self.sends_under(serial, ike, spi) {
-                return Some(serial);
             }
         }
         None

@@ -8,18 +8,18 @@ ghost use Rattle.sadb.specs.Storage.{place_at, serial_at};
 use std::alloc::{AllocError, Global};
 use std::marker::Model;
 
-/// What came of an SPI.
+// What came of an SPI.
 #[derive(Clone, Copy, Debug, PartialEq, Eq)]
 pub(crate) enum Place {
-    /// Its pair is still to come.
+    // Its pair is still to come.
     Reserved,
-    /// The pair with this serial has it.
+    // The pair with this serial has it.
     Held(u32),
-    /// Its pair was removed, or never came.
+    // Its pair was removed, or never came.
     Gone,
 }
 
-/// The SPIs from `start` on, in the order in which they were given.
+// The SPIs from `start` on, in the order in which they were given.
 #[derive(Drop)]
 pub(crate) struct Places {
     start: u32,
@@ -168,7 +168,7 @@ impl Places {
     }
 }
 
-/// The serial that is noted at a place.
+// The serial that is noted at a place.
 fn serial_at(places: &[Place], place: usize) -> Option<u32>
     ensures { result ≡ serial_at (place_at places.now place) }
 {

@@ -2,7 +2,7 @@
 ghost use Rattle.std.specs.Prelude.{◌≡◌, ◌≢◌, ◌+◌, ◌<◌, ◌≤◌, ℕ, List, Some, None, OnOk, IfOk, IfErr, IfSome, IfNone, IsOk, length, vec_len};
 ghost use Rattle.sadb.specs.Database.{IsStart, empty_table, IsFull, IsSpent, IsTableRefusal, IsAsBefore, Reserves, IsReserved, Releases, Installs};
 ghost use Rattle.sadb.specs.Database.{pair_at, IsThere, Removes, IsLive, Marks, HasInbound, IsInbound, IsSoundTable, IsAfter, Carries, IsOutbound};
-ghost use Rattle.sadb.specs.Database.{BelongsTo, IsForPair, IsNextOf, IsSenderUnder, OpensAt, RefusesAt, RemovesAllOf, SealsAt, SealRefusalAt, SendsUnder};
+ghost use Rattle.sadb.specs.Database.{BelongsTo, IsForPair, IsNextOf, OpensAt, RefusesAt, RemovesAllOf, SealsAt, SealRefusalAt};
 ghost use Rattle.std.specs.Option.{option_copied};
 ghost use Rattle.std.specs.Vec.{vec_capacity};
 ghost use Rattle.sadb.specs.Storage.{RemovesIfOf};
@@ -16,11 +16,11 @@ use policy::Flow;
 use std::alloc::Global;
 use std::marker::Model;
 
-/// The most pairs and reserved SPIs together, a limit of this implementation.
-const MOST_HELD: usize = 1024;
+// The most pairs and reserved SPIs together, a limit of this implementation.
+const HELD_LIMIT: usize = 1024;
 
-/// The most SPIs that are ever given, a limit of this implementation.
-const MOST_GIVEN: usize = 65_536;
+// The most SPIs that are ever given, a limit of this implementation.
+const GIVEN_LIMIT: usize = 65_536;
 
 /// The security association database of one end (RFC 4301 section 4.4.2): pairs by their serials, and the inbound SPIs that
 /// were given for them. No SPI is given twice.
@@ -90,10 +90,10 @@ impl Table {
         ensures refused { IfErr result (IsTableRefusal self.old) }
         ensures succeeds { 1 ≤ self.old.room → ¬ IsFull self.old → ¬ IsSpent self.old → IsOk result }
     {
-        if self.pairs.len() + self.places.reserved() >= MOST_HELD {
+        if self.pairs.len() + self.places.reserved() >= HELD_LIMIT {
             return Err(TableFault::Full);
         }
-        if self.places.given() >= MOST_GIVEN {
+        if self.places.given() >= GIVEN_LIMIT {
             return Err(TableFault::Spent);
         }
         if self.places.make_room().is_err() {
@@ -201,15 +201,6 @@ impl Table {
         self.pairs.next_of(ike, serial)
     }
 
-    /// The serial of the pair of an IKE association that sends under an SPI, Live or Deleting; of several, which a peer may make by
-    /// naming one SPI twice, the least. Takes no memory.
-    pub fn sender_under(&self, ike: u32, spi: u32) -> Option<u32>
-        ensures some { IfSome result (IsSenderUnder self.now.pairs ike spi) }
-        ensures none { IfNone result ((serial : ℕ) → ¬ SendsUnder self.now.pairs ike spi serial) }
-    {
-        self.pairs.sender_under(ike, spi)
-    }
-
     /// Takes all pairs of an IKE association out for good, in one walk over the serials given so far. Takes no memory.
     pub fn remove_all_of(&mut self, ike: u32)
         ensures { RemovesAllOf self.old ike self.new }
@@ -220,7 +211,7 @@ impl Table {
         }
     }
 
-    /// Takes a pair out, if it is there and belongs to an IKE association.
+    // Takes a pair out, if it is there and belongs to an IKE association.
     fn remove_if_of(&mut self, serial: u32, ike: u32)
         ensures { RemovesIfOf self.old ike serial self.new }
     {

@@ -6,12 +6,12 @@ use std::fmt;
 use std::marker::Model;
 
 // The octets of the longest nonce.
-const MOST: usize = 256;
+const NONCE_LIMIT: usize = 256;
 
 /// The data of a nonce, 16 to 256 octets, kept without memory of its own (RFC 7296, section 3.9). Contracts see its octets.
 #[derive(Clone, Copy, PartialEq, Eq)]
 pub struct Nonce {
-    octets: [u8; MOST],
+    octets: [u8; NONCE_LIMIT],
     len: usize,
 }
 
@@ -34,7 +34,7 @@ impl Nonce {
         requires { IsNonce octets.now }
         ensures { result ≡ octets.now }
     {
-        let mut stored = [0; MOST];
+        let mut stored = [0; NONCE_LIMIT];
         stored[..octets.len()].copy_from_slice(octets);
         Nonce {
             octets: stored,

@@ -5,10 +5,10 @@ use caller_peer::PeerCaller;
 use std::alloc::Global;
 use suite::{Agreement, Keys, Sealer};
 
-/// The octets that stand before the body: the header of an IKE message, and that of its payload.
+// The octets that stand before the body: the header of an IKE message, and that of its payload.
 const HEAD: [u8; 32] = [0; 32];
 
-/// The keys of one direction.
+// The keys of one direction.
 const KEYS: Keys = Keys {
     encryption: [0x0b; 32],
     integrity: [0x0c; 32],
@@ -24,7 +24,7 @@ pub fn public(alloc: Global, count: u32) -> Option<u8> {
     Some(octet)
 }
 
-/// The last octet of a public value.
+// The last octet of a public value.
 fn public_once(alloc: Global, caller: &PeerCaller) -> Option<u8> {
     let value = caller.public(alloc, &[0x55; 32]).ok()?;
     value.as_slice().last().copied()
@@ -42,7 +42,7 @@ pub fn seal(alloc: Global, count: u32, octets: u16) -> Option<u8> {
     body.last().copied()
 }
 
-/// A caller without secrets and without peers.
+// A caller without secrets and without peers.
 fn caller(alloc: Global) -> PeerCaller {
     PeerCaller {
         own: Items::new(alloc),

@@ -34,7 +34,7 @@ fn main(rt: HostRuntime) -> ExitCode {
     ExitCode::from(run(&rt))
 }
 
-/// Does what the command line asks for, and answers the exit status.
+// Does what the command line asks for, and answers the exit status.
 fn run(rt: &HostRuntime) -> u8 {
     let Some(job) = asked(rt) else {
         return 2;
@@ -45,13 +45,13 @@ fn run(rt: &HostRuntime) -> u8 {
     }
 }
 
-/// The job that the command line's words ask for.
+// The job that the command line's words ask for.
 fn asked(rt: &HostRuntime) -> Option<Job> {
     let words: Vec<String> = env::args(rt).ok()?.collect(rt.alloc()).ok()?;
     task::read(&words)
 }
 
-/// An octet of what the last turn made; `None` where something was refused.
+// An octet of what the last turn made; `None` where something was refused.
 fn work(alloc: Global, job: Job) -> Option<u8> {
     match job.task {
         Task::Hash { octets } => packets::hash(alloc, job.count, octets),
@@ -66,7 +66,7 @@ fn work(alloc: Global, job: Job) -> Option<u8> {
     }
 }
 
-/// Prints the octet, and answers the exit status.
+// Prints the octet, and answers the exit status.
 fn print(rt: &HostRuntime, octet: u8) -> u8 {
     match println!(rt; "{octet}") {
         Ok(()) => 0,

@@ -24,7 +24,7 @@ pub fn hash(alloc: Global, count: u32, octets: u16) -> Option<u8> {
     text.first().copied()
 }
 
-/// Puts the first octet of the text's hash in place of the text's own.
+// Puts the first octet of the text's hash in place of the text's own.
 fn hash_on(text: &mut [u8]) {
     let digest = Sha256::digest(&*text);
     if let Some(first) = text.first_mut() {
@@ -59,7 +59,7 @@ pub fn open(alloc: Global, count: u32, octets: u16) -> Option<u8> {
     Some(next)
 }
 
-/// The first packet of an association.
+// The first packet of an association.
 fn sealed(alloc: Global, octets: u16) -> Option<Vec<u8>> {
     let payload = vec![in alloc; 0; usize::from(octets)].ok()?;
     let mut packet = Vec::new(alloc);
@@ -67,7 +67,7 @@ fn sealed(alloc: Global, octets: u16) -> Option<Vec<u8>> {
     Some(packet)
 }
 
-/// Opens the packet by a fresh receiver, whose key and window are made for it; answers the next header.
+// Opens the packet by a fresh receiver, whose key and window are made for it; answers the next header.
 fn open_once(alloc: Global, packet: &[u8]) -> Option<u8> {
     if !is_ours(packet) {
         return None;
@@ -78,7 +78,7 @@ fn open_once(alloc: Global, packet: &[u8]) -> Option<u8> {
     Some(opened.next)
 }
 
-/// Whether the packet begins with the SPI.
+// Whether the packet begins with the SPI.
 fn is_ours(packet: &[u8]) -> bool
     ensures { IsTrue result → take 4 packet.now ≡ big_bytes 4 256 }
 {

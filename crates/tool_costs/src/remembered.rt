@@ -25,7 +25,7 @@ pub fn send(alloc: Global, count: u32, pairs: u16, entries: u16) -> Option<u8> {
     )
 }
 
-/// So many times; answers what the last one sent.
+// So many times; answers what the last one sent.
 fn turns(
     alloc: Global,
     count: u32,
@@ -43,7 +43,7 @@ fn turns(
     Some(last)
 }
 
-/// The last octet of the ESP packet that goes out.
+// The last octet of the ESP packet that goes out.
 fn sent(
     alloc: Global,
     table: &mut Table,
@@ -60,7 +60,7 @@ fn sent(
     }
 }
 
-/// An IPv4 packet of 64 octets, of UDP, to the last of so many networks.
+// An IPv4 packet of 64 octets, of UDP, to the last of so many networks.
 fn packet_to(networks: u16) -> [u8; 64] {
     let [_, second, third, _] = (0x0a00_ff00 + 256 * u32::from(networks)).to_be_bytes();
     let mut packet = [0; 64];

@@ -8,10 +8,10 @@ use replay::BlockWindow;
 use sadb::{Pair, Table};
 use std::alloc::Global;
 
-/// The first SPI of a table.
+// The first SPI of a table.
 const START: u32 = 4096;
 
-/// The ports from the first to the last.
+// The ports from the first to the last.
 const ALL_PORTS: (u16, u16) = (0, 65_535);
 
 /// The last pair is found by its SPI, and seals.
@@ -68,7 +68,7 @@ fn add_pair(alloc: Global, table: &mut Table, place: u16) -> Option<u32> {
     install(table, window, local, remote)
 }
 
-/// Adds a pair of these sides under the next SPI.
+// Adds a pair of these sides under the next SPI.
 fn install(
     table: &mut Table,
     window: BlockWindow,
@@ -81,7 +81,7 @@ fn install(
     Some(table.install(spi, Pair::new(1, inbound, outbound, local, remote)))
 }
 
-/// A policy of so many entries, each of which protects the flows to a network of its own.
+// A policy of so many entries, each of which protects the flows to a network of its own.
 fn policy_of(alloc: Global, entries: u16) -> Option<Policy> {
     let mut items = Items::new(alloc);
     for place in 0..entries {
@@ -115,7 +115,7 @@ fn entry(place: u16) -> Entry {
     }
 }
 
-/// A selector of every protocol and all ports.
+// A selector of every protocol and all ports.
 fn selector(addresses: Range) -> Selector {
     Selector {
         protocol: 0,
@@ -125,18 +125,18 @@ fn selector(addresses: Range) -> Selector {
     }
 }
 
-/// 10.0.0.0 to 10.0.0.255.
+// 10.0.0.0 to 10.0.0.255.
 fn here() -> Range {
     Range::V4(0x0a00_0000, 0x0a00_00ff)
 }
 
-/// The networks of 256 addresses from 10.1.0.0 on, one after the other.
+// The networks of 256 addresses from 10.1.0.0 on, one after the other.
 fn network(place: u16) -> Range {
     let start = 0x0a01_0000 + 256 * u32::from(place);
     Range::V4(start, start + 255)
 }
 
-/// A flow to the last of so many networks, each turn from another address.
+// A flow to the last of so many networks, each turn from another address.
 fn flow_to_last(networks: u16, turn: u32) -> Flow {
     Flow {
         protocol: 17,

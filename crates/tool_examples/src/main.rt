@@ -9,12 +9,12 @@ use gw_engine::{play, show};
 use std::fs::File;
 use std::process::ExitCode;
 
-/// The scripts, each beside what it prints: `NAME.gw` and `NAME.out`.
+// The scripts, each beside what it prints: `NAME.gw` and `NAME.out`.
 const SCRIPTS: [&str; 9] = [
     "children", "damage", "extended", "ipv6", "load", "loss", "one", "two", "windows",
 ];
 
-/// The messages, each beside how it is shown: `NAME.hex` and `NAME.shown`.
+// The messages, each beside how it is shown: `NAME.hex` and `NAME.shown`.
 const MESSAGES: [&str; 2] = ["cookie", "init"];
 
 fn main(rt: HostRuntime) -> ExitCode {
@@ -28,7 +28,7 @@ fn main(rt: HostRuntime) -> ExitCode {
     ExitCode::from(wrong)
 }
 
-/// Says what was found of an example, and answers the exit status.
+// Says what was found of an example, and answers the exit status.
 fn told(rt: &HostRuntime, name: &str, prints: Option<bool>) -> u8 {
     let (said, status) = match prints {
         Some(true) => ("as it is written", 0),
@@ -41,7 +41,7 @@ fn told(rt: &HostRuntime, name: &str, prints: Option<bool>) -> u8 {
     }
 }
 
-/// Whether an example prints what stands beside it; `None` where a file can't be read, and for want of memory.
+// Whether an example prints what stands beside it; `None` where a file can't be read, and for want of memory.
 fn prints(rt: &HostRuntime, name: &str, is_script: bool) -> Option<bool> {
     let (from, to) = if is_script {
         ("gw", "out")

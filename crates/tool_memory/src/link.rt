@@ -37,7 +37,7 @@ impl From<SampleFault> for Trouble {
     }
 }
 
-/// What is given to a gateway.
+// What is given to a gateway.
 #[derive(Clone, Copy)]
 enum Given {
     Start,
@@ -47,9 +47,9 @@ enum Given {
     Close,
     Tick(u64),
     Packet,
-    /// The last datagram that was sent comes, as a message of IKE.
+    // The last datagram that was sent comes, as a message of IKE.
     Message,
-    /// It comes as a packet of ESP.
+    // It comes as a packet of ESP.
     Sealed,
 }
 
@@ -92,20 +92,20 @@ const WAY: &[(End, Given)] = &[
     (End::B, Given::Message),
 ];
 
-/// What came of a step.
+// What came of a step.
 #[derive(Drop)]
 enum Taken {
-    /// It sent these octets.
+    // It sent these octets.
     Sent(Items<u8>),
-    /// It sent nothing.
+    // It sent nothing.
     Nothing,
-    /// It was refused for want of memory.
+    // It was refused for want of memory.
     Wanting,
-    /// It was refused or dropped for another reason.
+    // It was refused or dropped for another reason.
     Refused,
 }
 
-/// What can be seen of a gateway without memory.
+// What can be seen of a gateway without memory.
 #[derive(Clone, Copy, PartialEq, Eq)]
 struct Seen {
     associations: usize,
@@ -147,7 +147,7 @@ impl Link {
         self.sent == other.sent
     }
 
-    /// One step, once more where it was refused for want of memory: whether it was.
+    // One step, once more where it was refused for want of memory: whether it was.
     fn was_refused(&mut self, alloc: Global, end: End, given: Given) -> Result<bool, Trouble> {
         let input = self.given(alloc, given)?;
         let gateway = match end {
@@ -159,7 +159,7 @@ impl Link {
         Ok(is_refused)
     }
 
-    /// Keeps what was sent.
+    // Keeps what was sent.
     fn keep(&mut self, taken: Taken) -> Result<(), Trouble> {
         match taken {
             Taken::Sent(octets) => Ok(self.sent.push(octets)?),
@@ -169,7 +169,7 @@ impl Link {
         }
     }
 
-    /// The input, and a place for what will be sent: what was refused is asked for once more.
+    // The input, and a place for what will be sent: what was refused is asked for once more.
     fn given(&mut self, alloc: Global, given: Given) -> Result<Input, AllocError> {
         if self.sent.reserve(1).is_err() {
             self.sent.reserve(1)?;
@@ -200,7 +200,7 @@ impl Link {
         }
     }
 
-    /// The datagram that was sent last.
+    // The datagram that was sent last.
     fn last(&self) -> &[u8] {
         match self.sent.last() {
             Some(octets) => octets.as_slice(),
@@ -209,7 +209,7 @@ impl Link {
     }
 }
 
-/// A gateway to which nothing happened; asked for once more where there was no memory.
+// A gateway to which nothing happened; asked for once more where there was no memory.
 fn made(alloc: Global, end: End) -> Result<Gateway<ScriptCaller>, Trouble> {
     match gateway(alloc, end) {
         Ok(made) => Ok(made),
@@ -217,13 +217,13 @@ fn made(alloc: Global, end: End) -> Result<Gateway<ScriptCaller>, Trouble> {
     }
 }
 
-/// A datagram comes as a packet of ESP.
+// A datagram comes as a packet of ESP.
 fn sealed(alloc: Global, octets: &[u8]) -> Result<Input, AllocError> {
     let octets = Items::from_slice(alloc, octets)?;
     Ok(Input::Esp { octets })
 }
 
-/// Gives a gateway an input, once more where it is refused for want of memory: what came of it, and whether it was.
+// Gives a gateway an input, once more where it is refused for want of memory: what came of it, and whether it was.
 fn take_again(
     gateway: &mut Gateway<ScriptCaller>,
     alloc: Global,
@@ -252,7 +252,7 @@ fn look_at(gateway: &Gateway<ScriptCaller>) -> Seen {
     found
 }
 
-/// Gives a gateway an input.
+// Gives a gateway an input.
 fn take(gateway: &mut Gateway<ScriptCaller>, alloc: Global, input: &Input) -> Taken {
     match gateway.step(alloc, input) {
         Output::Reply { octets, .. }

@@ -30,7 +30,7 @@ fn main(rt: HostRuntime) -> ExitCode {
     }
 }
 
-/// Goes the way twice, and answers how many steps were refused for want of memory.
+// Goes the way twice, and answers how many steps were refused for want of memory.
 fn play(alloc: Global) -> Result<u32, Trouble> {
     let mut one = Link::new(alloc)?;
     play_beside(alloc, &mut one)
@@ -41,7 +41,7 @@ fn play_beside(alloc: Global, one: &mut Link) -> Result<u32, Trouble> {
     go_both(alloc, one, &mut another)
 }
 
-/// Both go the way, the first whole before the other, and have to send the same.
+// Both go the way, the first whole before the other, and have to send the same.
 fn go_both(alloc: Global, one: &mut Link, another: &mut Link) -> Result<u32, Trouble> {
     let refused = one.go(alloc)?.saturating_add(another.go(alloc)?);
     if one.has_sent_as(another) {

@@ -30,7 +30,7 @@ fn main(rt: HostRuntime) -> ExitCode {
     }
 }
 
-/// Does what the words ask for.
+// Does what the words ask for.
 fn run(rt: &HostRuntime) -> Option<()> {
     let words = words(rt)?;
     let payloads = payloads(rt.alloc(), &words)?;
@@ -41,12 +41,12 @@ fn words(rt: &HostRuntime) -> Option<Vec<String>> {
     env::args(rt).ok()?.collect(rt.alloc()).ok()
 }
 
-/// The number that a word is.
+// The number that a word is.
 fn number_at(words: &[String], place: usize) -> Option<usize> {
     words.get(place)?.parse().ok()
 }
 
-/// The payloads that the words ask for.
+// The payloads that the words ask for.
 fn payloads(alloc: Global, words: &[String]) -> Option<Vec<Vec<u8>>> {
     let count = number_at(words, 3)?;
     let mut payloads = Vec::new(alloc);
@@ -56,7 +56,7 @@ fn payloads(alloc: Global, words: &[String]) -> Option<Vec<Vec<u8>>> {
     Some(payloads)
 }
 
-/// The payload at a place, which has one of the sizes that the words give in turn.
+// The payload at a place, which has one of the sizes that the words give in turn.
 fn payload(alloc: Global, words: &[String], place: usize) -> Option<Vec<u8>> {
     let kinds = words.len().checked_sub(4)?;
     let kind = place.checked_rem(kinds)?;
@@ -72,7 +72,7 @@ fn slices(alloc: Global, payloads: &[Vec<u8>]) -> Option<Vec<&[u8]>> {
     Some(slices)
 }
 
-/// Times the call that the words name.
+// Times the call that the words name.
 fn time_of(rt: &HostRuntime, words: &[String], payloads: &[Vec<u8>]) -> Option<()> {
     let rounds = number_at(words, 2)?;
     let parts = slices(rt.alloc(), payloads)?;
@@ -91,7 +91,7 @@ fn call(rt: &HostRuntime, name: &str, rounds: usize, parts: &[&[u8]]) -> Option<
     }
 }
 
-/// Prints what was found.
+// Prints what was found.
 fn report(rt: &HostRuntime, best: u128, last: Option<u8>) -> Option<()> {
     println!(rt; "{best} {}", last.unwrap_or(0)).ok()
 }
@@ -107,7 +107,7 @@ fn seal(rt: &HostRuntime, rounds: usize, parts: &[&[u8]], side_by_side: bool) ->
     report(rt, best, out.last().copied())
 }
 
-/// The nanoseconds that it takes to seal the payloads once.
+// The nanoseconds that it takes to seal the payloads once.
 fn time_to_seal(
     rt: &HostRuntime,
     sender: &mut Outbound,
@@ -135,7 +135,7 @@ fn seal_each(sender: &mut Outbound, parts: &[&[u8]], out: &mut Vec<u8>) -> Optio
     Some(())
 }
 
-/// As many lists of packets with these payloads, none of which came before.
+// As many lists of packets with these payloads, none of which came before.
 fn lists(alloc: Global, rounds: usize, parts: &[&[u8]]) -> Option<Vec<Vec<Vec<u8>>>> {
     let mut sender = Outbound::new(SPI, &KEY, true, 0);
     let mut lists = Vec::new(alloc);
@@ -145,7 +145,7 @@ fn lists(alloc: Global, rounds: usize, parts: &[&[u8]]) -> Option<Vec<Vec<Vec<u8
     Some(lists)
 }
 
-/// The next packets with these payloads.
+// The next packets with these payloads.
 fn list(alloc: Global, sender: &mut Outbound, parts: &[&[u8]]) -> Option<Vec<Vec<u8>>> {
     let mut list = Vec::new(alloc);
     for part in parts {
@@ -166,7 +166,7 @@ fn open(rt: &HostRuntime, rounds: usize, parts: &[&[u8]], side_by_side: bool) ->
     report(rt, best, None)
 }
 
-/// The nanoseconds of the list that is opened fastest.
+// The nanoseconds of the list that is opened fastest.
 fn best_opening(rt: &HostRuntime, lists: &[Vec<Vec<u8>>], side_by_side: bool) -> Option<u128> {
     let mut receiver = Receiver::new(rt.alloc())?;
     let mut out = Vec::new(rt.alloc());
@@ -178,7 +178,7 @@ fn best_opening(rt: &HostRuntime, lists: &[Vec<Vec<u8>>], side_by_side: bool) ->
     Some(best)
 }
 
-/// The nanoseconds that it takes to open the packets.
+// The nanoseconds that it takes to open the packets.
 fn time_to_open(
     rt: &HostRuntime,
     receiver: &mut Receiver,
@@ -202,14 +202,14 @@ fn open_each(receiver: &mut Receiver, list: &[Vec<u8>]) -> Option<()> {
     Some(())
 }
 
-/// Packets that were opened already.
+// Packets that were opened already.
 fn old(rt: &HostRuntime, rounds: usize, parts: &[&[u8]], side_by_side: bool) -> Option<()> {
     let list = list(rt.alloc(), &mut Outbound::new(SPI, &KEY, true, 0), parts)?;
     let best = best_refusal(rt, rounds, &list, side_by_side)?;
     report(rt, best, None)
 }
 
-/// The nanoseconds of the fastest round in which packets that were opened are refused.
+// The nanoseconds of the fastest round in which packets that were opened are refused.
 fn best_refusal(
     rt: &HostRuntime,
     rounds: usize,
@@ -227,7 +227,7 @@ fn best_refusal(
     Some(best)
 }
 
-/// The nanoseconds that it takes to refuse the packets.
+// The nanoseconds that it takes to refuse the packets.
 fn time_to_refuse(
     rt: &HostRuntime,
     receiver: &mut Receiver,

@@ -45,14 +45,14 @@ impl Receiver {
     }
 }
 
-/// Whether the packet begins with the SPI, if it has room for one.
+// Whether the packet begins with the SPI, if it has room for one.
 fn is_ours(packet: &[u8]) -> bool
     ensures { IsTrue result ↔ (4 ≤ length packet.now → take 4 packet.now ≡ big_bytes 4 256) }
 {
     packet.len() < 4 || packet[..4] == [0, 0, 1, 0]
 }
 
-/// Whether each of the packets does.
+// Whether each of the packets does.
 fn are_ours(packets: &[Vec<u8>]) -> bool
     ensures { IsTrue result → All (λ p. 4 ≤ length p.items → take 4 p.items ≡ big_bytes 4 256) packets.now }
 {

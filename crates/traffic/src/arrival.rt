@@ -34,7 +34,7 @@ pub enum Arrival<'a> {
     Dropped(PacketFault),
 }
 
-/// The octets of an SPI, with which a packet begins (RFC 4303, section 2.1).
+// The octets of an SPI, with which a packet begins (RFC 4303, section 2.1).
 const SPI: usize = 4;
 
 /// Takes an ESP packet that came: finds the pair that it is addressed to, opens the packet by its inbound association, and hands
@@ -70,7 +70,7 @@ fn open<'a>(table: &mut Table, packet: &'a [u8]) -> Result<Arrival<'a>, PacketFa
     }
 }
 
-/// The pair that a packet is addressed to.
+// The pair that a packet is addressed to.
 fn addressee<'a>(table: &'a Table, packet: &[u8]) -> Result<&'a Pair, PacketFault>
     ensures found { IfOk result (λ pair. IsAddressedTo table.now packet.now pair.now) }
     ensures may_open { IfOk result (λ pair. IsForPair table.now.pairs pair.now.serial packet.now) }
@@ -85,7 +85,7 @@ fn addressee<'a>(table: &'a Table, packet: &[u8]) -> Result<&'a Pair, PacketFaul
     }
 }
 
-/// Judges what was opened by the pair that the packet is addressed to, which is there still.
+// Judges what was opened by the pair that the packet is addressed to, which is there still.
 fn carried<'a>(table: &Table, packet: &[u8], opened: Opened<'a>) -> Result<Carried<'a>, PacketFault>
     requires { HasAddressee table.now packet.now }
     ensures { IsVerdictAt table.now packet.now opened.entry.next opened.entry.payload.now

@@ -37,8 +37,8 @@ pub enum Departure<'a> {
     Dropped(PacketFault),
 }
 
-/// The most octets that an ESP packet has beside its payload: SPI, number, padding, its length, next header and check value.
-const MOST_OVERHEAD: usize = 29;
+// The most octets that an ESP packet has beside its payload: SPI, number, padding, its length, next header and check value.
+const OVERHEAD_LIMIT: usize = 29;
 
 /// Sends a packet by the policy's decision about its flow: sealed by the pair that carries the flow, in the clear, or not at all.
 /// What is to be protected never goes in the clear.
@@ -97,7 +97,7 @@ pub fn send_remembering<'a>(
     depart(alloc, table, treatment, &flow, packet)
 }
 
-/// Sends a packet as its flow is to be treated.
+// Sends a packet as its flow is to be treated.
 fn depart<'a>(
     alloc: Global,
     table: &mut Table,
@@ -120,7 +120,7 @@ fn depart<'a>(
     }
 }
 
-/// Seals a packet by the pair that carries its flow.
+// Seals a packet by the pair that carries its flow.
 fn seal<'a>(
     alloc: Global,
     table: &mut Table,
@@ -134,7 +134,7 @@ fn seal<'a>(
         Protects table.old flow.now packet.now (outcome_of_departure departure) table.new) }
     ensures memory { IfErr result (λ _. table.new ≡ table.old) }
 {
-    let mut octets = Vec::with_capacity(alloc, packet.len() + MOST_OVERHEAD)?;
+    let mut octets = Vec::with_capacity(alloc, packet.len() + OVERHEAD_LIMIT)?;
     match table.seal(child, next_header_of(flow.family()), packet, &mut octets) {
         Ok(number) => Ok(Departure::Sealed {
             child,

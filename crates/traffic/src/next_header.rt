@@ -7,10 +7,10 @@ use base::Family;
 /// No next header: the packet carries nothing and is a dummy.
 pub const NO_NEXT_HEADER: u8 = 59;
 
-/// A packet of IPv4.
+// A packet of IPv4.
 const IPV4: u8 = 4;
 
-/// A packet of IPv6.
+// A packet of IPv6.
 const IPV6: u8 = 41;
 
 /// The next header under which packets of a family are sealed.

@@ -8,7 +8,7 @@ mod windows;
 
 use std::alloc::{AllocError, Global};
 
-/// A table of entries: where it begins, counted from 0, and what it is about.
+// A table of entries: where it begins, counted from 0, and what it is about.
 #[derive(Clone, Copy)]
 enum Table {
     Keyed,
@@ -19,7 +19,7 @@ enum Table {
     Offers,
 }
 
-/// All tables, each with the place of its first entry.
+// All tables, each with the place of its first entry.
 const TABLES: [(u32, Table); 6] = [
     (0, Table::Keyed),
     (2, Table::Packets),
@@ -40,7 +40,7 @@ pub fn holds(alloc: Global, place: u32) -> Result<bool, AllocError> {
 }
 
 impl Table {
-    /// Whether a row of it comes to what it should.
+    // Whether a row of it comes to what it should.
     fn holds(self, alloc: Global, row: usize) -> Result<bool, AllocError> {
         match self {
             Table::Keyed => Ok(keyed::holds(row)),

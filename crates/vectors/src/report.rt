@@ -45,7 +45,7 @@ pub fn check_all(alloc: Global) -> Report
     report
 }
 
-/// Whether the entry at a place, counted from 0, comes to what it should.
+// Whether the entry at a place, counted from 0, comes to what it should.
 fn found(alloc: Global, place: u32) -> Result<bool, AllocError> {
     holds(alloc, place)
 }

@@ -15,8 +15,8 @@ use crate::reader::Reader;
 use base::Items;
 use std::alloc::Global;
 
-/// The payloads that are left to read, of which the first has the type `first`. An encrypted one may end them where
-/// `encrypted` says so.
+// The payloads that are left to read, of which the first has the type `first`. An encrypted one may end them where
+// `encrypted` says so.
 pub(crate) fn read_chain(
     alloc: Global,
     first: u8,
@@ -72,7 +72,7 @@ pub fn decode_chain(alloc: Global, first: u8, octets: &[u8]) -> Result<Items<Pay
     read_all(alloc, first, octets)
 }
 
-/// The type of the first payload, 0 for none.
+// The type of the first payload, 0 for none.
 pub(crate) fn first_type(payloads: &[Payload]) -> u8
     ensures { result ≡ first_type payloads.now }
 {
@@ -82,7 +82,7 @@ pub(crate) fn first_type(payloads: &[Payload]) -> u8
     }
 }
 
-/// Appends a payload in front of the others. An encrypted one has to be the last.
+// Appends a payload in front of the others. An encrypted one has to be the last.
 fn write_link(payload: &Payload, others: &[Payload], out: &mut Vec<u8>) -> Result<(), WireFault>
     ensures { Makes out.new.items result (link_onto payload.now others.now out.old.items) }
 {
@@ -96,7 +96,7 @@ fn write_link(payload: &Payload, others: &[Payload], out: &mut Vec<u8>) -> Resul
     }
 }
 
-/// Appends payloads behind the octets that are there.
+// Appends payloads behind the octets that are there.
 pub(crate) fn write_payloads(payloads: &[Payload], out: &mut Vec<u8>) -> Result<(), WireFault>
     ensures { Makes out.new.items result (payloads_onto payloads.now out.old.items) }
 {

@@ -10,7 +10,7 @@ use crate::writer::{Unwritten, push_octets, push_u16, push_u32};
 use base::Items;
 use std::alloc::Global;
 
-/// Whether SPIs of this protocol have this size and can be so many.
+// Whether SPIs of this protocol have this size and can be so many.
 fn is_sized(protocol: u8, size: u8, count: u16) -> bool
     ensures { result ≡ is_sized protocol size count }
 {
@@ -47,7 +47,7 @@ pub(crate) fn read_delete(alloc: Global, mut body: Reader) -> Result<Payload, Un
     }
 }
 
-/// The size of each of so many SPIs of this protocol.
+// The size of each of so many SPIs of this protocol.
 fn spi_size(protocol: u8, count: usize) -> Option<u8>
     ensures { result ≡ spi_size protocol count }
 {

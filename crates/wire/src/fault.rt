@@ -69,7 +69,7 @@ impl WireFault {
         }
     }
 
-    /// The refusal of a payload of this type, which begins at the offset, that the grammar does not allow.
+    // The refusal of a payload of this type, which begins at the offset, that the grammar does not allow.
     pub(crate) fn of_type(kind: u8, offset: usize) -> Self
         ensures { result ≡ fault_of_type kind offset }
     {

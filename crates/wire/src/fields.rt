@@ -19,7 +19,7 @@ fn read_data(alloc: Global, limit: usize, rest: Reader) -> Result<Items<u8>, Unr
     Ok(Items::from_slice(alloc, rest.rest)?)
 }
 
-/// The Diffie-Hellman group and the data.
+// The Diffie-Hellman group and the data.
 #[tactic(auto, unfolding(crate::specs::Reading::ke_of))]
 pub(crate) fn read_key_exchange(alloc: Global, mut body: Reader) -> Result<(u16, Items<u8>), Unread>
     ensures { Gives (λ x. x) result (ke_of body.entry.rest.now) }
@@ -30,7 +30,7 @@ pub(crate) fn read_key_exchange(alloc: Global, mut body: Reader) -> Result<(u16,
     Ok((group, data))
 }
 
-/// The type of an identity, or the method of an authentication, and the data.
+// The type of an identity, or the method of an authentication, and the data.
 #[tactic(auto, unfolding(crate::specs::Reading::typed_of))]
 pub(crate) fn read_typed(
     alloc: Global,
@@ -78,7 +78,7 @@ pub(crate) fn write_key_exchange(
     write_data(KEY_EXCHANGE_LIMIT, content, out)
 }
 
-/// An identity or an authentication.
+// An identity or an authentication.
 #[tactic(auto, unfolding(crate::specs::Writing::typed_onto))]
 pub(crate) fn write_typed(
     limit: usize,

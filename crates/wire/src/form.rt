@@ -9,7 +9,7 @@ use crate::numbers::{
 };
 use crate::payload::SkippedKind;
 
-/// How the inside of a payload is laid out.
+// How the inside of a payload is laid out.
 #[derive(Clone, Copy, Debug)]
 pub(crate) enum Form {
     Sa,
@@ -28,7 +28,7 @@ pub(crate) enum Form {
 }
 
 impl Form {
-    /// The form that payloads of a type have.
+    // The form that payloads of a type have.
     pub(crate) fn of(kind: u8) -> Self
         ensures { result ≡ form_of kind }
     {

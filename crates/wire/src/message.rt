@@ -54,7 +54,7 @@ pub struct Flags {
     pub response: bool,
 }
 
-/// A header with what it says of the rest.
+// A header with what it says of the rest.
 #[derive(Clone, Copy)]
 struct Head {
     header: Header,
@@ -65,10 +65,10 @@ struct Head {
     length: u32,
 }
 
-/// Where the length stands in a header, which is its last field.
+// Where the length stands in a header, which is its last field.
 const LENGTH_PLACE: usize = 24;
 
-/// The bits of the flags (section 3.1).
+// The bits of the flags (section 3.1).
 const INITIATOR: u8 = 0x08;
 
 const VERSION: u8 = 0x10;
@@ -177,7 +177,7 @@ fn flags_octet(flags: Flags) -> u8
     initiator + version + response
 }
 
-/// Appends a header with 0 for the length, which is not known yet.
+// Appends a header with 0 for the length, which is not known yet.
 #[tactic(auto, unfolding(crate::specs::Writing::header_onto))]
 fn write_header(header: Header, first: u8, out: &mut Vec<u8>) -> Result<(), Unwritten>
     requires { header.minor < 16 }
@@ -193,7 +193,7 @@ fn write_header(header: Header, first: u8, out: &mut Vec<u8>) -> Result<(), Unwr
     push_octets(out, &[0, 0, 0, 0])
 }
 
-/// Sets the length of a message that is whole.
+// Sets the length of a message that is whole.
 fn set_length(octets: &mut Vec<u8>)
     requires header { HEADER_LENGTH ≤ length octets.old.items }
     requires short { length octets.old.items ≤ MESSAGE_LIMIT }
@@ -203,7 +203,7 @@ fn set_length(octets: &mut Vec<u8>)
     set_u32(octets.as_mut_slice(), LENGTH_PLACE, length);
 }
 
-/// The octets of a message.
+// The octets of a message.
 fn octets_of(alloc: Global, message: &Message) -> Result<Vec<u8>, WireFault>
     ensures read { Answers (λ v. v.items) result (encoding_of message.now) }
     ensures fits { message.now.header.minor < 16 → FitsHeader message.now.header }

@@ -109,10 +109,10 @@ pub enum SkippedKind {
     Eap,
 }
 
-/// The bit of the second octet of a payload's header that marks it as critical (section 3.2).
+// The bit of the second octet of a payload's header that marks it as critical (section 3.2).
 const CRITICAL: u8 = 0x80;
 
-/// A payload that is not encrypted.
+// A payload that is not encrypted.
 #[tactic(auto, unfolding(crate::specs::Reading::body_of))]
 fn read_body(alloc: Global, form: Form, kind: u8, part: Part) -> Result<Payload, Unread>
     ensures { Gives (λ x. x) result (body_of form kind part.entry.second part.entry.inside.rest.now) }
@@ -158,8 +158,8 @@ fn read_body(alloc: Global, form: Form, kind: u8, part: Part) -> Result<Payload,
     }
 }
 
-/// The next payload, which has the type `kind`, and the type of the payload behind it. An encrypted payload has to be
-/// the last, where there may be one; nothing follows it (section 3.14).
+// The next payload, which has the type `kind`, and the type of the payload behind it. An encrypted payload has to be
+// the last, where there may be one; nothing follows it (section 3.14).
 #[tactic(auto, unfolding(crate::specs::Reading::payload_at))]
 pub(crate) fn read_payload(
     alloc: Global,
@@ -229,7 +229,7 @@ impl Payload {
         }
     }
 
-    /// The refusal of a payload that has no spelling, at the offset where it would begin.
+    // The refusal of a payload that has no spelling, at the offset where it would begin.
     pub(crate) fn fault(&self, offset: usize) -> WireFault
         ensures { result ≡ fault_in self.now offset }
     {
@@ -268,15 +268,15 @@ fn write_body(payload: &Payload, out: &mut Vec<u8>) -> Result<(), Unwritten>
     }
 }
 
-/// Whether a type is one that is not known (section 3.2).
+// Whether a type is one that is not known (section 3.2).
 fn is_unknown(kind: u8) -> bool
     ensures { result ≡ is_unknown kind }
 {
     kind > NO_PAYLOAD && kind < SA_TYPE || kind > EAP_TYPE
 }
 
-/// The first two octets of the payload's header, where `next` is the type of the payload behind it: an encrypted payload
-/// names the first one inside it. There are none for an unknown payload of a type with a form of its own.
+// The first two octets of the payload's header, where `next` is the type of the payload behind it: an encrypted payload
+// names the first one inside it. There are none for an unknown payload of a type with a form of its own.
 fn header_octets(payload: &Payload, next: u8) -> Option<(u8, u8)>
     ensures { result ≡ header_octets payload.now next }
 {
@@ -292,7 +292,7 @@ fn header_octets(payload: &Payload, next: u8) -> Option<(u8, u8)>
     }
 }
 
-/// Appends a payload, where `next` is the type of the payload behind it.
+// Appends a payload, where `next` is the type of the payload behind it.
 #[tactic(auto, unfolding(crate::specs::Writing::payload_onto))]
 pub(crate) fn write_payload(payload: &Payload, next: u8, out: &mut Vec<u8>) -> Result<(), Unwritten>
     ensures { Writes out.new.items result (payload_onto payload.now next out.old.items) }

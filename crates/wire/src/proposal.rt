@@ -36,7 +36,7 @@ pub enum Attribute {
     Long { kind: u16, value: Items<u8> },
 }
 
-/// The top bit of an attribute's type, which tells the short form (section 3.3.5).
+// The top bit of an attribute's type, which tells the short form (section 3.3.5).
 const SHORT_FORM: u16 = 0x8000;
 
 #[tactic(auto, unfolding(crate::specs::Reading::attribute_at))]
@@ -81,7 +81,7 @@ fn read_transform(alloc: Global, mut inside: Reader) -> Result<Transform, Unread
     })
 }
 
-/// Whether another part follows one with this mark.
+// Whether another part follows one with this mark.
 fn goes_on(more: u8, mark: u8) -> Result<bool, Unread>
     ensures { Gives (λ x. x) result (goes_on more mark) }
 {
@@ -152,7 +152,7 @@ fn read_list(alloc: Global, mut list: Reader) -> Result<Items<Proposal>, Unread>
     }
 }
 
-/// Whether the numbers are 1, 2, 3, ..
+// Whether the numbers are 1, 2, 3, ..
 fn count_from_one(proposals: &[Proposal]) -> bool
     ensures { result ≡ numbered_from 1 proposals.now }
 {
@@ -164,7 +164,7 @@ fn count_from_one(proposals: &[Proposal]) -> bool
     true
 }
 
-/// Whether a lone proposal has a number from 1, and more have 1, 2, 3, ..
+// Whether a lone proposal has a number from 1, and more have 1, 2, 3, ..
 fn are_numbered(proposals: &[Proposal]) -> bool
     ensures { result ≡ are_numbered proposals.now }
 {
@@ -175,7 +175,7 @@ fn are_numbered(proposals: &[Proposal]) -> bool
     }
 }
 
-/// The inside of a security association payload.
+// The inside of a security association payload.
 #[tactic(auto, unfolding(crate::specs::Reading::proposals_of))]
 pub(crate) fn read_proposals(alloc: Global, body: Reader) -> Result<Items<Proposal>, Unread>
     ensures { Gives (λ x. x) result (proposals_of body.entry.rest.now) }
@@ -279,7 +279,7 @@ fn write_list(proposals: &[Proposal], out: &mut Vec<u8>) -> Result<(), Unwritten
     Ok(())
 }
 
-/// The inside of a security association payload.
+// The inside of a security association payload.
 #[tactic(auto, unfolding(crate::specs::Writing::proposals_onto))]
 pub(crate) fn write_proposals(proposals: &[Proposal], out: &mut Vec<u8>) -> Result<(), Unwritten>
     ensures { Writes out.new.items result (proposals_onto proposals.now out.old.items) }

@@ -7,17 +7,17 @@ use crate::fault::WireFault;
 use byteorder::{BigEndian, ByteOrder};
 use std::alloc::{AllocError, AllocFailed};
 
-/// Why octets give no value.
+// Why octets give no value.
 #[derive(Clone, Copy, Debug)]
 pub(crate) enum Unread {
-    /// They are not in the grammar.
+    // They are not in the grammar.
     Malformed,
-    /// A growth was refused.
+    // A growth was refused.
     Memory,
 }
 
 impl Unread {
-    /// The refusal, which is this fault where the octets are not in the grammar.
+    // The refusal, which is this fault where the octets are not in the grammar.
     pub(crate) fn or(self, fault: WireFault) -> WireFault
         ensures { result ≡ refusal_of self fault }
     {
@@ -44,7 +44,7 @@ impl<T: Drop> From<AllocFailed<T>> for Unread {
     }
 }
 
-/// What is left to read of some octets. Where a value does not fit in, the octets are malformed; reading takes no memory.
+// What is left to read of some octets. Where a value does not fit in, the octets are malformed; reading takes no memory.
 #[derive(Clone, Copy)]
 pub(crate) struct Reader<'a> {
     pub(crate) rest: &'a [u8],
@@ -53,8 +53,8 @@ pub(crate) struct Reader<'a> {
     ghost within: { length rest.now ≤ end },
 }
 
-/// A header of four octets and what it heads (RFC 7296 section 3.2): its first two octets, and what stands behind it, of
-/// the length that the other two give.
+// A header of four octets and what it heads (RFC 7296 section 3.2): its first two octets, and what stands behind it, of
+// the length that the other two give.
 #[derive(Clone, Copy)]
 pub(crate) struct Part<'a> {
     pub(crate) first: u8,
@@ -73,7 +73,7 @@ impl<'a> Reader<'a> {
         }
     }
 
-    /// The offset of the next octet.
+    // The offset of the next octet.
     pub(crate) fn offset(&self) -> usize
         ensures { result ≡ self.now.end - length self.now.rest.now }
     {
@@ -86,7 +86,7 @@ impl<'a> Reader<'a> {
         self.rest.is_empty()
     }
 
-    /// The next octets, so many.
+    // The next octets, so many.
     pub(crate) fn octets(&mut self, count: usize) -> Result<&'a [u8], Unread>
         ensures read { Reads (λ x. x.now) self.new.rest.now result (octets_at count self.old.rest.now) }
         ensures end { self.new.end ≡ self.old.end }
@@ -145,7 +145,7 @@ impl<'a> Reader<'a> {
         Ok(BigEndian::read_u128(octets))
     }
 
-    /// The next part.
+    // The next part.
     #[tactic(auto, unfolding(crate::specs::Reading::part_at))]
     pub(crate) fn part(&mut self) -> Result<Part<'a>, Unread>
         ensures read { Reads (λ p. piece_of p.first p.second p.inside.rest.now) self.new.rest.now result

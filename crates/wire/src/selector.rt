@@ -13,7 +13,7 @@ use crate::writer::{Unwritten, close_part, open_part, push_octets, push_u16, pus
 use base::{Items, Range, Selector};
 use std::alloc::Global;
 
-/// The range that a selector of this type has: both its ends, and nothing behind them.
+// The range that a selector of this type has: both its ends, and nothing behind them.
 #[tactic(auto, unfolding(crate::specs::Reading::range_of, crate::specs::Reading::range_at))]
 fn read_range(kind: u8, mut ends: Reader) -> Result<Range, Unread>
     ensures { Gives (λ x. x) result (range_of kind ends.entry.rest.now) }
@@ -30,7 +30,7 @@ fn read_range(kind: u8, mut ends: Reader) -> Result<Range, Unread>
     }
 }
 
-/// Whether no start is above its end.
+// Whether no start is above its end.
 fn is_in_order(selector: &Selector) -> bool
     ensures { result ≡ is_in_order selector.now }
 {
@@ -70,7 +70,7 @@ fn read_list(alloc: Global, mut list: Reader) -> Result<Items<Selector>, Unread>
     Ok(selectors)
 }
 
-/// Whether so many selectors of either family can have so many octets.
+// Whether so many selectors of either family can have so many octets.
 fn is_counted(count: u8, length: usize) -> bool
     ensures { result ≡ is_counted count length }
 {
@@ -81,7 +81,7 @@ fn is_counted(count: u8, length: usize) -> bool
         && length <= IPV6_RANGE_LENGTH * count
 }
 
-/// The inside of a payload of traffic selectors. What its count rules out is refused before memory is taken.
+// The inside of a payload of traffic selectors. What its count rules out is refused before memory is taken.
 #[tactic(auto, unfolding(crate::specs::Reading::selectors_of))]
 pub(crate) fn read_selectors(alloc: Global, mut body: Reader) -> Result<Items<Selector>, Unread>
     ensures { Gives (λ x. x) result (selectors_of body.entry.rest.now) }
@@ -99,7 +99,7 @@ pub(crate) fn read_selectors(alloc: Global, mut body: Reader) -> Result<Items<Se
     }
 }
 
-/// The type of a selector with this range.
+// The type of a selector with this range.
 fn selector_type(range: Range) -> u8
     ensures { result ≡ selector_type range }
 {
@@ -156,7 +156,7 @@ fn write_list(selectors: &[Selector], out: &mut Vec<u8>) -> Result<(), Unwritten
     Ok(())
 }
 
-/// The inside of a payload of traffic selectors.
+// The inside of a payload of traffic selectors.
 #[tactic(auto, unfolding(crate::specs::Writing::selectors_onto))]
 pub(crate) fn write_selectors(selectors: &[Selector], out: &mut Vec<u8>) -> Result<(), Unwritten>
     ensures { Writes out.new.items result (selectors_onto selectors.now out.old.items) }

@@ -7,17 +7,17 @@ ghost use Rattle.wire.specs.declared.writer.Unwritten.TheVariants.{Memory};
 use crate::fault::WireFault;
 use std::alloc::AllocError;
 
-/// Why a value is not written.
+// Why a value is not written.
 #[derive(Clone, Copy, Debug)]
 pub(crate) enum Unwritten {
-    /// No octets spell it.
+    // No octets spell it.
     Unspelled,
-    /// A growth was refused.
+    // A growth was refused.
     Memory,
 }
 
 impl Unwritten {
-    /// The refusal, which is this fault where no octets spell the value.
+    // The refusal, which is this fault where no octets spell the value.
     pub(crate) fn or(self, fault: WireFault) -> WireFault
         ensures spelled { self ≡ Unwritten.Unspelled → result ≡ fault }
         ensures memory { self ≡ Unwritten.Memory → result ≡ WireFault.Memory }
@@ -72,7 +72,7 @@ pub(crate) fn push_u128(out: &mut Vec<u8>, number: u128) -> Result<(), Unwritten
     Ok(())
 }
 
-/// Sets the two octets at a place.
+// Sets the two octets at a place.
 fn set_u16(octets: &mut [u8], place: usize, number: u16)
     requires { place + 2 ≤ length octets.old }
     ensures { octets.new ≡ take place octets.old ++ big_bytes 2 number ++ drop (place + 2) octets.old }
@@ -80,7 +80,7 @@ fn set_u16(octets: &mut [u8], place: usize, number: u16)
     octets[place..place + 2].copy_from_slice(&number.to_be_bytes());
 }
 
-/// Sets the four octets at a place.
+// Sets the four octets at a place.
 pub(crate) fn set_u32(octets: &mut [u8], place: usize, number: u32)
     requires { place + 4 ≤ length octets.old }
     ensures { octets.new ≡ take place octets.old ++ big_bytes 4 number ++ drop (place + 4) octets.old }
@@ -88,7 +88,7 @@ pub(crate) fn set_u32(octets: &mut [u8], place: usize, number: u32)
     octets[place..place + 4].copy_from_slice(&number.to_be_bytes());
 }
 
-/// The mark of the part at this place of so many: 0 of the last, and else what marks one with another behind it.
+// The mark of the part at this place of so many: 0 of the last, and else what marks one with another behind it.
 pub(crate) fn mark_at(place: usize, count: usize, more: u8) -> u8
     requires { place < count }
     ensures { result ≡ (if place + 1 == count then 0 else more) }
@@ -96,14 +96,14 @@ pub(crate) fn mark_at(place: usize, count: usize, more: u8) -> u8
     if place + 1 == count { 0 } else { more }
 }
 
-/// Begins a part (RFC 7296 section 3.2), whose length [`close_part`] fills in.
+// Begins a part (RFC 7296 section 3.2), whose length [`close_part`] fills in.
 pub(crate) fn open_part(out: &mut Vec<u8>, first: u8, second: u8) -> Result<(), Unwritten>
     ensures { Writes out.new.items result (open_onto first second out.old.items) }
 {
     push_octets(out, &[first, second, 0, 0])
 }
 
-/// Ends the part that begins at `start`.
+// Ends the part that begins at `start`.
 pub(crate) fn close_part(out: &mut Vec<u8>, start: usize) -> Result<(), Unwritten>
     requires { start + 4 ≤ length out.old.items }
     ensures { Writes out.new.items result (close_onto start out.old.items) }

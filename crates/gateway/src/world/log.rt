@@ -18,7 +18,7 @@ use std::alloc::{AllocError, Global};
 use suite::{Agreement, KeyRecord, Proof, Sealer};
 use wire::numbers::{MESSAGE_LIMIT, SELECTOR_LIMIT};
 
-/// No datagram has more octets: an ESP packet has at most so many, a message of IKE fewer.
+// No datagram has more octets: an ESP packet has at most so many, a message of IKE fewer.
 const DATAGRAM_LIMIT: usize = 16_664;
 
 /// What was sent and made, in order.

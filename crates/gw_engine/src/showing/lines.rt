@@ -59,14 +59,14 @@ fn exchange_line(
     Ok(format!(in alloc; "exchange {exchange} flags {flags} id {id} length {length}\n")?)
 }
 
-/// An SPI of an IKE association.
+// An SPI of an IKE association.
 fn of_spi(alloc: Global, spi: u64) -> Result<String, AllocError>
     ensures { IfOk result (λ text. string_bytes text ≡ hexadecimal 16 spi) }
 {
     Ok(format!(in alloc; "{spi:016x}")?)
 }
 
-/// The letters of the flags that are set, `-` where none is.
+// The letters of the flags that are set, `-` where none is.
 fn of_flags(flags: Flags) -> &'static str
     ensures { result.now ≡ flags_text flags }
 {
@@ -82,7 +82,7 @@ fn of_flags(flags: Flags) -> &'static str
     }
 }
 
-/// The lines of all payloads of a message.
+// The lines of all payloads of a message.
 fn of_payloads(alloc: Global, payloads: &[Payload]) -> Result<String, AllocError>
     ensures { IfOk result (λ text. string_bytes text ≡
         payloads_text HEADER_LENGTH payloads.now) }
@@ -96,7 +96,7 @@ fn of_payloads(alloc: Global, payloads: &[Payload]) -> Result<String, AllocError
     Ok(lines)
 }
 
-/// The lines of a payload that begins at the offset.
+// The lines of a payload that begins at the offset.
 fn of_payload(alloc: Global, payload: &Payload, offset: usize) -> Result<String, AllocError>
     ensures { IfOk result (λ text. string_bytes text ≡ payload_text offset payload.now) }
 {
@@ -105,7 +105,7 @@ fn of_payload(alloc: Global, payload: &Payload, offset: usize) -> Result<String,
     Ok(format!(in alloc; "payload {kind} at {offset} length {size}\n{body}")?)
 }
 
-/// The lines below a payload's own line.
+// The lines below a payload's own line.
 fn of_body(alloc: Global, payload: &Payload) -> Result<String, AllocError>
     ensures { IfOk result (λ text. string_bytes text ≡ body_text payload.now) }
 {
@@ -146,7 +146,7 @@ fn of_body(alloc: Global, payload: &Payload) -> Result<String, AllocError>
     }
 }
 
-/// The line of a payload of data alone, under its name.
+// The line of a payload of data alone, under its name.
 fn octets_line(alloc: Global, name: &str, data: &[u8]) -> Result<String, AllocError>
     ensures { IfOk result (λ text. string_bytes text ≡ octets_line name.now data.now) }
 {
@@ -154,7 +154,7 @@ fn octets_line(alloc: Global, name: &str, data: &[u8]) -> Result<String, AllocEr
     Ok(format!(in alloc; "  {name} {data}\n")?)
 }
 
-/// The line of a payload of a number and data, under the number's name.
+// The line of a payload of a number and data, under the number's name.
 fn data_line(alloc: Global, name: &str, number: u16, data: &[u8]) -> Result<String, AllocError>
     ensures { IfOk result (λ text. string_bytes text ≡ data_line name.now number data.now) }
 {
@@ -163,7 +163,7 @@ fn data_line(alloc: Global, name: &str, number: u16, data: &[u8]) -> Result<Stri
     numbered_line(alloc, name, number, rest.as_str())
 }
 
-/// A line of a number under its name, and what stands behind it.
+// A line of a number under its name, and what stands behind it.
 fn numbered_line(alloc: Global, name: &str, number: u16, rest: &str) -> Result<String, AllocError>
     ensures { IfOk result (λ text. string_bytes text ≡ numbered_line name.now number rest.now) }
 {
@@ -240,7 +240,7 @@ fn of_proposal(alloc: Global, proposal: &Proposal) -> Result<String, AllocError>
     Ok(lines)
 }
 
-/// What stands behind a proposal's number.
+// What stands behind a proposal's number.
 fn proposal_words(
     alloc: Global,
     protocol: u8,
@@ -275,7 +275,7 @@ fn of_transform(alloc: Global, transform: &Transform) -> Result<String, AllocErr
     numbered_line(alloc, "  transform", u16::from(*kind), rest.as_str())
 }
 
-/// What stands behind a transform's type and ID.
+// What stands behind a transform's type and ID.
 fn of_attributes(alloc: Global, attributes: &[Attribute]) -> Result<String, AllocError>
     ensures { IfOk result (λ text. string_bytes text ≡ flat_map attribute_text attributes.now) }
 {
@@ -307,7 +307,7 @@ fn attribute_words(alloc: Global, kind: u16, value: &str) -> Result<String, Allo
     Ok(format!(in alloc; " attr {kind} {value}")?)
 }
 
-/// The SPIs of a deletion, each with a blank before it.
+// The SPIs of a deletion, each with a blank before it.
 fn of_spis(alloc: Global, spis: &[u32]) -> Result<String, AllocError>
     ensures { IfOk result (λ text. string_bytes text ≡ spis_text spis.now) }
 {
@@ -350,7 +350,7 @@ fn of_selector(alloc: Global, selector: &Selector) -> Result<String, AllocError>
     )
 }
 
-/// What stands behind a selector's protocol.
+// What stands behind a selector's protocol.
 fn selector_words(
     alloc: Global,
     start_port: u16,
@@ -374,7 +374,7 @@ fn of_range(alloc: Global, addresses: Range) -> Result<String, AllocError>
     Ok(text)
 }
 
-/// The first and the last address of a range.
+// The first and the last address of a range.
 fn ends(addresses: Range) -> (Address, Address)
     ensures { result ≡ (start_of addresses, end_of addresses) }
 {

@@ -86,15 +86,15 @@ impl Directive {
 }
 
 impl Terms {
-    /// The least index that an association may have (RFC 4303 section 2.1).
-    const LEAST_SPI: u32 = 256;
+    // The least index that an association may have (RFC 4303 section 2.1).
+    const SPI_LEAST: u32 = 256;
 
     fn read(words: &mut Words) -> Result<Terms, LineFault> {
         let spi = words.number(u64::from(u32::MAX))? as u32;
         let key = words.array()?;
         let blocks = words.number(u64::from(u32::MAX))? as u32;
         let extended = words.yes_or_no()?;
-        if spi < Terms::LEAST_SPI {
+        if spi < Terms::SPI_LEAST {
             return Err(LineFault::Refused);
         }
         Ok(Terms {

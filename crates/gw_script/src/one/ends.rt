@@ -84,13 +84,13 @@ impl Ends {
         Ok(Report::Packet(self.packet(place)?.clone()?))
     }
 
-    /// The packet at this place, from 1. Refused where there is none.
+    // The packet at this place, from 1. Refused where there is none.
     fn packet(&self, place: u64) -> Result<&Vec<u8>, LineFault> {
         let index = place.checked_sub(1).ok_or(LineFault::Refused)?;
         self.packets.get(index as usize).ok_or(LineFault::Refused)
     }
 
-    /// Gives the receiver a packet, but only if it has the association's index.
+    // Gives the receiver a packet, but only if it has the association's index.
     fn receive(&mut self, packet: Vec<u8>) -> Result<Report, LineFault> {
         if !packet.starts_with(&self.terms.spi.to_be_bytes()) {
             return Ok(Report::UnknownAssociation);

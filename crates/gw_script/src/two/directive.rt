@@ -178,7 +178,7 @@ fn read_action(words: &mut Words) -> Result<Action, LineFault> {
     }
 }
 
-/// The addresses of one side, and its ports.
+// The addresses of one side, and its ports.
 fn read_scope(words: &mut Words) -> Result<(Range, (u16, u16)), LineFault> {
     let addresses = words.addresses()?;
     let ports = words.ports()?;

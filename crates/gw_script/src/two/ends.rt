@@ -15,7 +15,7 @@ use std::alloc::Global;
 pub struct Ends {
     alloc: Global,
     world: World<ScriptCaller>,
-    /// The number of the next input, from 1, over both ends.
+    // The number of the next input, from 1, over both ends.
     input: u64,
 }
 
@@ -54,7 +54,7 @@ impl Ends {
         }
     }
 
-    /// Asks for a child with a new IKE association, or for a further one of the association with this serial.
+    // Asks for a child with a new IKE association, or for a further one of the association with this serial.
     fn start(&mut self, side: Side, ike: Option<u32>, entry: u32) -> Result<String, LineFault> {
         let fresh = fresh(self.alloc, self.input)?;
         self.give(side, Input::Start { ike, entry, fresh })
@@ -86,7 +86,7 @@ impl Ends {
         self.bring(receiver, protocol, octets)
     }
 
-    /// Octets come to an end, from the other's address.
+    // Octets come to an end, from the other's address.
     fn bring(
         &mut self,
         side: Side,
@@ -108,7 +108,7 @@ impl Ends {
         }
     }
 
-    /// Gives an end an input.
+    // Gives an end an input.
     fn give(&mut self, side: Side, input: Input) -> Result<String, LineFault> {
         self.input = self.input.saturating_add(1);
         let alloc = self.alloc;
@@ -135,7 +135,7 @@ impl Ends {
         Ok(report::of_comparison(self.alloc, one == other)?)
     }
 
-    /// The datagram at this place, from 1. Refused where there is none.
+    // The datagram at this place, from 1. Refused where there is none.
     fn datagram(&self, place: u64) -> Result<&Datagram, LineFault> {
         let index = place.checked_sub(1).ok_or(LineFault::Refused)?;
         let datagrams = self.world.datagrams();
@@ -143,7 +143,7 @@ impl Ends {
     }
 }
 
-/// What a datagram that was sent belongs to.
+// What a datagram that was sent belongs to.
 fn protocol_of(mark: &Mark) -> Protocol {
     match mark {
         Mark::Esp { .. } => Protocol::Esp,
@@ -151,7 +151,7 @@ fn protocol_of(mark: &Mark) -> Protocol {
     }
 }
 
-/// What comes of a datagram's octets. Refused where they have no such octet, or are fewer.
+// What comes of a datagram's octets. Refused where they have no such octet, or are fewer.
 fn travelled(alloc: Global, octets: &[u8], way: Way) -> Result<Items<u8>, LineFault> {
     match way {
         Way::Straight | Way::Back => Ok(Items::from_slice(alloc, octets)?),

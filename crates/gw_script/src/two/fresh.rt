@@ -17,7 +17,7 @@ pub fn fresh(alloc: Global, number: u64) -> Result<Fresh, AllocError> {
     })
 }
 
-/// The SHA-256 of a text that names the input and what the octets are for.
+// The SHA-256 of a text that names the input and what the octets are for.
 fn words(alloc: Global, number: u64, purpose: &str) -> Result<[u8; 32], AllocError> {
     Ok(hash(&format!(in alloc; "fresh {number} {purpose}")?))
 }
@@ -26,7 +26,7 @@ fn hash(text: &str) -> [u8; 32] {
     Sha256::digest(text.as_bytes())
 }
 
-/// The first octets of a hash.
+// The first octets of a hash.
 fn first<const N: usize>(hash: &[u8; 32]) -> [u8; N] {
     let mut octets = [0; N];
     for (octet, hashed) in octets.iter_mut().zip(hash) {

@@ -16,19 +16,19 @@ use initial::{Config, EndConfig};
 use policy::{Entry, Policy};
 use std::alloc::{AllocError, Global};
 
-/// The blocks of the replay windows of children.
+// The blocks of the replay windows of children.
 const BLOCKS: u32 = 2;
 
-/// The most requests that an end may take at once.
-const WIDEST_WINDOW: u8 = 16;
+// The most requests that an end may take at once.
+const WINDOW_LIMIT: u8 = 16;
 
-/// The number of the identity type ID_FQDN (RFC 7296 section 3.5).
+// The number of the identity type ID_FQDN (RFC 7296 section 3.5).
 const NAME: u8 = 2;
 
 /// What the gateways are made with.
 #[derive(Drop)]
 pub struct Setup {
-    /// No directive set anything yet.
+    // No directive set anything yet.
     is_untouched: bool,
     extended: bool,
     a: Terms,
@@ -80,7 +80,7 @@ impl Setup {
     }
 }
 
-/// What one end is made with.
+// What one end is made with.
 #[derive(Drop)]
 struct Terms {
     entries: Items<Entry>,
@@ -97,14 +97,14 @@ impl Terms {
     }
 
     fn set_window(&mut self, requests: u8) -> Result<(), LineFault> {
-        if requests < 1 || requests > WIDEST_WINDOW {
+        if requests < 1 || requests > WINDOW_LIMIT {
             return Err(LineFault::Refused);
         }
         self.window = requests;
         Ok(())
     }
 
-    /// Refused where no policy has these entries with this one behind them.
+    // Refused where no policy has these entries with this one behind them.
     fn add(&mut self, alloc: Global, entry: Entry) -> Result<(), LineFault> {
         self.entries.push(entry).map_err(AllocError::from)?;
         self.policy(alloc)?;
@@ -132,7 +132,7 @@ impl Terms {
     }
 }
 
-/// An end as its configuration, and its peer's, has it.
+// An end as its configuration, and its peer's, has it.
 fn end(alloc: Global, side: Side) -> Result<EndConfig, AllocError>
     ensures { IfOk result (λ end. IsIdentity end.identity) }
 {

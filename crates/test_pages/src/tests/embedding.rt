@@ -2,7 +2,7 @@
 use std::test::Fail;
 
 #[test]
-fn the_page_of_peers(rt: HostRuntime) -> Result<(), Fail> {
+fn the_page_of_caller_peer(rt: HostRuntime) -> Result<(), Fail> {
     use base::Items;
     use caller_peer::{Peer, PeerCaller};
     use suite::Agreement;

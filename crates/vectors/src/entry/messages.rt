@@ -6,36 +6,36 @@ use wire::{
     encode_message,
 };
 
-/// A header of an IKE_SA_INIT request without payloads.
+// A header of an IKE_SA_INIT request without payloads.
 const EMPTY: [u8; 28] = [
     1, 2, 3, 4, 5, 6, 7, 8, 0, 0, 0, 0, 0, 0, 0, 0, 0, 0x20, 0x22, 8, 0, 0, 0, 0, 0, 0, 0, 28,
 ];
 
-/// An SA payload that offers SPI 256 of ESP without extended numbers.
+// An SA payload that offers SPI 256 of ESP without extended numbers.
 const ESP_OFFER: [u8; 40] = [
     0, 0, 0, 0x28, 0, 0, 0, 0x24, 1, 3, 4, 3, 0, 0, 1, 0, 3, 0, 0, 8, 1, 0, 0, 11, 3, 0, 0, 8, 3,
     0, 0, 12, 0, 0, 0, 8, 5, 0, 0, 0,
 ];
 
-/// The SA payload of IKE_SA_INIT in scripts, and a key exchange behind it.
+// The SA payload of IKE_SA_INIT in scripts, and a key exchange behind it.
 const IKE_OFFER: [u8; 53] = [
     0x22, 0, 0, 0x2c, 0, 0, 0, 0x28, 1, 1, 0, 4, 3, 0, 0, 8, 1, 0, 0xfd, 0xe9, 3, 0, 0, 8, 2, 0, 0,
     5, 3, 0, 0, 8, 3, 0, 0, 12, 0, 0, 0, 8, 4, 0, 0xfd, 0xea, 0, 0, 0, 9, 0xfd, 0xea, 0, 0, 7,
 ];
 
-/// An answer of IKE_SA_INIT that asks for the cookie aabb.
+// An answer of IKE_SA_INIT that asks for the cookie aabb.
 const COOKIE: [u8; 38] = [
     1, 2, 3, 4, 5, 6, 7, 8, 0, 0, 0, 0, 0, 0, 0, 0, 0x29, 0x20, 0x22, 0x20, 0, 0, 0, 0, 0, 0, 0,
     38, 0, 0, 0, 10, 0, 0, 0x40, 6, 0xaa, 0xbb,
 ];
 
-/// The headers of an empty INFORMATIONAL request of number 2, whose body has 17 octets.
+// The headers of an empty INFORMATIONAL request of number 2, whose body has 17 octets.
 const SEALED: [u8; 32] = [
     0, 0, 0, 0, 0, 0, 0, 1, 0, 0, 0, 0, 0, 0, 0, 2, 0x2e, 0x20, 0x25, 8, 0, 0, 0, 2, 0, 0, 0, 0x31,
     0, 0, 0, 0x15,
 ];
 
-/// A payload of selectors: one of IPv6, for all protocols and ports between two addresses.
+// A payload of selectors: one of IPv6, for all protocols and ports between two addresses.
 const SELECTORS_V6: [u8; 48] = [
     0, 0, 0, 48, 1, 0, 0, 0, 8, 0, 0, 40, 0, 0, 0xff, 0xff, 0x20, 1, 0x0d, 0xb8, 0, 0, 0, 0, 0, 0,
     0, 0, 0, 0, 0x0a, 0, 0x20, 1, 0x0d, 0xb8, 0, 0, 0, 0, 0, 0, 0, 0, 0, 0, 0x0a, 0xff,
@@ -72,7 +72,7 @@ pub fn holds(alloc: Global, row: usize) -> Result<bool, AllocError> {
     }
 }
 
-/// Payloads that are read alone, and faults of theirs.
+// Payloads that are read alone, and faults of theirs.
 fn holds_chain(alloc: Global, row: usize) -> Result<bool, AllocError> {
     match row {
         // A selector whose start is above its end.
@@ -104,7 +104,7 @@ fn holds_chain(alloc: Global, row: usize) -> Result<bool, AllocError> {
     }
 }
 
-/// [`EMPTY`] with another octet at a place.
+// [`EMPTY`] with another octet at a place.
 fn with_octet(place: usize, octet: u8) -> [u8; 28] {
     let mut octets = EMPTY;
     if let Some(found) = octets.get_mut(place) {
@@ -113,14 +113,14 @@ fn with_octet(place: usize, octet: u8) -> [u8; 28] {
     octets
 }
 
-/// [`ESP_OFFER`] with another number of its proposal.
+// [`ESP_OFFER`] with another number of its proposal.
 fn numbered(number: u8) -> [u8; 40] {
     let mut octets = ESP_OFFER;
     octets[8] = number;
     octets
 }
 
-/// What was read, or why not; want of memory apart.
+// What was read, or why not; want of memory apart.
 fn read<T>(read: Result<T, WireFault>) -> Result<Result<T, WireFault>, AllocError> {
     match read {
         Err(WireFault::Memory) => Err(AllocError),
@@ -147,7 +147,7 @@ fn is_refused_chain(
     }
 }
 
-/// Reads a message, and writes it again: the same octets.
+// Reads a message, and writes it again: the same octets.
 fn message(alloc: Global, octets: &[u8]) -> Result<Option<Message>, AllocError> {
     let Ok(message) = read(decode_message(alloc, octets))? else {
         return Ok(None);
@@ -168,7 +168,7 @@ fn is_empty(alloc: Global) -> Result<bool, AllocError> {
     }
 }
 
-/// The only proposal of a chain that begins with an SA payload.
+// The only proposal of a chain that begins with an SA payload.
 fn only_proposal(payloads: &[Payload]) -> Option<&Proposal> {
     match payloads.first() {
         Some(Payload::Sa(proposals)) => match proposals.as_slice() {
@@ -179,7 +179,7 @@ fn only_proposal(payloads: &[Payload]) -> Option<&Proposal> {
     }
 }
 
-/// Whether a transform is this one, without attributes.
+// Whether a transform is this one, without attributes.
 fn is_transform(transform: &Transform, kind: u8, id: u16) -> bool {
     transform.kind == kind && transform.id == id && transform.attributes.as_slice().is_empty()
 }
@@ -286,7 +286,7 @@ fn deletes_one(alloc: Global) -> Result<bool, AllocError> {
     }
 }
 
-/// A payload of type 200, critical, with one octet.
+// A payload of type 200, critical, with one octet.
 fn is_unknown(alloc: Global) -> Result<bool, AllocError> {
     let Ok(payloads) = read(decode_chain(alloc, 200, &[0, 0x80, 0, 5, 0xaa]))? else {
         return Ok(false);

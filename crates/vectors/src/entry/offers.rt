@@ -3,23 +3,23 @@ use base::{Items, Range, Selector};
 use policy::{Action, Decision, Direction, Entry, InnerFault, NarrowFault, Policy, inner, narrow};
 use std::alloc::{AllocError, Global};
 
-/// 10.0.0.0 to 10.0.0.255 and 10.1.0.0 to 10.1.0.255.
+// 10.0.0.0 to 10.0.0.255 and 10.1.0.0 to 10.1.0.255.
 const HERE: Range = Range::V4(0x0a00_0000, 0x0a00_00ff);
 
 const THERE: Range = Range::V4(0x0a01_0000, 0x0a01_00ff);
 
-/// An IPv4 packet from 10.0.0.1 to 10.1.0.1 of protocol 1 that is a header alone.
+// An IPv4 packet from 10.0.0.1 to 10.1.0.1 of protocol 1 that is a header alone.
 const PACKET: [u8; 20] = [
     0x45, 0, 0, 20, 0, 0, 0, 0, 0x40, 1, 0, 0, 10, 0, 0, 1, 10, 1, 0, 1,
 ];
 
-/// An IPv6 packet from 2001:db8::a01 to 2001:db8::b01 that is a header alone.
+// An IPv6 packet from 2001:db8::a01 to 2001:db8::b01 that is a header alone.
 const PACKET_V6: [u8; 40] = [
     0x60, 0, 0, 0, 0, 0, 0x3b, 0x40, 0x20, 1, 0x0d, 0xb8, 0, 0, 0, 0, 0, 0, 0, 0, 0, 0, 0x0a, 1,
     0x20, 1, 0x0d, 0xb8, 0, 0, 0, 0, 0, 0, 0, 0, 0, 0, 0x0b, 1,
 ];
 
-/// Protects everything between the two networks.
+// Protects everything between the two networks.
 const PROTECT: Entry = Entry {
     protocol: 0,
     local: HERE,
@@ -50,7 +50,7 @@ pub fn holds(alloc: Global, row: usize) -> Result<bool, AllocError> {
     }
 }
 
-/// A policy of these entries, of which none is at fault.
+// A policy of these entries, of which none is at fault.
 fn policy(alloc: Global, entries: &[Entry]) -> Result<Option<Policy>, AllocError> {
     Ok(Policy::new(Items::from_slice(alloc, entries)?).ok())
 }
@@ -62,7 +62,7 @@ fn decides(alloc: Global, entries: &[Entry], wanted: Decision) -> Result<bool, A
     }
 }
 
-/// All ports of every protocol between these addresses.
+// All ports of every protocol between these addresses.
 fn every(addresses: Range) -> Selector {
     Selector {
         protocol: 0,
@@ -72,7 +72,7 @@ fn every(addresses: Range) -> Selector {
     }
 }
 
-/// Whether an offer is narrowed so: the initiator's selectors, and the responder's.
+// Whether an offer is narrowed so: the initiator's selectors, and the responder's.
 fn narrows(
     alloc: Global,
     entries: &[Entry],
@@ -101,7 +101,7 @@ fn narrows_to_the_side(alloc: Global) -> Result<bool, AllocError> {
     narrows(alloc, &[entry], (&there, &[every(HERE)]), (&there, &common))
 }
 
-/// The entry that holds the whole of what is offered first is taken, and not the one that stands before it.
+// The entry that holds the whole of what is offered first is taken, and not the one that stands before it.
 fn takes_the_entry_of_the_first(alloc: Global) -> Result<bool, AllocError> {
     let half = Entry {
         local: Range::V4(0x0a00_0000, 0x0a00_007f),
@@ -156,7 +156,7 @@ fn leaves_out(alloc: Global) -> Result<bool, AllocError> {
     )
 }
 
-/// A selector of a protocol without ports that names some holds no point.
+// A selector of a protocol without ports that names some holds no point.
 fn has_no_point(alloc: Global) -> Result<bool, AllocError> {
     let Some(policy) = policy(alloc, &[PROTECT])? else {
         return Ok(false);

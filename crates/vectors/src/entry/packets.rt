@@ -10,21 +10,21 @@ const SPI: u32 = 256;
 
 const KEY: [u8; 32] = [0x0b; 32];
 
-/// The next header of an IPv4 packet.
+// The next header of an IPv4 packet.
 const IPV4: u8 = 4;
 
-/// An IPv4 packet from 10.0.0.1 to 10.1.0.1 that is a header alone.
+// An IPv4 packet from 10.0.0.1 to 10.1.0.1 that is a header alone.
 const INNER: [u8; 20] = [
     0x45, 0, 0, 20, 0, 0, 0, 0, 0x40, 1, 0, 0, 10, 0, 0, 1, 10, 1, 0, 1,
 ];
 
-/// As far as the check value, the packet of number 1 that carries it: SPI, number, packet, padding, its length, next header.
+// As far as the check value, the packet of number 1 that carries it: SPI, number, packet, padding, its length, next header.
 const SEALED: [u8; 32] = [
     0, 0, 1, 0, 0, 0, 0, 1, 0x45, 0, 0, 20, 0, 0, 0, 0, 0x40, 1, 0, 0, 10, 0, 0, 1, 10, 1, 0, 1, 1,
     2, 2, 4,
 ];
 
-/// The octets of a payload, those of its padding, and those of its packet.
+// The octets of a payload, those of its padding, and those of its packet.
 const SIZES: [(usize, u8, usize); 6] = [
     (0, 2, 28),
     (22, 0, 48),
@@ -50,7 +50,7 @@ pub fn holds(alloc: Global, row: usize) -> Result<bool, AllocError> {
     }
 }
 
-/// The packet in which a payload goes by a sender that sealed its last one with this number.
+// The packet in which a payload goes by a sender that sealed its last one with this number.
 fn sealed(
     alloc: Global,
     payload: &[u8],
@@ -65,21 +65,21 @@ fn sealed(
     }
 }
 
-/// A receiver that was given packets of its SPI alone.
+// A receiver that was given packets of its SPI alone.
 #[derive(Drop)]
 struct Receiver {
     inbound: Inbound<BlockWindow>,
     ghost spi: { inbound.association.spi ≡ 256 },
 }
 
-/// What comes of a packet that is opened.
+// What comes of a packet that is opened.
 #[derive(Clone, Copy, PartialEq, Eq)]
 enum Opening {
-    /// It carries [`INNER`], with this number.
+    // It carries [`INNER`], with this number.
     Up(u64),
-    /// It is refused.
+    // It is refused.
     Refused(EspFault),
-    /// It carries something else, or is for another association.
+    // It carries something else, or is for another association.
     Other,
 }
 
@@ -107,7 +107,7 @@ impl Receiver {
     }
 }
 
-/// Whether the packet begins with the SPI, if it has room for one.
+// Whether the packet begins with the SPI, if it has room for one.
 fn is_ours(packet: &[u8]) -> bool
     ensures { IsTrue result ↔ (4 ≤ length packet.now → take 4 packet.now ≡ big_bytes 4 256) }
 {
@@ -138,7 +138,7 @@ fn is_too_large(alloc: Global) -> Result<bool, AllocError> {
     Ok(sealed(alloc, &payload, false, 0)? == Err(EspFault::PayloadSize))
 }
 
-/// The seventh packet comes, and comes again.
+// The seventh packet comes, and comes again.
 fn opens_once(alloc: Global) -> Result<bool, AllocError> {
     let mut receiver = Receiver::new(alloc, false)?;
     let Ok(packet) = sealed(alloc, &INNER, false, 6)? else {
@@ -150,7 +150,7 @@ fn opens_once(alloc: Global) -> Result<bool, AllocError> {
     )
 }
 
-/// The ninth packet comes damaged, and then as it is.
+// The ninth packet comes damaged, and then as it is.
 fn is_damaged(alloc: Global) -> Result<bool, AllocError> {
     let mut receiver = Receiver::new(alloc, false)?;
     let Ok(packet) = sealed(alloc, &INNER, false, 8)? else {
@@ -166,7 +166,7 @@ fn is_damaged(alloc: Global) -> Result<bool, AllocError> {
     )
 }
 
-/// A packet of this low half, with these octets up to the next header and a right check value over them.
+// A packet of this low half, with these octets up to the next header and a right check value over them.
 fn signed(alloc: Global, low: u32, contents: &[u8]) -> Result<Vec<u8>, AllocError> {
     let mut packet = Vec::with_capacity(alloc, contents.len().saturating_add(24))?;
     packet.extend_from_slice(&SPI.to_be_bytes())?;
@@ -177,7 +177,7 @@ fn signed(alloc: Global, low: u32, contents: &[u8]) -> Result<Vec<u8>, AllocErro
     Ok(packet)
 }
 
-/// The padding is 0, 0 where it should be 1, 2: the number stays taken.
+// The padding is 0, 0 where it should be 1, 2: the number stays taken.
 fn has_bad_padding(alloc: Global) -> Result<bool, AllocError> {
     let mut receiver = Receiver::new(alloc, false)?;
     let packet = signed(alloc, 1, &[0, 0, 2, IPV4])?;
@@ -197,7 +197,7 @@ fn is_exhausted(alloc: Global) -> Result<bool, AllocError> {
     Ok(sealed(alloc, &INNER, false, 0xffff_ffff)? == Err(EspFault::Exhausted))
 }
 
-/// With extended numbers a new receiver recovers none from the low half 0 of 2^32.
+// With extended numbers a new receiver recovers none from the low half 0 of 2^32.
 fn is_not_recovered(alloc: Global) -> Result<bool, AllocError> {
     let mut receiver = Receiver::new(alloc, true)?;
     let Ok(packet) = sealed(alloc, &INNER, true, 0xffff_ffff)? else {
@@ -206,7 +206,7 @@ fn is_not_recovered(alloc: Global) -> Result<bool, AllocError> {
     Ok(receiver.open(&packet) == Opening::Refused(EspFault::BadNumber))
 }
 
-/// It does once a number came that is near.
+// It does once a number came that is near.
 fn is_recovered(alloc: Global) -> Result<bool, AllocError> {
     let mut receiver = Receiver::new(alloc, true)?;
     let Ok(near) = sealed(alloc, &INNER, true, 0xffff_ffbf)? else {

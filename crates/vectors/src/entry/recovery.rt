@@ -1,7 +1,7 @@
 //! The number that a low half stands for, by a window of 64 numbers (RFC 4303, appendix A2).
 use replay::recover;
 
-/// The greatest number, the low half, and the number.
+// The greatest number, the low half, and the number.
 const ROWS: [(u64, u32, Option<u64>); 8] = [
     (4_294_967_306, 0xffff_fff0, Some(4_294_967_280)),
     (4_294_967_295, 5, Some(4_294_967_301)),

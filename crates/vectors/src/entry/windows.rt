@@ -3,7 +3,7 @@ use replay::Judgement::{Fresh, Old, Taken, Zero};
 use replay::{BlockWindow, Judgement, PlainWindow, Window, is_block_count};
 use std::alloc::{AllocError, Global};
 
-/// The count of blocks, the numbers that are taken in order, and what is answered then.
+// The count of blocks, the numbers that are taken in order, and what is answered then.
 type Row = (u32, &'static [u64], &'static [(u64, Judgement)]);
 
 const ROWS: [Row; 8] = [
@@ -50,7 +50,7 @@ pub fn holds(alloc: Global, row: usize) -> Result<bool, AllocError> {
     Ok(answers_so(block, taken, answers)? && answers_so(plain, taken, answers)?)
 }
 
-/// Whether a window answers so once these numbers were taken, each of them for the first time.
+// Whether a window answers so once these numbers were taken, each of them for the first time.
 fn answers_so<W: Window + Drop>(
     mut window: W,
     taken: &[u64],

@@ -1,5 +1,5 @@
 use Rattle.std.proofs.Common.{◌≡◌, ◌/◌, max, arith}
-use Rattle.replay.specs.WindowFacts.{fresh}
+use Rattle.replay.proofs.WindowFacts.{fresh}
 use Rattle.replay.proofs.BlockLemmas.{IsSet, IsCleared, ring_inside, ring_above, takes_bit_inside, takes_bit_above}
 use Rattle.replay.proofs.block.mark.Goals as goal
 use Rattle.replay.proofs.block.mark.Goals.{then-n-top, else-n-top}

@@ -124,16 +124,6 @@ fn the_peers_window_is_the_one_that_counts(rt: HostRuntime) {
 }
 
 #[test]
-fn what_is_given_up_stays_unanswered(rt: HostRuntime) {
-    let mut outgoing: Outgoing<u32> = Outgoing::new(rt.alloc());
-    same(&rt, issue(&mut outgoing, 10), Ok(0));
-    outgoing.give_up();
-    holds(&rt, outgoing.after(None).is_none());
-    same(&rt, count(&mut outgoing, 0), None);
-    same(&rt, outgoing.may_issue(), Err(RequestFault::Busy));
-}
-
-#[test]
 fn one_of_two_is_withdrawn(rt: HostRuntime) {
     let mut outgoing: Outgoing<u32> = Outgoing::new(rt.alloc());
     outgoing.set_window(2);

@@ -36,9 +36,6 @@ fn pairs_of_an_association(rt: HostRuntime) {
     same(&rt, table.next_of(7, 4), None);
     same(&rt, table.next_of(9, 0), None);
     same(&rt, table.next_of(8, u32::MAX), None);
-    same(&rt, table.sender_under(7, 1000), Some(1));
-    same(&rt, table.sender_under(7, 2000), Some(3));
-    same(&rt, table.sender_under(8, 2000), None);
 }
 
 #[test]
@@ -47,6 +44,5 @@ fn pairs_removed_together(rt: HostRuntime) {
     table.remove_all_of(7);
     same(&rt, table.next_of(7, 0), None);
     same(&rt, table.next_of(8, 0), Some(2));
-    same(&rt, table.sender_under(8, 1000), Some(2));
     same(&rt, table.after(2).map(|pair| pair.serial), None);
 }

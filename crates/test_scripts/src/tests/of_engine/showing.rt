@@ -1,7 +1,7 @@
 //! Messages shown over readers and writers in memory. They and their lines were written by a Python program of its own.
 use crate::tests::asserts::same;
 use crate::tests::streams::{Narrow, Slow};
-use gw_console::MOST_OCTETS;
+use gw_console::FILE_LIMIT;
 use gw_engine::show;
 use std::alloc::Global;
 use std::panic::Expect;
@@ -225,7 +225,7 @@ fn expect_shown<R: Abort + AllocGlobal>(rt: &R, text: &[u8], wanted: &str, statu
 
 #[test]
 fn sizes_of_files(rt: HostRuntime) {
-    let mut text = blanks_to(&rt, rt.alloc(), MOST_OCTETS);
+    let mut text = blanks_to(&rt, rt.alloc(), FILE_LIMIT);
     expect_shown(&rt, text.as_slice(), BARE_SHOWN, 0);
     text.push(b' ').expect(&rt, "memory");
     expect_shown(&rt, text.as_slice(), "refused file\n", 1);

@@ -1,5 +1,5 @@
 use Rattle.std.proofs.Common.{rules, ◌≡◌, ◌++◌, ◌∷◌, []}
-use Rattle.replay.specs.WindowFacts.{fresh, takes_sound}
+use Rattle.replay.proofs.WindowFacts.{fresh, takes_sound}
 use Rattle.replay.proofs.PlainLemmas.{takes_inside, takes_above, once_more, once_kept}
 use Rattle.replay.proofs.plain.PlainWindowWindow.take.Goals as goal
 

@@ -1,7 +1,7 @@
 //! Lines that are refused.
 use super::{EXTENDED, KEY, PLAIN, expect};
 use crate::tests::asserts::{joined, same};
-use gw_console::MOST_OCTETS;
+use gw_console::FILE_LIMIT;
 use gw_engine::play;
 use std::panic::Expect;
 use std::process::Abort;
@@ -81,7 +81,7 @@ fn expect_played<R: Abort + AllocGlobal>(rt: &R, script: &[u8], wanted: &str, st
 
 #[test]
 fn sizes_of_files(rt: HostRuntime) {
-    let mut octets = comment_to(&rt, MOST_OCTETS);
+    let mut octets = comment_to(&rt, FILE_LIMIT);
     expect_played(&rt, octets.as_slice(), "done\n", 0);
     octets.push(b'#').expect(&rt, "memory");
     expect_played(&rt, octets.as_slice(), "refused file\n", 1);

@@ -89,12 +89,3 @@ judged_fresh w n is_fresh =
     let not_zero = is_fresh.not_zero in
     let not_old = is_fresh.not_old in
     judgement_of_fresh _ _ _ (grind (arith, nat_tests)) (grind (arith, nat_tests)) is_fresh.not_taken
-
--- what a window is after a number was taken follows from what it was
-pub one_window_after : (old a b : Seen) (n : ℕ) → Takes old n a → Takes old n b → a ≡ b
-one_window_after old a b n first second =
-    let same_top : a.top ≡ b.top = first.top ∙ sym second.top in
-    let same_size : a.size ≡ b.size = first.size ∙ sym second.size in
-    let same_taken : a.taken ≡ b.taken = set.same_set nat_cmp_total set.nat_cmp-IsAntisymmetric a.taken b.taken
-    (λ q. first.taken q ∙ (λ i. (nat_eq q n || set.contains old.taken q) && nat_lt (same_top i) (q + same_size i)) ∙ sym (second.taken q))
-    in λ i. record { top = same_top i; size = same_size i; taken = same_taken i }

@@ -1,9 +1,0 @@
-use Rattle.std.proofs.Common.{subst, sym, ap}
-use Rattle.requests.specs.Storage.{Held, AreOutgoing}
-use Rattle.requests.proofs.OutgoingLemmas.{gives_up}
-use Rattle.requests.proofs.outgoing.Outgoing.give_up.Goals as goal
-
-pub invariant_of-self : goal.invariant_of-self
-invariant_of-self g c =
-    subst (λ m. AreOutgoing c.self.inside.next c.self.inside.window c.self.inside.answered m) (sym (ap (λ (h : Held _). h.items) c.clear.ensures))
-    (gives_up c.self.inside.next c.self.inside.window c.self.inside.outstanding.room c.self.inside.answered c.self.inside.outstanding.items c.self.invariant)
