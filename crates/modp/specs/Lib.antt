@@ -1,3 +1,4 @@
 pub mod Number
 pub mod Group
+pub mod Form
 pub mod Laws

@@ -4,7 +4,8 @@
 //! An [`Element`] is a number below the prime. Nothing here takes memory. That powers of powers are the same in either order,
 //! on which a key agreement rests, is a law: [`laws`].
 //!
-//! A power branches on the bits of its exponent, so the time that it takes tells of them.
+//! A power reads a table at the places that its exponent's bits choose, four bits a time, and a product branches on its sum. So
+//! the time that they take may tell of secrets: nothing is claimed of it.
 //!
 //! ```rust
 //! use modp::Element;
@@ -17,6 +18,7 @@
 mod element;
 pub mod laws;
 mod limbs;
+mod montgomery;
 mod octets;
 mod power;
 mod reduction;
