@@ -5,6 +5,9 @@ use Rattle.std.specs.FinMap as map
 use Rattle.wire.specs.Numbers.{CREATE_CHILD_SA, IKE_AUTH, INFORMATIONAL}
 use Rattle.wire.specs.declared.message.Message.{Message}
 use Rattle.suite.specs.declared.keys.Keys.{Keys}
+use Rattle.suite.specs.declared.agreement.Agreement as Agreement
+use Rattle.suite.specs.declared.proof.Proof as Proof
+use Rattle.suite.specs.declared.sealer.Sealer as Sealer
 use Rattle.suite.specs.declared.sealer.Cipher.{Cipher}
 use Rattle.exchange.specs.declared.sealed.Plain.{Plain}
 use Rattle.sadb.specs.Database.{Database, IsTableRefusal}
@@ -46,6 +49,20 @@ pub record Meaning : Type 0 where
   pub own_method : ℕ
   pub proof_of : Octets → Octets
   pub accepts : Accepts
+
+-- what a caller of this type and value means by them
+abbrev pub meaning_of : {C : Type 0} → Sealer.Ghosts C → Agreement.Ghosts C → Proof.Ghosts C → C → Meaning
+meaning_of sealer agreement proof caller = record {
+  cipher = sealer.cipher;
+  body_of = sealer.body_of;
+  plain_of = sealer.plain_of;
+  group = agreement.group_number;
+  public_value = agreement.public_value;
+  shared_secret = agreement.shared_secret;
+  own_method = proof.own_method caller;
+  proof_of = proof.proof_of caller;
+  accepts = proof.accepts caller;
+}
 
 abbrev pub prover_of : Meaning → Prover
 prover_of m = record { body_of = m.body_of; own_method = m.own_method; proof_of = m.proof_of; accepts = m.accepts }

@@ -10,7 +10,7 @@ ghost use Rattle.initial.specs.Configs.{setup_of, IsConfig};
 ghost use Rattle.initial.specs.Reading.{IsInitSent};
 ghost use Rattle.informational.specs.Orders.{IsEstablished};
 ghost use Rattle.effects.specs.Waiting.{SuitPhase};
-ghost use Rattle.effects.specs.Taking.{asked_further, reception_of, CanWant, CanWantIn, DoesAnswer, DoesAtEstablished, DoesInitial, DoesRequest, DoesResponse, TakesMessage};
+ghost use Rattle.effects.specs.Taking.{asked_further, meaning_of, reception_of, CanWant, CanWantIn, DoesAnswer, DoesAtEstablished, DoesInitial, DoesRequest, DoesResponse, TakesMessage};
 
 use association::laws::receptions_say_why;
 use association::{Association, MessageFault, Phase, Received, receive};
@@ -63,17 +63,7 @@ pub fn take_message<C: Sealer + Agreement + Proof>(
     requires reserved { HoldsReserved association.old table.old }
     requires waits { SuitPhase association.old.phase association.old.outgoing.outstanding }
     ensures taken { IfOk result (λ effect. TakesMessage
-        (record {
-          cipher = C.cipher;
-          body_of = C.body_of;
-          plain_of = C.plain_of;
-          group = C.group_number;
-          public_value = C.public_value;
-          shared_secret = C.shared_secret;
-          own_method = C.own_method setup.now.caller.now;
-          proof_of = C.proof_of setup.now.caller.now;
-          accepts = C.accepts setup.now.caller.now;
-        })
+        (meaning_of C.Sealer C.Agreement C.Proof setup.now.caller.now)
         (setup_of setup.now) association.old table.old octets.now message.now effect association.new
         table.new) }
     ensures refused { IfErr result
@@ -139,17 +129,7 @@ fn take_initial<C: Sealer + Agreement + Proof>(
     requires spelled { Spells message.now octets.now }
     requires due { IsAnsweringInitial association.old message.now }
     ensures taken { IfOk result (λ effect. DoesInitial
-        (record {
-          cipher = C.cipher;
-          body_of = C.body_of;
-          plain_of = C.plain_of;
-          group = C.group_number;
-          public_value = C.public_value;
-          shared_secret = C.shared_secret;
-          own_method = C.own_method setup.now.caller.now;
-          proof_of = C.proof_of setup.now.caller.now;
-          accepts = C.accepts setup.now.caller.now;
-        })
+        (meaning_of C.Sealer C.Agreement C.Proof setup.now.caller.now)
         (setup_of setup.now) association.old octets.now message.now effect association.new) }
     ensures refused { IfErr result (λ _. association.new ≡ association.old) }
 {
@@ -181,17 +161,7 @@ fn take_request<C: Sealer + Agreement + Proof>(
     requires admitted { admits association.old.phase exchange ≡ true }
     requires reserved { HoldsReserved association.old table.old }
     ensures taken { IfOk result (λ effect. DoesRequest
-        (record {
-          cipher = C.cipher;
-          body_of = C.body_of;
-          plain_of = C.plain_of;
-          group = C.group_number;
-          public_value = C.public_value;
-          shared_secret = C.shared_secret;
-          own_method = C.own_method setup.now.caller.now;
-          proof_of = C.proof_of setup.now.caller.now;
-          accepts = C.accepts setup.now.caller.now;
-        })
+        (meaning_of C.Sealer C.Agreement C.Proof setup.now.caller.now)
         (setup_of setup.now) association.old.phase exchange association.old table.old number plain.now
         effect association.new table.new) }
     ensures refused { IfErr result
@@ -232,17 +202,7 @@ fn take_at_established<C: Sealer + Agreement + Proof>(
     requires admitted { admits association.old.phase exchange ≡ true }
     requires reserved { HoldsReserved association.old table.old }
     ensures taken { IfOk result (λ effect. DoesAtEstablished (exchange == INFORMATIONAL)
-        (record {
-          cipher = C.cipher;
-          body_of = C.body_of;
-          plain_of = C.plain_of;
-          group = C.group_number;
-          public_value = C.public_value;
-          shared_secret = C.shared_secret;
-          own_method = C.own_method setup.now.caller.now;
-          proof_of = C.proof_of setup.now.caller.now;
-          accepts = C.accepts setup.now.caller.now;
-        })
+        (meaning_of C.Sealer C.Agreement C.Proof setup.now.caller.now)
         (setup_of setup.now) association.old table.old number plain.now effect association.new table.new) }
     ensures refused { IfErr result
         (λ _. (association.new ≡ association.old) × IsAsBefore table.old table.new) }
@@ -269,17 +229,7 @@ fn take_response<C: Sealer + Agreement + Proof>(
     requires waits { SuitPhase association.old.phase association.old.outgoing.outstanding }
     requires reserved { HoldsReserved association.old table.old }
     ensures taken { IfOk result (λ effect. DoesResponse
-        (record {
-          cipher = C.cipher;
-          body_of = C.body_of;
-          plain_of = C.plain_of;
-          group = C.group_number;
-          public_value = C.public_value;
-          shared_secret = C.shared_secret;
-          own_method = C.own_method setup.now.caller.now;
-          proof_of = C.proof_of setup.now.caller.now;
-          accepts = C.accepts setup.now.caller.now;
-        })
+        (meaning_of C.Sealer C.Agreement C.Proof setup.now.caller.now)
         (setup_of setup.now) association.old.phase association.old table.old message.now.header.id
         plain.now effect association.new table.new) }
     ensures refused { IfErr result (λ _. (association.new ≡ association.old) × (table.new ≡ table.old)) }

@@ -9,6 +9,7 @@ ghost use Rattle.ike.specs.Soundness.{AreReservationsHeld, IsSoundMachine};
 ghost use Rattle.gateway.specs.Outputs.{output_view};
 ghost use Rattle.gateway.specs.States.{new_gateway};
 ghost use Rattle.gateway.specs.Steps.{Steps, Traces};
+ghost use Rattle.effects.specs.Taking.{meaning_of};
 
 use crate::stepping::take;
 use crate::{Input, Output, Traced};
@@ -119,17 +120,7 @@ impl<C: Sealer + Agreement + Proof> Gateway<C> {
     /// What is refused changes nothing but the table's room.
     pub fn step<'a>(&mut self, alloc: Global, input: &'a Input) -> Output<'a>
         ensures { Steps
-            (record {
-              cipher = C.cipher;
-              body_of = C.body_of;
-              plain_of = C.plain_of;
-              group = C.group_number;
-              public_value = C.public_value;
-              shared_secret = C.shared_secret;
-              own_method = C.own_method self.old.caller;
-              proof_of = C.proof_of self.old.caller;
-              accepts = C.accepts self.old.caller;
-            })
+            (meaning_of C.Sealer C.Agreement C.Proof self.old.caller)
             input.now self.old (output_view result) self.new }
     {
         self.traced_step(alloc, input).output
@@ -139,17 +130,7 @@ impl<C: Sealer + Agreement + Proof> Gateway<C> {
     /// child it made.
     pub fn traced_step<'a>(&mut self, alloc: Global, input: &'a Input) -> Traced<'a>
         ensures { Traces
-            (record {
-              cipher = C.cipher;
-              body_of = C.body_of;
-              plain_of = C.plain_of;
-              group = C.group_number;
-              public_value = C.public_value;
-              shared_secret = C.shared_secret;
-              own_method = C.own_method self.old.caller;
-              proof_of = C.proof_of self.old.caller;
-              accepts = C.accepts self.old.caller;
-            })
+            (meaning_of C.Sealer C.Agreement C.Proof self.old.caller)
             input.now self.old (output_view result.output) result.trace self.new }
     {
         take(

@@ -2,6 +2,7 @@
 ghost use Rattle.std.specs.Prelude.{◌≡◌, ◌+◌, ◌≤◌, OnOk, IfErr, IsOk, length, vec_len};
 ghost use Rattle.std.specs.Vec.{vec_capacity};
 ghost use Rattle.gateway.specs.Runs.{RunsFirst, Stops};
+ghost use Rattle.effects.specs.Taking.{meaning_of};
 
 use crate::laws::every_run_keeps_its_promises;
 use crate::{Gateway, Input, Output, RunFault};
@@ -26,30 +27,10 @@ pub fn run<'a, C: Sealer + Agreement + Proof>(
     outputs: &mut Vec<Output<'a>>,
 ) -> Result<(), RunFault>
     ensures all { OnOk result (RunsFirst
-        (λ caller. record {
-          cipher = C.cipher;
-          body_of = C.body_of;
-          plain_of = C.plain_of;
-          group = C.group_number;
-          public_value = C.public_value;
-          shared_secret = C.shared_secret;
-          own_method = C.own_method caller;
-          proof_of = C.proof_of caller;
-          accepts = C.accepts caller;
-        })
+        (meaning_of C.Sealer C.Agreement C.Proof)
         (length inputs.now) inputs.now gateway.old outputs.old.items gateway.new outputs.new.items) }
     ensures stopped { IfErr result (λ fault. Stops
-        (λ caller. record {
-          cipher = C.cipher;
-          body_of = C.body_of;
-          plain_of = C.plain_of;
-          group = C.group_number;
-          public_value = C.public_value;
-          shared_secret = C.shared_secret;
-          own_method = C.own_method caller;
-          proof_of = C.proof_of caller;
-          accepts = C.accepts caller;
-        })
+        (meaning_of C.Sealer C.Agreement C.Proof)
         inputs.now gateway.old outputs.old.items fault gateway.new outputs.new.items) }
     ensures room { vec_len outputs.old + length inputs.now ≤ vec_capacity outputs.old → IsOk result }
 {

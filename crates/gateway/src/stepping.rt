@@ -7,6 +7,7 @@ ghost use Rattle.ike.specs.Soundness.{AreReservationsHeld, IsSoundMachine};
 ghost use Rattle.ike.specs.Steps.{input_view};
 ghost use Rattle.gateway.specs.Outputs.{output_view};
 ghost use Rattle.gateway.specs.Steps.{AdmitsPacket, DoesInput, ReceivesPacket, SendsPacket, StepsIke};
+ghost use Rattle.effects.specs.Taking.{meaning_of};
 
 use crate::{Input, Output, Reason, Traced};
 use flows::FlowMemory;
@@ -38,17 +39,7 @@ pub(crate) fn take<'a, C: Sealer + Agreement + Proof>(
     requires reservations { AreReservationsHeld ike.old.held table.old }
     requires right { AllRight policy.now table.old.pairs flows.old }
     ensures done { DoesInput
-        (record {
-          cipher = C.cipher;
-          body_of = C.body_of;
-          plain_of = C.plain_of;
-          group = C.group_number;
-          public_value = C.public_value;
-          shared_secret = C.shared_secret;
-          own_method = C.own_method caller.now;
-          proof_of = C.proof_of caller.now;
-          accepts = C.accepts caller.now;
-        })
+        (meaning_of C.Sealer C.Agreement C.Proof caller.now)
         policy.now input.now ike.old table.old (output_view result.output) result.trace ike.new table.new }
     ensures sound { IsSoundMachine ike.new table.new }
     ensures timely { IsTimely ike.new }
@@ -143,17 +134,7 @@ fn step_ike<'a, C: Sealer + Agreement + Proof>(
     requires reservations { AreReservationsHeld ike.old.held table.old }
     requires right { AllRight policy.now table.old.pairs flows.old }
     ensures stepped { StepsIke
-        (record {
-          cipher = C.cipher;
-          body_of = C.body_of;
-          plain_of = C.plain_of;
-          group = C.group_number;
-          public_value = C.public_value;
-          shared_secret = C.shared_secret;
-          own_method = C.own_method caller.now;
-          proof_of = C.proof_of caller.now;
-          accepts = C.accepts caller.now;
-        })
+        (meaning_of C.Sealer C.Agreement C.Proof caller.now)
         policy.now (input_view input.now) ike.old table.old
         (output_view result.output) result.trace ike.new table.new }
     ensures sound { IsSoundMachine ike.new table.new }
@@ -188,17 +169,7 @@ fn step_machine<'a, C: Sealer + Agreement + Proof>(
     requires timely { IsTimely ike.old }
     requires reservations { AreReservationsHeld ike.old.held table.old }
     ensures stepped { StepsIke
-        (record {
-          cipher = C.cipher;
-          body_of = C.body_of;
-          plain_of = C.plain_of;
-          group = C.group_number;
-          public_value = C.public_value;
-          shared_secret = C.shared_secret;
-          own_method = C.own_method caller.now;
-          proof_of = C.proof_of caller.now;
-          accepts = C.accepts caller.now;
-        })
+        (meaning_of C.Sealer C.Agreement C.Proof caller.now)
         policy.now (input_view input.now) ike.old table.old
         (output_view result.output) result.trace ike.new table.new }
     ensures sound { IsSoundMachine ike.new table.new }

@@ -10,6 +10,7 @@ ghost use Rattle.suite.specs.declared.keys.Keys.{Keys};
 ghost use Rattle.gateway.specs.BothEnds.{IsWhollySound};
 ghost use Rattle.gateway.specs.WorldParties.{IsSoundUnder};
 ghost use Rattle.gateway.specs.Worlds.{datagram_at, gateway_at, new_world, HoldsNothing, IsFreshlyGiven, TakesEvent};
+ghost use Rattle.effects.specs.Taking.{meaning_of};
 
 mod log;
 mod running;
@@ -122,17 +123,7 @@ impl<C: Sealer + Agreement + Proof> World<C> {
         event: &'a Event,
     ) -> Result<Output<'a>, AllocError>
         ensures happened { IfOk result (λ output. TakesEvent
-            (λ caller. record {
-              cipher = C.cipher;
-              body_of = C.body_of;
-              plain_of = C.plain_of;
-              group = C.group_number;
-              public_value = C.public_value;
-              shared_secret = C.shared_secret;
-              own_method = C.own_method caller;
-              proof_of = C.proof_of caller;
-              accepts = C.accepts caller;
-            })
+            (meaning_of C.Sealer C.Agreement C.Proof)
             event.now self.old (output_view output) self.new) }
         ensures refused { IfErr result (λ _. self.new ≡ self.old) }
     {

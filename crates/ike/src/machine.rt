@@ -8,6 +8,7 @@ ghost use Rattle.ike.specs.Outputs.{plain_step};
 ghost use Rattle.sa_init.specs.Cookies.{changed};
 ghost use Rattle.ike.specs.Soundness.{IsSoundMachine};
 ghost use Rattle.ike.specs.Steps.{input_view, Refuses, Steps};
+ghost use Rattle.effects.specs.Taking.{meaning_of};
 
 use crate::asking::ask;
 use crate::held::{Held, association_of};
@@ -106,30 +107,10 @@ impl Ike {
     ) -> Result<Stepped, IkeFault>
         requires sound { IsSoundMachine self.old table.old }
         ensures stepped { IfOk result (λ stepped. Steps
-            (record {
-              cipher = C.cipher;
-              body_of = C.body_of;
-              plain_of = C.plain_of;
-              group = C.group_number;
-              public_value = C.public_value;
-              shared_secret = C.shared_secret;
-              own_method = C.own_method caller.now;
-              proof_of = C.proof_of caller.now;
-              accepts = C.accepts caller.now;
-            })
+            (meaning_of C.Sealer C.Agreement C.Proof caller.now)
             policy.now (input_view input.now) self.old table.old stepped self.new table.new) }
         ensures refused { IfErr result (λ reason. Refuses
-            (record {
-              cipher = C.cipher;
-              body_of = C.body_of;
-              plain_of = C.plain_of;
-              group = C.group_number;
-              public_value = C.public_value;
-              shared_secret = C.shared_secret;
-              own_method = C.own_method caller.now;
-              proof_of = C.proof_of caller.now;
-              accepts = C.accepts caller.now;
-            })
+            (meaning_of C.Sealer C.Agreement C.Proof caller.now)
             policy.now (input_view input.now) self.old table.old reason
             × (self.new ≡ self.old) × IsAsBefore table.old table.new) }
         ensures sound { IsSoundMachine self.new table.new }
@@ -150,30 +131,10 @@ impl Ike {
     ) -> Result<Stepped, IkeFault>
         requires sound { IsSoundMachine self.old table.old }
         ensures stepped { IfOk result (λ stepped. Steps
-            (record {
-              cipher = C.cipher;
-              body_of = C.body_of;
-              plain_of = C.plain_of;
-              group = C.group_number;
-              public_value = C.public_value;
-              shared_secret = C.shared_secret;
-              own_method = C.own_method caller.now;
-              proof_of = C.proof_of caller.now;
-              accepts = C.accepts caller.now;
-            })
+            (meaning_of C.Sealer C.Agreement C.Proof caller.now)
             policy.now (input_view input.now) self.old table.old stepped self.new table.new) }
         ensures refused { IfErr result (λ reason. Refuses
-            (record {
-              cipher = C.cipher;
-              body_of = C.body_of;
-              plain_of = C.plain_of;
-              group = C.group_number;
-              public_value = C.public_value;
-              shared_secret = C.shared_secret;
-              own_method = C.own_method caller.now;
-              proof_of = C.proof_of caller.now;
-              accepts = C.accepts caller.now;
-            })
+            (meaning_of C.Sealer C.Agreement C.Proof caller.now)
             policy.now (input_view input.now) self.old table.old reason
             × (self.new ≡ self.old) × IsAsBefore table.old table.new) }
     {

@@ -11,6 +11,7 @@ ghost use Rattle.ike.specs.Machines.{half_open_count, SERIAL_END};
 ghost use Rattle.ike.specs.Outputs.{half_open_step};
 ghost use Rattle.ike.specs.Receiving.{is_answered, is_initial_request, is_sound_initial, sender_of, with_next, CannotMake, CanWantMemory, RefusesDatagram, RefusesNew, Repeats, SaysNotice, TakesAt, TakesDatagram, TakesFound, TakesNew, TakesOffer, TakesRead, TakesSound, WantsFound};
 ghost use Rattle.ike.specs.Soundness.{AreSound};
+ghost use Rattle.effects.specs.Taking.{meaning_of};
 
 use crate::held::{Held, answered_place, half_open_count, is_bad_spi};
 use crate::{IkeFault, IkeOutput, Stepped, Trace};
@@ -42,30 +43,10 @@ pub(crate) fn take_datagram<C: Sealer + Agreement + Proof>(
     requires config { IsConfig setup.now.config.now }
     requires sound { AreSound held.old table.old }
     ensures taken { IfOk result (λ stepped. TakesDatagram
-        (record {
-          cipher = C.cipher;
-          body_of = C.body_of;
-          plain_of = C.plain_of;
-          group = C.group_number;
-          public_value = C.public_value;
-          shared_secret = C.shared_secret;
-          own_method = C.own_method setup.now.caller.now;
-          proof_of = C.proof_of setup.now.caller.now;
-          accepts = C.accepts setup.now.caller.now;
-        })
+        (meaning_of C.Sealer C.Agreement C.Proof setup.now.caller.now)
         (setup_of setup.now) cookies.now from.now octets.now held.old table.old stepped held.new table.new) }
     ensures refused { IfErr result (λ reason. RefusesDatagram
-        (record {
-          cipher = C.cipher;
-          body_of = C.body_of;
-          plain_of = C.plain_of;
-          group = C.group_number;
-          public_value = C.public_value;
-          shared_secret = C.shared_secret;
-          own_method = C.own_method setup.now.caller.now;
-          proof_of = C.proof_of setup.now.caller.now;
-          accepts = C.accepts setup.now.caller.now;
-        })
+        (meaning_of C.Sealer C.Agreement C.Proof setup.now.caller.now)
         (setup_of setup.now) cookies.now from.now octets.now held.old table.old reason
         × (held.new ≡ held.old) × IsAsBefore table.old table.new) }
 {
@@ -93,31 +74,11 @@ fn take_read<C: Sealer + Agreement + Proof>(
     requires spelled { Spells message.now octets.now }
     requires sound_header { CanWantMemory octets.now }
     ensures taken { IfOk result (λ stepped. TakesRead (is_initial_request message.now.header)
-        (record {
-          cipher = C.cipher;
-          body_of = C.body_of;
-          plain_of = C.plain_of;
-          group = C.group_number;
-          public_value = C.public_value;
-          shared_secret = C.shared_secret;
-          own_method = C.own_method setup.now.caller.now;
-          proof_of = C.proof_of setup.now.caller.now;
-          accepts = C.accepts setup.now.caller.now;
-        })
+        (meaning_of C.Sealer C.Agreement C.Proof setup.now.caller.now)
         (setup_of setup.now) cookies.now from.now octets.now message.now held.old table.old stepped
         held.new table.new) }
     ensures refused { IfErr result (λ reason. RefusesDatagram
-        (record {
-          cipher = C.cipher;
-          body_of = C.body_of;
-          plain_of = C.plain_of;
-          group = C.group_number;
-          public_value = C.public_value;
-          shared_secret = C.shared_secret;
-          own_method = C.own_method setup.now.caller.now;
-          proof_of = C.proof_of setup.now.caller.now;
-          accepts = C.accepts setup.now.caller.now;
-        })
+        (meaning_of C.Sealer C.Agreement C.Proof setup.now.caller.now)
         (setup_of setup.now) cookies.now from.now octets.now held.old table.old reason
         × (held.new ≡ held.old) × IsAsBefore table.old table.new) }
 {
@@ -153,17 +114,7 @@ fn take_found<C: Sealer + Agreement + Proof>(
     requires sound { AreSound held.old table.old }
     requires spelled { Spells message.now octets.now }
     ensures taken { IfOk result (λ stepped. TakesFound (place_meant message.now.header held.old.associations)
-        (record {
-          cipher = C.cipher;
-          body_of = C.body_of;
-          plain_of = C.plain_of;
-          group = C.group_number;
-          public_value = C.public_value;
-          shared_secret = C.shared_secret;
-          own_method = C.own_method setup.now.caller.now;
-          proof_of = C.proof_of setup.now.caller.now;
-          accepts = C.accepts setup.now.caller.now;
-        })
+        (meaning_of C.Sealer C.Agreement C.Proof setup.now.caller.now)
         (setup_of setup.now) octets.now message.now held.old table.old stepped held.new table.new) }
     ensures refused { IfErr result (λ _. (held.new ≡ held.old) × IsAsBefore table.old table.new) }
     ensures wanted { IfErr result
@@ -190,17 +141,7 @@ fn take_at<C: Sealer + Agreement + Proof>(
     requires sound { AreSound held.old table.old }
     requires spelled { Spells message.now octets.now }
     ensures taken { IfOk result (λ stepped. TakesAt place
-        (record {
-          cipher = C.cipher;
-          body_of = C.body_of;
-          plain_of = C.plain_of;
-          group = C.group_number;
-          public_value = C.public_value;
-          shared_secret = C.shared_secret;
-          own_method = C.own_method setup.now.caller.now;
-          proof_of = C.proof_of setup.now.caller.now;
-          accepts = C.accepts setup.now.caller.now;
-        })
+        (meaning_of C.Sealer C.Agreement C.Proof setup.now.caller.now)
         (setup_of setup.now) octets.now message.now held.old table.old stepped held.new table.new) }
     ensures refused { IfErr result (λ _. (held.new ≡ held.old) × IsAsBefore table.old table.new) }
     ensures wanted { IfErr result
@@ -226,30 +167,10 @@ fn take_initial<C: Sealer + Agreement + Proof>(
     requires initial { is_initial_request message.now.header ≡ true }
     requires sound_header { CanWantMemory octets.now }
     ensures taken { IfOk result (λ stepped. TakesSound (is_sound_initial message.now.header)
-        (record {
-          cipher = C.cipher;
-          body_of = C.body_of;
-          plain_of = C.plain_of;
-          group = C.group_number;
-          public_value = C.public_value;
-          shared_secret = C.shared_secret;
-          own_method = C.own_method setup.now.caller.now;
-          proof_of = C.proof_of setup.now.caller.now;
-          accepts = C.accepts setup.now.caller.now;
-        })
+        (meaning_of C.Sealer C.Agreement C.Proof setup.now.caller.now)
         (setup_of setup.now) cookies.now from.now octets.now message.now held.old stepped held.new) }
     ensures refused { IfErr result (λ reason. ((table : Database) → RefusesDatagram
-        (record {
-          cipher = C.cipher;
-          body_of = C.body_of;
-          plain_of = C.plain_of;
-          group = C.group_number;
-          public_value = C.public_value;
-          shared_secret = C.shared_secret;
-          own_method = C.own_method setup.now.caller.now;
-          proof_of = C.proof_of setup.now.caller.now;
-          accepts = C.accepts setup.now.caller.now;
-        })
+        (meaning_of C.Sealer C.Agreement C.Proof setup.now.caller.now)
         (setup_of setup.now) cookies.now from.now octets.now held.old table reason) × (held.new ≡ held.old)) }
 {
     if !is_sound_initial(&message.header) {
@@ -292,30 +213,10 @@ fn take_new<C: Sealer + Agreement + Proof>(
 ) -> Result<Stepped, IkeFault>
     requires spelled { Spells message.now octets.now }
     ensures taken { IfOk result (λ stepped. TakesNew
-        (record {
-          cipher = C.cipher;
-          body_of = C.body_of;
-          plain_of = C.plain_of;
-          group = C.group_number;
-          public_value = C.public_value;
-          shared_secret = C.shared_secret;
-          own_method = C.own_method setup.now.caller.now;
-          proof_of = C.proof_of setup.now.caller.now;
-          accepts = C.accepts setup.now.caller.now;
-        })
+        (meaning_of C.Sealer C.Agreement C.Proof setup.now.caller.now)
         (setup_of setup.now) cookies.now from.now octets.now message.now held.old stepped held.new) }
     ensures refused { IfErr result (λ reason. RefusesNew
-        (record {
-          cipher = C.cipher;
-          body_of = C.body_of;
-          plain_of = C.plain_of;
-          group = C.group_number;
-          public_value = C.public_value;
-          shared_secret = C.shared_secret;
-          own_method = C.own_method setup.now.caller.now;
-          proof_of = C.proof_of setup.now.caller.now;
-          accepts = C.accepts setup.now.caller.now;
-        })
+        (meaning_of C.Sealer C.Agreement C.Proof setup.now.caller.now)
         (setup_of setup.now) cookies.now from.now message.now held.old reason × (held.new ≡ held.old)) }
 {
     accepted_offers_fit();
@@ -376,17 +277,7 @@ fn take_offer<C: Sealer + Agreement + Proof>(
 ) -> Result<Stepped, IkeFault>
     requires fits { FitsOffer (offer_view offer.now) }
     ensures taken { IfOk result (λ stepped. TakesOffer
-        (record {
-          cipher = C.cipher;
-          body_of = C.body_of;
-          plain_of = C.plain_of;
-          group = C.group_number;
-          public_value = C.public_value;
-          shared_secret = C.shared_secret;
-          own_method = C.own_method setup.now.caller.now;
-          proof_of = C.proof_of setup.now.caller.now;
-          accepts = C.accepts setup.now.caller.now;
-        })
+        (meaning_of C.Sealer C.Agreement C.Proof setup.now.caller.now)
         (setup_of setup.now) (offer_view offer.now) spi_i octets.now held.old stepped held.new) }
     ensures refused { IfErr result
         (λ reason. CannotMake held.old setup.now.fresh.now.spi reason × (held.new ≡ held.old)) }

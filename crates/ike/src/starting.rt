@@ -7,6 +7,7 @@ ghost use Rattle.sadb.specs.Database.{IsAsBefore, IsFull, IsReady, IsReserved, I
 ghost use Rattle.initial.specs.Configs.{setup_of};
 ghost use Rattle.ike.specs.Machines.{SERIAL_END};
 ghost use Rattle.ike.specs.Starting.{if_protects, new_association_fault, beginning_fault, protecting_entry, BeginsBy, BeginsNext, FurthersBy, GivesNoSpi, IsAllowed, RefusesBeginning, RefusesFurtherBy, RefusesStart, Starts};
+ghost use Rattle.effects.specs.Taking.{meaning_of};
 
 use crate::asking::ask_further;
 use crate::held::{Held, is_bad_spi};
@@ -30,17 +31,7 @@ pub(crate) fn start<C: Sealer + Agreement + Proof>(
     place: u32,
 ) -> Result<Stepped, IkeFault>
     ensures started { IfOk result (λ stepped. Starts
-        (record {
-          cipher = C.cipher;
-          body_of = C.body_of;
-          plain_of = C.plain_of;
-          group = C.group_number;
-          public_value = C.public_value;
-          shared_secret = C.shared_secret;
-          own_method = C.own_method setup.now.caller.now;
-          proof_of = C.proof_of setup.now.caller.now;
-          accepts = C.accepts setup.now.caller.now;
-        })
+        (meaning_of C.Sealer C.Agreement C.Proof setup.now.caller.now)
         (setup_of setup.now) ike place held.old table.old stepped held.new table.new) }
     ensures refused { IfErr result
         (λ reason. RefusesStart setup.now.policy.now setup.now.fresh.now ike place held.old table.old reason
@@ -61,17 +52,7 @@ fn begin_by<C: Sealer + Agreement + Proof>(
     place: u32,
 ) -> Result<Stepped, IkeFault>
     ensures started { IfOk result (λ stepped. BeginsBy
-        (record {
-          cipher = C.cipher;
-          body_of = C.body_of;
-          plain_of = C.plain_of;
-          group = C.group_number;
-          public_value = C.public_value;
-          shared_secret = C.shared_secret;
-          own_method = C.own_method setup.now.caller.now;
-          proof_of = C.proof_of setup.now.caller.now;
-          accepts = C.accepts setup.now.caller.now;
-        })
+        (meaning_of C.Sealer C.Agreement C.Proof setup.now.caller.now)
         (setup_of setup.now) place held.old table.old stepped held.new table.new) }
     ensures refused { IfErr result
         (λ reason. RefusesBeginning setup.now.policy.now setup.now.fresh.now place held.old table.old reason
@@ -100,17 +81,7 @@ fn further_by<C: Sealer + Agreement + Proof>(
     place: u32,
 ) -> Result<Stepped, IkeFault>
     ensures asked { IfOk result (λ stepped. FurthersBy
-        (record {
-          cipher = C.cipher;
-          body_of = C.body_of;
-          plain_of = C.plain_of;
-          group = C.group_number;
-          public_value = C.public_value;
-          shared_secret = C.shared_secret;
-          own_method = C.own_method setup.now.caller.now;
-          proof_of = C.proof_of setup.now.caller.now;
-          accepts = C.accepts setup.now.caller.now;
-        })
+        (meaning_of C.Sealer C.Agreement C.Proof setup.now.caller.now)
         (setup_of setup.now) ike place held.old table.old stepped held.new table.new) }
     ensures refused { IfErr result
         (λ reason. RefusesFurtherBy

@@ -5,6 +5,8 @@ use Rattle.wire.specs.Numbers.{IKE_AUTH}
 use Rattle.wire.specs.declared.message.Message.{Message}
 use Rattle.wire.specs.declared.payload.Payload.{Payload}
 use Rattle.suite.specs.declared.keys.Keys.{Keys}
+use Rattle.suite.specs.declared.proof.Proof as Proof
+use Rattle.suite.specs.declared.sealer.Sealer as Sealer
 use Rattle.exchange.specs.Headers.{keys_of, sent_header}
 use Rattle.exchange.specs.Notices.{payload_of_notice}
 use Rattle.exchange.specs.Sealed.{IsSealed}
@@ -38,6 +40,15 @@ pub record Prover : Type 0 where
   pub own_method : ℕ
   pub proof_of : Octets → Octets
   pub accepts : Accepts
+
+-- what a caller of this type and value means so
+abbrev pub prover_by : {C : Type 0} → Sealer.Ghosts C → Proof.Ghosts C → C → Prover
+prover_by sealer proof caller = record {
+  body_of = sealer.body_of;
+  own_method = proof.own_method caller;
+  proof_of = proof.proof_of caller;
+  accepts = proof.accepts caller;
+}
 
 abbrev pub child_answer : Response → ChildAnswer
 child_answer (response.Made made) = answered.Payloads made.payloads

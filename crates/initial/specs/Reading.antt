@@ -7,6 +7,9 @@ use Rattle.wire.specs.Numbers.{IKE_AUTH}
 use Rattle.wire.specs.declared.message.Message.{Message}
 use Rattle.suite.specs.declared.key_record.KeyRecord.{KeyRecord}
 use Rattle.suite.specs.declared.keys.Keys.{Keys}
+use Rattle.suite.specs.declared.agreement.Agreement as Agreement
+use Rattle.suite.specs.declared.proof.Proof as Proof
+use Rattle.suite.specs.declared.sealer.Sealer as Sealer
 use Rattle.suite.specs.declared.sealer.Cipher.{Cipher}
 use Rattle.exchange.specs.Headers.{keys_of, sent_header}
 use Rattle.exchange.specs.Sealed.{IsSealed}
@@ -40,6 +43,18 @@ pub record Asker : Type 0 where
   pub shared_secret : Octets → Octets → Option Octets
   pub own_method : ℕ
   pub proof_of : Octets → Octets
+
+-- what a caller of this type and value means so
+abbrev pub asker_by : {C : Type 0} → Sealer.Ghosts C → Agreement.Ghosts C → Proof.Ghosts C → C → Asker
+asker_by sealer agreement proof caller = record {
+  cipher = sealer.cipher;
+  body_of = sealer.body_of;
+  group = agreement.group_number;
+  public_value = agreement.public_value;
+  shared_secret = agreement.shared_secret;
+  own_method = proof.own_method caller;
+  proof_of = proof.proof_of caller;
+}
 
 -- what this end remembers of its request
 abbrev pub waiting_of : ℕ → InitSent → WaitingView

@@ -7,7 +7,7 @@ ghost use Rattle.sadb.specs.Database.{IsAsBefore};
 ghost use Rattle.association.specs.Closing.{HoldsReserved};
 ghost use Rattle.auth.specs.Fitting.{FitWithin};
 ghost use Rattle.auth.specs.Answers.{answering_payloads, auth_answer};
-ghost use Rattle.initial.specs.Answering.{child_answer, outcome_of, pair_of, reply_message, reply_payloads, AnswersAuth, IsHalfOpen};
+ghost use Rattle.initial.specs.Answering.{child_answer, outcome_of, pair_of, prover_by, reply_message, reply_payloads, AnswersAuth, IsHalfOpen};
 ghost use Rattle.initial.specs.Concluding.{is_closing};
 ghost use Rattle.children.specs.Faults.{CanBeWanted};
 ghost use Rattle.initial.specs.Configs.{setup_of, IsConfig};
@@ -66,12 +66,7 @@ pub fn answer_auth<C: Sealer + Proof>(
     requires fresh { IsFreshRequest association.old.incoming number }
     requires reserved { HoldsReserved association.old table.old }
     ensures answered { IfOk result (λ answered. AnswersAuth
-        (record {
-          body_of = C.body_of;
-          own_method = C.own_method setup.now.caller.now;
-          proof_of = C.proof_of setup.now.caller.now;
-          accepts = C.accepts setup.now.caller.now;
-        })
+        (prover_by C.Sealer C.Proof setup.now.caller.now)
         (setup_of setup.now) association.old table.old number plain.now
         answered association.new table.new) }
     ensures refused { IfErr result

@@ -6,7 +6,7 @@ ghost use Rattle.exchange.specs.Sealed.{PAYLOADS_LIMIT, IsSealed};
 ghost use Rattle.requests.specs.Outgoing.{IsOutstanding};
 ghost use Rattle.sa_init.specs.Reading.{waiting_view};
 ghost use Rattle.initial.specs.Configs.{setup_of, IsConfig};
-ghost use Rattle.initial.specs.Reading.{carrying, identity_message, telling, waiting_of, IsInitSent, ReadsResponse, TakesFew};
+ghost use Rattle.initial.specs.Reading.{asker_by, carrying, identity_message, telling, waiting_of, IsInitSent, ReadsResponse, TakesFew};
 ghost use Rattle.std.specs.Prelude.{Some};
 ghost use Rattle.sa_init.specs.Messages.{request_message};
 ghost use Rattle.association.specs.AskedChildren.{asked_of};
@@ -66,15 +66,7 @@ pub fn read_response<C: Sealer + Agreement + Proof>(
     requires waiting { IsInitSent association.old.phase }
     requires outstanding { IsOutstanding association.old.outgoing number }
     ensures read { IfOk result (λ continued. ReadsResponse
-        (record {
-          cipher = C.cipher;
-          body_of = C.body_of;
-          group = C.group_number;
-          public_value = C.public_value;
-          shared_secret = C.shared_secret;
-          own_method = C.own_method setup.now.caller.now;
-          proof_of = C.proof_of setup.now.caller.now;
-        })
+        (asker_by C.Sealer C.Agreement C.Proof setup.now.caller.now)
         (setup_of setup.now) association.old number octets.now message.now continued association.new) }
     ensures refused { IfErr result (λ _. association.new ≡ association.old) }
 {

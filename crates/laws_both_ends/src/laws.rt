@@ -8,7 +8,7 @@ ghost use Rattle.association.specs.declared.phase.Association.{Association};
 ghost use Rattle.lockstep.specs.Promises.{lacking_below};
 ghost use Rattle.sadb.specs.Database.{pair_at};
 ghost use Rattle.sadb.specs.declared.pair.Pair.{Pair};
-ghost use Rattle.effects.specs.Taking.{Meaning};
+ghost use Rattle.effects.specs.Taking.{meaning_of, Meaning};
 ghost use Rattle.gateway.specs.BothEnds.{IsWhollySound};
 ghost use Rattle.gateway.specs.Outputs.{OutputView, Sealed};
 ghost use Rattle.gateway.specs.WorldHistories.{Happening, IsWorldTrail};
@@ -64,17 +64,7 @@ pub fn the_premises_of_one_record_are_met()
 pub fn the_ends_of_a_world_make_one_record<C: Sealer + Agreement + Proof>(caller: &C)
     ensures { (old new : WorldState C) (happenings : List (Happening C))
         → IsWorldTrail
-        (λ caller. record {
-          cipher = C.cipher;
-          body_of = C.body_of;
-          plain_of = C.plain_of;
-          group = C.group_number;
-          public_value = C.public_value;
-          shared_secret = C.shared_secret;
-          own_method = C.own_method caller;
-          proof_of = C.proof_of caller;
-          accepts = C.accepts caller;
-        })
+        (meaning_of C.Sealer C.Agreement C.Proof)
         old happenings new
         → (place other_place : ℕ) (h g : Happening C)
         → slice_get happenings place ≡ Some h → slice_get happenings other_place ≡ Some g

@@ -6,6 +6,7 @@ ghost use Rattle.wire.specs.Numbers.{MESSAGE_LIMIT, SELECTOR_LIMIT};
 ghost use Rattle.gateway.specs.Outputs.{output_view, DATAGRAM_LIMIT, FitsChild, FitsDatagram};
 ghost use Rattle.gateway.specs.Storing.{again_by, AreSpare, HasRoom, IsShortResent, IsSpare, IsSpareMessage, TakesAt};
 ghost use Rattle.gateway.specs.Worlds.{again_as, child_by, esp_mark, ike_mark, keyed_by, mark_again, nothing_stored, requests_in, sent_once, simplex_of, stored_by};
+ghost use Rattle.effects.specs.Taking.{meaning_of};
 
 use super::stored::{Child, Datagram, End, Keyed, Mark, Simplex};
 use crate::laws::{few_go_out_again, what_is_made_fits, what_is_sent_fits};
@@ -97,17 +98,7 @@ pub fn take<'a, C: Sealer + Agreement + Proof>(
     requires room { HasRoom log.old (again_by input.now gateway.old.machine) }
     requires spare { IsSpare spare (again_by input.now gateway.old.machine) }
     ensures { TakesAt
-        (record {
-          cipher = C.cipher;
-          body_of = C.body_of;
-          plain_of = C.plain_of;
-          group = C.group_number;
-          public_value = C.public_value;
-          shared_secret = C.shared_secret;
-          own_method = C.own_method gateway.old.caller;
-          proof_of = C.proof_of gateway.old.caller;
-          accepts = C.accepts gateway.old.caller;
-        })
+        (meaning_of C.Sealer C.Agreement C.Proof gateway.old.caller)
         end input.now gateway.old (stored_by log.old) (output_view result) gateway.new (stored_by log.new) }
 {
     gateway.invariants_hold();

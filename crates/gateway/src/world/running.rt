@@ -2,6 +2,7 @@
 ghost use Rattle.std.specs.Prelude.{OnOk, IfErr, length};
 ghost use Rattle.gateway.specs.BothEnds.{KeepsBothEnds};
 ghost use Rattle.gateway.specs.WorldRuns.{PlaysFirst, StopsPlaying};
+ghost use Rattle.effects.specs.Taking.{meaning_of};
 
 use super::{Event, World};
 use crate::laws::{
@@ -40,43 +41,13 @@ pub fn run_world<'a, C: Sealer + Agreement + Proof>(
     outputs: &mut Vec<Output<'a>>,
 ) -> Result<(), RunFault>
     ensures all { OnOk result (PlaysFirst
-        (λ caller. record {
-          cipher = C.cipher;
-          body_of = C.body_of;
-          plain_of = C.plain_of;
-          group = C.group_number;
-          public_value = C.public_value;
-          shared_secret = C.shared_secret;
-          own_method = C.own_method caller;
-          proof_of = C.proof_of caller;
-          accepts = C.accepts caller;
-        })
+        (meaning_of C.Sealer C.Agreement C.Proof)
         (length events.now) events.now world.old outputs.old.items world.new outputs.new.items) }
     ensures stopped { IfErr result (λ fault. StopsPlaying
-        (λ caller. record {
-          cipher = C.cipher;
-          body_of = C.body_of;
-          plain_of = C.plain_of;
-          group = C.group_number;
-          public_value = C.public_value;
-          shared_secret = C.shared_secret;
-          own_method = C.own_method caller;
-          proof_of = C.proof_of caller;
-          accepts = C.accepts caller;
-        })
+        (meaning_of C.Sealer C.Agreement C.Proof)
         events.now world.old outputs.old.items fault world.new outputs.new.items) }
     ensures both { KeepsBothEnds C.body_of C.plain_of
-        (λ caller. record {
-          cipher = C.cipher;
-          body_of = C.body_of;
-          plain_of = C.plain_of;
-          group = C.group_number;
-          public_value = C.public_value;
-          shared_secret = C.shared_secret;
-          own_method = C.own_method caller;
-          proof_of = C.proof_of caller;
-          accepts = C.accepts caller;
-        })
+        (meaning_of C.Sealer C.Agreement C.Proof)
         events.now world.old outputs.old.items world.new outputs.new.items }
 {
     both_ends_keep_their_promises::<C>();
