@@ -26,8 +26,6 @@ pub mod laws;
 mod naming;
 mod payloads;
 mod removing;
-#[cfg(test)]
-mod tests;
 
 pub use answering::answer_payloads;
 pub use asking::{delete_association, delete_child};

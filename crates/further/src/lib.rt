@@ -33,8 +33,6 @@ mod deciding;
 mod judging;
 pub mod laws;
 mod payloads;
-#[cfg(test)]
-mod tests;
 
 pub use answering::answer_payloads;
 pub use asking::ask;

@@ -6,7 +6,7 @@ use sa_init::request;
 use std::alloc::Global;
 use std::panic::Expect;
 use std::process::Abort;
-use test_samples::{further, gateway, message, order};
+use test_samples::{gateway, message, order};
 
 /// A request of an initiator of this SPI, with fresh octets of another one for the answer.
 fn asking(rt: &impl Abort, alloc: Global, spi_i: u64, fresh: u64) -> Input {
@@ -81,14 +81,4 @@ fn bad_fresh_spis_of_requests(rt: HostRuntime) {
     let used = asking(&rt, alloc, 5, 6);
     same(&rt, refusal(&mut gateway, alloc, used), 37);
     same(&rt, gateway.associations().len(), 1);
-}
-
-// An order for a further child: of no association, and of one that waits.
-#[test]
-fn further_children(rt: HostRuntime) {
-    let mut gateway = gateway(rt.alloc(), End::A).expect(&rt, "a gateway");
-    same(&rt, refusal(&mut gateway, rt.alloc(), further(1)), 28);
-    same(&rt, refusal(&mut gateway, rt.alloc(), order(1)), 0);
-    same(&rt, refusal(&mut gateway, rt.alloc(), further(1)), 32);
-    same(&rt, refusal(&mut gateway, rt.alloc(), further(2)), 28);
 }

@@ -1,7 +1,7 @@
-//! Lists of inputs at one gateway, and of events at two.
+//! A list of events at two gateways, by one call.
 use super::asserts::same;
 use caller_script::ScriptCaller;
-use gateway::{Child, Datagram, End, Event, Input, Mark, Output, RunFault, World, run, run_world};
+use gateway::{Child, Datagram, End, Event, Mark, World, run_world};
 use std::alloc::Global;
 use std::panic::Expect;
 use std::process::Abort;
@@ -132,45 +132,4 @@ fn events_by_one_call(rt: HostRuntime) {
     are_sent(&rt, world.datagrams());
     are_keyed(&rt, &world);
     are_made(&rt, world.children());
-}
-
-/// Orders with fresh octets of these SPIs.
-fn orders(rt: &impl Abort, alloc: Global, spis: &[u64]) -> Vec<Input> {
-    let mut orders = Vec::new(alloc);
-    for spi in spis {
-        orders.push(order(*spi)).expect(rt, "memory");
-    }
-    orders
-}
-
-/// The number of a refusal; 0 where there is none.
-fn refusal(output: &Output<'_>) -> u8 {
-    match output {
-        Output::Refused { reason } => reason.code(),
-        _ => 0,
-    }
-}
-
-/// Finds an output for each of these numbers of refusals.
-fn are_refused(rt: &impl Abort, outputs: &[Output<'_>], wanted: &[u8]) {
-    same(rt, outputs.len(), wanted.len());
-    for (output, wanted) in outputs.iter().zip(wanted) {
-        same(rt, refusal(output), *wanted);
-    }
-}
-
-// The third has an SPI that is in use.
-#[test]
-fn inputs_by_one_call(rt: HostRuntime) {
-    let mut gateway = gateway(rt.alloc(), End::A).expect(&rt, "a gateway");
-    let inputs = orders(&rt, rt.alloc(), &[1, 2, 1, 3]);
-    let mut outputs = Vec::new(rt.alloc());
-    run(rt.alloc(), &mut gateway, &inputs, &mut outputs).expect(&rt, "room");
-    are_refused(&rt, &outputs, &[0, 0, 37, 0]);
-}
-
-#[test]
-fn the_text_of_a_fault(rt: HostRuntime) {
-    let text = format!(in rt.alloc(); "{}", RunFault::NoRoom { done: 3 }).expect(&rt, "memory");
-    same(&rt, text.as_str(), "E38: no room after 3 inputs");
 }

@@ -3,7 +3,7 @@ use super::asserts::same;
 use association::MessageFault;
 use children::MemoryFault;
 use create_child::AskFault;
-use gateway::Reason;
+use gateway::{Reason, RunFault};
 use gw_console::HexFault;
 use gw_engine::Stop;
 use ike::IkeFault;
@@ -269,4 +269,10 @@ fn reasons_of_a_gateway(rt: HostRuntime) {
     ] {
         tells(&rt, rt.alloc(), reason.code(), number, reason, text);
     }
+}
+
+#[test]
+fn the_fault_of_a_list(rt: HostRuntime) {
+    let text = format!(in rt.alloc(); "{}", RunFault::NoRoom { done: 3 }).expect(&rt, "memory");
+    same(&rt, text.as_str(), "E38: no room after 3 inputs");
 }

@@ -1,4 +1,0 @@
-pub mod Records
-pub mod WorkedRecords
-pub mod WorldRecords
-pub mod GoingOut

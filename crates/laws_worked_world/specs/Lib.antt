@@ -1,2 +1,0 @@
-pub mod WorkedMessages
-pub mod WorkedChildren
