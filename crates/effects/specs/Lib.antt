@@ -10,3 +10,13 @@ pub mod Requests
 pub mod Moves
 pub mod Openings
 pub mod Sending
+pub mod LawCases
+pub mod LawsOfSpis
+pub mod LawsOfStaying
+pub mod LawsOfKeys
+pub mod LawsOfLengths
+pub mod LawsOfPayloads
+pub mod LawsOfDeterminism
+pub mod LawsOfRequests
+pub mod LawsOfWaiting
+pub mod LawsOfMoves

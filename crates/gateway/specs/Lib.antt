@@ -23,3 +23,9 @@ pub mod Promises
 pub mod Worked
 pub mod WorkedRequests
 pub mod WorkedWorlds
+pub mod LawsOfPackets
+pub mod LawsOfSteps
+pub mod LawsOfOutputs
+pub mod LawsOfRuns
+pub mod LawsOfWorlds
+pub mod LawsOfBothEnds

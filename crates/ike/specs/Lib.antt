@@ -18,3 +18,11 @@ pub mod Proving
 pub mod Requests
 pub mod Moments
 pub mod Moves
+pub mod LawCases
+pub mod LawsOfSoundness
+pub mod LawsOfSteps
+pub mod LawsOfOutputs
+pub mod LawsOfChildren
+pub mod LawsOfPeers
+pub mod LawsOfRequests
+pub mod LawsOfTimes

@@ -1,5 +1,0 @@
-use Rattle.effects.proofs.SpiLemmas.{pairs_left}
-use Rattle.effects.proofs.laws.pairs_stay_as_they_were.Goals as goal
-
-pub returns : goal.returns
-returns c = pairs_left

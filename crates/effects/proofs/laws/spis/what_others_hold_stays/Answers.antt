@@ -1,0 +1,12 @@
+use Rattle.effects.proofs.OtherLemmas.{others_keep}
+use Rattle.effects.proofs.laws.spis.what_others_hold_stays.Goals as goal
+
+pub returns : goal.returns
+returns c = others_keep (record {
+  closed = c.who_is_closed_holds_none.ensures;
+  preparing = c.children_are_asked_for.ensures.preparing;
+  issuing = c.children_are_asked_for.ensures.issuing;
+  counting = c.children_are_asked_for.ensures.counting;
+  replacing = c.children_are_asked_for.ensures.replacing;
+  fewer = c.spis_stay_held.ensures.fewer;
+})

@@ -1,0 +1,177 @@
+-- What the laws range over. A law on messages holds of each message, whatever all that it speaks of: what the caller
+-- means, what is held before and after, the message and what comes of it. These are one record, and `EachMessage P`
+-- says P of each, for one variable after the other. So it is with the associations that begin and those that are
+-- admitted, with the requests that go out, and with orders.
+use Rattle.std.specs.Prelude.{ℕ, Option}
+use Rattle.base.specs.Octets.{Octets}
+use Rattle.wire.specs.declared.message.Message.{Message}
+use Rattle.suite.specs.declared.fresh.Fresh.{Fresh}
+use Rattle.suite.specs.declared.keys.Keys.{Keys}
+use Rattle.suite.specs.declared.sealer.Cipher.{Cipher}
+use Rattle.sadb.specs.Database.{Database}
+use Rattle.sa_init.specs.Judging.{OfferView}
+use Rattle.association.specs.AskedChildren.{AskedChildView}
+use Rattle.association.specs.declared.phase.Association.{Association}
+use Rattle.initial.specs.Beginning.{begun, Admits, Begins}
+use Rattle.initial.specs.Configs.{Setup}
+use Rattle.initial.specs.declared.beginning.Admitted.{Admitted}
+use Rattle.initial.specs.declared.beginning.Beginning.{Beginning}
+use Rattle.informational.specs.Asking.{Asks}
+use Rattle.informational.specs.declared.ordering.Order.{Order}
+use Rattle.effects.specs.Sending.{SendsRequest}
+use Rattle.effects.specs.Taking.{Meaning, TakesMessage}
+use Rattle.effects.specs.declared.taking.Effect.{Effect}
+
+-- ---- a message that an association takes
+pub record MessageCase : Type 0 where
+  pub meaning : Meaning
+  pub setup : Setup
+  pub old : Association
+  pub table : Database
+  pub octets : Octets
+  pub message : Message
+  pub effect : Effect
+  pub new : Association
+  pub new_table : Database
+
+abbrev pub IsTaken : MessageCase → Type 0
+IsTaken it =
+    TakesMessage it.meaning it.setup it.old it.table it.octets it.message it.effect it.new it.new_table
+
+abbrev pub EachMessage : (MessageCase → Type 0) → Type 0
+EachMessage P =
+    (meaning : Meaning) (setup : Setup) (old : Association) (table : Database) (octets : Octets)
+    (message : Message) (effect : Effect) (new : Association) (new_table : Database)
+    → P (record {
+      meaning = meaning;
+      setup = setup;
+      old = old;
+      table = table;
+      octets = octets;
+      message = message;
+      effect = effect;
+      new = new;
+      new_table = new_table;
+    })
+
+-- each message of which comes an effect of this form, and what it says
+abbrev pub EachMessageWith : {A : Type 0} → (A → Effect) → (A → MessageCase → Type 0) → Type 0
+EachMessageWith {A} form P =
+    (meaning : Meaning) (setup : Setup) (old : Association) (table : Database) (octets : Octets)
+    (message : Message) (said : A) (new : Association) (new_table : Database)
+    → P said (record {
+      meaning = meaning;
+      setup = setup;
+      old = old;
+      table = table;
+      octets = octets;
+      message = message;
+      effect = form said;
+      new = new;
+      new_table = new_table;
+    })
+
+-- ---- an association that this end begins
+pub record BeginningCase : Type 0 where
+  pub cipher : Cipher
+  pub group : ℕ
+  pub public_value : Octets → Octets
+  pub fresh : Fresh
+  pub moment : ℕ
+  pub serial : ℕ
+  pub beginning : Beginning
+  pub child : AskedChildView
+
+abbrev pub IsBegun : BeginningCase → Type 0
+IsBegun it = Begins it.cipher it.group it.public_value it.fresh it.moment it.beginning
+
+abbrev pub begun_by : BeginningCase → Association
+begun_by it = begun it.serial it.beginning it.child
+
+abbrev pub EachBeginning : (BeginningCase → Type 0) → Type 0
+EachBeginning P =
+    (cipher : Cipher) (group : ℕ) (public_value : Octets → Octets) (fresh : Fresh) (moment serial : ℕ)
+    (beginning : Beginning) (child : AskedChildView)
+    → P (record {
+      cipher = cipher;
+      group = group;
+      public_value = public_value;
+      fresh = fresh;
+      moment = moment;
+      serial = serial;
+      beginning = beginning;
+      child = child;
+    })
+
+-- ---- an association that this end admits
+pub record AdmissionCase : Type 0 where
+  pub cipher : Cipher
+  pub group : ℕ
+  pub public_value : Octets → Octets
+  pub shared_secret : Octets → Octets → Option Octets
+  pub fresh : Fresh
+  pub moment : ℕ
+  pub serial : ℕ
+  pub offer : OfferView
+  pub spi_i : ℕ
+  pub request : Octets
+  pub admitted : Admitted
+
+abbrev pub IsAdmission : AdmissionCase → Type 0
+IsAdmission it =
+    Admits it.cipher it.group it.public_value it.shared_secret it.fresh it.moment it.serial it.offer it.spi_i
+    it.request it.admitted
+
+abbrev pub EachAdmission : (AdmissionCase → Type 0) → Type 0
+EachAdmission P =
+    (cipher : Cipher) (group : ℕ) (public_value : Octets → Octets)
+    (shared_secret : Octets → Octets → Option Octets) (fresh : Fresh) (moment serial : ℕ) (offer : OfferView)
+    (spi_i : ℕ) (request : Octets) (admitted : Admitted)
+    → P (record {
+      cipher = cipher;
+      group = group;
+      public_value = public_value;
+      shared_secret = shared_secret;
+      fresh = fresh;
+      moment = moment;
+      serial = serial;
+      offer = offer;
+      spi_i = spi_i;
+      request = request;
+      admitted = admitted;
+    })
+
+-- ---- a request that this end sends
+pub record RequestCase : Type 0 where
+  pub body_of : Keys → Octets → Octets → Octets → Octets
+  pub setup : Setup
+  pub old : Association
+  pub octets : Octets
+  pub new : Association
+
+abbrev pub IsSent : RequestCase → Type 0
+IsSent it = SendsRequest it.body_of it.setup it.old it.octets it.new
+
+abbrev pub EachRequest : (RequestCase → Type 0) → Type 0
+EachRequest P =
+    (body_of : Keys → Octets → Octets → Octets → Octets) (setup : Setup) (old : Association) (octets : Octets)
+    (new : Association)
+    → P (record { body_of = body_of; setup = setup; old = old; octets = octets; new = new })
+
+-- ---- an order of this end, to ask whether the peer is there or for a deletion
+pub record OrderCase : Type 0 where
+  pub body_of : Keys → Octets → Octets → Octets → Octets
+  pub setup : Setup
+  pub order : Order
+  pub old : Association
+  pub octets : Octets
+  pub new : Association
+
+abbrev pub IsOrdered : OrderCase → Type 0
+IsOrdered it = Asks it.body_of it.setup it.order it.old it.octets it.new
+
+abbrev pub EachOrder : (OrderCase → Type 0) → Type 0
+EachOrder P =
+    (body_of : Keys → Octets → Octets → Octets → Octets) (setup : Setup) (order : Order) (old : Association)
+    (octets : Octets) (new : Association)
+    → P (record { body_of = body_of; setup = setup; order = order; old = old; octets = octets; new = new })

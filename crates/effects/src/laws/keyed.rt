@@ -1,0 +1,41 @@
+//! The keys of an association, and what goes out under them.
+ghost use Rattle.effects.specs.LawsOfKeys.{EffectsHaveTheirKeys, KeysComeAsOneAsks, KeysStay, RepliesOpen, RequestsOfIdentityOpen, RequestsOpen, WhatIsCountedOpens, WhatIsRepliedToOpens, WhatIsSealedOpens, WhoAsksHadNoKeys, WhoBeginsAgainHasNoKeys};
+
+use crate::laws::requests_take_effect;
+use association::laws::{receptions_say_why, repeats_say_why};
+use exchange::laws::sealed_messages_open;
+use suite::Sealer;
+
+/// A message leaves an association its keys; what goes out under keys goes out of an association that has them; and keys come by the
+/// response to IKE_SA_INIT alone, to an initiator that had none and asks for its child now. One whose request goes out again with a cookie
+/// has none.
+pub fn keys_stay()
+    ensures stay { KeysStay }
+    ensures keyed { EffectsHaveTheirKeys }
+    ensures come { KeysComeAsOneAsks }
+    ensures none { WhoAsksHadNoKeys }
+    ensures again { WhoBeginsAgainHasNoKeys }
+{
+    repeats_say_why();
+}
+
+/// What goes out under an association's keys opens as what it is, where the cipher opens what it seals: a reply as the response to its
+/// request, the request of IKE_AUTH as that of number 1, and one that asks the peer as that of the next number. What puts a request into
+/// effect opens as that request of the peer, and what is counted as that response (RFC 7296, sections 2.2, 3.1 and 3.14).
+pub fn messages_open()
+    ensures reply { RepliesOpen }
+    ensures identity { RequestsOfIdentityOpen }
+    ensures requested { RequestsOpen }
+    ensures taken { WhatIsRepliedToOpens }
+    ensures counted { WhatIsCountedOpens }
+{
+    receptions_say_why();
+    requests_take_effect();
+}
+
+/// A caller's cipher opens what it seals with 16 fresh octets.
+pub fn what_is_sealed_opens<S: Sealer>(sealer: &S)
+    ensures { WhatIsSealedOpens S.body_of S.plain_of }
+{
+    sealed_messages_open(sealer);
+}

@@ -1,0 +1,56 @@
+use Rattle.std.proofs.Common.{refl}
+use Rattle.gateway.proofs.ChildLemmas.{ChildLaws}
+use Rattle.gateway.proofs.MoveLemmas.{TurnLaws}
+use Rattle.gateway.proofs.OpenLemmas.{OpenLaws}
+use Rattle.gateway.proofs.SoundWorldLemmas.{PartyLaws}
+use Rattle.gateway.proofs.WindowLemmas.{WindowLaws}
+use Rattle.gateway.proofs.WindowWorldLemmas.{windows_fit, windows_stay, PeersLaws}
+use Rattle.gateway.proofs.laws.together.windows_are_those_told.Goals as goal
+
+pub returns-clause-stays : goal.returns-clause-stays
+returns-clause-stays g c =
+    let turns : TurnLaws = record {
+      moves = c.steps_are_moves.ensures;
+      traces = record { traced = c.traces_name_what_is_held.ensures.traced };
+      again = c.traces_name_what_is_held.ensures.again;
+      keys = c.traces_name_what_is_held.ensures.keys;
+    } in
+    let parties : PartyLaws = record {
+      kept = c.each_party_stays_sound.ensures.kept;
+      later = c.each_party_stays_sound.ensures.later;
+      told = c.what_was_sent_under_keys_is_told.ensures.there;
+      appended = c.what_was_sent_under_keys_is_told.ensures.later;
+      counted = c.what_was_sent_under_keys_is_told.ensures.counted;
+    } in
+    let kin : ChildLaws = record {
+      made = c.children_are_made_of_their_messages.ensures.made;
+      asked = c.children_are_made_of_their_messages.ensures.asked;
+      waits = c.children_are_made_of_their_messages.ensures.waits;
+      asked_further = c.children_are_made_of_their_messages.ensures.asked_further;
+      waits_further = c.children_are_made_of_their_messages.ensures.waits_further;
+      sound = c.keys_stay_whole.ensures.sound;
+      whole = c.keys_stay_whole.ensures.stepped;
+      one_message = c.octets_spell_one_message.ensures.message;
+    } in
+    let windows : WindowLaws = record {
+      told = c.windows_are_read_again.ensures.told;
+      answer = c.windows_are_read_again.ensures.answer;
+      bounds = c.windows_are_read_again.ensures.bounds;
+    } in
+    let peers : PeersLaws = record {
+      peers = c.requests_are_remembered.ensures.peers;
+      serial = λ meaning setup old table octets m effect new new_table takes. (c.associations_stay_themselves.ensures meaning setup old table octets m effect new new_table takes).serial;
+    } in
+    λ keys happenings old new trail sound known unforged once.
+    windows_stay turns parties kin windows peers _ g.C.Sealer.body_of g.C.Sealer.plain_of (record { body = λ caller. refl; plain = λ caller. refl }) keys happenings old new trail unforged once sound known
+
+pub returns-clause-fit : goal.returns-clause-fit
+returns-clause-fit g c =
+    let opens : OpenLaws g.C.Sealer.body_of g.C.Sealer.plain_of = record {
+      spells = c.plain_spellings_are_spellings.ensures.message;
+      spells_payloads = c.plain_spellings_are_spellings.ensures.payloads;
+      one_message = c.octets_spell_one_message.ensures.message;
+      one_chain = c.octets_spell_one_message.ensures.chain;
+      again = g.met.C.Sealer.opens_again;
+    } in
+    λ keys world known. windows_fit g.C.Sealer.body_of g.C.Sealer.plain_of opens keys world known

@@ -1,0 +1,63 @@
+-- What is promised of runs, over however many inputs and calls, and that what they ask for is met.
+use Rattle.std.specs.Prelude.{◌++◌, flat_map, List}
+use Rattle.base.specs.Octets.{Octets}
+use Rattle.suite.specs.declared.fresh.Fresh.{Fresh}
+use Rattle.initial.specs.Configs.{IsConfig}
+use Rattle.initial.specs.declared.config.Config.{Config}
+use Rattle.effects.specs.Taking.{Meaning}
+use Rattle.gateway.specs.Histories.{IsHistory, Passage}
+use Rattle.gateway.specs.Promises.{KeepsPromises}
+use Rattle.gateway.specs.Runs.{CallsAs, Runs, StepsAs}
+use Rattle.gateway.specs.States.{State}
+use Rattle.gateway.specs.Worked.{IsWorkedRun}
+use Rattle.gateway.specs.WorkedRequests.{IsWorkedRequest}
+use Rattle.gateway.specs.declared.input.Input.{Input}
+use Rattle.gateway.specs.declared.output.Output.{Output}
+
+module _ (C : Type 0) where
+  -- ---- every_run_keeps_its_promises
+  abbrev pub EveryRunKeepsItsPromises : Type 0
+  EveryRunKeepsItsPromises = (meaning_of : C → Meaning) (inputs : List Input) (outputs : List Output)
+      (old new : State C)
+      → Runs (StepsAs meaning_of) inputs outputs old new
+      → KeepsPromises meaning_of inputs outputs old new
+
+  -- ---- runs_in_a_row_are_one_run
+  abbrev pub RunsInARowAreOneRun : Type 0
+  RunsInARowAreOneRun = (meaning_of : C → Meaning) (first second : List Input) (outputs others : List Output)
+      (old between new : State C)
+      → Runs (StepsAs meaning_of) first outputs old between
+      → Runs (StepsAs meaning_of) second others between new
+      → Runs (StepsAs meaning_of) (first ++ second) (outputs ++ others) old new
+
+  abbrev pub HistoriesInARowAreOneHistory : Type 0
+  HistoriesInARowAreOneHistory = (meaning_of : C → Meaning) (first second : List Input)
+      (outputs others : List Output) (old between new : State C) (earlier later : List (Passage C))
+      → IsHistory meaning_of first outputs old between earlier
+      → IsHistory meaning_of second others between new later
+      → IsHistory meaning_of (first ++ second) (outputs ++ others) old new (earlier ++ later)
+
+  abbrev pub CallsInARowAreOneRun : Type 0
+  CallsInARowAreOneRun = (meaning_of : C → Meaning) (lists : List (List Input)) (outputs : List (List Output))
+      (old new : State C)
+      → Runs (CallsAs meaning_of) lists outputs old new
+      → Runs (StepsAs meaning_of) (flat_map (λ inputs. inputs) lists)
+      (flat_map (λ list. list) outputs) old new
+
+  abbrev pub CallsInARowKeepTheirPromises : Type 0
+  CallsInARowKeepTheirPromises = (meaning_of : C → Meaning) (lists : List (List Input))
+      (outputs : List (List Output)) (old new : State C)
+      → Runs (CallsAs meaning_of) lists outputs old new
+      → KeepsPromises meaning_of (flat_map (λ inputs. inputs) lists) (flat_map (λ list. list) outputs) old new
+
+  -- ---- the_premises_of_packets_are_met
+  abbrev pub ThePremisesOfPacketsAreMet : Type 0
+  ThePremisesOfPacketsAreMet = (meaning_of : C → Meaning) (config : Config) (caller : C)
+      → IsConfig config
+      → IsWorkedRun meaning_of config caller
+
+  -- ---- the_premises_of_requests_are_met
+  abbrev pub ThePremisesOfRequestsAreMet : Type 0
+  ThePremisesOfRequestsAreMet = (config : Config) (caller : C) (from : Octets) (fresh : Fresh)
+      → IsConfig config
+      → IsWorkedRequest config caller from fresh

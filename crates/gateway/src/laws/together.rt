@@ -1,0 +1,71 @@
+//! What is promised of both ends together beside their requests: of children, packets and windows.
+ghost use Rattle.effects.specs.Taking.{meaning_of};
+ghost use Rattle.gateway.specs.LawsOfBothEnds.{BothEndsKeepTheirPromises, NewWorldsAreWhollySound, WindowsAreThoseTold, WindowsStayAccountedFor};
+
+use crate::laws::every_world_stays_sound;
+use auth::laws::windows_are_read_again;
+use children::laws::children_mirror;
+use deliveries::laws::{every_list_of_packets_is_judged, other_changes_leave_windows};
+use further::laws::further_children_mirror;
+use ike::laws::{one_association_is_changed, steps_are_moves, traces_name_what_is_held};
+use lockstep::laws::{each_party_stays_sound, what_was_sent_under_keys_is_told};
+use moments::laws::some_are_held_on;
+use suite::{Agreement, Proof, Sealer};
+use traffic::laws::{
+    a_packet_takes_one_number, no_pair_comes, what_one_end_seals_the_other_hands_up,
+};
+use wire::laws::{octets_spell_one_message, plain_spellings_are_spellings};
+
+/// A world of two gateways that hold nothing is wholly sound under every key record, whatever cipher there is.
+pub fn new_worlds_are_wholly_sound<C>()
+    ensures { NewWorldsAreWhollySound C }
+{
+    every_world_stays_sound::<C>();
+}
+
+/// Every list of events keeps what is promised of both ends beside their requests in step, whatever history it has. The children of one
+/// request that both ends made mirror each other, since each was made of the octets of one request and of one response, which were sealed at
+/// one end and opened at the other (RFC 7296, sections 2.9 and 2.17); what goes up from such a child the other end sealed (RFC 4301,
+/// sections 5.1 and 5.2).
+pub fn both_ends_keep_their_promises<C: Sealer + Agreement + Proof>()
+    ensures { BothEndsKeepTheirPromises C C.body_of C.plain_of (meaning_of C.Sealer C.Agreement C.Proof) }
+{
+    a_packet_takes_one_number();
+    every_list_of_packets_is_judged();
+    every_world_stays_sound::<C>();
+    children_mirror();
+    further_children_mirror();
+    ike::laws::children_are_made_of_their_messages();
+    ike::laws::keys_stay_whole();
+    no_pair_comes();
+    octets_spell_one_message();
+    one_association_is_changed();
+    other_changes_leave_windows();
+    plain_spellings_are_spellings();
+    some_are_held_on();
+    steps_are_moves();
+    traces_name_what_is_held();
+    traffic::laws::later_tables_follow();
+    what_one_end_seals_the_other_hands_up();
+    windows_are_those_told::<C>();
+}
+
+/// The window that an end counts for the other is no wider than the one that the other is set to: over every list of events, where no
+/// message under the key record was forged and neither end came to it twice. Each end tells its own in IKE_AUTH, and what is sealed at one
+/// end is what opens at the other (RFC 7296, section 2.3).
+pub fn windows_are_those_told<C: Sealer + Agreement + Proof>()
+    ensures stays { WindowsStayAccountedFor C C.body_of C.plain_of (meaning_of C.Sealer C.Agreement C.Proof) }
+    ensures fit { WindowsAreThoseTold C C.body_of C.plain_of }
+{
+    each_party_stays_sound();
+    what_was_sent_under_keys_is_told();
+    effects::laws::associations_stay_themselves();
+    effects::laws::requests_are_remembered();
+    ike::laws::children_are_made_of_their_messages();
+    ike::laws::keys_stay_whole();
+    octets_spell_one_message();
+    plain_spellings_are_spellings();
+    steps_are_moves();
+    traces_name_what_is_held();
+    windows_are_read_again();
+}

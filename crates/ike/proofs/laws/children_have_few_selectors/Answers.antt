@@ -1,7 +1,0 @@
-use Rattle.ike.proofs.FewLemmas.{few_selectors, FirstLaw}
-use Rattle.ike.proofs.laws.children_have_few_selectors.Goals as goal
-
-pub returns : goal.returns
-returns c =
-    let law : FirstLaw = record { made = c.children_are_made_of_their_messages.ensures.made } in
-    few_selectors law

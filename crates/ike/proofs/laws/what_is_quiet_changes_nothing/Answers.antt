@@ -1,9 +1,0 @@
-use Rattle.ike.proofs.QuietLemmas.{quiet_step}
-use Rattle.ike.proofs.laws.what_is_quiet_changes_nothing.Goals as goal
-
-pub returns : goal.returns
-returns c =
-    quiet_step (record {
-      refused = c.what_is_passed_over_changes_nothing.ensures.refused;
-      repeated = c.what_is_passed_over_changes_nothing.ensures.repeated;
-    })
