@@ -1,7 +1,9 @@
--- What the laws range over. A law on messages holds of each message, whatever all that it speaks of: what the caller
--- means, what is held before and after, the message and what comes of it. These are one record, and `EachMessage P`
--- says P of each, for one variable after the other. So it is with the associations that begin and those that are
--- admitted, with the requests that go out, and with orders.
+-- What the laws range over. A case is one record of all that a law speaks of: what the caller means, the setup, what
+-- is held before and after, the message and what comes of it. `EachMessage P` says P of every case, whether it can
+-- happen or not: that the message is taken is a premise of its own, `IsTaken it`. The record's fields are quantified
+-- one by one, so that a proof applies a law to them one by one. So it is with the associations that begin (`IsBegun`),
+-- those that are admitted (`IsAdmission`), requests that go out (`IsSent`) and orders (`IsOrdered`). The sentence of
+-- each law stands above the function of its name in src/laws/.
 use Rattle.std.specs.Prelude.{ℕ, Option}
 use Rattle.base.specs.Octets.{Octets}
 use Rattle.wire.specs.declared.message.Message.{Message}
@@ -54,7 +56,7 @@ EachMessage P =
       new_table = new_table;
     })
 
--- each message of which comes an effect of this form, and what it says
+-- each case whose effect is `form said`; `P` is given `said`, what the effect carries, and the case
 abbrev pub EachMessageWith : {A : Type 0} → (A → Effect) → (A → MessageCase → Type 0) → Type 0
 EachMessageWith {A} form P =
     (meaning : Meaning) (setup : Setup) (old : Association) (table : Database) (octets : Octets)
@@ -141,7 +143,7 @@ EachAdmission P =
       admitted = admitted;
     })
 
--- ---- a request that this end sends
+-- ---- a request that this end sends at an established association
 pub record RequestCase : Type 0 where
   pub body_of : Keys → Octets → Octets → Octets → Octets
   pub setup : Setup

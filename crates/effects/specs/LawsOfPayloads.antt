@@ -71,8 +71,8 @@ TheFirstChildIsTheOneAskedFor = EachMessage (λ it. (child : AskedChildView)
     → IsTaken it
     → first_asked it.old.phase ≡ Some child)
 
-abbrev pub OrdersAskForTheFurtherChild : Type 0
-OrdersAskForTheFurtherChild = (body_of : Keys → Octets → Octets → Octets → Octets) (setup : Setup)
+abbrev pub FurtherOrdersAskForTheirChild : Type 0
+FurtherOrdersAskForTheirChild = (body_of : Keys → Octets → Octets → Octets → Octets) (setup : Setup)
     (local remote : Selector) (old : Association) (table : Database) (octets : Octets) (new : Association)
     (new_table : Database)
     → AsksForFurther body_of setup local remote old table octets new new_table

@@ -71,8 +71,8 @@ WhoIsAdmittedHoldsNoSpi = (serial spi_i spi_r : ℕ) (keys : KeyRecord) (request
     (moment spi : ℕ)
     → ¬ HoldsSpi (half_open serial spi_i spi_r keys request reply moment) spi
 
-abbrev pub OrdersBringNoSpi : Type 0
-OrdersBringNoSpi = EachOrder (λ it. (spi : ℕ)
+abbrev pub OtherOrdersBringNoSpi : Type 0
+OtherOrdersBringNoSpi = EachOrder (λ it. (spi : ℕ)
     → IsOrdered it
     → HoldsSpi it.new spi
     → HoldsSpi it.old spi)

@@ -33,8 +33,8 @@ NothingComesDueByARequest = EachRequest (λ it.
     → IsInTime it.setup.moment it.new)
 
 -- ---- requests_wait_on
-abbrev pub RequestsWaitOn : Type 0
-RequestsWaitOn = EachMessage (λ it.
+abbrev pub WhatWaitsWaitedOrGoesOutNow : Type 0
+WhatWaitsWaitedOrGoesOutNow = EachMessage (λ it.
     IsSoundlyHeld it.old
     → IsTaken it
     → KeepTimers it.setup.moment (asked_by it.effect) it.old it.new)

@@ -13,6 +13,7 @@ use Rattle.gateway.specs.WorldPromises.{IsUnforged}
 use Rattle.gateway.specs.WorldWindows.{AccountsForWindows, WindowsFit}
 use Rattle.gateway.specs.Worlds.{new_world, HoldsNothing, WorldState}
 
+-- of whatever type the caller is
 module _ (C : Type 0) where
   -- ---- new_worlds_are_wholly_sound
   abbrev pub NewWorldsAreWhollySound : Type 0
@@ -44,7 +45,7 @@ module _ (C : Type 0) where
       → IsNeverMadeTwice keys new.stored
       → AccountsForWindows body_of plain_of keys new new.stored
 
-  abbrev pub WindowsAreThoseTold : (Keys → Octets → Octets → Octets → Octets) → Opening → Type 0
-  WindowsAreThoseTold body_of plain_of = (keys : KeyRecord) (world : WorldState C)
+  abbrev pub WindowsAccountedForFit : (Keys → Octets → Octets → Octets → Octets) → Opening → Type 0
+  WindowsAccountedForFit body_of plain_of = (keys : KeyRecord) (world : WorldState C)
       → AccountsForWindows body_of plain_of keys world world.stored
       → WindowsFit keys world

@@ -15,6 +15,7 @@ use Rattle.gateway.specs.Worlds.{child_by, ike_mark, keyed_by, mark_again, IsMar
 use Rattle.gateway.specs.declared.input.Input.{Input}
 use Rattle.gateway.specs.declared.world.stored.End.{End}
 
+-- of whatever type the caller is
 module _ (C : Type 0) where
   -- ---- what_is_sent_fits
   abbrev pub WhatIsSentFits : Type 0

@@ -15,6 +15,7 @@ use Rattle.gateway.specs.Steps.{GoesSealed, Steps}
 use Rattle.gateway.specs.declared.fault.Reason.{Reason}
 use Rattle.gateway.specs.declared.input.Input.TheVariants as input
 
+-- of whatever type the caller is
 module _ (C : Type 0) where
   -- ---- the_protected_never_goes_in_the_clear
   abbrev pub OnlyTheBypassedGoesOutInTheClear : Type 0

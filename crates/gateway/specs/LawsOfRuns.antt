@@ -14,6 +14,7 @@ use Rattle.gateway.specs.WorkedRequests.{IsWorkedRequest}
 use Rattle.gateway.specs.declared.input.Input.{Input}
 use Rattle.gateway.specs.declared.output.Output.{Output}
 
+-- of whatever type the caller is
 module _ (C : Type 0) where
   -- ---- every_run_keeps_its_promises
   abbrev pub EveryRunKeepsItsPromises : Type 0

@@ -18,6 +18,7 @@ use Rattle.gateway.specs.declared.input.Input.{Input}
 use Rattle.gateway.specs.declared.input.Input.TheVariants as input
 use Rattle.gateway.specs.declared.output.Output.{Output}
 
+-- of whatever type the caller is
 module _ (C : Type 0) where
   -- ---- refusals_change_nothing
   abbrev pub PolicyAndCallerStay : Type 0

@@ -20,6 +20,7 @@ use Rattle.gateway.specs.declared.output.Output.{Output}
 use Rattle.gateway.specs.declared.world.stored.End.{End}
 use Rattle.gateway.specs.declared.world.stored.Event.{Event}
 
+-- of whatever type the caller is
 module _ (C : Type 0) where
   -- ---- each_end_has_its_events
   abbrev pub EachEndHasItsRun : Type 0
@@ -88,7 +89,7 @@ module _ (C : Type 0) where
       → HasSeal fresh
       → IsWorkedWorld config caller request reply from fresh
 
--- ---- every_world_stays_sound
+-- ---- every_world_stays_sound, as far as it speaks of no caller
 abbrev pub WhatIsNotMadeTwiceWasNot : Type 0
 WhatIsNotMadeTwiceWasNot = (keys : KeyRecord) (now later : Stored)
     → IsLater now later

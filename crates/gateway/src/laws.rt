@@ -1,5 +1,5 @@
-//! What follows from the definitions alone. No function here does anything: its contract is the law, of which the sentence stands
-//! above it, and the statement in `specs`, under a name in the sentence's words.
+//! What follows from the definitions alone. A law is a function that does nothing: its contract is the statement, which stands in
+//! `specs/LawsOf..` under a name of its own, and its sentence stands above it.
 
 mod outputs;
 mod packets;

@@ -36,3 +36,4 @@ mod ReleasedLemmas
 mod FurtherLemmas
 mod AllowedLemmas
 mod OfferLemmas
+mod NextLemmas

@@ -1,4 +1,4 @@
--- The requests of the peer: which take effect, what is remembered of them, and what comes again.
+-- The requests of the peer: which take effect, what is remembered of them, and what comes again; serials.
 use Rattle.std.specs.FinMap as map
 use Rattle.std.specs.Prelude.{◌<◌, ◌≡◌, ◌≤◌, ◌⊎◌, true, ℕ, List, None, Option, Some}
 use Rattle.base.specs.Octets.{Octets}
@@ -164,8 +164,8 @@ OnlyRepeatsAreAnsweredAgain = EachStep (λ it. (reply : Octets)
     → it.stepped.output ≡ output.Repeat reply
     → IsReplyKept it.meaning it.input it.old.held reply ⊎ IsFirstReplyKept it.input it.old.held reply)
 
-abbrev pub RepeatsAreRefusedForMemoryAlone : Type 0
-RepeatsAreRefusedForMemoryAlone = (meaning : Meaning) (entries : List Entry) (input : InputView)
+abbrev pub RequestsAreRefusedForMemoryAlone : Type 0
+RequestsAreRefusedForMemoryAlone = (meaning : Meaning) (entries : List Entry) (input : InputView)
     (machine : Machine) (table : Database) (reason : IkeFault) (serial : ℕ) (a : Association) (number : ℕ)
     → IsSoundMachine machine table
     → association_of serial machine.held.associations ≡ Some a

@@ -1,4 +1,4 @@
--- What a step does to what the machine holds: one thing, to one association, by few moves.
+-- What a step does to what the machine holds: one thing, by few moves, and but for a moment to one association.
 use Rattle.std.specs.Prelude.{◌≡◌, false, true, ℕ, List}
 use Rattle.base.specs.Octets.{Octets}
 use Rattle.policy.specs.declared.entry.Entry.{Entry}

@@ -1,16 +1,20 @@
 -- What is due, and when it comes.
-use Rattle.std.specs.Prelude.{◌≡◌, false, max, true, ℕ, List}
+use Rattle.std.specs.Prelude.{◌≡◌, ◌<◌, ◌^◌, [], false, max, true, ℕ, List, Option}
 use Rattle.policy.specs.declared.entry.Entry.{Entry}
 use Rattle.sadb.specs.Database.{Database}
 use Rattle.initial.specs.declared.config.Config.{Config}
+use Rattle.moments.specs.Next.{IsBefore, NothingIsDueBefore}
 use Rattle.effects.specs.Taking.{Meaning}
 use Rattle.ike.specs.Faults.{is_want_of_memory}
 use Rattle.ike.specs.LawCases.{EachStep, IsStep}
 use Rattle.ike.specs.Machines.{new_machine, Machine}
 use Rattle.ike.specs.Moments.{ComesTo, IsTimely, StaysAt}
+use Rattle.ike.specs.Outputs.{plain_step}
 use Rattle.ike.specs.Soundness.{IsSoundMachine}
 use Rattle.ike.specs.Steps.{is_tick, Refuses, Steps, Tick}
+use Rattle.ike.specs.Ticking.{TakesMoment}
 use Rattle.ike.specs.declared.fault.IkeFault.{IkeFault}
+use Rattle.ike.specs.declared.output.IkeOutput.TheVariants as output
 use Rattle.ike.specs.declared.output.Stepped.{Stepped}
 
 -- ---- what_is_due_comes_in_time
@@ -41,3 +45,16 @@ TheTimeStandsStill = EachStep (λ it.
     → IsSoundMachine it.old it.table
     → IsStep it
     → StaysAt it.old it.stepped it.new)
+
+-- ---- nothing_comes_before_the_next_moment
+abbrev pub NothingComesBeforeTheNextMoment : Type 0
+NothingComesBeforeTheNextMoment = (next : Option ℕ) (moment : ℕ) (old : Machine) (table : Database) (stepped : Stepped)
+    (new : Machine) (new_table : Database)
+    → IsTimely old
+    → NothingIsDueBefore next old.held.associations
+    → moment < 2 ^ 64
+    → IsBefore moment next
+    → TakesMoment moment old table stepped new new_table
+    → (stepped ≡ plain_step (output.Ticked (record { requests = []; closed = [] })))
+    × (new ≡ record old { moment = max old.moment moment })
+    × (new_table ≡ table)

@@ -1,5 +1,5 @@
-//! What follows from the definitions alone. No function here does anything: its contract is the law, of which the sentence stands
-//! above it, and the statement in `specs`, under a name in the sentence's words.
+//! What follows from the definitions alone. A law is a function that does nothing: its contract is the statement, which stands in
+//! `specs/LawsOf..` under a name of its own, and its sentence stands above it.
 
 mod made_children;
 mod outputs;
@@ -24,4 +24,4 @@ pub use steps::{
     what_is_quiet_changes_nothing,
 };
 pub use taking_effect::{repeats_are_answered, requests_are_remembered, requests_take_effect};
-pub use times::what_is_due_comes_in_time;
+pub use times::{nothing_comes_before_the_next_moment, what_is_due_comes_in_time};

@@ -1,14 +1,16 @@
 //! The machine, and one step of it.
-ghost use Rattle.std.specs.Prelude.{◌≡◌, ◌+◌, ◌<◌, ◌^◌, IfOk, IfErr};
+ghost use Rattle.std.specs.Prelude.{◌≡◌, ◌+◌, ◌<◌, ◌^◌, IfOk, IfErr, IfSome};
 ghost use Rattle.std.specs.Option.{option_copied};
 ghost use Rattle.sadb.specs.Database.{Database, IsAsBefore};
 ghost use Rattle.initial.specs.Configs.{IsConfig};
 ghost use Rattle.ike.specs.Machines.{keys_of_serial, new_machine};
+ghost use Rattle.ike.specs.Moments.{IsTimely};
 ghost use Rattle.ike.specs.Outputs.{plain_step};
 ghost use Rattle.sa_init.specs.Cookies.{changed};
 ghost use Rattle.ike.specs.Soundness.{IsSoundMachine};
 ghost use Rattle.ike.specs.Steps.{input_view, Refuses, Steps};
 ghost use Rattle.effects.specs.Taking.{meaning_of};
+ghost use Rattle.moments.specs.Next.{NothingIsDueBefore, SomethingIsDue};
 
 use crate::asking::ask;
 use crate::held::{Held, association_of};
@@ -19,6 +21,8 @@ use crate::ticking::take_moment;
 use crate::{IkeFault, IkeInput, IkeOutput, Stepped};
 use association::Association;
 use initial::{Config, Setup};
+use moments::laws::what_is_due_next_lies_ahead;
+use moments::next_due;
 use policy::Policy;
 use sa_init::{Cookies, SecretsSpent};
 use sadb::Table;
@@ -81,6 +85,21 @@ impl Ike {
         ensures { option_copied result ≡ keys_of_serial serial self.now.held.associations }
     {
         association_of(serial, self.held.associations())?.keys()
+    }
+
+    /// The least moment at which [`IkeInput::Tick`] sends, closes or removes anything, in its milliseconds: a request goes out again, one
+    /// has failed, or an association is over. None where no moment of 64 bits does. Takes no memory.
+    ///
+    /// Before it a moment changes nothing ([`nothing_comes_before_the_next_moment`](crate::laws::nothing_comes_before_the_next_moment)). It
+    /// lies after the greatest moment so far, where nothing is due that this one has reached
+    /// ([`what_is_due_comes_in_time`](crate::laws::what_is_due_comes_in_time)).
+    pub fn next_moment(&self) -> Option<u64>
+        ensures early { NothingIsDueBefore result self.now.held.associations }
+        ensures due { IfSome result (λ moment. SomethingIsDue moment self.now.held.associations) }
+        ensures ahead { IsTimely self.now → IfSome result (λ moment. self.now.moment < moment) }
+    {
+        what_is_due_next_lies_ahead();
+        next_due(self.held.associations())
     }
 
     /// One step: what a datagram or an order does, and what goes out.

@@ -88,7 +88,7 @@ module _ {X : Type 0} where
   pub found_here : (n : ℕ) (e : ℕ × X) (es : List (ℕ × X)) → e.0 ≡ n → find n (e ∷ es) ≡ Some e.1
   found_here n e es same = ap (choice (Some e.1) (find n es)) (unsigned_tied n e.0 ∙ eq-eqb n e.0 (sym same))
 
-  found_further : (n : ℕ) (e : ℕ × X) (es : List (ℕ × X)) → e.0 ≢ n → find n (e ∷ es) ≡ find n es
+  pub found_further : (n : ℕ) (e : ℕ × X) (es : List (ℕ × X)) → e.0 ≢ n → find n (e ∷ es) ≡ find n es
   found_further n e es apart = ap (choice (Some e.1) (find n es)) (unsigned_tied n e.0 ∙ ne_eqb n e.0 (λ same. apart (sym same)))
 
   pub in_order_after : (e : ℕ × X) (es : List (ℕ × X)) → IsInOrder (e ∷ es) → IsInOrder es

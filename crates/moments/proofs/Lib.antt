@@ -5,3 +5,5 @@ mod HeldLemmas
 mod PassingLemmas
 mod HoldLemmas
 mod TimelyLemmas
+mod NextLemmas
+mod ComingLemmas

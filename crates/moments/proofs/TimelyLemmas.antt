@@ -55,7 +55,7 @@ some_wait (suc (suc (suc (suc (suc n))))) = omega arith
 pub waits_on : (now repeats : ℕ) → now < due_from (record { sent = now; repeats = repeats })
 waits_on now repeats = let longer = some_wait repeats in omega arith
 
-later_than : (now from count sent : ℕ) → (nat_le from now && nat_lt count sent) ≡ false → (nat_le from now && nat_le sent count) ≡ false → now < from
+pub later_than : (now from count sent : ℕ) → (nat_le from now && nat_lt count sent) ≡ false → (nat_le from now && nat_le sent count) ≡ false → now < from
 later_than now from count sent not_due not_over = grind (arith, nat_tests, not_due, not_over)
 
 one_left : (b : Bool) (count most : ℕ) → (b && nat_lt count most) ≡ true → count + 1 ≤ most
@@ -71,7 +71,7 @@ after_this : (earlier now : ℕ) (r : Request) (due : Bool) → earlier ≤ now 
 after_this earlier now r true less sent often is answered = (waits_on now (r.timer.repeats + 1), omega arith, one_left (nat_le (due_from r.timer) now) r.timer.repeats (length waits) is)
 after_this earlier now r false less sent often is answered = (later_than now (due_from r.timer) r.timer.repeats (length waits) is answered, omega (arith, less, sent), often)
 
-not_passed : (p : Request → Bool) (es : List (ℕ × Request)) (n : ℕ) (r : Request) (b : Bool) → find n es ≡ Some r → p r ≡ b → list_any (λ e. p e.1) es ≡ false → b ≡ false
+pub not_passed : (p : Request → Bool) (es : List (ℕ × Request)) (n : ℕ) (r : Request) (b : Bool) → find n es ≡ Some r → p r ≡ b → list_any (λ e. p e.1) es ≡ false → b ≡ false
 not_passed p es n r true there passes none = sym (found_any p es n r there passes) ∙ none
 not_passed p es n r false there passes none = refl
 

@@ -3,3 +3,4 @@ pub mod Held
 pub mod Passing
 pub mod Ticking
 pub mod Holding
+pub mod Next

@@ -12,10 +12,10 @@ use std::alloc::{AllocError, Global};
 use wire::numbers::IKE_SA_INIT;
 
 // How long an association is held that is half open, in milliseconds.
-const HALF_OPEN_TIME: u64 = 30_000;
+pub(crate) const HALF_OPEN_TIME: u64 = 30_000;
 
 // How long one is held that is closed.
-const CLOSED_TIME: u64 = 120_000;
+pub(crate) const CLOSED_TIME: u64 = 120_000;
 
 // Whether it is held no longer.
 pub(crate) fn is_over(association: &Association, now: u64) -> bool

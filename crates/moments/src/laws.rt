@@ -1,5 +1,5 @@
 //! What follows from the definitions alone. No function here does anything.
-ghost use Rattle.std.specs.Prelude.{◌≡◌, ◌≤◌, ℕ, Bool, true, List, [], All, length, map};
+ghost use Rattle.std.specs.Prelude.{◌≡◌, ◌<◌, ◌≤◌, ◌^◌, ℕ, Bool, true, List, Option, [], All, length, map};
 ghost use Rattle.std.specs.List.{flat_map, AllZip};
 ghost use Rattle.requests.specs.Outgoing.{SomeOutstanding};
 ghost use Rattle.sadb.specs.Contents.{table_content};
@@ -11,6 +11,7 @@ ghost use Rattle.association.specs.declared.phase.Request.{Request};
 ghost use Rattle.moments.specs.Due.{closed_of, has_failed, held_of, is_unanswered, outstanding_count, sent_of};
 ghost use Rattle.moments.specs.Held.{HasBegun, HasNothingDue, IsInTime, IsOutstandingOf, LeavesPairsBut, StaysItself};
 ghost use Rattle.moments.specs.Holding.{HoldSome, HoldsNone, LeavesFewer};
+ghost use Rattle.moments.specs.Next.{IsBefore, NothingIsDueBefore, SomethingIsDue};
 ghost use Rattle.moments.specs.Ticking.{Ticks};
 ghost use Rattle.moments.specs.declared.ticking.Ticked.{Ticked};
 
@@ -79,6 +80,28 @@ pub fn nothing_comes_before_its_time()
     ensures { (now : ℕ) (old new : List Association) (table new_table : Database) (ticked : Ticked)
         → All (HasNothingDue now) old → Ticks now old table ticked new new_table
         → (ticked ≡ record { requests = []; closed = [] }) × (new ≡ old) × (new_table ≡ table) }
+{}
+
+/// So at no moment of 64 bits before the one that [`next_due`](crate::next_due) tells anything is changed or sent.
+pub fn nothing_comes_before_the_next_moment()
+    ensures { (moment : Option ℕ) (now : ℕ) (old new : List Association) (table new_table : Database)
+        (ticked : Ticked)
+        → NothingIsDueBefore moment old → now < 2 ^ 64 → IsBefore now moment
+        → Ticks now old table ticked new new_table
+        → (ticked ≡ record { requests = []; closed = [] }) × (new ≡ old) × (new_table ≡ table) }
+{}
+
+/// And what is due at some moment lies after each moment at which nothing is due.
+pub fn what_is_due_next_lies_ahead()
+    ensures { (now later : ℕ) (associations : List Association)
+        → All (HasNothingDue now) associations → SomethingIsDue later associations → now < later }
+{}
+
+/// Where something is due something comes: a request goes out again, an association is closed, or fewer are held from then on.
+pub fn what_is_due_comes()
+    ensures { (now : ℕ) (old new : List Association) (table new_table : Database) (ticked : Ticked)
+        → SomethingIsDue now old → Ticks now old table ticked new new_table
+        → ¬ ((ticked.requests ≡ []) × (ticked.closed ≡ []) × (length new ≡ length old)) }
 {}
 
 /// Where the peer is taken to be gone a request waits for an answer, which was sent for the last time.

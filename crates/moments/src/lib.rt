@@ -5,7 +5,8 @@
 //!
 //! A request goes out again 1000, 2000, 4000, 8000 and 16,000 ms after its last sending, and 16,000 ms after the last one the association
 //! is closed ([`requests::Timer`]). A half-open association is held for 30,000 ms, a closed one for 120,000 ms; both are limits of
-//! this implementation. [`tick`] does what is due at a moment, at all associations.
+//! this implementation. [`tick`] does what is due at a moment, at all associations, and [`next_due`] tells the least moment at which
+//! something is.
 //!
 //! ```text
 //! let ticked = tick(alloc, &mut associations, &mut table, now)?;
@@ -17,9 +18,11 @@
 
 mod due;
 pub mod laws;
+mod next;
 mod resent;
 mod ticking;
 
 pub use due::outstanding_count;
+pub use next::next_due;
 pub use resent::Resent;
 pub use ticking::{Ticked, tick};

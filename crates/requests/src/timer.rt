@@ -1,5 +1,6 @@
 //! When a request goes out again.
-ghost use Rattle.std.specs.Prelude.{◌≡◌, ◌+◌};
+ghost use Rattle.std.specs.Prelude.{◌≡◌, ◌+◌, ◌<◌, ◌^◌};
+ghost use Rattle.std.specs.Option.{SomeIff};
 ghost use Rattle.requests.specs.Timers.{IsDue, due_from};
 
 // How long an answer is waited for before each time that a request goes out again, in milliseconds.
@@ -53,6 +54,14 @@ impl Timer {
         } else {
             Due::Over
         }
+    }
+
+    /// The least moment at which something is due ([`due`](Timer::due)), in milliseconds. None where that would be past 64 bits:
+    /// then nothing is due at any moment.
+    pub fn moment(&self) -> Option<u64>
+        ensures { SomeIff result (due_from self.now < 2 ^ 64) (due_from self.now) }
+    {
+        self.sent.checked_add(self.wait())
     }
 
     // The wait that stands next.

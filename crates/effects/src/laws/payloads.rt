@@ -1,5 +1,5 @@
 //! What the payloads of a message bring: a child, an answer to an offer, a proof of who the peer is.
-ghost use Rattle.effects.specs.LawsOfPayloads.{AnswersKeepToTheirOffers, AuthAnswersKeepToTheirOffers, ChildrenAreMadeOfTheirMessages, FurtherAnswersKeepToTheirOffers, InitialAnswersKeepToTheirOffers, NoMessageAsksForAFurtherChild, NoOtherOrderAsksForAFurtherChild, OrdersAskForTheFurtherChild, TheEstablishedProvedThemselves, TheFirstChildIsTheOneAskedFor, TheRequestAsksForTheFirstChild, WhoARequestEstablishesProvedItself, WhoAResponseEstablishesProvedItself, WhoWaitsWaitedOrAsksNow};
+ghost use Rattle.effects.specs.LawsOfPayloads.{AnswersKeepToTheirOffers, AuthAnswersKeepToTheirOffers, ChildrenAreMadeOfTheirMessages, FurtherAnswersKeepToTheirOffers, InitialAnswersKeepToTheirOffers, NoMessageAsksForAFurtherChild, NoOtherOrderAsksForAFurtherChild, FurtherOrdersAskForTheirChild, TheEstablishedProvedThemselves, TheFirstChildIsTheOneAskedFor, TheRequestAsksForTheFirstChild, WhoARequestEstablishesProvedItself, WhoAResponseEstablishesProvedItself, WhoWaitsWaitedOrAsksNow};
 
 use association::laws::receptions_say_why;
 use auth::laws::{who_is_accepted_proved_itself, windows_are_read_again};
@@ -27,7 +27,7 @@ pub fn children_are_made_of_their_messages()
     ensures asked { TheRequestAsksForTheFirstChild }
     ensures waits { WhoWaitsWaitedOrAsksNow }
     ensures asked_first { TheFirstChildIsTheOneAskedFor }
-    ensures asked_further { OrdersAskForTheFurtherChild }
+    ensures asked_further { FurtherOrdersAskForTheirChild }
     ensures waits_further { NoMessageAsksForAFurtherChild }
     ensures ordered_further { NoOtherOrderAsksForAFurtherChild }
 {

@@ -1,5 +1,5 @@
 //! The SPIs that an association holds for its children.
-ghost use Rattle.effects.specs.LawsOfSpis.{NoSpiComes, OnlyTheNextSpiIsReserved, OrdersBringNoSpi, OrdersLeaveSpisReserved, RequestsLeaveSpisHeld, SpisStayReserved, WhatOthersHoldStays, WhatStaysReservedStaysHeld, WhoBeginsHoldsOneSpi, WhoBeginsHoldsWhatIsReserved, WhoIsAdmittedHoldsNoSpi, WhoIsOverHoldsNoSpi};
+ghost use Rattle.effects.specs.LawsOfSpis.{NoSpiComes, OnlyTheNextSpiIsReserved, OtherOrdersBringNoSpi, OrdersLeaveSpisReserved, RequestsLeaveSpisHeld, SpisStayReserved, WhatOthersHoldStays, WhatStaysReservedStaysHeld, WhoBeginsHoldsOneSpi, WhoBeginsHoldsWhatIsReserved, WhoIsAdmittedHoldsNoSpi, WhoIsOverHoldsNoSpi};
 
 use association::laws::{children_are_asked_for, spis_stay_held, who_is_closed_holds_none};
 use create_child::laws::what_is_answered_is_given_back;
@@ -40,7 +40,7 @@ pub fn spis_come_by_orders()
     ensures begun { WhoBeginsHoldsOneSpi }
     ensures first { WhoBeginsHoldsWhatIsReserved }
     ensures admitted { WhoIsAdmittedHoldsNoSpi }
-    ensures asked { OrdersBringNoSpi }
+    ensures asked { OtherOrdersBringNoSpi }
     ensures asking { OrdersLeaveSpisReserved }
 {
     spis_stay_held();

@@ -1,5 +1,5 @@
 //! What waits, and since when.
-ghost use Rattle.effects.specs.LawsOfWaiting.{FirstRequestsWaitFromNow, NewRequestsWaitFromNow, NothingComesDueByAMessage, NothingComesDueByARequest, NothingIsDueAsOneBegins, NothingIsDueAsOneIsAdmitted, OneRequestGoesOutUnderTheNextNumber, OtherRequestsWaitOn, RequestsWaitOn, RequestsWaitUntilAnswered, TheClosedWereSoOrEndNow};
+ghost use Rattle.effects.specs.LawsOfWaiting.{FirstRequestsWaitFromNow, NewRequestsWaitFromNow, NothingComesDueByAMessage, NothingComesDueByARequest, NothingIsDueAsOneBegins, NothingIsDueAsOneIsAdmitted, OneRequestGoesOutUnderTheNextNumber, OtherRequestsWaitOn, WhatWaitsWaitedOrGoesOutNow, RequestsWaitUntilAnswered, TheClosedWereSoOrEndNow};
 
 use moments::laws::nothing_is_due_afterwards;
 
@@ -20,7 +20,7 @@ pub fn nothing_comes_due()
 /// answered, goes out anew, or the association ends (RFC 7296, sections 2.1 and 2.6). What is ordered goes out under the next number. An
 /// association that is closed afterwards was closed before, since the same moment, or ends now.
 pub fn requests_wait_on()
-    ensures taken { RequestsWaitOn }
+    ensures taken { WhatWaitsWaitedOrGoesOutNow }
     ensures until { RequestsWaitUntilAnswered }
     ensures closed { TheClosedWereSoOrEndNow }
     ensures begun { FirstRequestsWaitFromNow }

@@ -1,6 +1,6 @@
 //! What is promised of both ends together beside their requests: of children, packets and windows.
 ghost use Rattle.effects.specs.Taking.{meaning_of};
-ghost use Rattle.gateway.specs.LawsOfBothEnds.{BothEndsKeepTheirPromises, NewWorldsAreWhollySound, WindowsAreThoseTold, WindowsStayAccountedFor};
+ghost use Rattle.gateway.specs.LawsOfBothEnds.{BothEndsKeepTheirPromises, NewWorldsAreWhollySound, WindowsAccountedForFit, WindowsStayAccountedFor};
 
 use crate::laws::every_world_stays_sound;
 use auth::laws::windows_are_read_again;
@@ -55,7 +55,7 @@ pub fn both_ends_keep_their_promises<C: Sealer + Agreement + Proof>()
 /// end is what opens at the other (RFC 7296, section 2.3).
 pub fn windows_are_those_told<C: Sealer + Agreement + Proof>()
     ensures stays { WindowsStayAccountedFor C C.body_of C.plain_of (meaning_of C.Sealer C.Agreement C.Proof) }
-    ensures fit { WindowsAreThoseTold C C.body_of C.plain_of }
+    ensures fit { WindowsAccountedForFit C C.body_of C.plain_of }
 {
     each_party_stays_sound();
     what_was_sent_under_keys_is_told();

@@ -1,4 +1,4 @@
-//! The children that a step makes, and the answers to what is offered for them.
+//! The children that a step makes, and the answers to what is offered for them and for their association.
 ghost use Rattle.ike.specs.LawsOfChildren.{ChildrenAreExtendedWhereAllowed, ChildrenAreMadeOfTheirMessages, ChildrenHaveFewSelectors, FirstAnswersKeepToTheirOffers, FirstChildrenMirror, FurtherChildrenMirror, OrdersAskForTheFurtherChild, OtherAnswersHaveNoSa, SealedAnswersKeepToTheirOffers, WhoComesToKeysAsksForItsFirstChild, WhoWaitsFurtherWaitedOrIsOrdered, WhoWaitsWaitedOrAsksNow};
 
 use crate::laws::soundness_stays;

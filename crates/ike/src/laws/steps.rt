@@ -1,4 +1,4 @@
-//! What a step does to what the machine holds: one thing, to one association, by few moves.
+//! What a step does to what the machine holds: one thing, by few moves, and but for a moment to one association.
 ghost use Rattle.ike.specs.LawsOfSteps.{FreshOctetsOpen, OneAssociationIsChanged, RefusalsAreDetermined, StepsAreDetermined, StepsAreMoves, WhatIsDoneIsNotRefused, WhatIsQuietChangesNothing};
 
 use effects::laws::{

@@ -1,5 +1,5 @@
 //! The requests of the peer: which take effect, what is remembered of them, and what comes again.
-ghost use Rattle.ike.specs.LawsOfRequests.{InitialRepeatsAreAnswered, InitialRepeatsAreRefusedForMemoryAlone, NewRequestsTakeEffect, NumbersTakeEffectByTheirDatagramAlone, OnlyRepeatsAreAnsweredAgain, OnlyWhatTakesEffectIsRepliedTo, RepeatsAreAnswered, RepeatsAreRefusedForMemoryAlone, RequestsAreQuietOrNew, RequestsFollowThoseBefore, SerialsAreBelowTheNext, SerialsRise, TheConcludedStaysConcluded, TheForgottenIsDropped, TheHalfOpenWereSoBefore, TheWindowStaysOrIsWidened, WhatComesHalfOpenIsAdmitted, WhatComesHasTheNextSerial, WhatIsGoneWasGivenUp, WhatIsHeldIsSound};
+ghost use Rattle.ike.specs.LawsOfRequests.{InitialRepeatsAreAnswered, InitialRepeatsAreRefusedForMemoryAlone, NewRequestsTakeEffect, NumbersTakeEffectByTheirDatagramAlone, OnlyRepeatsAreAnsweredAgain, OnlyWhatTakesEffectIsRepliedTo, RepeatsAreAnswered, RequestsAreRefusedForMemoryAlone, RequestsAreQuietOrNew, RequestsFollowThoseBefore, SerialsAreBelowTheNext, SerialsRise, TheConcludedStaysConcluded, TheForgottenIsDropped, TheHalfOpenWereSoBefore, TheWindowStaysOrIsWidened, WhatComesHalfOpenIsAdmitted, WhatComesHasTheNextSerial, WhatIsGoneWasGivenUp, WhatIsHeldIsSound};
 
 use crate::laws::what_is_quiet_changes_nothing;
 use effects::laws::associations_stay_themselves;
@@ -65,7 +65,7 @@ pub fn repeats_are_answered()
     ensures forgotten { TheForgottenIsDropped }
     ensures first { InitialRepeatsAreAnswered }
     ensures only { OnlyRepeatsAreAnsweredAgain }
-    ensures unrefused { RepeatsAreRefusedForMemoryAlone }
+    ensures unrefused { RequestsAreRefusedForMemoryAlone }
     ensures unrefused_first { InitialRepeatsAreRefusedForMemoryAlone }
 {
     associations_stay_themselves();

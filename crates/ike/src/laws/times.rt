@@ -1,5 +1,5 @@
 //! What is due, and when it comes.
-ghost use Rattle.ike.specs.LawsOfTimes.{MachinesStayTimely, MomentsAreRefusedForMemoryAlone, NewMachinesAreTimely, TheTimeStandsStill, WhatIsDueComes};
+ghost use Rattle.ike.specs.LawsOfTimes.{MachinesStayTimely, MomentsAreRefusedForMemoryAlone, NewMachinesAreTimely, NothingComesBeforeTheNextMoment, TheTimeStandsStill, WhatIsDueComes};
 
 use effects::laws::{associations_stay_themselves, nothing_comes_due, requests_wait_on};
 use moments::laws::{
@@ -28,4 +28,13 @@ pub fn what_is_due_comes_in_time()
     pairs_go_with_their_associations();
     what_comes_is_due();
     what_is_held_was_held();
+}
+
+/// At a machine at which nothing is due that its moment has reached, no moment of 64 bits before the one that
+/// [`next_moment`](crate::Ike::next_moment) tells sends, closes or removes anything: the machine is as it was but for its greatest moment,
+/// and so is the table.
+pub fn nothing_comes_before_the_next_moment()
+    ensures { NothingComesBeforeTheNextMoment }
+{
+    moments::laws::nothing_comes_before_its_time();
 }
