@@ -30,3 +30,4 @@ mod PairLemmas
 mod CarryLemmas
 mod WindowLemmas
 mod WindowWorldLemmas
+mod NextLemmas

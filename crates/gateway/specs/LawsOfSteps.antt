@@ -1,15 +1,17 @@
 -- What a step leaves as it was, and that it does one thing.
 use Rattle.std.specs.List.{AllByRecursion}
-use Rattle.std.specs.Prelude.{◌≡◌, false, map, List}
+use Rattle.std.specs.Prelude.{◌≡◌, ◌<◌, ◌^◌, [], false, map, max, ℕ, List, Option}
 use Rattle.base.specs.Octets.{Octets}
 use Rattle.suite.specs.declared.fresh.Fresh.{Fresh}
 use Rattle.sadb.specs.Database.{IsAsBefore}
 use Rattle.effects.specs.Taking.{Meaning}
+use Rattle.moments.specs.Next.{IsBefore, NothingIsDueBefore}
 use Rattle.ike.specs.Lengths.{HoldWholeKeys}
+use Rattle.ike.specs.Moments.{IsTimely}
 use Rattle.ike.specs.declared.output.Trace.{Trace}
 use Rattle.gateway.specs.Contents.{state_content}
 use Rattle.gateway.specs.Lengths.{IsGiven}
-use Rattle.gateway.specs.Outputs.{output_view, wants_memory, IsQuiet, OutputView, Refused}
+use Rattle.gateway.specs.Outputs.{output_view, wants_memory, IsQuiet, OutputView, Refused, Ticked}
 use Rattle.gateway.specs.Runs.{Runs, StepsAs}
 use Rattle.gateway.specs.States.{State}
 use Rattle.gateway.specs.Steps.{Steps, Traces}
@@ -80,3 +82,16 @@ module _ (C : Type 0) where
       → HoldWholeKeys old.machine.held
       → Steps meaning given old said new
       → HoldWholeKeys new.machine.held
+
+  -- ---- nothing_comes_before_the_next_moment
+  abbrev pub NothingComesBeforeTheNextMoment : Type 0
+  NothingComesBeforeTheNextMoment = (meaning : Meaning) (next : Option ℕ) (moment : ℕ) (old new : State C)
+      (said : OutputView)
+      → IsTimely old.machine
+      → NothingIsDueBefore next old.machine.held.associations
+      → moment < 2 ^ 64
+      → IsBefore moment next
+      → Steps meaning (input.Tick moment) old said new
+      → wants_memory said ≡ false
+      → (said ≡ Ticked [] [])
+      × (new ≡ record old { machine = record old.machine { moment = max old.machine.moment moment } })

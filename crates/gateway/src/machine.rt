@@ -1,5 +1,5 @@
 //! A gateway, and one step of it.
-ghost use Rattle.std.specs.Prelude.{◌≡◌};
+ghost use Rattle.std.specs.Prelude.{◌≡◌, ◌<◌, IfSome};
 ghost use Rattle.std.specs.Option.{option_copied};
 ghost use Rattle.sadb.specs.Database.{IsSoundTable, IsStart};
 ghost use Rattle.initial.specs.Configs.{IsConfig};
@@ -10,6 +10,7 @@ ghost use Rattle.gateway.specs.Outputs.{output_view};
 ghost use Rattle.gateway.specs.States.{new_gateway};
 ghost use Rattle.gateway.specs.Steps.{Steps, Traces};
 ghost use Rattle.effects.specs.Taking.{meaning_of};
+ghost use Rattle.moments.specs.Next.{NothingIsDueBefore, SomethingIsDue};
 
 use crate::stepping::take;
 use crate::{Input, Output, Traced};
@@ -95,6 +96,21 @@ impl<C> Gateway<C> {
         ensures { option_copied result ≡ keys_of_serial serial self.now.machine.held.associations }
     {
         self.ike.keys_of(serial)
+    }
+
+    /// The least moment at which [`Input::Tick`] sends, closes or removes anything, in its milliseconds: a request is sent again, one has
+    /// failed, or a half-open or closed association is over (RFC 7296, sections 2.1 and 2.4). None where no moment of 64 bits does. A host
+    /// that has nothing else to do may sleep until then. Takes no memory.
+    ///
+    /// It lies after the greatest moment so far. A step may bring it nearer or put it off, so it is asked for anew after each. Before it a
+    /// moment changes nothing else
+    /// ([`nothing_comes_before_the_next_moment`](crate::laws::nothing_comes_before_the_next_moment)).
+    pub fn next_moment(&self) -> Option<u64>
+        ensures early { NothingIsDueBefore result self.now.machine.held.associations }
+        ensures due { IfSome result (λ moment. SomethingIsDue moment self.now.machine.held.associations) }
+        ensures ahead { IfSome result (λ moment. self.now.machine.moment < moment) }
+    {
+        self.ike.next_moment()
     }
 
     /// What holds of every gateway: its machine is sound with its table, and so is the table; nothing is due that the greatest moment so far

@@ -1,6 +1,7 @@
 mod asserts;
 mod flood;
 mod lists;
+mod next_moments;
 mod notices;
 mod of_deletions;
 mod of_further;

@@ -1,5 +1,5 @@
 //! What a step leaves as it was, and that it does one thing.
-ghost use Rattle.gateway.specs.LawsOfSteps.{KeysStayWhole, PolicyAndCallerStay, RefusalsChangeNothing, RunsAreDetermined, StepsAreDetermined, TracesAreDetermined, WhatIsQuietChangesNothing};
+ghost use Rattle.gateway.specs.LawsOfSteps.{KeysStayWhole, NothingComesBeforeTheNextMoment, PolicyAndCallerStay, RefusalsChangeNothing, RunsAreDetermined, StepsAreDetermined, TracesAreDetermined, WhatIsQuietChangesNothing};
 
 use sadb::laws::later_tables_are_determined;
 use traffic::laws::{outcomes_are_determined, outcomes_go_by_content};
@@ -32,4 +32,14 @@ pub fn steps_are_determined<C>()
     later_tables_are_determined();
     outcomes_are_determined();
     outcomes_go_by_content();
+}
+
+/// No moment of 64 bits before the one that [`next_moment`](crate::Gateway::next_moment) tells sends, closes or removes anything: where it
+/// is not refused for want of memory, the gateway is as it was but for its greatest moment. The premise on what is due holds of every
+/// gateway ([`invariants_hold`](crate::Gateway::invariants_hold)).
+pub fn nothing_comes_before_the_next_moment<C>()
+    ensures { NothingComesBeforeTheNextMoment C }
+{
+    ike::laws::nothing_comes_before_the_next_moment();
+    ike::laws::what_is_due_comes_in_time();
 }

@@ -7,7 +7,7 @@ use super::asserts::same;
 use association::{Association, HalfOpen, Phase, Purpose, Request};
 use base::Items;
 use exchange::Role;
-use moments::{Ticked, tick};
+use moments::{Ticked, next_due, tick};
 use requests::{Incoming, Outgoing, Timer};
 use sadb::Table;
 use std::alloc::Global;
@@ -267,4 +267,25 @@ fn the_same_octets_go_out_in_order(rt: HostRuntime) {
         sent(&rt, rt.alloc(), &ticked).as_slice(),
         expected.as_slice(),
     );
+}
+
+#[test]
+fn what_is_due_next_is_the_least(rt: HostRuntime) {
+    let timers = [timer(500, 1), timer(0, 0), timer(31_000, 5)];
+    let closed = Phase::Closed {
+        keys: None,
+        at: 1000,
+    };
+    let rows = [
+        (established(&rt, rt.alloc(), &timers), Some(1000)),
+        (established(&rt, rt.alloc(), &[]), None),
+        (
+            alone(&rt, rt.alloc(), half_open(rt.alloc(), 0)),
+            Some(30_000),
+        ),
+        (alone(&rt, rt.alloc(), closed), Some(121_000)),
+    ];
+    for (associations, wanted) in &rows {
+        same(&rt, next_due(associations.as_slice()), *wanted);
+    }
 }
