@@ -1,5 +1,5 @@
 -- A tag in a lane: the inner hash behind its pad, and the outer hash, which is one block behind its own.
-use Rattle.std.proofs.Common.{◌≡◌, ℕ, zero, suc, ◌+◌, ◌-◌, ◌*◌, ◌/◌, ◌^◌, ◌<◌, ◌≤◌, List, [], ◌∷◌, ◌++◌, length, take, drop, replicate, slice_index, sym, ap, ◌∙◌, arith, append_assoc, length-append, add-one}
+use Rattle.std.proofs.Common.{◌≡◌, ℕ, zero, suc, ◌+◌, ◌-◌, ◌*◌, ◌/◌, ◌%◌, ◌^◌, ◌<◌, ◌≤◌, List, [], ◌∷◌, ◌++◌, length, take, drop, replicate, slice_index, refl, sym, ap, ◌∙◌, arith, append_assoc, length-append, add-one}
 use Rattle.std.proofs.lemmas.List.{length-map, take_all, take_at}
 use Rattle.std.proofs.lemmas.Bool.Decides.{nat_tests}
 use Rattle.std.proofs.lemmas.Nat.{from_be_bytes-to_be_bytes_4}
@@ -7,6 +7,7 @@ use Rattle.std.proofs.lemmas.Simd.{length-replicate}
 use Rattle.std.proofs.Math.Seq.{drop-append-add}
 use Rattle.sha2.specs.Sha256.{add_state, compress, digest_bytes, final_hash, first_words, hash_after, initial_hash_256, padded_message, padding, rounds, schedule, sha256}
 use Rattle.sha2.proofs.Facts256.{length-sha256}
+use Rattle.std.specs.Int.{w64, to_be_bytes}
 use Rattle.mac.specs.Hmac.{hmac_block, hmac_sha256, pad_with, short_key}
 use Rattle.lanes.specs.Key.{HasStates, state_behind}
 use Rattle.lanes.specs.Padding.{after_a_block}
@@ -101,3 +102,17 @@ tag-is key octets inner outer digest tag count states digest_is whole tag_is =
 -- a message and its padding have a block at least
 pub has_a_block : (octets : List ℕ) (count : ℕ) → length (after_a_block octets) ≡ count * 64 → 1 ≤ count
 has_a_block octets count whole = omega (arith, length-append octets (padding (64 + length octets)))
+
+-- so many that they fill blocks
+pub whole_after : (octets : List ℕ) → length (after_a_block octets) ≡ length (after_a_block octets) / 64 * 64
+whole_after octets =
+    let n : ℕ = 64 + length octets in
+    let zeros = (119 - n % 64) % 64 in
+    let long = length-append octets (padding n) in
+    let some = length-replicate {A = ℕ} zeros 0 in
+    let all = length-append (replicate zeros 0) (to_be_bytes w64 (n * 8 % 2 ^ 64)) in
+    omega arith
+
+pub length-hash_after : (start octets : List ℕ) (n : ℕ) → length (hash_after start octets (n + 1)) ≡ 8
+unfolding hash_after compress
+length-hash_after start octets n = rw add-one refl

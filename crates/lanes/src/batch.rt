@@ -1,80 +1,161 @@
-//! Any number of messages: eight at once, and alone where too few are left.
-ghost use Rattle.std.specs.Prelude.{◌≡◌, ℕ, ◌<◌, ◌≤◌, ◌↔◌, IsTrue, length, map, slice_index};
+//! Any number of messages: eight that have as many blocks at once, the others as a queue, and alone those that make lanes wait.
+ghost use Rattle.std.specs.Prelude.{◌≡◌, ℕ, ◌<◌, ◌≤◌, [], IsTrue, Some, length, map, slice_get, slice_index, slice_index_or};
 ghost use Rattle.lanes.specs.Lane.{IsLane};
 ghost use Rattle.lanes.specs.Task.{AreWritten, FitsALane, icv_of};
+ghost use Rattle.lanes.specs.declared.task.Task.{Task};
 
-use crate::eight::icv_eight;
+use crate::eight::{icv_behind, icv_eight};
 use crate::order::{BATCH, blocks_at, next_eight, places_by_blocks};
+use crate::stream::inner_digests;
 use crate::task::Task;
 
 // From how many messages of one length on eight lanes take less time than one lane alone. The default build gains 1.7 times by
 // full lanes, so eight lanes take there the time of 4.7 messages; a build for AVX2 gains 4 times.
 const FEWEST: usize = 5;
 
-// Writes the check values of the messages at the first places, each computed alone.
-fn write_one_by_one(tasks: &[Task<'_>], values: &mut [[u8; 16]], places: &[usize; 8], count: usize)
+// Writes the check values of the messages at these places, each computed alone.
+fn write_one_by_one(tasks: &[Task<'_>], values: &mut [[u8; 16]], places: &[usize])
     requires same { length values.old ≡ length tasks.now }
-    requires count { count ≤ 8 }
-    requires within { (j : ℕ) → IsLane j → slice_index places.now j < length tasks.now }
-    ensures { AreWritten tasks.now values.old values.new places.now count }
+    requires within { (k : ℕ) → k < length places.now → slice_index places.now k < length tasks.now }
+    ensures { AreWritten tasks.now values.old values.new places.now (length places.now) }
 {
-    for j in 0..count {
-        let place = places[j];
+    for k in 0..places.len() {
+        let place = places[k];
         values[place] = tasks[place].icv();
     }
 }
 
-// Writes the check values of the messages at eight places, computed side by side.
-fn write_side_by_side(tasks: &[Task<'_>], values: &mut [[u8; 16]], places: &[usize; 8])
+// Writes eight check values to the places of their messages.
+fn write_eight(
+    tasks: &[Task<'_>],
+    values: &mut [[u8; 16]],
+    places: &[usize; 8],
+    eight: &[[u8; 16]; 8],
+)
     requires same { length values.old ≡ length tasks.now }
     requires fit { (j : ℕ) → IsLane j → FitsALane tasks.now (slice_index places.now j) }
+    requires right { (j : ℕ) → IsLane j → (task : Task)
+        → slice_get tasks.now (slice_index places.now j) ≡ Some task
+        → slice_index_or eight.now j [] ≡ icv_of task }
     ensures { AreWritten tasks.now values.old values.new places.now 8 }
 {
-    let eight = icv_eight(tasks, places);
     for j in 0..8 {
         values[places[j]] = eight[j];
     }
 }
 
-// Whether the messages at these places can go into lanes.
-fn fit_lanes(tasks: &[Task<'_>], places: &[usize; 8]) -> bool
-    requires { (j : ℕ) → IsLane j → slice_index places.now j < length tasks.now }
-    ensures { IsTrue result ↔ ((j : ℕ) → IsLane j → FitsALane tasks.now (slice_index places.now j)) }
+// Whether each message can go into a lane.
+fn fit_lanes(tasks: &[Task<'_>]) -> bool
+    ensures { IsTrue result → (place : ℕ) → place < length tasks.now → FitsALane tasks.now place }
 {
-    for place in places {
-        if !tasks[*place].fits_a_lane() {
+    for task in tasks {
+        if !task.fits_a_lane() {
             return false;
         }
     }
     true
 }
 
-// Whether eight lanes take less time for the messages at the first places than one lane alone.
-fn is_worth_lanes(tasks: &[Task<'_>], places: &[usize; 8], count: usize) -> bool
-    requires { count ≤ 8 }
+// Whether the next eight messages have as many blocks, so that no lane waits for another.
+fn are_even(tasks: &[Task<'_>], places: &[usize], start: usize) -> bool
+    requires { start < length places.now }
 {
-    let mut most = 0;
-    let mut all: usize = 0;
-    for j in 0..count {
-        let blocks = blocks_at(tasks, places[j]);
-        most = blocks.max(most);
-        all = all.saturating_add(blocks);
-    }
-    all / FEWEST >= most
+    places.len() - start >= 8
+        && blocks_at(tasks, places[start]) == blocks_at(tasks, places[start + 7])
 }
 
-// Writes the check values of the messages at the first places.
-fn write_group(tasks: &[Task<'_>], values: &mut [[u8; 16]], places: &[usize; 8], count: usize)
-    requires same { length values.old ≡ length tasks.now }
-    requires count { count ≤ 8 }
-    requires within { (j : ℕ) → IsLane j → slice_index places.now j < length tasks.now }
-    ensures { AreWritten tasks.now values.old values.new places.now count }
+// How many of the first messages keep the other lanes waiting for longer than the lanes gain, so that they go faster alone.
+fn count_alone(tasks: &[Task<'_>], queue: &[usize]) -> usize
+    ensures { result ≤ length queue.now }
 {
-    if is_worth_lanes(tasks, places, count) && fit_lanes(tasks, places) {
-        write_side_by_side(tasks, values, places);
-    } else {
-        write_one_by_one(tasks, values, places, count);
+    let mut all: usize = 0;
+    for place in queue {
+        all = all.saturating_add(blocks_at(tasks, *place));
     }
+    for k in 0..queue.len() {
+        let blocks = blocks_at(tasks, queue[k]);
+        if all / FEWEST >= blocks {
+            return k;
+        }
+        all = all.saturating_sub(blocks);
+    }
+    queue.len()
+}
+
+// Writes the check values of messages that follow one another in lanes.
+fn write_stream(tasks: &[Task<'_>], values: &mut [[u8; 16]], queue: &[usize])
+    requires same { length values.old ≡ length tasks.now }
+    requires few { length tasks.now ≤ BATCH }
+    requires some { 0 < length queue.now }
+    requires fit { (k : ℕ) → k < length queue.now → FitsALane tasks.now (slice_index queue.now k) }
+    ensures { AreWritten tasks.now values.old values.new queue.now (length queue.now) }
+{
+    let digests = inner_digests(tasks, queue);
+    for group in 0..queue.len().div_ceil(8) {
+        let places = next_eight(queue, 8 * group);
+        write_eight(
+            tasks,
+            values,
+            &places,
+            &icv_behind(tasks, &places, &digests),
+        );
+    }
+}
+
+// Writes the check values of a queue, in one go where each message has a lane of its own.
+fn write_queue(tasks: &[Task<'_>], values: &mut [[u8; 16]], queue: &[usize])
+    requires same { length values.old ≡ length tasks.now }
+    requires few { length tasks.now ≤ BATCH }
+    requires some { 0 < length queue.now }
+    requires fit { (k : ℕ) → k < length queue.now → FitsALane tasks.now (slice_index queue.now k) }
+    ensures { AreWritten tasks.now values.old values.new queue.now (length queue.now) }
+{
+    if queue.len() <= 8 {
+        let eight = next_eight(queue, 0);
+        write_eight(tasks, values, &eight, &icv_eight(tasks, &eight));
+    } else {
+        write_stream(tasks, values, queue);
+    }
+}
+
+// Writes the check values of messages that have different counts of blocks, the longest first.
+fn write_uneven(tasks: &[Task<'_>], values: &mut [[u8; 16]], queue: &[usize])
+    requires same { length values.old ≡ length tasks.now }
+    requires few { length tasks.now ≤ BATCH }
+    requires fit { (k : ℕ) → k < length queue.now → FitsALane tasks.now (slice_index queue.now k) }
+    ensures { AreWritten tasks.now values.old values.new queue.now (length queue.now) }
+{
+    let alone = count_alone(tasks, queue);
+    write_one_by_one(tasks, values, &queue[..alone]);
+    if alone < queue.len() {
+        write_queue(tasks, values, &queue[alone..]);
+    }
+}
+
+// Writes the check values of messages in lanes: eight that have as many blocks side by side, and the others as a queue.
+fn write_in_lanes(tasks: &[Task<'_>], values: &mut [[u8; 16]], places: &[usize])
+    requires same { length values.old ≡ length tasks.now }
+    requires few { length tasks.now ≤ BATCH }
+    requires as_few { length places.now ≤ BATCH }
+    requires fit { (k : ℕ) → k < length places.now → FitsALane tasks.now (slice_index places.now k) }
+    ensures { AreWritten tasks.now values.old values.new places.now (length places.now) }
+{
+    let mut queue = [0; BATCH];
+    let mut queued = 0;
+    let mut start = 0;
+    for at in 0..places.len() {
+        if start <= at {
+            if are_even(tasks, places, at) {
+                let eight = next_eight(places, at);
+                write_eight(tasks, values, &eight, &icv_eight(tasks, &eight));
+                start = at + 8;
+            } else {
+                queue[queued] = places[at];
+                queued += 1;
+            }
+        }
+    }
+    write_uneven(tasks, values, &queue[..queued]);
 }
 
 // Writes the check value of each message, at most 64 of them.
@@ -84,10 +165,10 @@ fn write_batch(tasks: &[Task<'_>], values: &mut [[u8; 16]])
     ensures { values.new ≡ map icv_of tasks.now }
 {
     let places = places_by_blocks(tasks);
-    for group in 0..tasks.len().div_ceil(8) {
-        let start = 8 * group;
-        let eight = next_eight(&places, start, tasks.len());
-        write_group(tasks, values, &eight, (tasks.len() - start).min(8));
+    if fit_lanes(tasks) {
+        write_in_lanes(tasks, values, &places[..tasks.len()]);
+    } else {
+        write_one_by_one(tasks, values, &places[..tasks.len()]);
     }
 }
 

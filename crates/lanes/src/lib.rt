@@ -1,9 +1,10 @@
 //! Check values of many messages side by side: HMAC-SHA-256-128 (RFC 4868), as crate `mac` has it, in eight lanes.
 //!
 //! SHA-256 takes the blocks of one message in turn, and so leaves most of a processor idle. Here eight messages go through it
-//! at once, one in each lane of a vector. Each has its key, and may have any length: a lane whose message has ended waits for
-//! the others. So that few lanes wait, messages with as many blocks go side by side, in whatever order they come; where too few
-//! are left to fill lanes, they are computed alone. The values are the same in each case: that of [`mac::IcvKey::icv`].
+//! at once, one in each lane of a vector. Each has its key, and may have any length. In whatever order they come, eight that have
+//! as many blocks go side by side; the others follow one another, and where one ends, the next takes its lane. Messages so long
+//! that the other lanes would wait for them, and those that are too few to fill lanes, are computed alone. The values are the same
+//! in each case: that of [`mac::IcvKey::icv`].
 //!
 //! Nothing here takes memory: the values go to places that the caller gives, and what is kept between stands on the stack.
 //!
@@ -24,7 +25,7 @@
 //!
 //! From the bottom: [`words`] has the functions of SHA-256 on vectors, [`rounds`] its compression, [`blocks`] brings words into
 //! lanes and out of them, [`padding`] and [`message`] say which block comes next, [`absorbing`] hashes, [`tagging`] makes HMAC of
-//! it, [`eight`] takes eight messages, and [`order`] and [`batch`] any number of them.
+//! it, [`eight`] takes eight messages, [`stream`] those that follow one another, and [`order`] and [`batch`] any number of them.
 #![tactic(auto)]
 
 mod absorbing;
@@ -38,10 +39,9 @@ mod order;
 mod padding;
 mod pads;
 mod rounds;
+mod stream;
 mod tagging;
 mod task;
-#[cfg(test)]
-mod tests;
 mod words;
 
 pub use batch::icv_all;

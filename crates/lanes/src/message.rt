@@ -1,5 +1,5 @@
 //! A message as the blocks that a lane takes.
-ghost use Rattle.std.specs.Prelude.{◌≡◌, length};
+ghost use Rattle.std.specs.Prelude.{◌≡◌, ◌/◌, ◌^◌, ◌<◌, ◌≤◌, length};
 
 use crate::padding::{end_len, ending};
 
@@ -18,12 +18,14 @@ pub(crate) struct Message<'a> {
     // How many blocks there are in all.
     pub(crate) count: usize,
     ghost room: { length end ≡ 128 },
+    ghost front: { length octets.now / 64 ≤ count },
+    ghost few: { count < 2 ^ 64 },
 }
 
 impl<'a> Message<'a> {
     ghost use Rattle.std.specs.Prelude.{◌≡◌, ℕ, ◌+◌, ◌*◌, ◌<◌, ◌≤◌, List, ◌++◌, length, take, drop};
     ghost use Rattle.lanes.specs.Padding.{after_a_block};
-    ghost use Rattle.lanes.specs.Message.{HasBlocks};
+    ghost use Rattle.lanes.specs.Message.{HasBlocks, whole_blocks};
 
     // The message whose two parts follow a block.
     pub(crate) fn new(octets: &'a [u8], more: &[u8]) -> Message<'a>
@@ -39,6 +41,26 @@ impl<'a> Message<'a> {
             end: ending(rest, more, size, bits),
             count: whole + size / BLOCK_LEN,
         }
+    }
+
+    // How many whole blocks the octets have.
+    #[inline(always)]
+    pub(crate) fn whole(&self) -> usize
+        ensures whole { result ≡ whole_blocks self.now }
+        ensures least { result ≤ self.now.count }
+    {
+        self.octets.len() / BLOCK_LEN
+    }
+
+    // The block at `index`, which stands whole in the octets.
+    #[inline(always)]
+    pub(crate) fn whole_block(&self, index: usize) -> &[u8]
+        requires { index < whole_blocks self.now }
+        ensures whole { length result.now ≡ 64 }
+        ensures block { (octets : List ℕ) → HasBlocks self.now octets
+            → result.now ≡ take 64 (drop (index * 64) octets) }
+    {
+        &self.octets[index * BLOCK_LEN..(index + 1) * BLOCK_LEN]
     }
 
     // The block at `index`; past the last one it is any block.

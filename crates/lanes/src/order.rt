@@ -40,14 +40,13 @@ pub(crate) fn places_by_blocks(tasks: &[Task<'_>]) -> [usize; BATCH]
 }
 
 // The place whose message goes into lane `j`.
-fn place_for(places: &[usize; BATCH], start: usize, end: usize, j: usize) -> usize
-    requires start { start < end }
-    requires end { end ≤ BATCH }
-    requires lane { j < 8 }
-    ensures next { start + j < end → result ≡ slice_index places.now (start + j) }
-    ensures left { end ≤ start + j → result ≡ slice_index places.now start }
+fn place_for(places: &[usize], start: usize, j: usize) -> usize
+    requires start { start < length places.now }
+    requires lane { IsLane j }
+    ensures next { start + j < length places.now → result ≡ slice_index places.now (start + j) }
+    ensures left { length places.now ≤ start + j → result ≡ slice_index places.now start }
 {
-    if start + j < end {
+    if j < places.len() - start {
         places[start + j]
     } else {
         places[start]
@@ -55,22 +54,21 @@ fn place_for(places: &[usize; BATCH], start: usize, end: usize, j: usize) -> usi
 }
 
 // The next eight places. Where fewer are left, the first of them stands in each lane that is left over.
-pub(crate) fn next_eight(places: &[usize; BATCH], start: usize, end: usize) -> [usize; 8]
-    requires start { start < end }
-    requires end { end ≤ BATCH }
-    ensures next { (j : ℕ) → IsLane j → start + j < end
+pub(crate) fn next_eight(places: &[usize], start: usize) -> [usize; 8]
+    requires { start < length places.now }
+    ensures next { (j : ℕ) → IsLane j → start + j < length places.now
         → slice_index result j ≡ slice_index places.now (start + j) }
-    ensures left { (j : ℕ) → IsLane j → end ≤ start + j
+    ensures left { (j : ℕ) → IsLane j → length places.now ≤ start + j
         → slice_index result j ≡ slice_index places.now start }
 {
     [
-        place_for(places, start, end, 0),
-        place_for(places, start, end, 1),
-        place_for(places, start, end, 2),
-        place_for(places, start, end, 3),
-        place_for(places, start, end, 4),
-        place_for(places, start, end, 5),
-        place_for(places, start, end, 6),
-        place_for(places, start, end, 7),
+        place_for(places, start, 0),
+        place_for(places, start, 1),
+        place_for(places, start, 2),
+        place_for(places, start, 3),
+        place_for(places, start, 4),
+        place_for(places, start, 5),
+        place_for(places, start, 6),
+        place_for(places, start, 7),
     ]
 }

@@ -5,7 +5,7 @@ ghost use Rattle.mac.specs.Hmac.{hmac_block, pad_with};
 ghost use Rattle.lanes.specs.Key.{HasStates};
 ghost use Rattle.lanes.specs.Lane.{IsLane, lane};
 
-use crate::blocks::{state_of_lane, words, words_in_lanes};
+use crate::blocks::{state_of_lane, words_in_lanes};
 use crate::constants::INITIAL_HASH;
 use crate::rounds::compress;
 use crate::words::each;
@@ -53,9 +53,9 @@ pub(crate) fn states(key: &[u8; 32]) -> ([u32; 8], [u32; 8])
     ensures { HasStates key.now result.0 result.1 }
 {
     let block = key_block(key);
-    let inner = words(&padded(&block, INNER_PAD));
-    let outer = words(&padded(&block, OUTER_PAD));
-    let blocks = words_in_lanes([inner, outer, inner, inner, inner, inner, inner, inner]);
-    let states = compress(initial(), blocks);
+    let inner: &[u8] = &padded(&block, INNER_PAD);
+    let outer: &[u8] = &padded(&block, OUTER_PAD);
+    let words = words_in_lanes([inner, outer, inner, inner, inner, inner, inner, inner]);
+    let states = compress(initial(), words);
     (state_of_lane(&states, 0), state_of_lane(&states, 1))
 }

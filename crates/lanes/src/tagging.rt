@@ -1,6 +1,6 @@
 //! HMAC-SHA-256 (RFC 2104) in eight lanes.
-ghost use Rattle.std.specs.Prelude.{◌≡◌, ℕ, ◌<◌, ◌^◌, List, Some, ◌++◌, length, slice_get, slice_index, take};
-ghost use Rattle.sha2.specs.Sha256.{digest_bytes, first_words, padding};
+ghost use Rattle.std.specs.Prelude.{◌≡◌, ℕ, ◌*◌, ◌<◌, ◌^◌, List, Some, ◌++◌, length, slice_get, slice_index, take};
+ghost use Rattle.sha2.specs.Sha256.{digest_bytes, first_words, hash_after, padding};
 ghost use Rattle.mac.specs.Hmac.{hmac_sha256};
 ghost use Rattle.lanes.specs.Key.{HasStates};
 ghost use Rattle.lanes.specs.Lane.{IsLane, lane};
@@ -42,6 +42,17 @@ fn outer_words(digest: &[u32x8; 8]) -> [u32x8; 16]
     ]
 }
 
+// Each lane's tag, as words, from its inner digest.
+pub(crate) fn outer_tags(outer: [u32x8; 8], digests: &[u32x8; 8]) -> [u32x8; 8]
+    ensures { (j : ℕ) → IsLane j → (key octets inner : List ℕ) (count : ℕ)
+        → HasStates key inner (lane j outer)
+        → lane j digests.now ≡ hash_after inner (after_a_block octets) count
+        → length (after_a_block octets) ≡ count * 64
+        → digest_bytes (lane j result) 8 ≡ hmac_sha256 key octets }
+{
+    compress(outer, outer_words(digests))
+}
+
 // Each lane's tag, as words: that of its message under the key whose states it begins with.
 pub(crate) fn tags(inner: [u32x8; 8], outer: [u32x8; 8], messages: &[Message<'_>]) -> [u32x8; 8]
     requires { length messages.now ≡ 8 }
@@ -51,7 +62,7 @@ pub(crate) fn tags(inner: [u32x8; 8], outer: [u32x8; 8], messages: &[Message<'_>
         → digest_bytes (lane j result) 8 ≡ hmac_sha256 key octets }
 {
     let digests = absorb(inner, messages);
-    compress(outer, outer_words(&digests))
+    outer_tags(outer, &digests)
 }
 
 // The first 16 octets of a tag, from its words.

@@ -1,34 +1,16 @@
-use Rattle.std.proofs.Common.{◌≡◌, ◌+◌, ◌*◌, ◌-◌, ◌<◌, ℕ, length, slice_index, ap, ◌∙◌, sym, subst, inl, inr, arith}
-use Rattle.std.proofs.lemmas.Bool.{cases_lt}
-use Rattle.lanes.specs.Task.{IsRight}
-use Rattle.lanes.proofs.BatchLemmas.{all_right, each_place, within_places}
+use Rattle.std.proofs.Common.{length, arith, refl}
+use Rattle.lanes.proofs.BatchLemmas.{batch_right, within_taken}
 use Rattle.lanes.proofs.batch.write_batch.Goals as goal
 
-pub write_group-requires-clause-within : goal.write_group-requires-clause-within
-write_group-requires-clause-within c = λ j fits.
-    let n = length c.args.tasks.now in
-    let places = c.places_by_blocks-places.result in
-    let start = 8 * c.loop-group.group in
-    let perm = c.places_by_blocks-places.ensures in
-    elim (cases_lt (start + j) n) [
-      | inl next ↦ subst (λ (p : ℕ). p < n) (sym (c.next_eight-eight.ensures.next j fits next)) (within_places n places perm (start + j) next)
-      | inr left ↦ subst (λ (p : ℕ). p < n) (sym (c.next_eight-eight.ensures.left j fits left)) (within_places n places perm start (omega arith))
-    ]
+pub write_in_lanes-requires-clause-fit : goal.write_in_lanes-requires-clause-fit
+write_in_lanes-requires-clause-fit c = λ k below.
+    c.fit_lanes.ensures c.if-fit_lanes.true _ (within_taken (length c.args.tasks.now) c.places_by_blocks-places.result c.places_by_blocks-places.ensures k below)
 
-pub loop-group-preserved : goal.loop-group-preserved
-loop-group-preserved c = λ p below within.
-    let start = 8 * c.loop-group.group in
-    let places = c.places_by_blocks-places.result in
-    elim (cases_lt p start) [
-      | inl done ↦ c.write_group.ensures.kept (slice_index places p) (c.loop-group.invariant p done within)
-      | inr now ↦
-          let j : ℕ = p - start in
-          let at : start + j ≡ p = omega arith in
-          let place = c.next_eight-eight.ensures.next j (omega arith) (omega arith) ∙ ap (λ (k : ℕ). slice_index places k) at in
-          subst (λ (q : ℕ). IsRight c.args.tasks.now c.write_group.new.values q) place (c.write_group.ensures.done j (omega arith))
-    ]
+pub write_one_by_one-requires-clause-within : goal.write_one_by_one-requires-clause-within
+write_one_by_one-requires-clause-within c = within_taken (length c.args.tasks.now) c.places_by_blocks-places.result c.places_by_blocks-places.ensures
 
-pub returns : goal.returns
-returns c = all_right c.args.tasks.now c.loop-group.values (omega arith)
-    (each_place c.args.tasks.now c.loop-group.values c.places_by_blocks-places.result c.places_by_blocks-places.ensures
-    (λ p within. c.loop-group.invariant p (omega arith) within))
+pub returns-then-fit_lanes : goal.returns-then-fit_lanes
+returns-then-fit_lanes c = batch_right c.args.tasks.now c.args.values.now c.write_in_lanes.new.values c.places_by_blocks-places.result _ c.places_by_blocks-places.ensures (omega arith) refl c.write_in_lanes.ensures
+
+pub returns-else-fit_lanes : goal.returns-else-fit_lanes
+returns-else-fit_lanes c = batch_right c.args.tasks.now c.args.values.now c.write_one_by_one.new.values c.places_by_blocks-places.result _ c.places_by_blocks-places.ensures (omega arith) refl c.write_one_by_one.ensures

@@ -1,0 +1,30 @@
+//! How associations and children are named.
+
+/// An IKE association of one of this peer's gateways.
+#[derive(Clone, Copy, Debug, PartialEq, Eq, PartialOrd, Ord)]
+pub struct AssociationName {
+    /// The gateway's number, as [`Order::OpenGateway`](super::Order) gave it.
+    pub gateway: u32,
+    /// The association's serial in that gateway.
+    pub ike: u32,
+}
+
+/// A child of one of this peer's gateways.
+#[derive(Clone, Copy, Debug, PartialEq, Eq, PartialOrd, Ord)]
+pub struct ChildName {
+    /// The gateway's number, as [`Order::OpenGateway`](super::Order) gave it.
+    pub gateway: u32,
+    /// The child's serial in that gateway's table.
+    pub child: u32,
+}
+
+/// What is told of a child that was just made.
+#[derive(Clone, Copy, Debug, PartialEq, Eq)]
+pub struct NewChild {
+    /// Its serial in the gateway's table.
+    pub child: u32,
+    /// The place of the policy's entry whose flows it carries, from 0.
+    pub entry: u32,
+    /// Whether its numbers have 64 bits; else they have 32.
+    pub extended: bool,
+}

@@ -1,0 +1,41 @@
+//! The command `sukperind check CONFIG`.
+
+use std::fs;
+use std::os::unix::fs::PermissionsExt;
+use std::path::Path;
+use std::process::{Command, Output};
+
+fn check(file: &Path) -> Output {
+    let mut command = Command::new(env!("CARGO_BIN_EXE_sukperind"));
+    command.arg("check").arg(file).output().unwrap()
+}
+
+#[test]
+fn the_examples_are_good_and_a_fault_is_told() {
+    let folder = std::env::temp_dir().join(format!("sukperind-check-{}", std::process::id()));
+    fs::create_dir_all(&folder).unwrap();
+    let secret = folder.join("link.secret");
+    fs::write(&secret, "some secret").unwrap();
+    fs::set_permissions(&secret, fs::Permissions::from_mode(0o600)).unwrap();
+    for name in ["left.toml", "right.toml"] {
+        let text = Path::new(env!("CARGO_MANIFEST_DIR")).join("etc").join(name);
+        fs::copy(text, folder.join(name)).unwrap();
+        let output = check(&folder.join(name));
+        assert!(output.status.success(), "{output:?}");
+    }
+    fs::set_permissions(&secret, fs::Permissions::from_mode(0o644)).unwrap();
+    let output = check(&folder.join("left.toml"));
+    assert_eq!(output.status.code(), Some(1));
+    let message = String::from_utf8(output.stderr).unwrap();
+    assert!(
+        message.contains("left.toml:17: peers[0].secret_file: expected"),
+        "{message}"
+    );
+    fs::remove_dir_all(&folder).unwrap();
+}
+
+#[test]
+fn a_bad_command_line_has_status_2() {
+    let mut command = Command::new(env!("CARGO_BIN_EXE_sukperind"));
+    assert_eq!(command.output().unwrap().status.code(), Some(2));
+}
