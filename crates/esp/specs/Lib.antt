@@ -4,6 +4,7 @@ pub mod Views
 pub mod Faults
 pub mod Opening
 pub mod Ahead
+pub mod Precomputed
 pub mod Sealing
 pub mod Progress
 pub mod Laying

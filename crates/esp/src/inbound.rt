@@ -1,11 +1,12 @@
 //! The receiver's end of an association (RFC 4303 section 3.4).
-ghost use Rattle.std.specs.Prelude.{◌≡◌, ℕ, ◌+◌, ◌-◌, ◌≤◌, length, take, drop, vec_len};
+ghost use Rattle.std.specs.Prelude.{◌≡◌, ℕ, ◌+◌, ◌-◌, ◌≤◌, List, length, take, drop, vec_len};
 ghost use Rattle.std.specs.Prelude.{All, IsTrue, ◌↔◌, OnOk, IfOk, IfErr, IfSome, IfNone, IsOk};
 ghost use Rattle.std.specs.Vec.{vec_capacity};
 ghost use Rattle.replay.specs.Window.{IsSoundWindow};
 ghost use Rattle.esp.specs.Judging.{IsNumber};
 ghost use Rattle.esp.specs.Packet.{check_value, BeginsWithItsSpi};
 ghost use Rattle.esp.specs.Ahead.{AreAhead, HasFreshNumber, IsAhead, IsAsked, RunsFirst};
+ghost use Rattle.esp.specs.Precomputed.{IsPrecomputed, IsQuestion};
 ghost use Rattle.esp.specs.Opening.{IsOpeningRefusal, IsFreshNumber, HandsUp, Refuses, Step};
 ghost use Rattle.esp.specs.Delivery.{AnswersFirst, IsStop, JudgesAtMostOnce, JudgesExactlyAtFirst, answers_since, octets_of};
 
@@ -15,6 +16,7 @@ use crate::check_values::GROUP;
 use crate::key::IntegrityKey;
 use crate::load::{FEWEST, gain_by_lanes};
 use crate::packet::{CHECK, HEAD, contents, high_half, is_judged_length, low_half_of};
+use crate::precomputed::{Precomputed, Question};
 use crate::{Answer, EspFault, ListFault};
 use replay::{Judgement, Window, recover};
 use std::marker::Model;
@@ -112,6 +114,44 @@ impl<W: Window> Inbound<W> {
         ensures refused { IfErr result (λ e. Refuses W.may_want self.old packet.now e self.new) }
     {
         self.open_with(packet, None)
+    }
+
+    /// What the check value of a packet is computed from, where the packet has a number that was not taken. For
+    /// [`precompute`](crate::precompute).
+    pub fn question<'a>(&'a self, packet: &'a [u8]) -> Option<Question<'a>>
+        ensures { IfSome result (IsQuestion packet.now) }
+    {
+        match self.fresh_number(packet) {
+            Ok(number) => Some(Question::new(&self.association, number, packet)),
+            Err(_) => None,
+        }
+    }
+
+    /// Opens a packet as [`open`](Inbound::open) does. A check value that was computed before is used where it was computed with this
+    /// key, and for the number that the packet has now; else the packet's own is computed.
+    pub fn open_ahead<'a>(
+        &mut self,
+        packet: &'a [u8],
+        ahead: Option<Precomputed>,
+    ) -> Result<Opened<'a>, EspFault>
+        requires mine { BeginsWithItsSpi self.old.association packet.now }
+        requires ahead { IfSome ahead (IsPrecomputed packet.now) }
+        ensures up { IfOk result (λ o. HandsUp self.old packet.now o.number o.next o.payload.now self.new) }
+        ensures refused { IfErr result (λ e. Refuses W.may_want self.old packet.now e self.new) }
+    {
+        let own = self.own_of(ahead);
+        self.open_with(packet, own)
+    }
+
+    // The value that was computed before, where it was computed for this association.
+    fn own_of(&self, ahead: Option<Precomputed>) -> Option<Ahead>
+        ensures { (packet : List ℕ) → IfSome ahead (IsPrecomputed packet)
+            → IfSome result (IsAhead self.now.association packet) }
+    {
+        match ahead {
+            Some(found) => found.under(&self.association),
+            None => None,
+        }
     }
 
     // Opens a packet as [`Inbound::open`] does, with its check value where it was computed ahead for its number.

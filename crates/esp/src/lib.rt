@@ -31,9 +31,13 @@ pub mod laws;
 mod load;
 mod outbound;
 mod packet;
+mod precomputed;
 mod progress;
 
 pub use answer::Answer;
+pub use check_values::GROUP;
 pub use fault::{EspFault, ListFault, SealStop};
 pub use inbound::{Inbound, Opened};
+pub use load::FEWEST;
 pub use outbound::Outbound;
+pub use precomputed::{Precomputed, Question, precompute};

@@ -1,6 +1,7 @@
 mod PacketLemmas
 mod LawLemmas
 mod RunLemmas
+mod GroupLemmas
 mod QuietLemmas
 pub mod WorldLemmas
 mod WorldHistoryLemmas

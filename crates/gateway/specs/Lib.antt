@@ -3,6 +3,7 @@ pub mod Outputs
 pub mod States
 pub mod Steps
 pub mod Runs
+pub mod Groups
 pub mod Worlds
 pub mod WorldHistories
 pub mod WorldParties

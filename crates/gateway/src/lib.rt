@@ -74,6 +74,7 @@
 //! ```
 #![tactic(auto)]
 
+mod ahead;
 mod fault;
 mod input;
 pub mod laws;

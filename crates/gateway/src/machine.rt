@@ -6,6 +6,8 @@ ghost use Rattle.initial.specs.Configs.{IsConfig};
 ghost use Rattle.ike.specs.Machines.{keys_of_serial};
 ghost use Rattle.ike.specs.Moments.{IsTimely};
 ghost use Rattle.ike.specs.Soundness.{AreReservationsHeld, IsSoundMachine};
+ghost use Rattle.esp.specs.Precomputed.{IsPrecomputed};
+ghost use Rattle.gateway.specs.Groups.{packet_in};
 ghost use Rattle.gateway.specs.Outputs.{output_view};
 ghost use Rattle.gateway.specs.States.{new_gateway};
 ghost use Rattle.gateway.specs.Steps.{Steps, Traces};
@@ -15,6 +17,7 @@ ghost use Rattle.moments.specs.Next.{NothingIsDueBefore, SomethingIsDue};
 use crate::stepping::take;
 use crate::{Input, Output, Traced};
 use association::Association;
+use esp::Precomputed;
 use flows::FlowMemory;
 use flows::laws::answers_stay_right;
 use ike::Ike;
@@ -142,6 +145,21 @@ impl<C: Sealer + Agreement + Proof> Gateway<C> {
         self.traced_step(alloc, input).output
     }
 
+    // One step as [`step`](Gateway::step), with an ESP packet's check value where that was computed before.
+    pub(crate) fn step_ahead<'a>(
+        &mut self,
+        alloc: Global,
+        input: &'a Input,
+        ahead: Option<Precomputed>,
+    ) -> Output<'a>
+        requires { IfSome ahead (IsPrecomputed (packet_in input.now)) }
+        ensures { Steps
+            (meaning_of C.Sealer C.Agreement C.Proof self.old.caller)
+            input.now self.old (output_view result) self.new }
+    {
+        self.traced_ahead(alloc, input, ahead).output
+    }
+
     /// One step as [`step`](Gateway::step), that also answers which message it sent under which keys of IKE, and which keys and which
     /// child it made.
     pub fn traced_step<'a>(&mut self, alloc: Global, input: &'a Input) -> Traced<'a>
@@ -149,9 +167,25 @@ impl<C: Sealer + Agreement + Proof> Gateway<C> {
             (meaning_of C.Sealer C.Agreement C.Proof self.old.caller)
             input.now self.old (output_view result.output) result.trace self.new }
     {
+        self.traced_ahead(alloc, input, None)
+    }
+
+    // One step as [`traced_step`](Gateway::traced_step), with an ESP packet's check value where that was computed before.
+    fn traced_ahead<'a>(
+        &mut self,
+        alloc: Global,
+        input: &'a Input,
+        ahead: Option<Precomputed>,
+    ) -> Traced<'a>
+        requires { IfSome ahead (IsPrecomputed (packet_in input.now)) }
+        ensures { Traces
+            (meaning_of C.Sealer C.Agreement C.Proof self.old.caller)
+            input.now self.old (output_view result.output) result.trace self.new }
+    {
         take(
             alloc,
             input,
+            ahead,
             &mut self.ike,
             &mut self.table,
             &mut self.flows,

@@ -1,11 +1,15 @@
 //! A list of inputs.
 ghost use Rattle.std.specs.Prelude.{◌≡◌, ◌+◌, ◌≤◌, OnOk, IfErr, IsOk, length, vec_len};
 ghost use Rattle.std.specs.Vec.{vec_capacity};
+ghost use Rattle.esp.specs.Precomputed.{ArePrecomputed};
+ghost use Rattle.gateway.specs.Groups.{TakesFirst, packets_in};
 ghost use Rattle.gateway.specs.Runs.{RunsFirst, Stops};
 ghost use Rattle.effects.specs.Taking.{meaning_of};
 
+use crate::ahead::{value_at, values_ahead};
 use crate::laws::every_run_keeps_its_promises;
 use crate::{Gateway, Input, Output, RunFault};
+use esp::{FEWEST, GROUP, Precomputed};
 use std::alloc::Global;
 use suite::{Agreement, Proof, Sealer};
 
@@ -13,6 +17,11 @@ use suite::{Agreement, Proof, Sealer};
 ///
 /// [`RunFault::NoRoom`] (E38) with the number of inputs that were taken, where there was no memory for the place of the next output.
 /// The place of an output is reserved before its input is taken: none is taken without its output.
+///
+/// Inputs are taken one after the other. Of up to 64 at a time the check values of ESP packets that came are computed side by side before
+/// that, where it gains time, as the table is then: those of packets that a pair is there for and whose number was not taken. When the turn of
+/// a packet comes it is judged as the table is by then, and a value that was computed with another key or for another number is of no use.
+/// No memory is taken for it.
 ///
 /// Over whatever list: of one association each number of a request under its keys takes effect at most once, exactly where such a request
 /// is delivered new; every repeat that is still remembered is answered by the octets of the first reply; and what is due (a request again,
@@ -35,13 +44,67 @@ pub fn run<'a, C: Sealer + Agreement + Proof>(
     ensures room { vec_len outputs.old + length inputs.now ≤ vec_capacity outputs.old → IsOk result }
 {
     every_run_keeps_its_promises::<C>();
-    for (done, input) in inputs.iter().enumerate() {
-        if outputs.reserve(1).is_err() {
-            return Err(RunFault::NoRoom { done });
+    for group in 0..inputs.len().div_ceil(GROUP) {
+        let start = GROUP * group;
+        let count = (inputs.len() - start).min(GROUP);
+        let taken = run_group(alloc, gateway, &inputs[start..start + count], outputs);
+        if taken < count {
+            return Err(RunFault::NoRoom {
+                done: start + taken,
+            });
         }
-        gateway.invariants_hold();
-        let output = gateway.step(alloc, input);
-        outputs.push_reserved(output);
     }
     Ok(())
+}
+
+// Takes a group of inputs in order; answers how many. A list of a few inputs, as most are, needs none of the arrays.
+fn run_group<'a, C: Sealer + Agreement + Proof>(
+    alloc: Global,
+    gateway: &mut Gateway<C>,
+    inputs: &'a [Input],
+    outputs: &mut Vec<Output<'a>>,
+) -> usize
+    requires { length inputs.now ≤ GROUP }
+    ensures first { TakesFirst
+        (meaning_of C.Sealer C.Agreement C.Proof)
+        result inputs.now gateway.old outputs.old.items gateway.new outputs.new.items }
+    ensures room { vec_len outputs.old + length inputs.now ≤ vec_capacity outputs.old
+        → result ≡ length inputs.now }
+    ensures capacity { vec_capacity outputs.old ≤ vec_capacity outputs.new }
+    ensures size { vec_len outputs.new ≡ vec_len outputs.old + result }
+{
+    if inputs.len() < FEWEST {
+        return run_with(alloc, gateway, inputs, &[], outputs);
+    }
+    let ahead = values_ahead(gateway.table(), inputs);
+    run_with(alloc, gateway, inputs, &ahead, outputs)
+}
+
+// Takes inputs in order, each after the place of its output was reserved, with the check values that were computed ahead; answers how many.
+fn run_with<'a, C: Sealer + Agreement + Proof>(
+    alloc: Global,
+    gateway: &mut Gateway<C>,
+    inputs: &'a [Input],
+    ahead: &[Option<Precomputed>],
+    outputs: &mut Vec<Output<'a>>,
+) -> usize
+    requires { ArePrecomputed (packets_in inputs.now) ahead.now }
+    ensures first { TakesFirst
+        (meaning_of C.Sealer C.Agreement C.Proof)
+        result inputs.now gateway.old outputs.old.items gateway.new outputs.new.items }
+    ensures room { vec_len outputs.old + length inputs.now ≤ vec_capacity outputs.old
+        → result ≡ length inputs.now }
+    ensures capacity { vec_capacity outputs.old ≤ vec_capacity outputs.new }
+    ensures size { vec_len outputs.new ≡ vec_len outputs.old + result }
+{
+    for (done, input) in inputs.iter().enumerate() {
+        if outputs.reserve(1).is_err() {
+            return done;
+        }
+        gateway.invariants_hold();
+        let value = value_at(ahead, done);
+        let output = gateway.step_ahead(alloc, input, value);
+        outputs.push_reserved(output);
+    }
+    inputs.len()
 }

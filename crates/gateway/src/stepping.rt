@@ -1,15 +1,18 @@
 //! One input of each kind.
-ghost use Rattle.std.specs.Prelude.{◌≡◌, MatchOption};
+ghost use Rattle.std.specs.Prelude.{◌≡◌, IfSome, MatchOption};
+ghost use Rattle.esp.specs.Precomputed.{IsPrecomputed};
 ghost use Rattle.flows.specs.Memory.{AllRight, HoldsNone};
 ghost use Rattle.flows.specs.Staying.{NoneComes};
 ghost use Rattle.ike.specs.Moments.{IsTimely};
 ghost use Rattle.ike.specs.Soundness.{AreReservationsHeld, IsSoundMachine};
 ghost use Rattle.ike.specs.Steps.{input_view};
+ghost use Rattle.gateway.specs.Groups.{packet_in};
 ghost use Rattle.gateway.specs.Outputs.{output_view};
 ghost use Rattle.gateway.specs.Steps.{AdmitsPacket, DoesInput, ReceivesPacket, SendsPacket, StepsIke};
 ghost use Rattle.effects.specs.Taking.{meaning_of};
 
 use crate::{Input, Output, Reason, Traced};
+use esp::Precomputed;
 use flows::FlowMemory;
 use flows::laws::answers_stay_right;
 use ike::laws::{
@@ -22,18 +25,20 @@ use sadb::Table;
 use std::alloc::Global;
 use suite::{Agreement, Proof, Sealer};
 use traffic::laws::no_pair_comes;
-use traffic::{admit, receive, send_remembering};
+use traffic::{admit, receive_ahead, send_remembering};
 
-// Takes an input of any kind.
+// Takes an input of any kind, an ESP packet with its check value where that was computed before.
 pub(crate) fn take<'a, C: Sealer + Agreement + Proof>(
     alloc: Global,
     input: &'a Input,
+    ahead: Option<Precomputed>,
     ike: &mut Ike,
     table: &mut Table,
     flows: &mut FlowMemory,
     policy: &Policy,
     caller: &C,
 ) -> Traced<'a>
+    requires ahead { IfSome ahead (IsPrecomputed (packet_in input.now)) }
     requires sound { IsSoundMachine ike.old table.old }
     requires timely { IsTimely ike.old }
     requires reservations { AreReservationsHeld ike.old.held table.old }
@@ -111,7 +116,7 @@ pub(crate) fn take<'a, C: Sealer + Agreement + Proof>(
                 caller,
             )
         }
-        Input::Esp { octets } => Traced::plain(receive_packet(table, octets.as_slice())),
+        Input::Esp { octets } => Traced::plain(receive_packet(table, octets.as_slice(), ahead)),
         Input::Outward { packet } => {
             Traced::plain(send_packet(alloc, table, flows, policy, packet.as_slice()))
         }
@@ -189,13 +194,14 @@ fn step_machine<'a, C: Sealer + Agreement + Proof>(
     }
 }
 
-fn receive_packet<'a>(table: &mut Table, packet: &'a [u8]) -> Output<'a>
+fn receive_packet<'a>(table: &mut Table, packet: &'a [u8], ahead: Option<Precomputed>) -> Output<'a>
+    requires { IfSome ahead (IsPrecomputed packet.now) }
     ensures received { ReceivesPacket table.old packet.now (output_view result) table.new }
     ensures reserved { table.new.reserved ≡ table.old.reserved }
     ensures pairs { NoneComes table.old.pairs table.new.pairs }
 {
     no_pair_comes();
-    Output::of_arrival(receive(table, packet))
+    Output::of_arrival(receive_ahead(table, packet, ahead))
 }
 
 fn send_packet<'a>(

@@ -20,6 +20,6 @@ mod status;
 
 pub use address::{address_text, read_address};
 pub use digits::{HexFault, hex_text, read_hex};
-pub use input::{InputFault, FILE_LIMIT, read_whole};
+pub use input::{FILE_LIMIT, InputFault, read_whole};
 pub use output::{Unwritten, write_whole};
 pub use status::Status;

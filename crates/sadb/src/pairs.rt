@@ -1,6 +1,7 @@
 //! The pairs of a table, by their serials.
 ghost use Rattle.std.specs.Vec.{vec_capacity};
 ghost use Rattle.esp.specs.declared.fault.EspFault.{EspFault};
+ghost use Rattle.esp.specs.Precomputed.{IsPrecomputed};
 ghost use Rattle.std.specs.Prelude.{◌≢◌, length, vec_len, ◌≡◌, ◌+◌, ◌<◌, ◌≤◌, ◌^◌, ℕ, List, Some, None, IsOk, OnOk, IfOk, IfErr, IfSome, IfNone, IsSome, IsTrue, ◌↔◌};
 ghost use Rattle.std.specs.Option.{option_copied};
 ghost use Rattle.std.specs.FinMap as map;
@@ -11,7 +12,7 @@ ghost use Rattle.sadb.specs.Database.{BelongsTo, Carries, IsAfter, IsForPair, Is
 ghost use Rattle.sadb.specs.Storage.{MarksPair, OpensPair, RefusesPair, SealsPair, key_of};
 
 use crate::pair::{Pair, State};
-use esp::{EspFault, Opened};
+use esp::{EspFault, Opened, Precomputed};
 use policy::{Flow, covers};
 use slab::Slab;
 use std::alloc::{AllocError, Global};
@@ -157,9 +158,15 @@ impl Pairs {
         self.slab[key].state = State::Deleting;
     }
 
-    /// Opens a packet by a pair's inbound association.
-    pub fn open<'a>(&mut self, serial: u32, packet: &'a [u8]) -> Result<Opened<'a>, EspFault>
-        requires { IsForPair self.old.pairs serial packet.now }
+    /// Opens a packet by a pair's inbound association, with its check value where that was computed before.
+    pub fn open<'a>(
+        &mut self,
+        serial: u32,
+        packet: &'a [u8],
+        ahead: Option<Precomputed>,
+    ) -> Result<Opened<'a>, EspFault>
+        requires asked { IsForPair self.old.pairs serial packet.now }
+        requires ahead { IfSome ahead (IsPrecomputed packet.now) }
         ensures up { IfOk result
             (λ o. OpensPair self.old.pairs serial packet.now o.number o.next o.payload.now self.new.pairs) }
         ensures refused { IfErr result
@@ -168,7 +175,7 @@ impl Pairs {
     {
         let key = key(&self.keys, serial).unwrap();
         let inbound = &mut self.slab[key].inbound;
-        let opened = inbound.open(packet);
+        let opened = inbound.open_ahead(packet, ahead);
         // The invariant wants each pair's window sound.
         inbound.window_is_sound();
         opened

@@ -7,11 +7,12 @@ ghost use Rattle.std.specs.Option.{option_copied};
 ghost use Rattle.std.specs.Vec.{vec_capacity};
 ghost use Rattle.sadb.specs.Storage.{RemovesIfOf};
 ghost use Rattle.esp.specs.declared.fault.EspFault.{EspFault};
+ghost use Rattle.esp.specs.Precomputed.{IsPrecomputed};
 
 use crate::pairs::Pairs;
 use crate::places::Places;
 use crate::{Pair, Spi, TableFault};
-use esp::{EspFault, Opened};
+use esp::{EspFault, Opened, Precomputed};
 use policy::Flow;
 use std::alloc::Global;
 use std::marker::Model;
@@ -230,7 +231,25 @@ impl Table {
         ensures refused { IfErr result (λ fault. RefusesAt self.old serial packet.now fault self.new) }
         ensures unchanged { IfErr result (λ fault. fault ≢ EspFault.BadPadding → self.new ≡ self.old) }
     {
-        self.pairs.open(serial, packet)
+        self.open_ahead(serial, packet, None)
+    }
+
+    /// Opens a packet as [`open`](Table::open) does, with its check value where that was computed before: it is used where it was
+    /// computed with the pair's key and for the number that the packet has now ([`esp::Inbound::open_ahead`]).
+    pub fn open_ahead<'a>(
+        &mut self,
+        serial: u32,
+        packet: &'a [u8],
+        ahead: Option<Precomputed>,
+    ) -> Result<Opened<'a>, EspFault>
+        requires asked { IsForPair self.old.pairs serial packet.now }
+        requires ahead { IfSome ahead (IsPrecomputed packet.now) }
+        ensures up { IfOk result
+            (λ o. OpensAt self.old serial packet.now o.number o.next o.payload.now self.new) }
+        ensures refused { IfErr result (λ fault. RefusesAt self.old serial packet.now fault self.new) }
+        ensures unchanged { IfErr result (λ fault. fault ≢ EspFault.BadPadding → self.new ≡ self.old) }
+    {
+        self.pairs.open(serial, packet, ahead)
     }
 
     /// Seals a payload by the outbound association of a pair, as [`esp::Outbound::seal`] does: the packet is appended to `out`,

@@ -1,5 +1,6 @@
 //! Packets that come protected (RFC 4301, section 5.2).
-ghost use Rattle.std.specs.Prelude.{IfErr, IfOk};
+ghost use Rattle.std.specs.Prelude.{IfErr, IfOk, IfSome};
+ghost use Rattle.esp.specs.Precomputed.{IsPrecomputed, IsQuestion};
 ghost use Rattle.sadb.specs.Database.{IsForPair};
 ghost use Rattle.traffic.specs.Outcomes.{outcome_of_arrival};
 ghost use Rattle.traffic.specs.Receiving.{HasAddressee, IsAddressedTo, IsAddressedToNone, IsVerdictAt, Receives, reception_of};
@@ -8,7 +9,7 @@ ghost use Rattle.traffic.specs.Verdicts.{verdict_of};
 use crate::PacketFault;
 use crate::verdict::{Carried, judge};
 use byteorder::{BigEndian, ByteOrder};
-use esp::{EspFault, Opened};
+use esp::{EspFault, Opened, Precomputed, Question};
 use sadb::{Pair, Table};
 
 /// What came of an ESP packet. A child is told by the serial of its pair.
@@ -48,17 +49,47 @@ const SPI: usize = 4;
 pub fn receive<'a>(table: &mut Table, packet: &'a [u8]) -> Arrival<'a>
     ensures { Receives table.old packet.now (outcome_of_arrival result) table.new }
 {
-    match open(table, packet) {
+    receive_ahead(table, packet, None)
+}
+
+/// Takes an ESP packet that came as [`receive`] does, with its check value where that was computed before ([`question`]). However the
+/// table changed meanwhile: the value is used where it was computed with the key of the pair that the packet is addressed to now, and for
+/// the number that it has there now.
+pub fn receive_ahead<'a>(
+    table: &mut Table,
+    packet: &'a [u8],
+    ahead: Option<Precomputed>,
+) -> Arrival<'a>
+    requires { IfSome ahead (IsPrecomputed packet.now) }
+    ensures { Receives table.old packet.now (outcome_of_arrival result) table.new }
+{
+    match open(table, packet, ahead) {
         Ok(arrival) => arrival,
         Err(fault) => Arrival::Dropped(fault),
     }
 }
 
-fn open<'a>(table: &mut Table, packet: &'a [u8]) -> Result<Arrival<'a>, PacketFault>
+/// What the check value of an ESP packet is computed from, where the packet is addressed to a pair and has a number there that was not
+/// taken. For [`esp::precompute`].
+pub fn question<'a>(table: &'a Table, packet: &'a [u8]) -> Option<Question<'a>>
+    ensures { IfSome result (IsQuestion packet.now) }
+{
+    match addressee(table, packet) {
+        Ok(pair) => pair.inbound.question(packet),
+        Err(_) => None,
+    }
+}
+
+fn open<'a>(
+    table: &mut Table,
+    packet: &'a [u8],
+    ahead: Option<Precomputed>,
+) -> Result<Arrival<'a>, PacketFault>
+    requires { IfSome ahead (IsPrecomputed packet.now) }
     ensures { Receives table.old packet.now (reception_of result) table.new }
 {
     let child = addressee(table, packet)?.serial;
-    let opened = table.open(child, packet)?;
+    let opened = table.open_ahead(child, packet, ahead)?;
     let number = opened.number;
     match carried(table, packet, opened)? {
         Carried::Packet(packet) => Ok(Arrival::Up {

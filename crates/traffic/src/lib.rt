@@ -33,6 +33,6 @@ mod next_header;
 mod verdict;
 
 pub use admission::{Admission, admit};
-pub use arrival::{Arrival, receive};
+pub use arrival::{Arrival, question, receive, receive_ahead};
 pub use departure::{Departure, send, send_remembering};
 pub use fault::PacketFault;

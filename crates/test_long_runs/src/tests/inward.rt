@@ -1,10 +1,12 @@
 //! Lists of inputs by calls of `run`: what comes of each is known beforehand.
 mod arrivals;
+mod groups;
 mod plain_rule;
 mod played;
 mod repeats;
 
 use gateway::{End, Input, Output, run};
+use groups::compare_lists;
 use plain_rule::Wanted;
 use played::{Played, play_lists, step_packets};
 use repeats::{Asked, Later};
@@ -160,6 +162,20 @@ fn a_thousand_repeats(rt: HostRuntime) {
     let found = after_a_thousand_repeats(&rt, rt.alloc());
     let wanted = after_the_answer(&rt, rt.alloc());
     are_as_without(&rt, &found, &wanted);
+}
+
+// In groups or one by one, the same comes of each packet: 3 times 1 + 2 + .. + 70 packets, of 27 children and more that come late.
+#[test]
+fn lists_of_each_length(rt: HostRuntime) {
+    let compared = compare_lists(&rt, rt.alloc());
+    assert_eq!(rt; compared.other, 0);
+    assert_eq!(rt; compared.same, 7455);
+    assert!(rt; compared.ups > 3000, "{} went up", compared.ups);
+    assert!(rt;
+        compared.changes > 100,
+        "{} of another child",
+        compared.changes
+    );
 }
 
 // To be run with each allocation failing in turn: what is prepared wants memory, and no answer does.

@@ -1,25 +1,14 @@
-use Rattle.std.proofs.Common.{◌≡◌, ℕ, List, [], ◌∷◌, ◌++◌, length, sym, ◌∙◌, subst, arith}
+use Rattle.std.proofs.Common.{◌≡◌, ℕ, ◌+◌, ◌-◌, ◌*◌, List, length, take, drop, min, subst, arith, length-drop}
+use Rattle.std.proofs.lemmas.List.{length-take-le}
 use Rattle.effects.specs.Taking.{Meaning}
-use Rattle.gateway.specs.Runs.{Runs, RunsFirst, StepsAs}
-use Rattle.gateway.specs.declared.input.Input.{Input}
-use Rattle.gateway.proofs.RunLemmas.{pushed_after, run_more, take_next}
+use Rattle.gateway.specs.Groups.{TakesFirst}
+use Rattle.gateway.specs.Runs.{RunsFirst}
+use Rattle.gateway.proofs.GroupLemmas.{takes_more}
 use Rattle.gateway.proofs.running.run.Goals as goal
 
-pub returns-then-is_err-clause-stopped : goal.returns-then-is_err-clause-stopped
-returns-then-is_err-clause-stopped g c =
-    let i = c.loop-done.invariant in (
-      c.loop-done-test.true,
-      record {
-        outputs = i.answers;
-        appended = c.reserve.ensures.items ∙ i.appended;
-        runs = i.runs;
-        promises = c.every_run_keeps_its_promises.ensures _ _ i.answers c.args.gateway.now c.loop-done.gateway i.runs;
-      },
-    )
-
-pub loop-done-preserved : goal.loop-done-preserved
-loop-done-preserved g c =
-    let i = c.loop-done.invariant in
+pub returns-then-taken-count-clause-stopped : goal.returns-then-taken-count-clause-stopped
+returns-then-taken-count-clause-stopped g c =
+    let i = c.loop-group.invariant in
     let meaning_of : _ → Meaning = λ caller. record {
       cipher = g.C.Sealer.cipher;
       body_of = g.C.Sealer.body_of;
@@ -31,23 +20,59 @@ loop-done-preserved g c =
       proof_of = g.C.Proof.proof_of caller;
       accepts = g.C.Proof.accepts caller;
     } in
-    let o = c.step-output.result in
-    let input = c.index-inputs-done.result in
-    let more = take_next c.args.inputs.now c.loop-done.done input c.loop-done-test.true c.index-inputs-done.is in
+    let inputs = c.args.inputs.now in
+    let at = 64 * c.loop-group.group in
+    let size = at + c.min-count.result - at in
+    let k = c.run_group-taken.result in
+    let done : min at (length inputs) ≡ at = omega arith in
+    let first : TakesFirst meaning_of at inputs c.args.gateway.now c.args.outputs.now.items c.loop-group.gateway c.loop-group.outputs.items =
+    subst (λ (n : ℕ). TakesFirst meaning_of n inputs c.args.gateway.now c.args.outputs.now.items c.loop-group.gateway c.loop-group.outputs.items) done i.first
+    in
+    let both = takes_more meaning_of at size k c.args.gateway.now c.loop-group.gateway c.run_group-taken.new.gateway inputs c.args.outputs.now.items c.loop-group.outputs.items c.run_group-taken.new.outputs.items first (omega arith) c.run_group-taken.ensures.first in (
+      omega arith,
+      record {
+        outputs = both.outputs;
+        appended = both.appended;
+        runs = both.runs;
+        promises = c.every_run_keeps_its_promises.ensures meaning_of _ both.outputs c.args.gateway.now c.run_group-taken.new.gateway both.runs;
+      },
+    )
+
+pub loop-group-preserved : goal.loop-group-preserved
+loop-group-preserved g c =
+    let i = c.loop-group.invariant in
+    let meaning_of : _ → Meaning = λ caller. record {
+      cipher = g.C.Sealer.cipher;
+      body_of = g.C.Sealer.body_of;
+      plain_of = g.C.Sealer.plain_of;
+      group = g.C.Agreement.group_number;
+      public_value = g.C.Agreement.public_value;
+      shared_secret = g.C.Agreement.shared_secret;
+      own_method = g.C.Proof.own_method caller;
+      proof_of = g.C.Proof.proof_of caller;
+      accepts = g.C.Proof.accepts caller;
+    } in
+    let inputs = c.args.inputs.now in
+    let at = 64 * c.loop-group.group in
+    let size = at + c.min-count.result - at in
+    let k = c.run_group-taken.result in
+    let done : min at (length inputs) ≡ at = omega arith in
+    let first : TakesFirst meaning_of at inputs c.args.gateway.now c.args.outputs.now.items c.loop-group.gateway c.loop-group.outputs.items =
+    subst (λ (n : ℕ). TakesFirst meaning_of n inputs c.args.gateway.now c.args.outputs.now.items c.loop-group.gateway c.loop-group.outputs.items) done i.first
+    in
+    let both = takes_more meaning_of at size k c.args.gateway.now c.loop-group.gateway c.run_group-taken.new.gateway inputs c.args.outputs.now.items c.loop-group.outputs.items c.run_group-taken.new.outputs.items first (omega arith) c.run_group-taken.ensures.first in
+    let within = c.run_group-taken.ensures.first.within in
+    let long : length (take size (drop at inputs)) ≡ size = length-take-le size (drop at inputs) (omega (arith, length-drop at inputs)) in
+    let after : at + k ≡ min (64 * (c.loop-group.group + 1)) (length inputs) = omega arith in
     record {
-      answers = i.answers ++ o ∷ [];
-      appended = pushed_after c.args.outputs.now.items i.answers c.reserve.new.self.items c.push_reserved.new.self.items o c.push_reserved.ensures.items (c.reserve.ensures.items ∙ i.appended);
-      runs = subst (λ (is : List Input). Runs (StepsAs meaning_of) is (i.answers ++ o ∷ []) c.args.gateway.now c.step-output.new.self) (sym more)
-          (run_more (StepsAs meaning_of) c.args.gateway.now _ i.answers c.loop-done.gateway input o c.step-output.new.self i.runs (record { sound = record { machine = c.invariants_hold.ensures.machine; table = c.invariants_hold.ensures.table; timely = c.invariants_hold.ensures.timely; reservations = c.invariants_hold.ensures.reservations }; steps = c.step-output.ensures }));
-      length_now = omega (arith, c.push_reserved.ensures.len, c.reserve.ensures.len, i.length_now);
-      capacity = omega (arith, i.capacity, c.reserve.ensures.capacity, c.push_reserved.ensures.capacity);
+      first = subst (λ (n : ℕ). TakesFirst meaning_of n inputs c.args.gateway.now c.args.outputs.now.items c.run_group-taken.new.gateway c.run_group-taken.new.outputs.items) after both;
+      length_now = omega (arith, i.length_now, c.run_group-taken.ensures.size);
+      capacity = omega (arith, i.capacity, c.run_group-taken.ensures.capacity);
     }
 
 pub returns-clause-all : goal.returns-clause-all
 returns-clause-all g c =
-    let i = c.loop-done.invariant in
-    let h = c.loop-done-test.false in
-    let e = c.loop-done.auto.done-end in
+    let i = c.loop-group.invariant in
     let meaning_of : _ → Meaning = λ caller. record {
       cipher = g.C.Sealer.cipher;
       body_of = g.C.Sealer.body_of;
@@ -59,11 +84,14 @@ returns-clause-all g c =
       proof_of = g.C.Proof.proof_of caller;
       accepts = g.C.Proof.accepts caller;
     } in
-    let all : c.loop-done.done ≡ length c.args.inputs.now = omega arith in
-    subst (λ (k : ℕ). RunsFirst meaning_of k c.args.inputs.now c.args.gateway.now c.args.outputs.now.items c.loop-done.gateway c.loop-done.outputs.items) all
-    (record {
-      outputs = i.answers;
-      appended = i.appended;
-      runs = i.runs;
-      promises = c.every_run_keeps_its_promises.ensures meaning_of _ i.answers c.args.gateway.now c.loop-done.gateway i.runs;
-    })
+    let inputs = c.args.inputs.now in
+    let all : min (64 * c.loop-group.group) (length inputs) ≡ length inputs = omega arith in
+    let first : TakesFirst meaning_of (length inputs) inputs c.args.gateway.now c.args.outputs.now.items c.loop-group.gateway c.loop-group.outputs.items =
+    subst (λ (n : ℕ). TakesFirst meaning_of n inputs c.args.gateway.now c.args.outputs.now.items c.loop-group.gateway c.loop-group.outputs.items) all i.first
+    in
+    record {
+      outputs = first.outputs;
+      appended = first.appended;
+      runs = first.runs;
+      promises = c.every_run_keeps_its_promises.ensures meaning_of _ first.outputs c.args.gateway.now c.loop-group.gateway first.runs;
+    }

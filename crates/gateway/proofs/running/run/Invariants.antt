@@ -1,17 +1,14 @@
-use Rattle.std.proofs.Common.{◌≡◌, ◌++◌, ◌+◌, ◌≤◌, List, take}
+use Rattle.std.proofs.Common.{◌≡◌, ◌+◌, ◌*◌, ◌≤◌, length, min}
 use Rattle.std.specs.Prelude.{vec_len}
 use Rattle.std.specs.Vec.{vec_capacity}
-use Rattle.gateway.specs.Runs.{Runs, StepsAs}
-use Rattle.gateway.specs.declared.output.Output.{Output}
+use Rattle.gateway.specs.Groups.{TakesFirst}
 use Rattle.gateway.proofs.running.run.Given as goal
 
--- what came so far was taken, and its outputs appended
-abbrev pub invariant-loop-done : goal.invariant-loop-done
-invariant-loop-done g l = record {
-  answers : List Output;
-  appended : l.outputs.items ≡ l.fn.outputs.items ++ answers;
-  runs : Runs
-      (StepsAs (λ caller. record {
+-- the groups so far were taken, and their outputs appended
+abbrev pub invariant-loop-group : goal.invariant-loop-group
+invariant-loop-group g l = record {
+  first : TakesFirst
+      (λ caller. record {
         cipher = g.C.Sealer.cipher;
         body_of = g.C.Sealer.body_of;
         plain_of = g.C.Sealer.plain_of;
@@ -21,8 +18,8 @@ invariant-loop-done g l = record {
         own_method = g.C.Proof.own_method caller;
         proof_of = g.C.Proof.proof_of caller;
         accepts = g.C.Proof.accepts caller;
-      }))
-      (take l.done l.inputs) answers l.fn.gateway l.gateway;
-  length_now : vec_len l.outputs ≡ vec_len l.fn.outputs + l.done;
+      })
+      (min (64 * l.group) (length l.inputs)) l.inputs l.fn.gateway l.fn.outputs.items l.gateway l.outputs.items;
+  length_now : vec_len l.outputs ≡ vec_len l.fn.outputs + min (64 * l.group) (length l.inputs);
   capacity : vec_capacity l.fn.outputs ≤ vec_capacity l.outputs;
 }

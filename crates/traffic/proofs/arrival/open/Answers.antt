@@ -6,39 +6,39 @@ use Rattle.traffic.proofs.arrival.open.Goals as goal
 
 pub returns-in_err-opened : goal.returns-in_err-opened
 returns-in_err-opened c =
-    passed_on c.args.table.now c.args.packet.now c.open.new.self _ c.from_residual-in_err-opened.result
+    passed_on c.args.table.now c.args.packet.now c.open_ahead.new.self _ c.from_residual-in_err-opened.result
     c.from_residual-in_err-opened.ensures.0 c.from_residual-in_err-opened.ensures.1
-    (λ fault is. inr (inl (subst (λ f. IsUnopened c.args.table.now c.args.packet.now f c.open.new.self) (sym is)
-    (not_opened c.args.table.now c.in_ok-child.field-0.now c.args.packet.now c.in_err-opened.field-0.0 c.open.new.self
+    (λ fault is. inr (inl (subst (λ f. IsUnopened c.args.table.now c.args.packet.now f c.open_ahead.new.self) (sym is)
+    (not_opened c.args.table.now c.in_ok-child.field-0.now c.args.packet.now c.in_err-opened.field-0.0 c.open_ahead.new.self
     c.in_ok-child.ensures.found c.in_err-opened.ensures.refused c.in_err-opened.ensures.unchanged))))
 
 pub carried-requires : goal.carried-requires
 carried-requires c =
-    addressed_still c.args.table.now c.in_ok-child.field-0.now c.args.packet.now _ _ _ c.open.new.self c.in_ok-child.ensures.found c.in_ok-opened.ensures.up
+    addressed_still c.args.table.now c.in_ok-child.field-0.now c.args.packet.now _ _ _ c.open_ahead.new.self c.in_ok-child.ensures.found c.in_ok-opened.ensures.up
 
 pub returns-in_err-packet : goal.returns-in_err-packet
 returns-in_err-packet c =
-    passed_on c.args.table.now c.args.packet.now c.open.new.self _ c.from_residual-in_err-packet.result
+    passed_on c.args.table.now c.args.packet.now c.open_ahead.new.self _ c.from_residual-in_err-packet.result
     c.from_residual-in_err-packet.ensures.0 c.from_residual-in_err-packet.ensures.1
-    (λ fault is. inr (inr (subst (λ f. IsRejected c.args.table.now c.args.packet.now f c.open.new.self) (sym is) (record {
+    (λ fault is. inr (inr (subst (λ f. IsRejected c.args.table.now c.args.packet.now f c.open_ahead.new.self) (sym is) (record {
       child = c.in_ok-child.field-0.now.serial;
       number = c.in_ok-opened.opened.number;
-      opened = opened_so c.args.table.now c.in_ok-child.field-0.now c.args.packet.now _ c.in_ok-opened.opened.next c.in_ok-opened.opened.payload.now c.open.new.self _
+      opened = opened_so c.args.table.now c.in_ok-child.field-0.now c.args.packet.now _ c.in_ok-opened.opened.next c.in_ok-opened.opened.payload.now c.open_ahead.new.self _
           c.in_ok-child.ensures.found c.in_ok-opened.ensures.up
-          (subst (λ r. IsVerdictAt c.open.new.self c.args.packet.now c.in_ok-opened.opened.next c.in_ok-opened.opened.payload.now (verdict_of r))
+          (subst (λ r. IsVerdictAt c.open_ahead.new.self c.args.packet.now c.in_ok-opened.opened.next c.in_ok-opened.opened.payload.now (verdict_of r))
           c.in_err-packet.was c.carried.ensures);
     }))))
 
 pub returns-in-Packet : goal.returns-in-Packet
 returns-in-Packet c =
-    opened_so c.args.table.now c.in_ok-child.field-0.now c.args.packet.now _ c.in_ok-opened.opened.next c.in_ok-opened.opened.payload.now c.open.new.self _
+    opened_so c.args.table.now c.in_ok-child.field-0.now c.args.packet.now _ c.in_ok-opened.opened.next c.in_ok-opened.opened.payload.now c.open_ahead.new.self _
     c.in_ok-child.ensures.found c.in_ok-opened.ensures.up
-    (subst (λ r. IsVerdictAt c.open.new.self c.args.packet.now c.in_ok-opened.opened.next c.in_ok-opened.opened.payload.now (verdict_of r))
+    (subst (λ r. IsVerdictAt c.open_ahead.new.self c.args.packet.now c.in_ok-opened.opened.next c.in_ok-opened.opened.payload.now (verdict_of r))
     (c.in_ok-packet.was ∙ ap Ok c.in-Packet.is) c.carried.ensures)
 
 pub returns-in-Nothing : goal.returns-in-Nothing
 returns-in-Nothing c =
-    opened_so c.args.table.now c.in_ok-child.field-0.now c.args.packet.now _ c.in_ok-opened.opened.next c.in_ok-opened.opened.payload.now c.open.new.self _
+    opened_so c.args.table.now c.in_ok-child.field-0.now c.args.packet.now _ c.in_ok-opened.opened.next c.in_ok-opened.opened.payload.now c.open_ahead.new.self _
     c.in_ok-child.ensures.found c.in_ok-opened.ensures.up
-    (subst (λ r. IsVerdictAt c.open.new.self c.args.packet.now c.in_ok-opened.opened.next c.in_ok-opened.opened.payload.now (verdict_of r))
+    (subst (λ r. IsVerdictAt c.open_ahead.new.self c.args.packet.now c.in_ok-opened.opened.next c.in_ok-opened.opened.payload.now (verdict_of r))
     (c.in_ok-packet.was ∙ ap Ok c.in-Nothing.is) c.carried.ensures)

@@ -11,12 +11,12 @@ use Rattle.sadb.proofs.pairs.Pairs.open.Goals as goal
 pub unwrap-key-requires : goal.unwrap-key-requires
 unwrap-key-requires c =
     let at : key_of c.self.inside.keys.items c.args.serial ≡ c.key.result = ap (λ ks. key_of ks c.args.serial) (sym c.deref.ensures.value) ∙ sym c.key.ensures in
-    subst (λ (o : Option ℕ). IsSome o) at (key_given c.self.inside.keys.items c.self.inside.slab c.args.self.now.pairs c.args.serial (ap (λ (s : PairsBySerial). s.pairs) c.self.view_is) (ap is_some c.requires.there))
+    subst (λ (o : Option ℕ). IsSome o) at (key_given c.self.inside.keys.items c.self.inside.slab c.args.self.now.pairs c.args.serial (ap (λ (s : PairsBySerial). s.pairs) c.self.view_is) (ap is_some c.requires.asked.there))
 
 pub index_mut-requires : goal.index_mut-requires
 index_mut-requires c =
     let at : key_of c.self.inside.keys.items c.args.serial ≡ Some c.unwrap-key.result = ap (λ ks. key_of ks c.args.serial) (sym c.deref.ensures.value) ∙ sym c.key.ensures ∙ c.unwrap-key.ensures in
-    pair_given c.self.inside.keys.items c.self.inside.slab c.args.self.now.pairs c.args.serial (ap (λ (s : PairsBySerial). s.pairs) c.self.view_is) c.unwrap-key.result at (ap is_some c.requires.there)
+    pair_given c.self.inside.keys.items c.self.inside.slab c.args.self.now.pairs c.args.serial (ap (λ (s : PairsBySerial). s.pairs) c.self.view_is) c.unwrap-key.result at (ap is_some c.requires.asked.there)
 
 pub invariant_of-self : goal.invariant_of-self
 invariant_of-self c =
@@ -24,21 +24,21 @@ invariant_of-self c =
     written_by_serial c.self.inside.keys.items c.self.inside.slab c.args.self.now.pairs c.args.serial (ap (λ (s : PairsBySerial). s.pairs) c.self.view_is)
     c.unwrap-key.result c.index_mut.result.now _ c.self.invariant at c.index_mut.ensures.value refl c.window_is_sound.ensures
 
-pub open-opened-requires : goal.open-opened-requires
-open-opened-requires c =
+pub open_ahead-opened-requires-clause-mine : goal.open_ahead-opened-requires-clause-mine
+open_ahead-opened-requires-clause-mine c =
     let at : key_of c.self.inside.keys.items c.args.serial ≡ Some c.unwrap-key.result = ap (λ ks. key_of ks c.args.serial) (sym c.deref.ensures.value) ∙ sym c.key.ensures ∙ c.unwrap-key.ensures in
     let here : get c.self.inside.slab c.unwrap-key.result ≡ Some c.index_mut.result.now = c.index_mut.ensures.value in
     let there : map.get c.args.self.now.pairs c.args.serial ≡ Some c.index_mut.result.now = get_at_key c.self.inside.keys.items c.self.inside.slab c.args.self.now.pairs c.args.serial (ap (λ (s : PairsBySerial). s.pairs) c.self.view_is) c.unwrap-key.result at ∙ here in
-    let same : c.requires.pair ≡ c.index_mut.result.now = (let both : Some c.requires.pair ≡ Some c.index_mut.result.now = sym c.requires.there ∙ there in cc) in
-    subst (λ (p : held.Pair). BeginsWithItsSpi p.inbound.association c.args.packet.now) same c.requires.addressed
+    let same : c.requires.asked.pair ≡ c.index_mut.result.now = (let both : Some c.requires.asked.pair ≡ Some c.index_mut.result.now = sym c.requires.asked.there ∙ there in cc) in
+    subst (λ (p : held.Pair). BeginsWithItsSpi p.inbound.association c.args.packet.now) same c.requires.asked.addressed
 
 pub returns-clause-up : goal.returns-clause-up
 returns-clause-up c =
     let at : key_of c.self.inside.keys.items c.args.serial ≡ Some c.unwrap-key.result = ap (λ ks. key_of ks c.args.serial) (sym c.deref.ensures.value) ∙ sym c.key.ensures ∙ c.unwrap-key.ensures in
     let here : get c.self.inside.slab c.unwrap-key.result ≡ Some c.index_mut.result.now = c.index_mut.ensures.value in
     let there : map.get c.args.self.now.pairs c.args.serial ≡ Some c.index_mut.result.now = get_at_key c.self.inside.keys.items c.self.inside.slab c.args.self.now.pairs c.args.serial (ap (λ (s : PairsBySerial). s.pairs) c.self.view_is) c.unwrap-key.result at ∙ here in
-    MatchResult-weaker c.open-opened.result c.open-opened.ensures.up
-    (λ o up. record { pair = c.index_mut.result.now; there = there; inbound = c.open-opened.new.self; opened = up; changed = written_shown c.self.inside.keys.items c.self.inside.slab c.args.self.now.pairs c.args.serial (ap (λ (s : PairsBySerial). s.pairs) c.self.view_is) c.unwrap-key.result c.index_mut.result.now _ c.self.invariant at here })
+    MatchResult-weaker c.open_ahead-opened.result c.open_ahead-opened.ensures.up
+    (λ o up. record { pair = c.index_mut.result.now; there = there; inbound = c.open_ahead-opened.new.self; opened = up; changed = written_shown c.self.inside.keys.items c.self.inside.slab c.args.self.now.pairs c.args.serial (ap (λ (s : PairsBySerial). s.pairs) c.self.view_is) c.unwrap-key.result c.index_mut.result.now _ c.self.invariant at here })
     (λ fault nothing. nothing)
 
 pub returns-clause-refused : goal.returns-clause-refused
@@ -46,6 +46,6 @@ returns-clause-refused c =
     let at : key_of c.self.inside.keys.items c.args.serial ≡ Some c.unwrap-key.result = ap (λ ks. key_of ks c.args.serial) (sym c.deref.ensures.value) ∙ sym c.key.ensures ∙ c.unwrap-key.ensures in
     let here : get c.self.inside.slab c.unwrap-key.result ≡ Some c.index_mut.result.now = c.index_mut.ensures.value in
     let there : map.get c.args.self.now.pairs c.args.serial ≡ Some c.index_mut.result.now = get_at_key c.self.inside.keys.items c.self.inside.slab c.args.self.now.pairs c.args.serial (ap (λ (s : PairsBySerial). s.pairs) c.self.view_is) c.unwrap-key.result at ∙ here in
-    MatchResult-weaker c.open-opened.result c.open-opened.ensures.refused
+    MatchResult-weaker c.open_ahead-opened.result c.open_ahead-opened.ensures.refused
     (λ o nothing. nothing)
-    (λ fault refused. record { pair = c.index_mut.result.now; there = there; inbound = c.open-opened.new.self; refused = refused; changed = written_shown c.self.inside.keys.items c.self.inside.slab c.args.self.now.pairs c.args.serial (ap (λ (s : PairsBySerial). s.pairs) c.self.view_is) c.unwrap-key.result c.index_mut.result.now _ c.self.invariant at here })
+    (λ fault refused. record { pair = c.index_mut.result.now; there = there; inbound = c.open_ahead-opened.new.self; refused = refused; changed = written_shown c.self.inside.keys.items c.self.inside.slab c.args.self.now.pairs c.args.serial (ap (λ (s : PairsBySerial). s.pairs) c.self.view_is) c.unwrap-key.result c.index_mut.result.now _ c.self.invariant at here })

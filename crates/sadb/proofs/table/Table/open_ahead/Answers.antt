@@ -1,5 +1,5 @@
 use Rattle.sadb.proofs.TableLemmas.{opened_in, opened_unchanged, opens_at, refuses_at}
-use Rattle.sadb.proofs.table.Table.open.Goals as goal
+use Rattle.sadb.proofs.table.Table.open_ahead.Goals as goal
 
 pub invariant_of-self : goal.invariant_of-self
 invariant_of-self c =

@@ -1,0 +1,38 @@
+use Rattle.std.proofs.Common.{rules, ◌∙◌, ℕ, List, [], get_or, refl, sym, ap, subst}
+use Rattle.std.proofs.lemmas.List.{get_or-map}
+use Rattle.esp.specs.declared.precomputed.Precomputed.{Precomputed}
+use Rattle.esp.specs.Precomputed.{IsAskedIn, value_of_asked}
+use Rattle.esp.proofs.PrecomputedLemmas.{answers_more, none_answers}
+use Rattle.esp.proofs.precomputed.placed.Goals as goal
+
+pub loop-turn-init : goal.loop-turn-init
+loop-turn-init c = record { answers = λ questions all. none_answers questions 64; long = refl }
+
+pub loop-turn-preserved : goal.loop-turn-preserved
+loop-turn-preserved c =
+    let i = c.loop-turn.invariant in
+    let one = c.index-asked-turn.result in
+    let is = c.index-asked-turn.is in
+    let h = c.loop-turn-test.true in
+    let found = c.answered.result in
+    let made = c.answered.ensures in
+    record {
+      answers = λ questions all. (
+          let here : IsAskedIn questions one = subst (IsAskedIn questions) (sym is) (all c.loop-turn.turn one h) in
+          let within = c.requires.places c.loop-turn.turn one h in
+          answers_more questions c.loop-turn.answers one.place found (search rules) (i.answers questions all)
+          (record {
+            question = one.question;
+            there = here.there;
+            key = ap (λ (x : Precomputed). x.key) made;
+            extended = ap (λ (x : Precomputed). x.extended) made;
+            number = ap (λ (x : Precomputed). x.number) made;
+            value =
+                ap (λ (x : Precomputed). x.value) made
+                ∙ ap (λ (vs : List (List ℕ)). get_or vs c.loop-turn.turn []) c.requires.right
+                ∙ get_or-map value_of_asked c.args.asked.now c.loop-turn.turn one [] h
+                ∙ ap value_of_asked (sym is);
+          })
+          );
+      long = search rules;
+    }

@@ -1,0 +1,199 @@
+//! Check values of received packets, of one association or of several, computed side by side before the packets are opened.
+ghost use Rattle.std.specs.Prelude.{◌≡◌, ℕ, ◌<◌, ◌≤◌, All, IfSome, List, Option, length, map, take};
+ghost use Rattle.lanes.specs.Task.{icv_of};
+ghost use Rattle.esp.specs.declared.precomputed.Question.{Question};
+ghost use Rattle.esp.specs.Ahead.{IsAhead};
+ghost use Rattle.esp.specs.Precomputed.{AreAnswers, ArePrecomputed, AreQuestions, IsAskedIn, IsPrecomputed, IsQuestion, asked_value, value_of_asked};
+
+use crate::ahead::Ahead;
+use crate::association::Association;
+use crate::check_values::GROUP;
+use crate::load::gain_by_lanes;
+use crate::packet::{CHECK, high_half};
+use lanes::{Task, icv_all};
+use std::convert::AsSlice;
+
+/// What the check value of a packet is computed from: made by [`Inbound::question`](crate::Inbound::question).
+#[derive(Clone, Copy)]
+pub struct Question<'a> {
+    association: &'a Association,
+    number: u64,
+    half: [u8; 4],
+    covered: &'a [u8],
+}
+
+/// A check value that was computed before its packet is opened, with all that it was computed from beside the packet. Whoever opens
+/// the packet compares that with what it is then, so it does no harm if the window moved meanwhile, or another association came.
+#[derive(Clone, Copy)]
+pub struct Precomputed {
+    key: [u8; 32],
+    extended: bool,
+    number: u64,
+    value: [u8; CHECK],
+}
+
+// A packet whose check value is computed in a lane.
+#[derive(Clone, Copy)]
+struct Asked<'a> {
+    // Its place in the group.
+    place: usize,
+    question: Question<'a>,
+}
+
+impl AsSlice<u8> for Asked<'_> {
+    ghost items = { λ asked. asked.question.covered.now };
+
+    fn as_slice(&self) -> &[u8] {
+        self.question.covered
+    }
+}
+
+impl<'a> Question<'a> {
+    // What the check value of a packet with this number is computed from.
+    pub(crate) fn new(association: &'a Association, number: u64, packet: &'a [u8]) -> Question<'a>
+        requires { CHECK ≤ length packet.now }
+        ensures { IsQuestion packet.now result }
+    {
+        Question {
+            association,
+            number,
+            half: high_half(number),
+            covered: &packet[..packet.len() - CHECK],
+        }
+    }
+
+    fn task(&self) -> Task<'_>
+        ensures { icv_of result ≡ asked_value self.now }
+    {
+        self.association.task(self.covered, &self.half)
+    }
+
+    fn answered(&self, value: [u8; CHECK]) -> Precomputed
+        ensures { result ≡ record {
+          key = self.now.association.now.key;
+          extended = self.now.association.now.extended;
+          number = self.now.number;
+          value = value;
+        } }
+    {
+        Precomputed {
+            key: self.association.key.octets(),
+            extended: self.association.extended,
+            number: self.number,
+            value,
+        }
+    }
+}
+
+impl Precomputed {
+    // The value, if it was computed with this association's key, and for numbers of the length that it has. Both keys are this end's
+    // own, so nobody learns anything by the time that it takes to compare them.
+    pub(crate) fn under(&self, association: &Association) -> Option<Ahead>
+        ensures { (packet : List ℕ) → IsPrecomputed packet self.now
+            → IfSome result (IsAhead association.now packet) }
+    {
+        if self.extended != association.extended {
+            return None;
+        }
+        if self.key.as_slice() != association.key.octets().as_slice() {
+            return None;
+        }
+        Some(Ahead {
+            number: self.number,
+            value: self.value,
+        })
+    }
+}
+
+/// The check values that are asked for, each at the place of its question, where it gains time to compute them side by side. Takes no
+/// memory.
+pub fn precompute(questions: &[Option<Question<'_>>]) -> [Option<Precomputed>; GROUP]
+    requires few { length questions.now ≤ GROUP }
+    ensures { (packets : ℕ → List ℕ) → AreQuestions packets questions.now
+        → ArePrecomputed packets result }
+{
+    let Some(first) = first_of(questions) else {
+        return [None; GROUP];
+    };
+    let (asked, count) = asked_of(questions, first);
+    if !gain_by_lanes(&asked[..count]) {
+        return [None; GROUP];
+    }
+    answers_to(&asked[..count])
+}
+
+// The first question, if there is one.
+fn first_of<'a>(questions: &[Option<Question<'a>>]) -> Option<Question<'a>> {
+    for question in questions {
+        if let Some(question) = question {
+            return Some(*question);
+        }
+    }
+    None
+}
+
+// The questions, one behind the other, each with its place; and how many. Behind them stands the first one, which is of no use there.
+fn asked_of<'a>(
+    questions: &[Option<Question<'a>>],
+    first: Question<'a>,
+) -> ([Asked<'a>; GROUP], usize)
+    requires few { length questions.now ≤ GROUP }
+    ensures asked { All (IsAskedIn questions.now) (take result.1 result.0) }
+    ensures few { result.1 ≤ length questions.now }
+{
+    let mut asked = [Asked {
+        place: 0,
+        question: first,
+    }; GROUP];
+    let mut count = 0;
+    for (place, question) in questions.iter().enumerate() {
+        if let Some(question) = question {
+            asked[count] = Asked {
+                place,
+                question: *question,
+            };
+            count += 1;
+        }
+    }
+    (asked, count)
+}
+
+fn answers_to(asked: &[Asked<'_>]) -> [Option<Precomputed>; GROUP]
+    requires some { 1 ≤ length asked.now }
+    requires few { length asked.now ≤ GROUP }
+    requires places { All (λ one. one.place < GROUP) asked.now }
+    ensures { (questions : List (Option Question)) → All (IsAskedIn questions) asked.now
+        → AreAnswers questions result }
+{
+    let mut values = [[0; CHECK]; GROUP];
+    let count = asked.len();
+    let tasks = tasks_for(asked);
+    icv_all(&tasks[..count], &mut values[..count]);
+    placed(asked, &values[..count])
+}
+
+fn tasks_for<'a>(asked: &'a [Asked<'a>]) -> [Task<'a>; GROUP]
+    requires some { 1 ≤ length asked.now }
+    requires few { length asked.now ≤ GROUP }
+    ensures { map icv_of (take (length asked.now) result) ≡ map value_of_asked asked.now }
+{
+    let mut tasks = [asked[0].question.task(); GROUP];
+    for (turn, one) in asked.iter().enumerate() {
+        tasks[turn] = one.question.task();
+    }
+    tasks
+}
+
+// The values, each at the place of the packet that it was asked for.
+fn placed(asked: &[Asked<'_>], values: &[[u8; CHECK]]) -> [Option<Precomputed>; GROUP]
+    requires places { All (λ one. one.place < GROUP) asked.now }
+    requires right { values.now ≡ map value_of_asked asked.now }
+    ensures { (questions : List (Option Question)) → All (IsAskedIn questions) asked.now
+        → AreAnswers questions result }
+{
+    let mut answers = [None; GROUP];
+    for (turn, one) in asked.iter().enumerate() {
+        answers[one.place] = Some(one.question.answered(values[turn]));
+    }
+    answers
+}

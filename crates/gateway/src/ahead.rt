@@ -1,0 +1,42 @@
+//! Check values of the ESP packets of a group of inputs, computed side by side before any of the inputs is taken.
+ghost use Rattle.std.specs.Prelude.{◌≡◌, ◌≤◌, None, get_or, length};
+ghost use Rattle.esp.specs.Precomputed.{ArePrecomputed, AreQuestions};
+ghost use Rattle.gateway.specs.Groups.{packets_in};
+
+use crate::Input;
+use esp::{GROUP, Precomputed, Question, precompute};
+use sadb::Table;
+use traffic::question;
+
+/// The check values of the ESP packets among these inputs, each at its input's place, where it gains time to compute them side by side.
+pub fn values_ahead(table: &Table, inputs: &[Input]) -> [Option<Precomputed>; GROUP]
+    requires { length inputs.now ≤ GROUP }
+    ensures { ArePrecomputed (packets_in inputs.now) result }
+{
+    precompute(&questions_of(table, inputs))
+}
+
+// What the check values are computed from, as the table is at the group's head.
+fn questions_of<'a>(table: &'a Table, inputs: &'a [Input]) -> [Option<Question<'a>>; GROUP]
+    requires { length inputs.now ≤ GROUP }
+    ensures questions { AreQuestions (packets_in inputs.now) result }
+    ensures few { length result ≡ GROUP }
+{
+    let mut questions = [None; GROUP];
+    for (place, input) in inputs.iter().enumerate() {
+        if let Input::Esp { octets } = input {
+            questions[place] = question(table, octets.as_slice());
+        }
+    }
+    questions
+}
+
+/// The value that was computed ahead for the input at a place, if there is one.
+pub fn value_at(ahead: &[Option<Precomputed>], place: usize) -> Option<Precomputed>
+    ensures { result ≡ get_or ahead.now place None }
+{
+    match ahead.get(place) {
+        Some(found) => *found,
+        None => None,
+    }
+}
