@@ -1,5 +1,5 @@
 #!/usr/bin/env python3
-"""Looks whether README and docs/ say what the tree says: each link leads to a file and a heading that are there, each quoted output is
+"""Looks whether README, CONTRIBUTING and docs/ say what the tree says: each link leads to a file and a heading that are there, each quoted output is
 that of the example that it quotes, and each figure of FIGURES is the one of the source that it names.
 
 python3 tools/documents.py prints what is wrong, and ends with status 1 where something is.
@@ -10,7 +10,7 @@ import re
 import sys
 
 ROOT = pathlib.Path(__file__).resolve().parent.parent
-PAGES = [ROOT / "README.md", *sorted((ROOT / "docs").glob("*.md")), *sorted((ROOT / "tools").rglob("*.md")), ROOT / "host" / "README.md"]
+PAGES = [ROOT / "README.md", ROOT / "CONTRIBUTING.md", *sorted((ROOT / "docs").glob("*.md")), *sorted((ROOT / "tools").rglob("*.md")), ROOT / "host" / "README.md"]
 LINK = re.compile(r"\[[^\]]*\]\(([^)\s]+)\)")
 FENCE = re.compile(r"^```.*?^```$", re.M | re.S)
 HEADING = re.compile(r"^#+ (.*)$", re.M)
