@@ -19,8 +19,8 @@ PROGRAM = CRATE / "out" / "tool_costs"
 # How far above its compressions a piece may cost, where there are more than a few of them.
 OVERHEAD = 0.05
 
-# What the key of a fresh receiver costs: two compressions to be prepared alone, and two more for lanes, of twice the cost each.
-FRESH_KEY = 6
+# What the key of a fresh receiver costs: two compressions to be prepared alone. For lanes it costs less than one more.
+FRESH_KEY = 2
 
 # Octets of payload. Beside the few compressions of the shortest the rest of the work counts for more: it is not judged.
 SHORT = 64

@@ -14,14 +14,14 @@ use Rattle.informational.specs.Ordering.{MarksFor}
 use Rattle.informational.specs.declared.ordering.Order.{Order}
 use Rattle.informational.specs.declared.ordering.Order.TheVariants as order
 use Rattle.ike.specs.Machines.{association_of, others_than, Held, Machine}
-use Rattle.ike.specs.Pairs.{ChangesOne, IsOwnFor, MarksOne}
+use Rattle.ike.specs.Pairs.{ChangesOne, MarksOne}
 use Rattle.ike.specs.Receiving.{with_next}
 use Rattle.ike.specs.Starting.{child_by}
 use Rattle.ike.specs.Steps.{is_tick, InputView, Steps}
 use Rattle.ike.specs.declared.output.Stepped.{Stepped}
 use Rattle.ike.proofs.SerialLemmas.{grown_found, grown_others, replaced_found, replaced_others}
 use Rattle.ike.proofs.AskingLemmas.{changed_itself, probed_serial}
-use Rattle.ike.proofs.WayLemmas.{admitted, probed, rested, started, step_way, took, LeavesOrdered, LeavesReserved, Takes, Way}
+use Rattle.ike.proofs.WayLemmas.{admitted, probed, rested, started, step_way, took, IsOwnFor, LeavesOrdered, LeavesReserved, Takes, Way}
 
 -- what is known of a message's effect
 pub record ChangeFacts : Type 0 where

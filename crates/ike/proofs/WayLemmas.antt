@@ -6,7 +6,7 @@ use Rattle.wire.specs.Messages.{Spells}
 use Rattle.wire.specs.declared.message.Message.{Message}
 use Rattle.policy.specs.declared.entry.Entry.{Entry}
 use Rattle.suite.specs.declared.fresh.Fresh.{Fresh}
-use Rattle.sadb.specs.Database.{Database, IsAsBefore, Reserves}
+use Rattle.sadb.specs.Database.{Database, IsAsBefore, PairMap, Reserves}
 use Rattle.sa_init.specs.Cookies.{CookieSecrets}
 use Rattle.sa_init.specs.Judging.{Accepted, Answered, Full, Incomplete, JudgementView, OfferView}
 use Rattle.association.specs.Finding.{place_meant}
@@ -22,7 +22,7 @@ use Rattle.informational.specs.Ordering.{MarksFor}
 use Rattle.informational.specs.declared.ordering.Order.{Order}
 use Rattle.informational.specs.declared.ordering.Order.TheVariants as asked
 use Rattle.ike.specs.Asking.{AsksAt, AsksFor, AsksThat}
-use Rattle.ike.specs.Pairs.{IsOwnFor}
+use Rattle.ike.specs.Pairs.{IsOwnLive}
 use Rattle.ike.specs.declared.asking.Demand.{Demand}
 use Rattle.ike.specs.declared.asking.Demand.TheVariants as demand
 use Rattle.ike.specs.Starting.{BeginsBy, FurthersBy}
@@ -79,6 +79,12 @@ pub record AdmitsOne (meaning : Meaning) (setup : Setup) (octets : Octets) (old 
 pub record StartsOne (meaning : Meaning) (setup : Setup) (old : Held) (table : Database) (stepped : Stepped) (new : Held) (new_table : Database) : Type 0 where
   pub place : ℕ
   pub starts : BeginsBy meaning setup place old table stepped new new_table
+
+-- the child that an association asks to delete is its own, and Live
+abbrev pub IsOwnFor : Order → PairMap → ℕ → Type 0
+IsOwnFor asked.Probe pairs ike = Unit {0}
+IsOwnFor (asked.DeleteChild child spi) pairs ike = IsOwnLive pairs ike child
+IsOwnFor asked.DeleteAssociation pairs ike = Unit {0}
 
 -- what an order leaves of the table: a pair of the association's is marked, or nothing is changed
 pub record LeavesOrdered (ike : ℕ) (table new_table : Database) : Type 0 where

@@ -3,8 +3,6 @@ use Rattle.std.specs.Prelude.{◌≡◌, ◌≢◌, ◌⊎◌, ℕ, Some}
 use Rattle.sadb.specs.Database.{pair_at, Database, Marks, PairMap}
 use Rattle.sadb.specs.declared.pair.Pair.{Pair}
 use Rattle.sadb.specs.declared.pair.State.TheVariants.{Live, Deleting}
-use Rattle.informational.specs.declared.ordering.Order.{Order}
-use Rattle.informational.specs.declared.ordering.Order.TheVariants as order
 use Rattle.effects.specs.Pairs.{LeavesPairs}
 use Rattle.ike.specs.Machines.{association_of, others_than, Held}
 
@@ -26,12 +24,6 @@ pub record BecameDeleting (old : Database) (serial : ℕ) (pair : Pair) : Type 0
   pub was : Pair
   pub stood : pair_at old.pairs serial ≡ Some was
   pub is : pair ≡ record was { state = Deleting }
-
--- the child that an association asks to delete is its own, and Live
-abbrev pub IsOwnFor : Order → PairMap → ℕ → Type 0
-IsOwnFor order.Probe pairs ike = Unit {0}
-IsOwnFor (order.DeleteChild child spi) pairs ike = IsOwnLive pairs ike child
-IsOwnFor order.DeleteAssociation pairs ike = Unit {0}
 
 -- One association at most is changed, comes or goes, and pairs of that one alone: they are as they were, come or go, or one is marked.
 pub record ChangesOne (old new : Held) (table new_table : Database) : Type 0 where

@@ -7,7 +7,7 @@ use crate::padding::{end_len, ending};
 const BLOCK_LEN: usize = 64;
 
 // The most octets that the second part may have, so that two blocks are enough to end a message.
-pub(crate) const MOST_MORE: usize = 56;
+pub(crate) const MORE_LIMIT: usize = 56;
 
 // A message that follows a first block, the key's.
 #[derive(Drop)]
@@ -29,7 +29,7 @@ impl<'a> Message<'a> {
 
     // The message whose two parts follow a block.
     pub(crate) fn new(octets: &'a [u8], more: &[u8]) -> Message<'a>
-        requires { length more.now ≤ MOST_MORE }
+        requires { length more.now ≤ MORE_LIMIT }
         ensures { HasBlocks result (after_a_block (octets.now ++ more.now)) }
     {
         let whole = octets.len() / BLOCK_LEN;

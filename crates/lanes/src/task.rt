@@ -1,6 +1,6 @@
 //! A message that is to be authenticated.
 use crate::key::LaneKey;
-use crate::message::{MOST_MORE, Message};
+use crate::message::{MORE_LIMIT, Message};
 
 /// A message in two parts, and its key.
 #[derive(Clone, Copy)]
@@ -28,7 +28,7 @@ impl<'a> Task<'a> {
 
     // The message as the blocks that a lane takes.
     pub(crate) fn message(&self) -> Message<'a>
-        requires { length self.now.more.now ≤ MOST_MORE }
+        requires { length self.now.more.now ≤ MORE_LIMIT }
         ensures { HasBlocks result (after_a_block (message_of self.now)) }
     {
         Message::new(self.octets, self.more)
@@ -36,15 +36,15 @@ impl<'a> Task<'a> {
 
     // The blocks that the message and its padding take behind the key's, where its second part is short enough for a lane.
     pub(crate) fn block_count(&self) -> usize
-        ensures { length self.now.more.now ≤ MOST_MORE → result ≡ (length (message_of self.now) + 72) / 64 }
+        ensures { length self.now.more.now ≤ MORE_LIMIT → result ≡ (length (message_of self.now) + 72) / 64 }
     {
-        (self.octets.len() + self.more.len().min(MOST_MORE) + 72) / 64
+        (self.octets.len() + self.more.len().min(MORE_LIMIT) + 72) / 64
     }
 
     // Whether the message can go into a lane.
     pub(crate) fn fits_a_lane(&self) -> bool
-        ensures { IsTrue result ↔ (length self.now.more.now ≤ MOST_MORE) }
+        ensures { IsTrue result ↔ (length self.now.more.now ≤ MORE_LIMIT) }
     {
-        self.more.len() <= MOST_MORE
+        self.more.len() <= MORE_LIMIT
     }
 }

@@ -3,6 +3,7 @@ use Rattle.std.specs.Prelude.{◌≡◌, ℕ, Option, Some}
 use Rattle.base.specs.Octets.{Octets}
 use Rattle.wire.specs.declared.message.Message.{Message}
 use Rattle.suite.specs.Callers.{IsSecret}
+use Rattle.suite.specs.declared.agreement.Agreement as Agreement
 use Rattle.suite.specs.declared.fresh.Fresh.{Fresh}
 use Rattle.suite.specs.declared.key_record.KeyRecord.{KeyRecord}
 use Rattle.suite.specs.declared.sealer.Cipher.{Cipher}
@@ -21,6 +22,13 @@ pub record Introduction : Type 0 where
   pub spi : ℕ
   pub public : Octets
   pub nonce : Octets
+
+-- an initiator that agrees on keys as a caller of this type does, whatever else it means
+abbrev pub agreeing_by : {C : Type 0} → Agreement.Ghosts C → Asker → Asker
+agreeing_by agreement asker = record asker {
+  public_value = agreement.public_value;
+  shared_secret = agreement.shared_secret;
+}
 
 -- The call by which an end came to these keys as initiator: it read a response, and this is what its association holds of itself, and what the
 -- response says of the other. That the first goes out, and stays through a cookie, the calls that begin and go on say.

@@ -2,12 +2,12 @@
 ghost use Rattle.std.specs.Prelude.{◌≡◌, ◌≤◌, ◌∷◌, ℕ, Contains, List, None, Some, slice_get};
 ghost use Rattle.base.specs.Octets.{Octets};
 ghost use Rattle.suite.specs.declared.key_record.KeyRecord.{KeyRecord};
-ghost use Rattle.suite.specs.declared.keys.Keys.{Keys};
 ghost use Rattle.suite.specs.declared.sealer.Cipher.{Cipher};
 ghost use Rattle.suite.specs.declared.fresh.Fresh.{Fresh};
 ghost use Rattle.association.specs.declared.phase.Association.{Association};
 ghost use Rattle.sadb.specs.Database.{pair_at};
 ghost use Rattle.sadb.specs.declared.pair.Pair.{Pair};
+ghost use Rattle.initial.specs.Reading.{Asker};
 ghost use Rattle.initial.specs.Configs.{IsConfig};
 ghost use Rattle.initial.specs.declared.config.Config.{Config};
 ghost use Rattle.effects.specs.Taking.{meaning_of, Meaning};
@@ -24,7 +24,7 @@ ghost use Rattle.gateway.specs.declared.world.stored.End.{End};
 ghost use Rattle.gateway.specs.declared.world.stored.Event.{Event};
 ghost use Rattle.gateway.specs.declared.world.stored.Mark.TheVariants as mark;
 ghost use Rattle.laws_two_ends.specs.GoingOut.{GoesOut, IsStoredAsSent};
-ghost use Rattle.laws_two_ends.specs.Records.{ComesToKeysAsInitiator, ComesToKeysAsResponder, Introduction};
+ghost use Rattle.laws_two_ends.specs.Records.{agreeing_by, ComesToKeysAsInitiator, ComesToKeysAsResponder, Introduction};
 ghost use Rattle.laws_two_ends.specs.WorkedRecords.{IsWorkedRecord};
 ghost use Rattle.laws_two_ends.specs.WorldRecords.{CameToKeysAsInitiator, CameToKeysAsResponder};
 ghost use Rattle.laws_two_ends.specs.WorkedChildren.{IsWorkedLink};
@@ -42,18 +42,9 @@ use wire::laws::octets_spell_one_message;
 /// the nonce that the other's association holds of itself (RFC 7296, section 2.14), both have one record of keys: by the agreement's law
 /// alone, whatever else the messages had, and whatever ciphers and groups the ends ask for.
 pub fn both_ends_make_one_record<C: Agreement>(caller: &C)
-    ensures { (ours theirs : Cipher) (our_group their_group own_method : ℕ)
-        (body_of : Keys → Octets → Octets → Octets → Octets) (proof_of : Octets → Octets)
+    ensures { (asker : Asker) (theirs : Cipher) (their_group : ℕ)
         (initiator responder : Introduction) (one other : KeyRecord)
-        → ComesToKeysAsInitiator (record {
-          cipher = ours;
-          body_of = body_of;
-          group = our_group;
-          public_value = C.public_value;
-          shared_secret = C.shared_secret;
-          own_method = own_method;
-          proof_of = proof_of;
-        }) initiator responder one
+        → ComesToKeysAsInitiator (agreeing_by C.Agreement asker) initiator responder one
         → ComesToKeysAsResponder theirs their_group C.public_value C.shared_secret responder initiator other
         → one ≡ other }
 {
