@@ -28,7 +28,7 @@ LISTS = [
 ]
 
 # How many times as fast a list has to be at x86-64-v3; any other only must not be slower than LOSS allows, which is what clocks tell apart.
-LEAST = {(64, (1400,)): 3.5, (64, (64, 576, 1400)): 2.5}
+LEAST = {(64, (1400,)): 4.0, (64, (64, 576, 1400)): 3.5}
 LOSS = 0.95
 
 
