@@ -14,7 +14,7 @@ use crate::ahead::{Ahead, Asked, ahead_at, values_ahead};
 use crate::association::Association;
 use crate::check_values::GROUP;
 use crate::key::IntegrityKey;
-use crate::load::{FEWEST, gain_by_lanes};
+use crate::load::{PACKETS_LEAST, gain_by_lanes};
 use crate::packet::{CHECK, HEAD, contents, high_half, is_judged_length, low_half_of};
 use crate::precomputed::{Precomputed, Question};
 use crate::{Answer, EspFault, ListFault};
@@ -299,7 +299,7 @@ impl<W: Window> Inbound<W> {
             return self.answer_with(packets, &[], out);
         }
         let (asked, count) = self.fresh_packets(packets);
-        if count < FEWEST {
+        if count < PACKETS_LEAST {
             return self.answer_with(packets, &[], out);
         }
         let ahead = values_ahead(&self.association, packets, &asked[..count]);

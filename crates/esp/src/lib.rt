@@ -38,6 +38,6 @@ pub use answer::Answer;
 pub use check_values::GROUP;
 pub use fault::{EspFault, ListFault, SealStop};
 pub use inbound::{Inbound, Opened};
-pub use load::FEWEST;
+pub use load::PACKETS_LEAST;
 pub use outbound::Outbound;
 pub use precomputed::{Precomputed, Question, precompute};

@@ -7,18 +7,18 @@ use std::convert::AsSlice;
 ///
 /// One more than in `lanes`, whose own limit of 5 counts the hashing alone. Here the arrays of a group, as long for six packets
 /// as for 64, are counted in, and of a list that is opened that each packet's number is judged once more.
-pub const FEWEST: usize = 6;
+pub const PACKETS_LEAST: usize = 6;
 
 // How many messages may be so unequal that no eight of them gain.
-const FEW: usize = 16;
+const UNEQUAL_LIMIT: usize = 16;
 
 /// Whether check values of these packets, or of packets with these payloads, are computed side by side. Among a few none may
 /// wait long for another; of many some are alike.
 pub fn gain_by_lanes<T: AsSlice<u8>>(packets: &[T]) -> bool
-    ensures many { FEW < length packets.now → IsTrue result }
-    ensures few { length packets.now < FEWEST → ¬ (IsTrue result) }
+    ensures many { UNEQUAL_LIMIT < length packets.now → IsTrue result }
+    ensures few { length packets.now < PACKETS_LEAST → ¬ (IsTrue result) }
 {
-    packets.len() > FEW || packets.len() >= FEWEST && are_alike(packets)
+    packets.len() > UNEQUAL_LIMIT || packets.len() >= PACKETS_LEAST && are_alike(packets)
 }
 
 // Whether lanes are full enough for so long as the longest message takes.
@@ -30,5 +30,5 @@ fn are_alike<T: AsSlice<u8>>(packets: &[T]) -> bool {
         all = all.saturating_add(blocks);
         most = blocks.max(most);
     }
-    all / FEWEST >= most
+    all / PACKETS_LEAST >= most
 }

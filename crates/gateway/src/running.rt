@@ -9,7 +9,7 @@ ghost use Rattle.effects.specs.Taking.{meaning_of};
 use crate::ahead::{value_at, values_ahead};
 use crate::laws::every_run_keeps_its_promises;
 use crate::{Gateway, Input, Output, RunFault};
-use esp::{FEWEST, GROUP, Precomputed};
+use esp::{GROUP, PACKETS_LEAST, Precomputed};
 use std::alloc::Global;
 use suite::{Agreement, Proof, Sealer};
 
@@ -73,7 +73,7 @@ fn run_group<'a, C: Sealer + Agreement + Proof>(
     ensures capacity { vec_capacity outputs.old ≤ vec_capacity outputs.new }
     ensures size { vec_len outputs.new ≡ vec_len outputs.old + result }
 {
-    if inputs.len() < FEWEST {
+    if inputs.len() < PACKETS_LEAST {
         return run_with(alloc, gateway, inputs, &[], outputs);
     }
     let ahead = values_ahead(gateway.table(), inputs);

@@ -11,7 +11,7 @@ use crate::task::Task;
 
 // From how many messages of one length on eight lanes take less time than one lane alone. The default build gains 1.7 times by
 // full lanes, so eight lanes take there the time of 4.7 messages; a build for AVX2 gains 4 times.
-const FEWEST: usize = 5;
+const MESSAGES_LEAST: usize = 5;
 
 // Writes the check values of the messages at these places, each computed alone.
 fn write_one_by_one(tasks: &[Task<'_>], values: &mut [[u8; 16]], places: &[usize])
@@ -74,7 +74,7 @@ fn count_alone(tasks: &[Task<'_>], queue: &[usize]) -> usize
     }
     for k in 0..queue.len() {
         let blocks = blocks_at(tasks, queue[k]);
-        if all / FEWEST >= blocks {
+        if all / MESSAGES_LEAST >= blocks {
             return k;
         }
         all = all.saturating_sub(blocks);

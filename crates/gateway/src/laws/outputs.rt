@@ -4,7 +4,8 @@ ghost use Rattle.gateway.specs.LawsOfOutputs.{FewGoOutAgain, MadeChildrenAreStor
 use esp::laws::sealed_packets_open;
 use ike::laws::{children_have_few_selectors, traces_name_what_is_held, what_is_sent_is_short};
 
-/// What goes out has at most 16,664 octets: a message of IKE at most 3000, an ESP packet at most what the other end opens.
+/// What goes out has at most 16,664 octets, which the other end opens of an ESP packet; a request that goes out again with a moment has at
+/// most 3000.
 pub fn what_is_sent_fits<C>()
     ensures { WhatIsSentFits C }
 {
