@@ -7,3 +7,6 @@ pub mod Receiving
 pub mod Closing
 pub mod GivingUp
 pub mod Contents
+pub mod Issuing
+pub mod Ordering
+pub mod Sending

@@ -1,5 +1,5 @@
 -- What an end holds of one association, by its phase.
-use Rattle.std.specs.Prelude.{ℕ, Option, Some, None}
+use Rattle.std.specs.Prelude.{◌≡◌, ℕ, Option, Some, None}
 use Rattle.suite.specs.declared.key_record.KeyRecord.{KeyRecord}
 use Rattle.association.specs.declared.phase.Phase.{Phase}
 use Rattle.association.specs.declared.phase.Phase.TheVariants.{InitSent, AuthSent, HalfOpen, Established, Closed}
@@ -28,3 +28,8 @@ abbrev pub established_of : Phase → Phase
 established_of (AuthSent sent) = Established sent.keys
 established_of (HalfOpen opened) = Established opened.keys
 established_of phase = phase
+
+-- both ends know who the other is
+pub record IsEstablished (p : Phase) : Type 0 where
+  pub keys : KeyRecord
+  pub is : p ≡ Established keys

@@ -68,3 +68,7 @@ pub record AwaitsNone (requests : OwnRequests Request) : Type 0 where
 pub record AwaitsSome (requests : OwnRequests Request) : Type 0 where
   pub spi : ℕ
   pub awaits : AwaitsSpi requests spi
+
+-- the request of this number asks for no further child, whose SPI would have to be given up with it
+abbrev pub AsksForNoFurtherChild : OwnRequests Request → ℕ → Type 0
+AsksForNoFurtherChild requests number = (request : Request) → map.get requests.outstanding number ≡ Some request → asks_for_child request.purpose ≡ false

@@ -39,7 +39,7 @@ pub data Reception : Type 0 where
 
 abbrev pub received_view : Received → Reception
 received_view (received.Refused fault) = Refused fault
-received_view (received.Repeat reply) = Repeat reply.now
+received_view (received.Repeat reply) = Repeat reply
 received_view (received.Request plain) = TakesEffect plain
 received_view (received.Response plain) = Answers plain
 received_view received.InitialResponse = AnswersInitial

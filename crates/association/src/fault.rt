@@ -1,7 +1,9 @@
-//! Why a message is passed over.
+//! Why a message is passed over, and why an order is refused.
 ghost use Rattle.std.specs.Prelude.{◌≡◌};
-ghost use Rattle.association.specs.Faults.{code_of_message_fault};
+ghost use Rattle.association.specs.Faults.{code_of_message_fault, code_of_order_fault};
 
+use sadb::TableFault;
+use std::alloc::AllocError;
 use thiserror::Error;
 
 /// Why a message that was read is passed over, with nothing changed.
@@ -40,6 +42,76 @@ impl MessageFault {
             MessageFault::OutsideWindow => 31,
             MessageFault::WrongPhase => 32,
             MessageFault::WrongRole => 33,
+        }
+    }
+}
+
+/// Why an order on an association is refused, with nothing changed but the table's room.
+#[derive(Clone, Copy, Debug, PartialEq, Eq, Error)]
+pub enum OrderFault {
+    /// The association is not established.
+    #[error("E32: the association is in another phase")]
+    WrongPhase,
+    /// So many requests wait for an answer as the peer takes at once (RFC 7296, section 2.3), or one to delete the association does.
+    #[error("E35: the peer's window is full, or the association is being deleted")]
+    Busy,
+    /// All request numbers of the association were issued (RFC 7296, section 2.2).
+    #[error("E36: the numbers are spent")]
+    NumbersSpent,
+    /// The table holds 1024 pairs and reserved SPIs, so no further child is asked for.
+    #[error("E25: the table is full")]
+    TableFull,
+    /// The table gave 65,536 SPIs, so no further child is asked for.
+    #[error("E26: the SPIs are spent")]
+    SpisSpent,
+    /// There was no memory for one more pair in the table.
+    #[error("E27: no memory for the table")]
+    TableMemory,
+    /// There was no memory for the request.
+    #[error("E10: no memory")]
+    Memory,
+}
+
+impl OrderFault {
+    /// The refusal's number, as programs print it behind `E`.
+    pub fn code(self) -> u8
+        ensures { result ≡ code_of_order_fault self }
+    {
+        match self {
+            OrderFault::WrongPhase => 32,
+            OrderFault::Busy => 35,
+            OrderFault::NumbersSpent => 36,
+            OrderFault::TableFull => 25,
+            OrderFault::SpisSpent => 26,
+            OrderFault::TableMemory => 27,
+            OrderFault::Memory => 10,
+        }
+    }
+}
+
+impl From<AllocError> for OrderFault {
+    ghost use Rattle.std.specs.Prelude.{◌≡◌};
+    ghost use Rattle.association.specs.declared.fault.OrderFault.TheVariants.{Memory};
+
+    ghost from_gives = { λ _ e. e ≡ Memory };
+
+    fn from(_refused: AllocError) -> OrderFault {
+        OrderFault::Memory
+    }
+}
+
+/// Why the table gives no SPI for a child.
+impl From<TableFault> for OrderFault {
+    ghost use Rattle.std.specs.Prelude.{◌≡◌};
+    ghost use Rattle.association.specs.Faults.{fault_of_table};
+
+    ghost from_gives = { λ fault e. e ≡ fault_of_table fault };
+
+    fn from(fault: TableFault) -> OrderFault {
+        match fault {
+            TableFault::Full => OrderFault::TableFull,
+            TableFault::Spent => OrderFault::SpisSpent,
+            TableFault::Memory => OrderFault::TableMemory,
         }
     }
 }

@@ -11,7 +11,7 @@
 //! let place = find(&associations, &message.header)?;
 //! match receive(alloc, &sealer, &associations[place], &datagram, &message)? {
 //!     Received::Request(plain) => decode_chain(alloc, plain.first, plain.octets.as_slice()),
-//!     Received::Repeat(reply) => send(reply),
+//!     Received::Repeat(reply) => send(reply.as_slice()),
 //!     ..
 //! }
 //! ```
@@ -20,14 +20,18 @@
 mod asked_child;
 mod fault;
 mod finding;
+mod issuing;
 pub mod laws;
+mod outcome;
 mod phase;
 mod purpose;
 mod receiving;
 
 pub use asked_child::AskedChild;
-pub use fault::MessageFault;
+pub use fault::{MessageFault, OrderFault};
 pub use finding::find;
+pub use issuing::{issued, new_request};
+pub use outcome::{Answered, Ended, Issued};
 pub use phase::{Association, AuthSent, HalfOpen, InitSent, Phase, Request};
 pub use purpose::{FurtherChild, Purpose};
 pub use receiving::{Received, receive};

@@ -6,6 +6,7 @@ ghost use Rattle.association.specs.Phases.{keys_in};
 ghost use Rattle.association.specs.Receiving.{admits, fresh_reception, is_closed, opened_by, received_view, reception_of_response, IsReceived, IsReceivedRequest, IsUndecided, IsUndecidedRequest, is_undecided_response};
 
 use crate::{Association, MessageFault, Phase};
+use base::Items;
 use exchange::{Plain, open_message};
 use requests::Judgement;
 use std::alloc::{AllocError, Global};
@@ -15,11 +16,11 @@ use wire::numbers::{CREATE_CHILD_SA, IKE_AUTH, INFORMATIONAL};
 
 /// What a message is to the association that it is for.
 #[derive(Debug, Drop)]
-pub enum Received<'a> {
+pub enum Received {
     /// It is passed over.
     Refused(MessageFault),
     /// A request that took effect before. These octets answered it, and answer it again (RFC 7296, section 2.1).
-    Repeat(&'a [u8]),
+    Repeat(Items<u8>),
     /// A request that is to take effect, with its payloads.
     Request(Plain),
     /// The response to the outstanding request of its number, with its payloads.
@@ -40,14 +41,14 @@ pub enum Received<'a> {
 /// refused by [`MessageFault::WrongPhase`] where its exchange doesn't belong to the phase: IKE_AUTH to a half-open association,
 /// CREATE_CHILD_SA and INFORMATIONAL to an established one.
 ///
-/// An error is for want of memory alone, which none but a message that is opened takes.
-pub fn receive<'a, S: Sealer>(
+/// An error is for want of memory alone, which none but a message that is opened takes, and a reply that is answered again.
+pub fn receive<S: Sealer>(
     alloc: Global,
     sealer: &S,
-    association: &'a Association,
+    association: &Association,
     octets: &[u8],
     message: &Message,
-) -> Result<Received<'a>, AllocError>
+) -> Result<Received, AllocError>
     requires { Spells message.now octets.now }
     ensures received { IfOk result (λ received.
         IsReceived S.plain_of association.now octets.now message.now (received_view received)) }
@@ -60,13 +61,13 @@ pub fn receive<'a, S: Sealer>(
     }
 }
 
-fn receive_response<'a, S: Sealer>(
+fn receive_response<S: Sealer>(
     alloc: Global,
     sealer: &S,
-    association: &'a Association,
+    association: &Association,
     octets: &[u8],
     message: &Message,
-) -> Result<Received<'a>, AllocError>
+) -> Result<Received, AllocError>
     requires { Spells message.now octets.now }
     ensures received { IfOk result (λ received. received_view received
         ≡ reception_of_response S.plain_of association.now octets.now message.now) }
@@ -91,13 +92,13 @@ fn receive_response<'a, S: Sealer>(
     }
 }
 
-fn receive_request<'a, S: Sealer>(
+fn receive_request<S: Sealer>(
     alloc: Global,
     sealer: &S,
-    association: &'a Association,
+    association: &Association,
     octets: &[u8],
     message: &Message,
-) -> Result<Received<'a>, AllocError>
+) -> Result<Received, AllocError>
     requires { Spells message.now octets.now }
     ensures received { IfOk result (λ received.
         IsReceivedRequest S.plain_of association.now octets.now message.now (received_view received)) }
@@ -109,7 +110,7 @@ fn receive_request<'a, S: Sealer>(
         Judgement::Outside => Ok(Received::Refused(MessageFault::OutsideWindow)),
         Judgement::Repeat(reply) => {
             match opened(alloc, sealer, association, octets, message)? {
-                Some(_) => Ok(Received::Repeat(reply)),
+                Some(_) => Ok(Received::Repeat(Items::from_slice(alloc, reply)?)),
                 None => Ok(Received::Refused(MessageFault::NotOpened)),
             }
         }
@@ -118,13 +119,13 @@ fn receive_request<'a, S: Sealer>(
 }
 
 // A request that did not take effect yet, and lies in the window.
-fn receive_fresh<'a, S: Sealer>(
+fn receive_fresh<S: Sealer>(
     alloc: Global,
     sealer: &S,
-    association: &'a Association,
+    association: &Association,
     octets: &[u8],
     message: &Message,
-) -> Result<Received<'a>, AllocError>
+) -> Result<Received, AllocError>
     requires { Spells message.now octets.now }
     ensures received { IfOk result (λ received. received_view received
         ≡ fresh_reception association.now.phase message.now.header.exchange

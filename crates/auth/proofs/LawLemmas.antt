@@ -14,7 +14,7 @@ use Rattle.wire.specs.Numbers.{SET_WINDOW_SIZE}
 use Rattle.wire.specs.Sizes.{size_of, FitsFields}
 use Rattle.wire.specs.declared.payload.Payload.{Payload}
 use Rattle.wire.specs.declared.payload.Payload.TheVariants.{Auth, IdI, IdR, Notify}
-use Rattle.exchange.specs.Children.{child_payloads}
+use Rattle.exchange.specs.Children.{child_payloads, answering_payloads}
 use Rattle.exchange.specs.Counting.{first_some, only_auth, only_id_i, only_sa, only_ts_i, only_ts_r, unknown_critical}
 use Rattle.exchange.specs.Notices.{payload_of_notice}
 use Rattle.exchange.specs.declared.child.ChildPayloads.{ChildPayloads}
@@ -22,13 +22,13 @@ use Rattle.exchange.specs.declared.headers.Role.{Role}
 use Rattle.exchange.specs.declared.headers.Role.TheVariants.{Initiator, Responder}
 use Rattle.exchange.specs.declared.notices.Notice.{Notice}
 use Rattle.exchange.specs.declared.notices.Notice.TheVariants.{UnsupportedCriticalPayload, InvalidSyntax, NoProposalChosen, AuthenticationFailed, NoAdditionalSas, TsUnacceptable, Cookie}
-use Rattle.auth.specs.Answers.{answering_payloads, auth_answer, is_accepted}
+use Rattle.auth.specs.Answers.{auth_answer, is_accepted}
 use Rattle.auth.specs.Fitting.{FitWithin, OWN_LIMIT}
 use Rattle.auth.specs.Proofs.{auth_payload, id_payload, is_identity, is_peer, is_proved, octets_to_prove, proved_identity, Accepts, IsIdentity, ProvesItself, ProvingView}
 use Rattle.auth.specs.Requests.{auth_request, is_complete, Accepted, AskedView, AuthJudgement, IsAcceptedRequest, IsAuthJudgement, Refused}
 use Rattle.auth.specs.Windows.{peer_window, window_in, window_notices, window_payload, window_within, IsWindow}
-use Rattle.auth.specs.declared.child.ChildAnswer.{ChildAnswer}
-use Rattle.auth.specs.declared.child.ChildAnswer.TheVariants as answered
+use Rattle.exchange.specs.declared.child.ChildAnswer.{ChildAnswer}
+use Rattle.exchange.specs.declared.child.ChildAnswer.TheVariants as answered
 use Rattle.auth.specs.declared.identity.Identity.{Identity}
 
 and_left : (a b : Bool) → (a && b) ≡ true → a ≡ true

@@ -2,20 +2,15 @@
 use Rattle.std.specs.Prelude.{ℕ, Bool, List, [], ◌∷◌, ◌++◌}
 use Rattle.base.specs.Octets.{Octets}
 use Rattle.wire.specs.declared.payload.Payload.{Payload}
-use Rattle.exchange.specs.Children.{child_payloads}
+use Rattle.exchange.specs.Children.{child_payloads, answering_payloads}
 use Rattle.exchange.specs.Counting.{only_auth, only_id_r}
 use Rattle.exchange.specs.Notices.{payload_of_notice}
 use Rattle.exchange.specs.declared.headers.Role.TheVariants.{Responder}
 use Rattle.auth.specs.Proofs.{is_peer, proved_identity, Accepts, ProvingView}
 use Rattle.auth.specs.Windows.{window_notices}
-use Rattle.auth.specs.declared.child.ChildAnswer.{ChildAnswer}
-use Rattle.auth.specs.declared.child.ChildAnswer.TheVariants as answered
+use Rattle.exchange.specs.declared.child.ChildAnswer.{ChildAnswer}
+use Rattle.exchange.specs.declared.child.ChildAnswer.TheVariants as answered
 use Rattle.auth.specs.declared.identity.Identity.{Identity}
-
--- what answers the child: its payloads, or the notice that refuses it (section 1.2)
-abbrev pub answering_payloads : ChildAnswer → List Payload
-answering_payloads (answered.Payloads child) = child_payloads child
-answering_payloads (answered.Notice notice) = payload_of_notice notice ∷ []
 
 -- the responder's identity, its proof, what answers the child, and its window
 abbrev pub auth_answer : ℕ → (Octets → Octets) → Identity → ProvingView → ChildAnswer → ℕ → List Payload

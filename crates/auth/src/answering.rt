@@ -8,9 +8,9 @@ ghost use Rattle.auth.specs.Windows.{IsWindow};
 
 use crate::proving::proved_identity;
 use crate::window::push_window;
-use crate::{ChildAnswer, Identity, Proving, is_proved};
+use crate::{Identity, Proving, is_proved};
 use base::Items;
-use exchange::{Role, only_auth, only_id_r};
+use exchange::{ChildAnswer, Role, only_auth, only_id_r};
 use std::alloc::{AllocError, Global};
 use suite::Proof;
 use wire::Payload;

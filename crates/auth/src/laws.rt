@@ -4,15 +4,15 @@ ghost use Rattle.std.specs.List.{AllByRecursion, sum_by};
 ghost use Rattle.base.specs.Octets.{Octets};
 ghost use Rattle.wire.specs.Sizes.{size_of, FitsFields};
 ghost use Rattle.wire.specs.declared.payload.Payload.{Payload};
-ghost use Rattle.exchange.specs.Children.{child_payloads};
+ghost use Rattle.exchange.specs.Children.{child_payloads, answering_payloads};
 ghost use Rattle.exchange.specs.Counting.{only_auth, only_id_i, only_id_r};
 ghost use Rattle.exchange.specs.declared.child.ChildPayloads.{ChildPayloads};
-ghost use Rattle.auth.specs.Answers.{answering_payloads, auth_answer, is_accepted};
+ghost use Rattle.auth.specs.Answers.{auth_answer, is_accepted};
 ghost use Rattle.auth.specs.Fitting.{FitWithin, OWN_LIMIT};
 ghost use Rattle.auth.specs.Proofs.{auth_payload, octets_to_prove, Accepts, IsIdentity, ProvesItself, ProvingView};
 ghost use Rattle.auth.specs.Requests.{auth_request, Accepted, AskedView, AuthJudgement, IsAuthJudgement};
 ghost use Rattle.auth.specs.Windows.{peer_window, window_notices, IsWindow};
-ghost use Rattle.auth.specs.declared.child.ChildAnswer.{ChildAnswer};
+ghost use Rattle.exchange.specs.declared.child.ChildAnswer.{ChildAnswer};
 ghost use Rattle.auth.specs.declared.identity.Identity.{Identity};
 
 /// A request is judged in one way.

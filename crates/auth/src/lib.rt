@@ -23,7 +23,6 @@
 #![tactic(auto)]
 
 mod answering;
-mod child;
 mod identity;
 pub mod laws;
 mod proving;
@@ -31,7 +30,6 @@ mod requesting;
 mod window;
 
 pub use answering::{answer, is_accepted};
-pub use child::ChildAnswer;
 pub use identity::Identity;
 pub use proving::{Proving, is_proved, prove};
 pub use requesting::{Asked, Judgement, judge, request};

@@ -1,1 +1,2 @@
 pub mod OctetLemmas
+mod PrefixLemmas

@@ -7,8 +7,8 @@
 //! ```rust
 //! use base::{Address, Range};
 //!
-//! let local = Range::V4(0x0a00_0000, 0x0a00_00ff); // 10.0.0.0 to 10.0.0.255
-//! assert!(rt; local.holds(Address::V4(0x0a00_0001)));
+//! let local = Range::prefix(Address::v4([10, 0, 0, 0]), 24)?; // 10.0.0.0/24
+//! assert!(rt; local.holds(Address::v4([10, 0, 0, 1])));
 //! assert!(rt; !local.holds(Address::V6(0x0a00_0001))); // another family
 //! ```
 #![tactic(auto)]
@@ -17,6 +17,6 @@ mod address;
 mod items;
 mod selector;
 
-pub use address::{Address, Family, Range};
+pub use address::{Address, Family, PrefixFault, Range};
 pub use items::Items;
 pub use selector::Selector;

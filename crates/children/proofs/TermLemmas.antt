@@ -9,7 +9,7 @@ use Rattle.wire.specs.declared.proposal.Transform.{Transform}
 use Rattle.suite.specs.Choice.{sequence_numbers}
 use Rattle.exchange.specs.Counting.{only_sa}
 use Rattle.exchange.specs.declared.headers.Role.TheVariants.{Initiator, Responder}
-use Rattle.esp.specs.declared.association.Association.{Association}
+use Rattle.esp.specs.declared.sa.Sa.{Sa}
 use Rattle.sadb.specs.Mirrors.{Mirrors}
 use Rattle.sadb.specs.declared.pair.Pair.{Pair}
 use Rattle.children.specs.Pairs.{inbound_of, local_of, outbound_of, remote_of, IsChild}
@@ -67,7 +67,7 @@ children_mirrored keys request reply proposal a b asked x y =
     record {
       inward = x.inbound ∙ ap (λ (t : Terms). inbound_of Initiator keys t) same ∙ sym y.outbound;
       outward = x.outbound ∙ ap (λ (t : Terms). outbound_of Initiator keys t) same ∙ sym y.inbound;
-      extension = ap (λ (k : Association). k.extended) x.inbound ∙ sym (ap (λ (k : Association). k.extended) x.outbound);
+      extension = ap (λ (k : Sa). k.extended) x.inbound ∙ sym (ap (λ (k : Sa). k.extended) x.outbound);
       local = x.local ∙ ap (λ (t : Terms). local_of Initiator t) same ∙ sym y.remote;
       remote = x.remote ∙ ap (λ (t : Terms). remote_of Initiator t) same ∙ sym y.local;
     }

@@ -1,8 +1,8 @@
 -- What two ends agree on, as it is read from the payloads. Only private contracts cite this.
 use Rattle.children.specs.Terms.{Terms}
-use Rattle.children.specs.declared.making.Agreed.{Agreed}
+use Rattle.children.specs.declared.making.AgreedTerms.{AgreedTerms}
 
-abbrev pub terms_of : Agreed → Terms
+abbrev pub terms_of : AgreedTerms → Terms
 terms_of a = record {
   spi_i = a.spi_i;
   spi_r = a.spi_r;

@@ -7,7 +7,7 @@ use Rattle.exchange.specs.Headers.{other_role}
 use Rattle.exchange.specs.declared.headers.Role.{Role}
 use Rattle.exchange.specs.declared.headers.Role.TheVariants.{Initiator, Responder}
 use Rattle.replay.specs.Window.{unused_window}
-use Rattle.esp.specs.declared.association.Association.{Association}
+use Rattle.esp.specs.declared.sa.Sa.{Sa}
 use Rattle.sadb.specs.declared.pair.Pair.{Pair}
 use Rattle.sadb.specs.declared.pair.State.TheVariants.{Live}
 use Rattle.children.specs.Terms.{Terms, AreTermsOf}
@@ -25,7 +25,7 @@ spi_of Initiator terms = terms.spi_i
 spi_of Responder terms = terms.spi_r
 
 -- what the end of this role receives by
-abbrev pub inbound_of : Role → List (List ℕ) → Terms → Association
+abbrev pub inbound_of : Role → List (List ℕ) → Terms → Sa
 inbound_of role keys terms = record {
   spi = spi_of role terms;
   key = sending_key (other_role role) keys;
@@ -33,7 +33,7 @@ inbound_of role keys terms = record {
 }
 
 -- what it sends by
-abbrev pub outbound_of : Role → List (List ℕ) → Terms → Association
+abbrev pub outbound_of : Role → List (List ℕ) → Terms → Sa
 outbound_of role keys terms = record {
   spi = spi_of (other_role role) terms;
   key = sending_key role keys;

@@ -5,7 +5,7 @@ ghost use Rattle.children.specs.Accepting.{AreAcceptedTerms, IsAcceptedChild, Is
 ghost use Rattle.children.specs.Making.{terms_of};
 ghost use Rattle.children.specs.Faults.{IsWantOfPair};
 
-use crate::making::{Agreed, make_pair, spi_of};
+use crate::making::{AgreedTerms, make_pair, spi_of};
 use crate::{Asked, MemoryFault, Setting};
 use exchange::{Role, only_sa, only_ts_i, only_ts_r};
 use policy::are_inside;
@@ -41,7 +41,7 @@ pub fn accept(
 }
 
 // The terms of an acceptable answer.
-fn accepted_terms<'a>(answer: &'a [Payload], asked: &Asked) -> Option<Agreed<'a>>
+fn accepted_terms<'a>(answer: &'a [Payload], asked: &Asked) -> Option<AgreedTerms<'a>>
     ensures { MatchOption result (IsUnacceptable asked.now answer.now)
         (λ agreed. AreAcceptedTerms asked.now answer.now (terms_of agreed)) }
 {
@@ -55,7 +55,7 @@ fn accepted_terms<'a>(answer: &'a [Payload], asked: &Asked) -> Option<Agreed<'a>
     if !are_inside(ts_i, &[asked.local]) || !are_inside(ts_r, &[asked.remote]) {
         return None;
     }
-    Some(Agreed {
+    Some(AgreedTerms {
         spi_i: asked.spi,
         spi_r: spi_of(&proposals[0]),
         extended: chosen.extended,

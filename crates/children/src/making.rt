@@ -18,7 +18,7 @@ use wire::Proposal;
 
 /// What the two ends agree on, by parts of the payloads.
 #[derive(Clone, Copy)]
-pub struct Agreed<'a> {
+pub struct AgreedTerms<'a> {
     pub spi_i: u32,
     pub spi_r: u32,
     pub extended: bool,
@@ -31,7 +31,7 @@ pub fn make_pair(
     alloc: Global,
     role: Role,
     setting: &Setting,
-    agreed: &Agreed<'_>,
+    agreed: &AgreedTerms<'_>,
 ) -> Result<Pair, MemoryFault>
     requires { IsBlockCount setting.now.blocks }
     ensures made { IfOk result (λ pair. pair ≡ new_pair role setting.now (terms_of agreed.now)) }

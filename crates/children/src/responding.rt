@@ -8,7 +8,7 @@ ghost use Rattle.children.specs.declared.fault.MemoryFault.TheVariants as child;
 ghost use Rattle.children.specs.Responding.{answered_proposals, made_of, next_spi, AddsNext, IsChildResponse, IsRefusedAtOnce, LeavesRoom};
 
 use crate::asking::lone;
-use crate::making::{Agreed, make_pair, spi_of};
+use crate::making::{AgreedTerms, make_pair, spi_of};
 use crate::{MemoryFault, Setting};
 use base::Items;
 use exchange::{ChildOffer, ChildPayloads, Notice, Role};
@@ -102,7 +102,7 @@ fn make(
       ts_r = narrowed.responder;
     })) }
 {
-    let agreed = Agreed {
+    let agreed = AgreedTerms {
         spi_i: peer,
         spi_r: own,
         extended: chosen.extended,

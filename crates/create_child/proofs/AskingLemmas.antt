@@ -17,8 +17,8 @@ use Rattle.association.specs.Purposes.{spi_asked, AwaitsChild}
 use Rattle.association.specs.declared.phase.Association.{Association}
 use Rattle.association.specs.declared.phase.Request.{Request}
 use Rattle.association.specs.declared.purpose.Purpose.TheVariants.{CreateChild}
-use Rattle.initial.specs.Configs.{Setup}
-use Rattle.initial.specs.Issuing.{new_request, IssuesNext}
+use Rattle.setup.specs.Configs.{Setup}
+use Rattle.association.specs.Issuing.{new_request, IssuesNext}
 use Rattle.create_child.specs.Asking.{wanted, AsksForFurther}
 use Rattle.create_child.proofs.CountingLemmas.{same_request, same_spi}
 

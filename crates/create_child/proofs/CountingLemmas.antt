@@ -19,8 +19,8 @@ use Rattle.association.specs.declared.purpose.FurtherChild.{FurtherChild}
 use Rattle.association.specs.declared.purpose.Purpose.TheVariants.{CreateChild}
 use Rattle.children.specs.declared.asking.Asked.{Asked}
 use Rattle.children.specs.declared.fault.MemoryFault.{MemoryFault}
-use Rattle.initial.specs.Concluding.{with_outgoing}
-use Rattle.initial.specs.Configs.{Setup}
+use Rattle.association.specs.Issuing.{with_outgoing}
+use Rattle.setup.specs.Configs.{Setup}
 use Rattle.further.specs.Concluding.{Concludes, KeepsTo}
 use Rattle.further.specs.declared.concluding.Conclusion.{Conclusion}
 use Rattle.further.specs.declared.concluding.Conclusion.TheVariants as conclusion

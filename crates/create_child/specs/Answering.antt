@@ -15,10 +15,10 @@ use Rattle.association.specs.Purposes.{AwaitsDeletion}
 use Rattle.association.specs.declared.phase.Association.{Association}
 use Rattle.association.specs.declared.phase.Phase.TheVariants as phase
 use Rattle.children.specs.Responding.{AddsNext, CanTake}
-use Rattle.initial.specs.Answering.{reply_message}
-use Rattle.initial.specs.Concluding.{with_incoming}
-use Rattle.initial.specs.Configs.{Setup}
-use Rattle.initial.specs.declared.answering.Answered.{Answered}
+use Rattle.association.specs.Sending.{reply_message}
+use Rattle.association.specs.Issuing.{with_incoming}
+use Rattle.setup.specs.Configs.{Setup}
+use Rattle.association.specs.declared.outcome.Answered.{Answered}
 use Rattle.further.specs.Answering.{answer_to_further, further_answer, further_pair}
 use Rattle.further.specs.Deciding.{is_closing_decision, DecidesFurther}
 use Rattle.further.specs.declared.deciding.Decision.{Decision}

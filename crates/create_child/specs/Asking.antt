@@ -17,15 +17,15 @@ use Rattle.association.specs.declared.phase.Request.{Request}
 use Rattle.association.specs.declared.purpose.FurtherChild.{FurtherChild}
 use Rattle.association.specs.declared.purpose.Purpose.TheVariants.{CreateChild}
 use Rattle.children.specs.Asking.{child_request}
-use Rattle.initial.specs.Concluding.{with_outgoing}
-use Rattle.initial.specs.Configs.{Setup}
-use Rattle.initial.specs.Issuing.{new_request, IssuesNext}
-use Rattle.informational.specs.Asking.{request_message}
-use Rattle.informational.specs.Orders.{IsEstablished, RefusesOrder}
-use Rattle.informational.specs.declared.fault.InformationalFault.TheVariants as order
+use Rattle.association.specs.Issuing.{with_outgoing, new_request, IssuesNext}
+use Rattle.setup.specs.Configs.{Setup}
+use Rattle.association.specs.Sending.{request_message}
+use Rattle.association.specs.Phases.{IsEstablished}
+use Rattle.association.specs.Ordering.{RefusesOrder}
+use Rattle.association.specs.declared.fault.OrderFault.TheVariants as order
 use Rattle.further.specs.Payloads.{further_payloads}
-use Rattle.create_child.specs.declared.fault.AskFault.{AskFault}
-use Rattle.create_child.specs.declared.fault.AskFault.TheVariants.{WrongPhase, Busy, NumbersSpent, TableFull, SpisSpent, TableMemory, Memory}
+use Rattle.association.specs.declared.fault.OrderFault.{OrderFault}
+use Rattle.association.specs.declared.fault.OrderFault.TheVariants.{WrongPhase, Busy, NumbersSpent, TableFull, SpisSpent, TableMemory, Memory}
 
 -- the child that is asked for, and the nonce of its request
 abbrev pub wanted : Setup → ℕ → Selector → Selector → FurtherChild
@@ -60,7 +60,7 @@ pub record MayAsk (a : Association) : Type 0 where
   pub allowed : MayIssue a.outgoing
 
 -- why none does, each where those before it don't apply
-abbrev pub RefusesFurther : Association → Database → AskFault → Type 0
+abbrev pub RefusesFurther : Association → Database → OrderFault → Type 0
 RefusesFurther a table WrongPhase = RefusesOrder a order.WrongPhase
 RefusesFurther a table Busy = RefusesOrder a order.Busy
 RefusesFurther a table NumbersSpent = RefusesOrder a order.NumbersSpent

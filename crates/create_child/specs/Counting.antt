@@ -13,9 +13,9 @@ use Rattle.association.specs.declared.phase.Phase.TheVariants as phase
 use Rattle.association.specs.declared.phase.Request.{Request}
 use Rattle.association.specs.declared.purpose.FurtherChild.{FurtherChild}
 use Rattle.association.specs.declared.purpose.Purpose.TheVariants.{CreateChild}
-use Rattle.initial.specs.Concluding.{with_outgoing}
-use Rattle.initial.specs.Configs.{Setup}
-use Rattle.initial.specs.declared.ending.Ended.{Ended}
+use Rattle.association.specs.Issuing.{with_outgoing}
+use Rattle.setup.specs.Configs.{Setup}
+use Rattle.association.specs.declared.outcome.Ended.{Ended}
 use Rattle.further.specs.Concluding.{Concludes}
 use Rattle.further.specs.declared.concluding.Conclusion.{Conclusion}
 use Rattle.further.specs.declared.concluding.Conclusion.TheVariants as conclusion

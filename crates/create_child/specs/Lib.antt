@@ -1,4 +1,3 @@
-pub mod Faults
 pub mod Asking
 pub mod Readying
 pub mod Answering

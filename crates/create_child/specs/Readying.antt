@@ -6,21 +6,20 @@ use Rattle.association.specs.declared.phase.Association.{Association}
 use Rattle.association.specs.declared.purpose.FurtherChild.{FurtherChild}
 use Rattle.association.specs.declared.purpose.Purpose.TheVariants.{CreateChild}
 use Rattle.children.specs.declared.asking.Asked.{Asked}
-use Rattle.initial.specs.Concluding.{with_outgoing}
-use Rattle.initial.specs.Issuing.{new_request, IssuesNext}
-use Rattle.informational.specs.Orders.{RefusesOrder}
-use Rattle.informational.specs.declared.fault.InformationalFault.TheVariants as order
-use Rattle.create_child.specs.declared.fault.AskFault.{AskFault}
-use Rattle.create_child.specs.declared.fault.AskFault.TheVariants.{Busy, NumbersSpent, TableFull, SpisSpent, TableMemory}
+use Rattle.association.specs.Issuing.{with_outgoing, new_request, IssuesNext}
+use Rattle.association.specs.Ordering.{RefusesOrder}
+use Rattle.association.specs.declared.fault.OrderFault.TheVariants as order
+use Rattle.association.specs.declared.fault.OrderFault.{OrderFault}
+use Rattle.association.specs.declared.fault.OrderFault.TheVariants.{Busy, NumbersSpent, TableFull, SpisSpent, TableMemory}
 
 -- why an established association takes no request
-abbrev pub RefusesRoom : Association → AskFault → Type 0
+abbrev pub RefusesRoom : Association → OrderFault → Type 0
 RefusesRoom a Busy = RefusesOrder a order.Busy
 RefusesRoom a NumbersSpent = RefusesOrder a order.NumbersSpent
 RefusesRoom a fault = ⊥
 
 -- why the table gives no SPI
-abbrev pub GivesNoSpi : Database → AskFault → Type 0
+abbrev pub GivesNoSpi : Database → OrderFault → Type 0
 GivesNoSpi table TableFull = IsFull table
 GivesNoSpi table SpisSpent = (¬ IsFull table) × IsSpent table
 GivesNoSpi table TableMemory = (¬ IsFull table) × (¬ IsSpent table) × (table.room ≡ 0)

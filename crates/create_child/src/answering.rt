@@ -6,23 +6,22 @@ ghost use Rattle.exchange.specs.Sealed.{IsSealed};
 ghost use Rattle.requests.specs.Incoming.{IsFreshRequest};
 ghost use Rattle.sadb.specs.Database.{IsAsBefore};
 ghost use Rattle.association.specs.Closing.{HoldsReserved};
-ghost use Rattle.initial.specs.Answering.{reply_message};
+ghost use Rattle.association.specs.Sending.{reply_message};
 ghost use Rattle.children.specs.Faults.{CanBeWanted};
-ghost use Rattle.initial.specs.Configs.{setup_of, IsConfig};
-ghost use Rattle.informational.specs.Orders.{IsEstablished};
+ghost use Rattle.setup.specs.Configs.{setup_of, IsConfig};
+ghost use Rattle.association.specs.Phases.{IsEstablished};
 ghost use Rattle.further.specs.Answering.{further_answer, FitsAnswer};
 ghost use Rattle.create_child.specs.Answering.{AnswersFurther, CanInstall, ConcludesFurther};
 
 use association::laws::spis_stay_held;
-use association::{Association, Phase};
-use auth::ChildAnswer;
+use association::{Answered, Association, Phase};
 use base::Items;
 use children::{MemoryFault, install};
 use exchange::laws::short_messages_can_be_sent;
-use exchange::{Plain, sent_header};
+use exchange::{ChildAnswer, Plain, sealed_message, sent_header};
 use further::{answer_payloads, decide};
-use initial::{Answered, Setup, sealed};
 use sadb::{Pair, Table};
+use setup::Setup;
 use std::alloc::{AllocError, Global};
 use suite::{KeyRecord, Sealer};
 use wire::Message;
@@ -111,7 +110,7 @@ fn make_reply<C: Sealer>(
         ),
         payloads,
     };
-    sealed(alloc, setup.caller, role, keys, &message, &setup.fresh.seal)
+    sealed_message(alloc, setup.caller, role, keys, &message, &setup.fresh.seal)
 }
 
 // The association is closed, or the child is added, if there is one.

@@ -7,23 +7,23 @@ ghost use Rattle.policy.specs.Narrowing.{IsSendableSelector};
 ghost use Rattle.requests.specs.Outgoing.{MayIssue};
 ghost use Rattle.sadb.specs.Database.{IsAsBefore, IsFull, IsReady, IsSpent, Reserves};
 ghost use Rattle.children.specs.Asking.{child_request};
-ghost use Rattle.initial.specs.Configs.{setup_of};
-ghost use Rattle.informational.specs.Asking.{request_message};
-ghost use Rattle.informational.specs.Orders.{IsEstablished};
+ghost use Rattle.setup.specs.Configs.{setup_of};
+ghost use Rattle.association.specs.Sending.{request_message};
+ghost use Rattle.association.specs.Phases.{IsEstablished};
 ghost use Rattle.further.specs.Payloads.{further_payloads};
 ghost use Rattle.create_child.specs.Asking.{AsksForFurther, MayAsk, RefusesFurther};
 ghost use Rattle.create_child.specs.Readying.{kept_child, GivesNoSpi, IssuesFurther, RefusesRoom};
 
-use crate::AskFault;
-use association::{AskedChild, Association, FurtherChild, Phase, Purpose};
+use association::{
+    AskedChild, Association, FurtherChild, Issued, OrderFault, Phase, Purpose, new_request,
+};
 use base::{Items, Selector};
 use children::Asked;
 use exchange::laws::short_messages_can_be_sent;
-use exchange::sent_header;
-use informational::Issued;
-use initial::{Setup, new_request, sealed};
+use exchange::{sealed_message, sent_header};
 use requests::RequestFault;
 use sadb::{Spi, Table};
+use setup::Setup;
 use std::alloc::{AllocError, Global};
 use suite::{KeyRecord, Sealer};
 use wire::Message;
@@ -33,9 +33,9 @@ use wire::numbers::CREATE_CHILD_SA;
 /// numbers where the configuration allows them, and the step's fresh nonce. The request waits for its answer from then on, and holds the
 /// SPI that the table reserved for the child.
 ///
-/// Refused, in this order: [`AskFault::WrongPhase`] where the association is not established, [`AskFault::Busy`] where a request to delete
-/// it waits for its answer or the peer takes no more requests at once, [`AskFault::NumbersSpent`] where no number is left,
-/// [`AskFault::TableFull`], [`AskFault::SpisSpent`] and [`AskFault::TableMemory`] where the table gives no SPI, [`AskFault::Memory`]. What
+/// Refused, in this order: [`OrderFault::WrongPhase`] where the association is not established, [`OrderFault::Busy`] where a request to delete
+/// it waits for its answer or the peer takes no more requests at once, [`OrderFault::NumbersSpent`] where no number is left,
+/// [`OrderFault::TableFull`], [`OrderFault::SpisSpent`] and [`OrderFault::TableMemory`] where the table gives no SPI, [`OrderFault::Memory`]. What
 /// is refused changes nothing but the table's room.
 ///
 /// The caller gives selectors that a message can carry.
@@ -46,7 +46,7 @@ pub fn ask<C: Sealer>(
     table: &mut Table,
     local: &Selector,
     remote: &Selector,
-) -> Result<Issued, AskFault>
+) -> Result<Issued, OrderFault>
     requires local { IsSendableSelector local.now }
     requires remote { IsSendableSelector remote.now }
     ensures asked { IfOk result (λ issued. AsksForFurther C.body_of (setup_of setup.now) local.now remote.now
@@ -56,7 +56,7 @@ pub fn ask<C: Sealer>(
         × (association.new ≡ association.old) × IsAsBefore table.old table.new) }
 {
     let Phase::Established(keys) = &association.phase else {
-        return Err(AskFault::WrongPhase);
+        return Err(OrderFault::WrongPhase);
     };
     let number = may_ask(association)?;
     let spi = prepare(table)?;
@@ -80,19 +80,19 @@ pub fn ask<C: Sealer>(
 }
 
 // The number that the next request is to have.
-fn may_ask(association: &Association) -> Result<u32, AskFault>
+fn may_ask(association: &Association) -> Result<u32, OrderFault>
     requires { IsEstablished association.now.phase }
     ensures number { IfOk result (λ number. number ≡ association.now.outgoing.next) }
     ensures allowed { IfOk result (λ _. MayAsk association.now) }
     ensures refused { IfErr result (RefusesRoom association.now) }
 {
     if association.is_deleting() {
-        return Err(AskFault::Busy);
+        return Err(OrderFault::Busy);
     }
     match association.outgoing.may_issue() {
         Ok(number) => Ok(number),
-        Err(RequestFault::Busy) => Err(AskFault::Busy),
-        Err(RequestFault::NumbersSpent) => Err(AskFault::NumbersSpent),
+        Err(RequestFault::Busy) => Err(OrderFault::Busy),
+        Err(RequestFault::NumbersSpent) => Err(OrderFault::NumbersSpent),
         // It takes no memory.
         Err(RequestFault::Memory) => unreachable!(),
     }
@@ -100,7 +100,7 @@ fn may_ask(association: &Association) -> Result<u32, AskFault>
 
 // Makes room for the child in the table, and tells its SPI.
 #[tactic(auto, using(crate::proofs::TableLemmas::withheld))]
-fn prepare(table: &mut Table) -> Result<u32, AskFault>
+fn prepare(table: &mut Table) -> Result<u32, OrderFault>
     ensures next { IfOk result (λ spi. spi ≡ table.old.start + table.old.given) }
     ensures ready { IfOk result (λ _. IsReady table.new) }
     ensures left { IfOk result (λ _. (¬ IsFull table.old) × (¬ IsSpent table.old)) }
@@ -109,7 +109,7 @@ fn prepare(table: &mut Table) -> Result<u32, AskFault>
 {
     match table.prepare() {
         Ok(spi) => Ok(spi),
-        Err(fault) => Err(AskFault::of_table(fault)),
+        Err(fault) => Err(OrderFault::from(fault)),
     }
 }
 
@@ -142,7 +142,7 @@ fn make_request<C: Sealer>(
         ),
         payloads,
     };
-    sealed(alloc, setup.caller, role, keys, &message, &setup.fresh.seal)
+    sealed_message(alloc, setup.caller, role, keys, &message, &setup.fresh.seal)
 }
 
 // Reserves the child's SPI, and one more request waits for its answer, under the next number.

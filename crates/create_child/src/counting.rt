@@ -3,17 +3,17 @@ ghost use Rattle.std.specs.Prelude.{◌≡◌, ◌≢◌, IfOk, IfErr};
 ghost use Rattle.sadb.specs.Database.{IsReserved};
 ghost use Rattle.association.specs.Closing.{HoldsReserved, HoldsSpi};
 ghost use Rattle.children.specs.declared.fault.MemoryFault.TheVariants as child;
-ghost use Rattle.initial.specs.Configs.{setup_of, IsConfig};
-ghost use Rattle.informational.specs.Orders.{IsEstablished};
+ghost use Rattle.setup.specs.Configs.{setup_of, IsConfig};
+ghost use Rattle.association.specs.Phases.{IsEstablished};
 ghost use Rattle.create_child.specs.Counting.{is_closing_conclusion, AsksAt, ConcludesAt, CountsFurther, EndsFurther, HasItsSpi};
 
 use association::laws::{children_are_asked_for, spis_stay_held};
-use association::{Association, Phase, Purpose};
+use association::{Association, Ended, Phase, Purpose};
 use children::MemoryFault;
 use exchange::Plain;
 use further::{Conclusion, conclude_response};
-use initial::{Ended, Setup};
 use sadb::{Spi, Table};
+use setup::Setup;
 use std::alloc::Global;
 use suite::KeyRecord;
 

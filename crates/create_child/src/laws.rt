@@ -9,7 +9,7 @@ ghost use Rattle.association.specs.Closing.{HoldsReserved, HoldsSpi};
 ghost use Rattle.association.specs.Purposes.{spi_asked};
 ghost use Rattle.association.specs.declared.phase.Association.{Association};
 ghost use Rattle.association.specs.declared.phase.Request.{Request};
-ghost use Rattle.initial.specs.Configs.{Setup};
+ghost use Rattle.setup.specs.Configs.{Setup};
 ghost use Rattle.create_child.specs.Asking.{AsksForFurther};
 
 use association::laws::children_are_asked_for;

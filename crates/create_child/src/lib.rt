@@ -16,10 +16,8 @@
 mod answering;
 mod asking;
 mod counting;
-mod fault;
 pub mod laws;
 
 pub use answering::answer;
 pub use asking::ask;
 pub use counting::count;
-pub use fault::AskFault;

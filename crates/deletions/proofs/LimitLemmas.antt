@@ -11,7 +11,7 @@ use Rattle.exchange.specs.declared.sealed.Plain.{Plain}
 use Rattle.sadb.specs.Database.{PairMap}
 use Rattle.wire.specs.Payloads.{SpellsChain}
 use Rattle.base.specs.Octets.{Octets}
-use Rattle.initial.specs.Deciding.{IsRead}
+use Rattle.exchange.specs.Chains.{IsRead}
 use Rattle.deletions.specs.Deciding.{deletions_in, verdict_by, verdict_of, verdict_on, within_limit, IsSoundVerdict, IsVerdictOn}
 use Rattle.deletions.specs.Naming.{deleted_by, named_limit}
 use Rattle.deletions.specs.declared.deciding.Verdict.{Verdict}

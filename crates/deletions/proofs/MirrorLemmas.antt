@@ -1,7 +1,7 @@
 -- What the peer makes of a deletion.
 use Rattle.std.proofs.Common.{◌≡◌, ◌∷◌, [], ℕ, Option, Some, sym, ap, ◌∙◌}
 use Rattle.std.specs.List.{cons_option}
-use Rattle.esp.specs.declared.association.Association.{Association}
+use Rattle.esp.specs.declared.sa.Sa.{Sa}
 use Rattle.sadb.specs.Database.{pair_at, IsSenderUnder, PairMap}
 use Rattle.sadb.specs.Mirrors.{Mirrors}
 use Rattle.sadb.specs.declared.pair.Pair.{Pair}
@@ -23,12 +23,12 @@ module _ (pairs : PairMap) (ike serial : ℕ) (ours theirs : Pair) where
       → verdict_of pairs ike (child_deletion ours.inbound.association.spi) ≡ Deletes (record { serials = serial ∷ []; inbound_spis = ours.outbound.association.spi ∷ [] })
   mirror_named mirrors sends there live =
       ap deleting (deleted_live pairs ike ours.inbound.association.spi serial theirs sends there live)
-      ∙ ap (λ (a : Association). Deletes (record { serials = serial ∷ []; inbound_spis = a.spi ∷ [] })) (sym mirrors.outward)
+      ∙ ap (λ (a : Sa). Deletes (record { serials = serial ∷ []; inbound_spis = a.spi ∷ [] })) (sym mirrors.outward)
 
   pub mirror_answered : Mirrors ours theirs → IsSenderUnder pairs ike ours.inbound.association.spi serial → pair_at pairs serial ≡ Some theirs → theirs.state ≡ Live
       → payloads_of_verdict (verdict_of pairs ike (child_deletion ours.inbound.association.spi)) ≡ child_deletion theirs.inbound.association.spi
   mirror_answered mirrors sends there live =
-      ap payloads_of_verdict (mirror_named mirrors sends there live) ∙ ap (λ (a : Association). child_deletion a.spi) mirrors.outward
+      ap payloads_of_verdict (mirror_named mirrors sends there live) ∙ ap (λ (a : Sa). child_deletion a.spi) mirrors.outward
 
   -- both ends ask at once
   pub crossing_named : IsSenderUnder pairs ike ours.inbound.association.spi serial → pair_at pairs serial ≡ Some theirs → theirs.state ≡ Deleting

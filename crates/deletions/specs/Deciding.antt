@@ -6,7 +6,7 @@ use Rattle.exchange.specs.Counting.{unknown_critical}
 use Rattle.exchange.specs.Deletions.{count_of_spis, deletes_association, esp_spis}
 use Rattle.exchange.specs.declared.sealed.Plain.{Plain}
 use Rattle.sadb.specs.Database.{BelongsTo, HasInbound, IsLive, PairMap}
-use Rattle.initial.specs.Deciding.{IsRead}
+use Rattle.exchange.specs.Chains.{IsRead}
 use Rattle.deletions.specs.Naming.{deleted_by, named_limit}
 use Rattle.deletions.specs.Removing.{AreDistinct}
 use Rattle.deletions.specs.declared.deciding.Verdict.{Verdict}

@@ -4,8 +4,9 @@ ghost use Rattle.deletions.specs.Deciding.{is_closing_verdict, verdict_of, IsSou
 
 use crate::DeletedPairs;
 use crate::naming::find_deleted;
-use exchange::{Plain, deletes_association, esp_spis, names_more_than, unknown_critical};
-use initial::read_chain;
+use exchange::{
+    Plain, deletes_association, esp_spis, names_more_than, read_chain, unknown_critical,
+};
 use sadb::Table;
 use std::alloc::{AllocError, Global};
 use wire::Payload;

@@ -7,7 +7,7 @@ use Rattle.std.proofs.lemmas.Bool.{eq-eqb}
 use Rattle.std.proofs.lemmas.Bool.Decides.{eqb_tells}
 use Rattle.std.proofs.lemmas.List.{length-map}
 use Rattle.base.specs.Octets.{Octets}
-use Rattle.esp.specs.declared.association.Association.{Association}
+use Rattle.esp.specs.declared.sa.Sa.{Sa}
 use Rattle.esp.specs.Delivery as esp
 use Rattle.esp.specs.Delivery.{all_taken, taken_after, History, taken_at, IsJudged, AtMostOnce, ExactlyAtFirst}
 use Rattle.esp.specs.Judging.{IsJudgedLength, IsNumber, Judges, low_half}
@@ -125,21 +125,21 @@ module _ (child : ℕ) (ps : List Passage) (ns : List (Option ℕ)) (end : HasEn
     judges_in : (b : Octets) (n : ℕ) → Judges pair.inbound.association (seen_before child pair ps ns place) b n → Judges end.association (taken_at child_history place) b n
     judges_in b n j =
         subst (λ (size : ℕ). Judges end.association (all_taken size (taken_before child ps ns place)) b n) size_same
-        (subst (λ (a : Association). Judges a (seen_before child pair ps ns place) b n) association_same j)
+        (subst (λ (a : Sa). Judges a (seen_before child pair ps ns place) b n) association_same j)
 
     judges_out : (b : Octets) (n : ℕ) → Judges end.association (taken_at child_history place) b n → Judges pair.inbound.association (seen_before child pair ps ns place) b n
     judges_out b n j =
-        subst (λ (a : Association). Judges a (seen_before child pair ps ns place) b n) (sym association_same)
+        subst (λ (a : Sa). Judges a (seen_before child pair ps ns place) b n) (sym association_same)
         (subst (λ (size : ℕ). Judges end.association (all_taken size (taken_before child ps ns place)) b n) (sym size_same) j)
 
     number_in : (low n : ℕ) → IsNumber pair.inbound.association.extended (seen_before child pair ps ns place) low n → IsNumber end.association.extended (taken_at child_history place) low n
     number_in low n is =
         subst (λ (size : ℕ). IsNumber end.association.extended (all_taken size (taken_before child ps ns place)) low n) size_same
-        (subst (λ (a : Association). IsNumber a.extended (seen_before child pair ps ns place) low n) association_same is)
+        (subst (λ (a : Sa). IsNumber a.extended (seen_before child pair ps ns place) low n) association_same is)
 
     number_out : (low n : ℕ) → IsNumber end.association.extended (taken_at child_history place) low n → IsNumber pair.inbound.association.extended (seen_before child pair ps ns place) low n
     number_out low n is =
-        subst (λ (a : Association). IsNumber a.extended (seen_before child pair ps ns place) low n) (sym association_same)
+        subst (λ (a : Sa). IsNumber a.extended (seen_before child pair ps ns place) low n) (sym association_same)
         (subst (λ (size : ℕ). IsNumber end.association.extended (all_taken size (taken_before child ps ns place)) low n) (sym size_same) is)
 
   module _ (are : AreNumbersOf child ps ns) (judged : (place n : ℕ) (p : Passage) → slice_get ps place ≡ Some p → IsJudgedAs child n p ↔ IsToBeJudged child ps ns place n p) where
@@ -183,14 +183,14 @@ module _ (child : ℕ) (ps : List Passage) (ns : List (Option ℕ)) (end : HasEn
         let c = comes_by child d.passage long in
         let comes : ComesTo child c.pair b d.passage = subst (λ (octets : Octets). ComesTo child c.pair octets d.passage) d.octets c.comes in
         u.no_other place n b d.passage c.pair d.here comes whole (number_out place d.passage c.pair d.here comes.stands (low_half b) n number)
-        (subst (λ (a : Association). PassesIntegrity a n b) (sym (association_same place d.passage c.pair d.here comes.stands)) intact)
+        (subst (λ (a : Sa). PassesIntegrity a n b) (sym (association_same place d.passage c.pair d.here comes.stands)) intact)
 
     -- where the pair stands anywhere
     pub unforged_in : (place : ℕ) (p : Passage) (pair : Pair) → slice_get ps place ≡ Some p → pair_at p.before.pairs child ≡ Some pair
         → esp.Unforged child_history sent
     unforged_in place p pair here stands = record {
       whole = u.whole;
-      intact = λ n b is. subst (λ (a : Association). PassesIntegrity a n b) (association_same place p pair here stands) (u.intact place n b p pair here stands is);
+      intact = λ n b is. subst (λ (a : Sa). PassesIntegrity a n b) (association_same place p pair here stands) (u.intact place n b p pair here stands is);
       no_other = λ at n b is whole number intact. other_sent at n b is whole number intact;
     }
 

@@ -1,7 +1,7 @@
 -- A child is what it was as long as its pair stands, and never comes back.
 use Rattle.std.proofs.Common.{◌≡◌, ◌<◌, ◌≤◌, ℕ, zero, suc, false, Option, Some, None, List, [], ◌∷◌, refl, sym, ap, ◌∙◌, subst, arith, inl, inr}
 use Rattle.std.specs.Prelude.{IsSome, slice_get}
-use Rattle.esp.specs.declared.association.Association.{Association}
+use Rattle.esp.specs.declared.sa.Sa.{Sa}
 use Rattle.sadb.specs.Database.{Database, pair_at}
 use Rattle.sadb.specs.declared.pair.Pair.{Pair}
 use Rattle.deliveries.specs.Passages.{IsPassage, IsTrail, Passage}
@@ -168,7 +168,7 @@ module _ (facts : PacketFacts) (child : ℕ) where
 
 -- wherever its pair stands, it has one association and one size of its window
 pub record HasEnd (child : ℕ) (ps : List Passage) : Type 0 where
-  pub association : Association
+  pub association : Sa
   pub size : ℕ
   pub association_is : (place : ℕ) (p : Passage) (pair : Pair) → slice_get ps place ≡ Some p → pair_at p.before.pairs child ≡ Some pair → pair.inbound.association ≡ association
   pub size_is : (place : ℕ) (p : Passage) (pair : Pair) → slice_get ps place ≡ Some p → pair_at p.before.pairs child ≡ Some pair → pair.inbound.window.size ≡ size

@@ -6,7 +6,7 @@ use Rattle.std.specs.Ordering.{nat_cmp}
 use Rattle.std.specs.FinSet as set
 use Rattle.std.proofs.lemmas.Bool.{and_cases, and_left, and_parts, both_ways, lt-ltb}
 use Rattle.replay.specs.Window.{IsSoundWindow, Seen}
-use Rattle.esp.specs.declared.association.Association.{Association}
+use Rattle.esp.specs.declared.sa.Sa.{Sa}
 use Rattle.esp.specs.declared.fault.EspFault.{EspFault}
 use Rattle.esp.specs.declared.fault.EspFault.TheVariants.{Exhausted, PayloadSize, BadLength, Old, Replayed, BadNumber, BadIcv, BadPadding, Memory}
 use Rattle.esp.specs.Delivery.{all_taken, greatest, Shows}
@@ -40,7 +40,7 @@ module _ (w : Seen) (taken : set.FinSet nat_cmp) (shows : Shows w w.size taken) 
   number_all : (e : Bool) (low n : ℕ) → IsNumber e w low n → IsNumber e (all_taken w.size taken) low n
   number_all e low n h = number_seen e w (all_taken w.size taken) low n shows.top refl h
 
-  pub judged_by_all : (a : Association) (b : List ℕ) (n : ℕ) → Judges a w b n → Judges a (all_taken w.size taken) b n
+  pub judged_by_all : (a : Sa) (b : List ℕ) (n : ℕ) → Judges a w b n → Judges a (all_taken w.size taken) b n
   judged_by_all a b n j =
       record {
         whole = j.whole;
@@ -50,7 +50,7 @@ module _ (w : Seen) (taken : set.FinSet nat_cmp) (shows : Shows w w.size taken) 
         intact = j.intact;
       }
 
-  pub judged_by_shown : (a : Association) (b : List ℕ) (n : ℕ) → Judges a (all_taken w.size taken) b n → Judges a w b n
+  pub judged_by_shown : (a : Sa) (b : List ℕ) (n : ℕ) → Judges a (all_taken w.size taken) b n → Judges a w b n
   judged_by_shown a b n j =
       let top = shows.top in
       let reachable = j.in_reach in
@@ -62,7 +62,7 @@ module _ (w : Seen) (taken : set.FinSet nat_cmp) (shows : Shows w w.size taken) 
         intact = j.intact;
       }
 
-  pub refused_by_all : (a : Association) (b : List ℕ) (e : EspFault) → IsOpeningRefusal a w b e → IsOpeningRefusal a (all_taken w.size taken) b e
+  pub refused_by_all : (a : Sa) (b : List ℕ) (e : EspFault) → IsOpeningRefusal a w b e → IsOpeningRefusal a (all_taken w.size taken) b e
   refused_by_all a b BadLength h = h
   refused_by_all a b BadNumber h = (h.0, λ n is. h.1 n (number_seen a.extended (all_taken w.size taken) w (low_half b) n (sym shows.top) refl is))
   refused_by_all a b Old h = (h.0, (h.1.0, number_all a.extended (low_half b) h.1.0 h.1.1, (let below = h.1.2 in let top = shows.top in omega arith)))
@@ -83,7 +83,7 @@ none_shown w taken sound none none_taken =
     subst (λ (s : set.FinSet nat_cmp). Shows w w.size s) same (sound_shown w sound)
 
 -- a packet that is judged isn't refused before
-pub judged_anyway : (a : Association) (w : Seen) (b : List ℕ) (n : ℕ) (e : EspFault) → Judges a w b n → IsOpeningRefusal a w b e → ⊥
+pub judged_anyway : (a : Sa) (w : Seen) (b : List ℕ) (n : ℕ) (e : EspFault) → Judges a w b n → IsOpeningRefusal a w b e → ⊥
 judged_anyway a w b n BadLength j is = is j.whole
 judged_anyway a w b n BadNumber j is = is.1 n j.number
 judged_anyway a w b n Old j is =

@@ -8,7 +8,7 @@ use Rattle.association.specs.Contents.{association_content}
 use Rattle.association.specs.Phases.{established_spi}
 use Rattle.association.specs.declared.phase.Association.{Association}
 use Rattle.initial.specs.Concluding.{established, widened, AddsChild, ConcludesBy}
-use Rattle.initial.specs.Configs.{Setup}
+use Rattle.setup.specs.Configs.{Setup}
 use Rattle.initial.specs.declared.concluding.Outcome.{Outcome}
 use Rattle.initial.specs.declared.concluding.Outcome.TheVariants as outcome
 use Rattle.informational.specs.Orders.{ClosesIf}

@@ -13,8 +13,9 @@ use Rattle.auth.specs.Proofs.{Accepts}
 use Rattle.auth.specs.Requests.{Accepted, AskedView, Refused}
 use Rattle.children.specs.Responding.{IsChildResponse}
 use Rattle.children.specs.declared.responding.Response.{Response}
-use Rattle.initial.specs.Configs.{first_setting, Setup}
-use Rattle.initial.specs.Deciding.{peer_proving, AcceptsAuth, Decides, IsDecision, IsRead}
+use Rattle.setup.specs.Configs.{first_setting, Setup}
+use Rattle.initial.specs.Deciding.{peer_proving, AcceptsAuth, Decides, IsDecision}
+use Rattle.exchange.specs.Chains.{IsRead}
 use Rattle.initial.specs.Ending.{IsFirstChild, IsVerdict, Judges}
 use Rattle.initial.specs.declared.concluding.Outcome.{Outcome}
 use Rattle.initial.specs.declared.concluding.Outcome.TheVariants as outcome

@@ -30,9 +30,11 @@ use Rattle.association.specs.declared.phase.Request.{Request}
 use Rattle.association.specs.declared.purpose.FurtherChild.{FurtherChild}
 use Rattle.association.specs.declared.purpose.Purpose.{Purpose}
 use Rattle.association.specs.declared.purpose.Purpose.TheVariants.{CreateChild}
-use Rattle.initial.specs.Answering.{outcome_of, reply_message, reply_payloads, AnswersAuth, Prover}
-use Rattle.initial.specs.Concluding.{is_closing, with_incoming, with_outgoing, ConcludesBy}
-use Rattle.initial.specs.Configs.{Setup}
+use Rattle.initial.specs.Answering.{outcome_of, reply_payloads, AnswersAuth, Prover}
+use Rattle.association.specs.Sending.{reply_message}
+use Rattle.initial.specs.Concluding.{is_closing, ConcludesBy}
+use Rattle.association.specs.Issuing.{with_incoming, with_outgoing}
+use Rattle.setup.specs.Configs.{Setup}
 use Rattle.initial.specs.Deciding.{Decides}
 use Rattle.initial.specs.Ending.{EndsAuth, Judges}
 use Rattle.deletions.specs.Answering.{payloads_of_verdict}
@@ -50,10 +52,10 @@ use Rattle.create_child.specs.Answering.{AnswersFurther, ConcludesFurther}
 use Rattle.create_child.specs.Counting.{is_closing_conclusion, CountsFurther, EndsFurther}
 use Rattle.effects.specs.Lengths.{AreWholeKeys, HoldsWholeKeys, TellsLengths}
 use Rattle.effects.specs.Taking.{asked_further, asker_of, prover_of, Does, DoesAnswer, DoesAtEstablished, DoesInitial, DoesRequest, DoesResponse, IsPassedOver, Meaning, Says, TakesMessage}
-use Rattle.initial.specs.declared.answering.Answered.{Answered}
+use Rattle.association.specs.declared.outcome.Answered.{Answered}
 use Rattle.initial.specs.declared.concluding.Outcome.{Outcome}
 use Rattle.initial.specs.declared.deciding.Decision.{Decision}
-use Rattle.initial.specs.declared.ending.Ended.{Ended}
+use Rattle.association.specs.declared.outcome.Ended.{Ended}
 use Rattle.initial.specs.declared.reading.Continued.{Continued}
 use Rattle.initial.specs.declared.reading.Continued.TheVariants as continued
 use Rattle.effects.specs.declared.taking.Effect.{Effect}

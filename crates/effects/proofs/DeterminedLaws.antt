@@ -26,7 +26,7 @@ use Rattle.further.specs.Concluding.{Concludes}
 use Rattle.further.specs.Deciding.{DecidesFurther}
 use Rattle.further.specs.declared.concluding.Conclusion.{Conclusion}
 use Rattle.further.specs.declared.deciding.Decision.{Decision}
-use Rattle.initial.specs.Configs.{Setup}
+use Rattle.setup.specs.Configs.{Setup}
 use Rattle.association.specs.Closing.{Closes}
 use Rattle.association.specs.Contents.{association_content}
 use Rattle.association.specs.Receiving.{IsReceived, Opening, Reception}

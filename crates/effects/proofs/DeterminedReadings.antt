@@ -31,8 +31,8 @@ use Rattle.association.specs.declared.phase.Phase.TheVariants as phase
 use Rattle.association.specs.declared.phase.Request.{Request}
 use Rattle.association.specs.declared.purpose.Purpose.TheVariants.{Begin, Identify}
 use Rattle.initial.specs.Beginning.{begun, half_open, Admits, Begins}
-use Rattle.initial.specs.Configs.{Setup}
-use Rattle.initial.specs.Issuing.{new_request, IssuesNext}
+use Rattle.setup.specs.Configs.{Setup}
+use Rattle.association.specs.Issuing.{new_request, IssuesNext}
 use Rattle.effects.specs.Lengths.{AreWholeKeys, TellsLengths}
 use Rattle.initial.specs.Reading.{identity_message, waiting_of, Asker, BringsCookie, Continues, ReadsResponse, TellsIdentity}
 use Rattle.initial.specs.declared.beginning.Admitted.{Admitted}

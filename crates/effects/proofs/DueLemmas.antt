@@ -23,9 +23,9 @@ use Rattle.association.specs.declared.purpose.Purpose.{Purpose}
 use Rattle.association.specs.declared.purpose.Purpose.TheVariants.{Begin, Identify}
 use Rattle.initial.specs.Answering.{outcome_of}
 use Rattle.initial.specs.Beginning.{begun, Admits, Begins}
-use Rattle.initial.specs.Concluding.{with_incoming, with_outgoing, ConcludesBy}
-use Rattle.initial.specs.Configs.{Setup}
-use Rattle.initial.specs.Issuing.{new_request, IssuesNext}
+use Rattle.initial.specs.Concluding.{ConcludesBy}
+use Rattle.association.specs.Issuing.{with_incoming, with_outgoing, new_request, IssuesNext}
+use Rattle.setup.specs.Configs.{Setup}
 use Rattle.initial.specs.declared.beginning.Admitted.{Admitted}
 use Rattle.initial.specs.declared.beginning.Beginning.{Beginning}
 use Rattle.initial.specs.declared.concluding.Outcome.{Outcome}

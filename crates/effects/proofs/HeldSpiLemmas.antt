@@ -14,12 +14,12 @@ use Rattle.association.specs.Closing.{HoldsReserved, HoldsSpi}
 use Rattle.association.specs.Phases.{established_of, established_spi, spi_in}
 use Rattle.association.specs.Purposes.{spi_asked, AwaitsChild}
 use Rattle.association.specs.declared.purpose.Purpose.TheVariants.{Begin, Identify}
-use Rattle.initial.specs.Issuing.{new_request}
+use Rattle.association.specs.Issuing.{new_request}
 use Rattle.association.specs.declared.phase.Association.{Association}
 use Rattle.auth.specs.Proofs.{Accepts}
 use Rattle.initial.specs.Answering.{outcome_of, AnswersAuth, Prover}
 use Rattle.initial.specs.Concluding.{ConcludesBy}
-use Rattle.initial.specs.Configs.{Setup}
+use Rattle.setup.specs.Configs.{Setup}
 use Rattle.initial.specs.Ending.{EndsAuth}
 use Rattle.deletions.specs.Deciding.{is_closing_verdict, verdict_on}
 use Rattle.informational.specs.Answering.{gone_by, AnswersInformational}
@@ -29,10 +29,10 @@ use Rattle.further.specs.Answering.{further_pair}
 use Rattle.further.specs.Deciding.{is_closing_decision}
 use Rattle.create_child.specs.Counting.{is_closing_conclusion}
 use Rattle.effects.specs.Taking.{prover_of, IsPassedOver, Meaning, TakesMessage}
-use Rattle.initial.specs.declared.answering.Answered.{Answered}
+use Rattle.association.specs.declared.outcome.Answered.{Answered}
 use Rattle.initial.specs.declared.concluding.Outcome.{Outcome}
 use Rattle.initial.specs.declared.concluding.Outcome.TheVariants as outcome
-use Rattle.initial.specs.declared.ending.Ended.{Ended}
+use Rattle.association.specs.declared.outcome.Ended.{Ended}
 use Rattle.effects.specs.declared.taking.Effect.{Effect}
 use Rattle.effects.specs.declared.taking.Effect.TheVariants as effect
 use Rattle.effects.proofs.OtherLemmas.{child_keeps, established_apart, room_keeps, IsKept}

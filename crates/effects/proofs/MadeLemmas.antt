@@ -65,23 +65,24 @@ use Rattle.further.specs.declared.deciding.Decision.TheVariants as decided
 use Rattle.create_child.specs.Asking.{wanted, AsksForFurther}
 use Rattle.create_child.specs.Counting.{is_closing_conclusion}
 use Rattle.effects.specs.Children.{first_asked, AsksForChild, AsksForFurtherChild, BringsChild, First, Further, IsAnsweredChild, IsAskedChild, IsAsking, MakesChild, MayAnswer}
-use Rattle.initial.specs.Concluding.{with_incoming, with_outgoing, AddsChild, ConcludesBy}
-use Rattle.initial.specs.Configs.{first_setting, Setup}
-use Rattle.initial.specs.Deciding.{own_proving, AcceptsAuth, IsDecision, IsRead}
+use Rattle.initial.specs.Concluding.{AddsChild, ConcludesBy}
+use Rattle.association.specs.Issuing.{with_incoming, with_outgoing, new_request, IssuesNext}
+use Rattle.setup.specs.Configs.{first_setting, Setup}
+use Rattle.initial.specs.Deciding.{own_proving, AcceptsAuth, IsDecision}
+use Rattle.exchange.specs.Chains.{IsRead}
 use Rattle.initial.specs.Ending.{IsVerdict}
-use Rattle.initial.specs.Issuing.{new_request, IssuesNext}
-use Rattle.informational.specs.Asking.{request_message}
+use Rattle.association.specs.Sending.{request_message}
 use Rattle.informational.specs.Orders.{ClosesIf}
 use Rattle.effects.specs.Keeping.{child_in}
 use Rattle.effects.specs.Pairs.{IsUnused, LeavesPairs}
 use Rattle.effects.specs.Requests.{is_concluded, IsSoundlyHeld}
 use Rattle.effects.specs.Taking.{Meaning, TakesMessage}
-use Rattle.initial.specs.declared.answering.Answered.{Answered}
+use Rattle.association.specs.declared.outcome.Answered.{Answered}
 use Rattle.initial.specs.declared.concluding.Outcome.{Outcome}
 use Rattle.initial.specs.declared.concluding.Outcome.TheVariants as outcome
 use Rattle.initial.specs.declared.deciding.Decision.{Decision}
 use Rattle.initial.specs.declared.deciding.Decision.TheVariants as decision
-use Rattle.initial.specs.declared.ending.Ended.{Ended}
+use Rattle.association.specs.declared.outcome.Ended.{Ended}
 use Rattle.effects.specs.declared.taking.Effect.{Effect}
 use Rattle.effects.specs.declared.taking.Effect.TheVariants as effect
 use Rattle.effects.proofs.ExchangeLemmas.{asked_exchange, auth_exchange, further_exchange, identity_asked, identity_exchange}

@@ -42,9 +42,9 @@ use Rattle.initial.specs.declared.beginning.Admitted.{Admitted}
 use Rattle.initial.specs.declared.beginning.Beginning.{Beginning}
 use Rattle.moments.specs.Due.{after_sending, has_failed, is_due, is_over, is_unanswered, SendsAgain}
 use Rattle.moments.specs.Held.{IsClosedAt}
-use Rattle.initial.specs.Concluding.{is_closing, with_incoming, with_outgoing, ConcludesBy}
-use Rattle.initial.specs.Configs.{IsConfig, Setup}
-use Rattle.initial.specs.Issuing.{new_request, IssuesNext}
+use Rattle.initial.specs.Concluding.{is_closing, ConcludesBy}
+use Rattle.association.specs.Issuing.{with_incoming, with_outgoing, new_request, IssuesNext}
+use Rattle.setup.specs.Configs.{IsConfig, Setup}
 use Rattle.initial.specs.declared.concluding.Outcome.{Outcome}
 use Rattle.initial.specs.declared.concluding.Outcome.TheVariants as outcome
 use Rattle.informational.specs.Orders.{ClosesIf}

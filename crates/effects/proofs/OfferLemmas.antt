@@ -33,8 +33,9 @@ use Rattle.children.specs.declared.responding.Made.{Made}
 use Rattle.children.specs.declared.responding.Response.TheVariants as response
 use Rattle.initial.specs.Answering.{reply_payloads, AnswersAuth, Prover}
 use Rattle.initial.specs.Beginning.{Admits}
-use Rattle.initial.specs.Configs.{Setup}
-use Rattle.initial.specs.Deciding.{own_proving, IsDecision, IsRead}
+use Rattle.setup.specs.Configs.{Setup}
+use Rattle.initial.specs.Deciding.{own_proving, IsDecision}
+use Rattle.exchange.specs.Chains.{IsRead}
 use Rattle.further.specs.Answering.{answer_to_further, further_answer}
 use Rattle.further.specs.Deciding.{DecidesFurtherBy, IsFurtherDecision}
 use Rattle.further.specs.Judging.{Admitted, FurtherJudgement, IsFurtherJudgement, Refused}
@@ -49,7 +50,7 @@ use Rattle.create_child.specs.Answering.{AnswersFurther}
 use Rattle.effects.specs.Offers.{AnswersInitialSa, AnswersMessageSa, AnswersOneOf, AnswersPlain, AnswersSealedSa}
 use Rattle.effects.specs.Taking.{prover_of, Meaning, TakesMessage}
 use Rattle.effects.specs.declared.taking.Effect.TheVariants as effect
-use Rattle.initial.specs.declared.answering.Answered.{Answered}
+use Rattle.association.specs.declared.outcome.Answered.{Answered}
 use Rattle.initial.specs.declared.beginning.Admitted as admitting
 use Rattle.initial.specs.declared.deciding.Decision.{Decision}
 use Rattle.initial.specs.declared.deciding.Decision.TheVariants as decision

@@ -12,7 +12,7 @@ use Rattle.wire.specs.declared.message.Message.{Message}
 use Rattle.wire.specs.declared.payload.Payload.{Payload}
 use Rattle.suite.specs.declared.key_record.KeyRecord.{KeyRecord}
 use Rattle.suite.specs.declared.keys.Keys.{Keys}
-use Rattle.exchange.specs.Children.{child_payloads}
+use Rattle.exchange.specs.Children.{child_payloads, answering_payloads}
 use Rattle.exchange.specs.Headers.{is_initiator, keys_of, other_role, sent_header}
 use Rattle.exchange.specs.Notices.{payload_of_notice}
 use Rattle.exchange.specs.Sealed.{IsSealed}
@@ -22,12 +22,11 @@ use Rattle.exchange.specs.declared.headers.Role.TheVariants.{Initiator, Responde
 use Rattle.exchange.specs.declared.notices.Notice.{Notice}
 use Rattle.exchange.specs.declared.sealed.Plain.{Plain}
 use Rattle.sadb.specs.Database.{Database}
-use Rattle.auth.specs.Answers.{answering_payloads}
 use Rattle.auth.specs.Proofs.{proved_identity, proving_of, ProvingView}
 use Rattle.auth.specs.Requests.{auth_request}
 use Rattle.auth.specs.Windows.{window_notices, window_payload, WINDOW_LEAST}
-use Rattle.auth.specs.declared.child.ChildAnswer.{ChildAnswer}
-use Rattle.auth.specs.declared.child.ChildAnswer.TheVariants as answered
+use Rattle.exchange.specs.declared.child.ChildAnswer.{ChildAnswer}
+use Rattle.exchange.specs.declared.child.ChildAnswer.TheVariants as answered
 use Rattle.auth.specs.declared.identity.Identity.{Identity}
 use Rattle.association.specs.Finding.{has_pair, is_meant, is_waiting, sent_by_other}
 use Rattle.association.specs.AskedChildren.{asked_of}
@@ -40,12 +39,12 @@ use Rattle.association.specs.declared.phase.Phase.{Phase}
 use Rattle.association.specs.declared.phase.Phase.TheVariants as phase
 use Rattle.children.specs.Asking.{child_request}
 use Rattle.initial.specs.Answering.{child_answer, reply_payloads}
-use Rattle.initial.specs.Concluding.{with_outgoing}
-use Rattle.initial.specs.Configs.{Setup}
+use Rattle.association.specs.Issuing.{with_outgoing}
+use Rattle.setup.specs.Configs.{Setup}
 use Rattle.initial.specs.Deciding.{own_proving}
 use Rattle.initial.specs.Reading.{identity_message}
-use Rattle.initial.specs.declared.answering.Answered.{Answered}
-use Rattle.initial.specs.declared.ending.Ended.{Ended}
+use Rattle.association.specs.declared.outcome.Answered.{Answered}
+use Rattle.association.specs.declared.outcome.Ended.{Ended}
 use Rattle.initial.specs.declared.deciding.Decision.{Decision}
 use Rattle.initial.specs.declared.deciding.Decision.TheVariants as decision
 use Rattle.deletions.specs.Answering.{deletion_if_any, payloads_of_verdict}

@@ -18,8 +18,8 @@ use Rattle.association.specs.declared.phase.Association.{Association}
 use Rattle.association.specs.declared.phase.Request.{Request}
 use Rattle.association.specs.declared.purpose.Purpose.TheVariants.{Begin}
 use Rattle.initial.specs.Beginning.{begun, half_open, Begins}
-use Rattle.initial.specs.Configs.{Setup}
-use Rattle.initial.specs.Issuing.{new_request, IssuesNext}
+use Rattle.setup.specs.Configs.{Setup}
+use Rattle.association.specs.Issuing.{new_request, IssuesNext}
 use Rattle.initial.specs.declared.beginning.Beginning.{Beginning}
 use Rattle.informational.specs.Asking.{Asks}
 use Rattle.informational.specs.Ordering.{purpose_of}

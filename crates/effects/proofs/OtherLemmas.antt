@@ -19,7 +19,7 @@ use Rattle.auth.specs.Proofs.{Accepts}
 use Rattle.children.specs.Responding.{AddsNext}
 use Rattle.initial.specs.Answering.{outcome_of, AnswersAuth, Prover}
 use Rattle.initial.specs.Concluding.{AddsChild, ConcludesBy}
-use Rattle.initial.specs.Configs.{Setup}
+use Rattle.setup.specs.Configs.{Setup}
 use Rattle.initial.specs.Ending.{EndsAuth}
 use Rattle.deletions.specs.Deciding.{is_closing_verdict, verdict_on}
 use Rattle.informational.specs.Answering.{gone_by}
@@ -29,10 +29,10 @@ use Rattle.further.specs.Answering.{further_pair}
 use Rattle.further.specs.Deciding.{is_closing_decision}
 use Rattle.create_child.specs.Counting.{is_closing_conclusion}
 use Rattle.effects.specs.Taking.{prover_of, Meaning, TakesMessage}
-use Rattle.initial.specs.declared.answering.Answered.{Answered}
+use Rattle.association.specs.declared.outcome.Answered.{Answered}
 use Rattle.initial.specs.declared.concluding.Outcome.{Outcome}
 use Rattle.initial.specs.declared.concluding.Outcome.TheVariants as outcome
-use Rattle.initial.specs.declared.ending.Ended.{Ended}
+use Rattle.association.specs.declared.outcome.Ended.{Ended}
 use Rattle.effects.specs.declared.taking.Effect.{Effect}
 use Rattle.effects.specs.declared.taking.Effect.TheVariants as effect
 use Rattle.effects.proofs.HeldFacts.{counted_before, HeldFacts}

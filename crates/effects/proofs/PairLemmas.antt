@@ -29,7 +29,7 @@ use Rattle.further.specs.declared.deciding.Decision as deciding
 use Rattle.further.specs.declared.deciding.Decision.TheVariants as decided
 use Rattle.initial.specs.Answering.{outcome_of}
 use Rattle.initial.specs.Concluding.{AddsChild, ConcludesBy}
-use Rattle.initial.specs.Configs.{Setup}
+use Rattle.setup.specs.Configs.{Setup}
 use Rattle.initial.specs.Deciding.{Decides, IsDecision}
 use Rattle.initial.specs.Ending.{IsFirstChild, IsVerdict, Judges}
 use Rattle.informational.specs.Orders.{ClosesIf, RemovesOwn}

@@ -14,7 +14,7 @@ use Rattle.auth.specs.Answers.{auth_answer}
 use Rattle.auth.specs.Proofs.{proved_identity, ProvingView}
 use Rattle.auth.specs.Requests.{auth_request}
 use Rattle.auth.specs.Windows.{window_payload, WINDOW_LEAST}
-use Rattle.auth.specs.declared.child.ChildAnswer.TheVariants as answered
+use Rattle.exchange.specs.declared.child.ChildAnswer.TheVariants as answered
 use Rattle.auth.specs.declared.identity.Identity.{Identity}
 use Rattle.children.specs.Asking.{HasChildPayloads}
 use Rattle.further.specs.Payloads.{further_payloads}

@@ -24,10 +24,10 @@ use Rattle.association.specs.declared.purpose.FurtherChild.{FurtherChild}
 use Rattle.association.specs.declared.purpose.Purpose.{Purpose}
 use Rattle.association.specs.declared.purpose.Purpose.TheVariants.{CreateChild}
 use Rattle.children.specs.Asking.{child_request}
-use Rattle.initial.specs.Concluding.{with_outgoing}
-use Rattle.initial.specs.Configs.{Setup}
-use Rattle.initial.specs.Issuing.{new_request, IssuesNext}
-use Rattle.informational.specs.Asking.{request_message, Asks}
+use Rattle.association.specs.Issuing.{with_outgoing, new_request, IssuesNext}
+use Rattle.setup.specs.Configs.{Setup}
+use Rattle.informational.specs.Asking.{Asks}
+use Rattle.association.specs.Sending.{request_message}
 use Rattle.informational.specs.Ordering.{payloads_of_order, purpose_of}
 use Rattle.informational.specs.declared.ordering.Order.{Order}
 use Rattle.further.specs.Payloads.{further_payloads}

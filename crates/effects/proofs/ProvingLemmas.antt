@@ -19,19 +19,21 @@ use Rattle.auth.specs.Proofs.{Accepts, ProvesItself, ProvingView}
 use Rattle.auth.specs.Requests.{Accepted, AskedView, IsAuthJudgement}
 use Rattle.auth.specs.declared.identity.Identity.{Identity}
 use Rattle.initial.specs.Answering.{outcome_of, AnswersAuth, Prover}
-use Rattle.initial.specs.Concluding.{with_incoming, with_outgoing, ConcludesBy}
-use Rattle.initial.specs.Configs.{Setup}
-use Rattle.initial.specs.Deciding.{IsDecision, IsRead}
+use Rattle.initial.specs.Concluding.{ConcludesBy}
+use Rattle.association.specs.Issuing.{with_incoming, with_outgoing}
+use Rattle.setup.specs.Configs.{Setup}
+use Rattle.initial.specs.Deciding.{IsDecision}
+use Rattle.exchange.specs.Chains.{IsRead}
 use Rattle.initial.specs.Ending.{EndsAuth, IsVerdict}
 use Rattle.informational.specs.Orders.{ClosesIf}
 use Rattle.effects.specs.Proving.{ProvesByMessage, ProvesByRequest, ProvesByResponse}
 use Rattle.effects.specs.Taking.{prover_of, Meaning, TakesMessage}
-use Rattle.initial.specs.declared.answering.Answered.{Answered}
+use Rattle.association.specs.declared.outcome.Answered.{Answered}
 use Rattle.initial.specs.declared.concluding.Outcome.{Outcome}
 use Rattle.initial.specs.declared.concluding.Outcome.TheVariants as outcome
 use Rattle.initial.specs.declared.deciding.Decision.{Decision}
 use Rattle.initial.specs.declared.deciding.Decision.TheVariants as decision
-use Rattle.initial.specs.declared.ending.Ended.{Ended}
+use Rattle.association.specs.declared.outcome.Ended.{Ended}
 use Rattle.effects.specs.declared.taking.Effect.{Effect}
 use Rattle.effects.specs.declared.taking.Effect.TheVariants as effect
 use Rattle.effects.proofs.WayLemmas.{answered_later, counted_later, way_of, Way}

@@ -26,12 +26,12 @@ use Rattle.association.specs.declared.purpose.Purpose.TheVariants as purpose
 use Rattle.children.specs.Responding.{AddsNext}
 use Rattle.initial.specs.Answering.{outcome_of}
 use Rattle.initial.specs.Concluding.{AddsChild, ConcludesBy}
-use Rattle.initial.specs.Configs.{Setup}
-use Rattle.initial.specs.Issuing.{new_request, IssuesNext}
-use Rattle.initial.specs.declared.answering.Answered.{Answered}
+use Rattle.setup.specs.Configs.{Setup}
+use Rattle.association.specs.Issuing.{new_request, IssuesNext}
+use Rattle.association.specs.declared.outcome.Answered.{Answered}
 use Rattle.initial.specs.declared.concluding.Outcome.{Outcome}
 use Rattle.initial.specs.declared.concluding.Outcome.TheVariants as outcome
-use Rattle.initial.specs.declared.ending.Ended.{Ended}
+use Rattle.association.specs.declared.outcome.Ended.{Ended}
 use Rattle.deletions.specs.Deciding.{is_closing_verdict, verdict_on}
 use Rattle.informational.specs.Answering.{gone_by}
 use Rattle.informational.specs.Counting.{gone_with, is_ended}

@@ -43,13 +43,13 @@ use Rattle.auth.specs.Proofs.{Accepts}
 use Rattle.auth.specs.Windows.{peer_window, IsWindow, WINDOW_LIMIT}
 use Rattle.initial.specs.Answering.{outcome_of, AnswersAuth}
 use Rattle.initial.specs.Beginning.{begun, Admits, Begins}
-use Rattle.initial.specs.Concluding.{established, widened, with_incoming, with_outgoing, ConcludesBy}
-use Rattle.initial.specs.Configs.{Setup}
+use Rattle.initial.specs.Concluding.{established, widened, ConcludesBy}
+use Rattle.association.specs.Issuing.{with_incoming, with_outgoing, new_request, IssuesNext}
+use Rattle.setup.specs.Configs.{Setup}
 use Rattle.initial.specs.Deciding.{IsDecision}
 use Rattle.initial.specs.Ending.{IsAuthSent, IsVerdict}
-use Rattle.initial.specs.Issuing.{new_request, IssuesNext}
 use Rattle.initial.specs.Reading.{IsInitSent}
-use Rattle.initial.specs.declared.answering.Answered.{Answered}
+use Rattle.association.specs.declared.outcome.Answered.{Answered}
 use Rattle.initial.specs.declared.beginning.Admitted.{Admitted}
 use Rattle.initial.specs.declared.beginning.Beginning.{Beginning}
 use Rattle.initial.specs.declared.concluding.Outcome.{Outcome}

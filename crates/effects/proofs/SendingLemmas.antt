@@ -12,8 +12,9 @@ use Rattle.association.specs.Purposes.{exchange_of}
 use Rattle.association.specs.declared.phase.Association.{Association}
 use Rattle.association.specs.declared.purpose.Purpose.TheVariants.{CreateChild}
 use Rattle.children.specs.Asking.{child_request}
-use Rattle.initial.specs.Configs.{Setup}
-use Rattle.informational.specs.Asking.{request_message, Asks}
+use Rattle.setup.specs.Configs.{Setup}
+use Rattle.informational.specs.Asking.{Asks}
+use Rattle.association.specs.Sending.{request_message}
 use Rattle.informational.specs.Ordering.{payloads_of_order, purpose_of}
 use Rattle.informational.specs.declared.ordering.Order.{Order}
 use Rattle.informational.specs.declared.ordering.Order.TheVariants as order

@@ -18,7 +18,7 @@ use Rattle.association.specs.declared.phase.Phase.TheVariants as phase
 use Rattle.auth.specs.Proofs.{Accepts}
 use Rattle.initial.specs.Answering.{outcome_of, AnswersAuth, IsHalfOpen, Prover}
 use Rattle.initial.specs.Concluding.{established, widened, ConcludesBy}
-use Rattle.initial.specs.Configs.{Setup}
+use Rattle.setup.specs.Configs.{Setup}
 use Rattle.initial.specs.Ending.{EndsAuth, IsAuthSent}
 use Rattle.effects.specs.Pairs.{LeavesPairs}
 use Rattle.initial.specs.Reading.{IsInitSent}
@@ -31,10 +31,10 @@ use Rattle.further.specs.Deciding.{is_closing_decision}
 use Rattle.create_child.specs.Counting.{is_closing_conclusion}
 use Rattle.association.specs.AskedChildren.{asked_of}
 use Rattle.effects.specs.Taking.{prover_of, IsPassedOver, Meaning, KeepsIdentity, TakesMessage}
-use Rattle.initial.specs.declared.answering.Answered.{Answered}
+use Rattle.association.specs.declared.outcome.Answered.{Answered}
 use Rattle.initial.specs.declared.concluding.Outcome.{Outcome}
 use Rattle.initial.specs.declared.concluding.Outcome.TheVariants as outcome
-use Rattle.initial.specs.declared.ending.Ended.{Ended}
+use Rattle.association.specs.declared.outcome.Ended.{Ended}
 use Rattle.effects.specs.declared.taking.Effect.{Effect}
 use Rattle.effects.specs.declared.taking.Effect.TheVariants as effect
 use Rattle.effects.proofs.PairLemmas.{answer_unused, closed_if_leaves, concluded_leaves, end_unused, further_if_leaves, further_unused, itself_same, made_unused, room_same, same_leaves, HasSamePairs}

@@ -6,8 +6,8 @@ use Rattle.sadb.specs.Database.{pair_at, Database}
 use Rattle.sadb.specs.declared.pair.Pair.{Pair}
 use Rattle.association.specs.declared.phase.Association.{Association}
 use Rattle.initial.specs.Answering.{outcome_of}
-use Rattle.initial.specs.Concluding.{with_incoming, with_outgoing}
-use Rattle.initial.specs.Configs.{Setup}
+use Rattle.association.specs.Issuing.{with_incoming, with_outgoing}
+use Rattle.setup.specs.Configs.{Setup}
 use Rattle.deletions.specs.Deciding.{is_closing_verdict, verdict_on}
 use Rattle.informational.specs.Answering.{gone_by}
 use Rattle.informational.specs.Counting.{gone_with, is_ended}

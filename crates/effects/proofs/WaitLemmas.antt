@@ -24,9 +24,9 @@ use Rattle.association.specs.declared.purpose.Purpose.{Purpose}
 use Rattle.association.specs.declared.purpose.Purpose.TheVariants.{Begin, Identify}
 use Rattle.initial.specs.Answering.{outcome_of}
 use Rattle.initial.specs.Beginning.{begun, Begins}
-use Rattle.initial.specs.Concluding.{is_closing, with_incoming, with_outgoing, ConcludesBy}
-use Rattle.initial.specs.Configs.{Setup}
-use Rattle.initial.specs.Issuing.{new_request, IssuesNext}
+use Rattle.initial.specs.Concluding.{is_closing, ConcludesBy}
+use Rattle.association.specs.Issuing.{with_incoming, with_outgoing, new_request, IssuesNext}
+use Rattle.setup.specs.Configs.{Setup}
 use Rattle.initial.specs.declared.beginning.Beginning.{Beginning}
 use Rattle.initial.specs.declared.concluding.Outcome.{Outcome}
 use Rattle.initial.specs.declared.concluding.Outcome.TheVariants as outcome

@@ -22,9 +22,11 @@ use Rattle.association.specs.declared.phase.InitSent.{InitSent}
 use Rattle.association.specs.declared.phase.Phase.{Phase}
 use Rattle.association.specs.declared.phase.Phase.TheVariants as phase
 use Rattle.association.specs.declared.phase.Request.{Request}
-use Rattle.initial.specs.Answering.{reply_message, AnswersAuth}
-use Rattle.initial.specs.Concluding.{with_incoming, with_outgoing, AddsChild}
-use Rattle.initial.specs.Configs.{Setup}
+use Rattle.initial.specs.Answering.{AnswersAuth}
+use Rattle.association.specs.Sending.{reply_message}
+use Rattle.initial.specs.Concluding.{AddsChild}
+use Rattle.association.specs.Issuing.{with_incoming, with_outgoing}
+use Rattle.setup.specs.Configs.{Setup}
 use Rattle.initial.specs.Ending.{EndsAuth}
 use Rattle.initial.specs.Reading.{waiting_of, BringsCookie, Continues, TellsIdentity}
 use Rattle.deletions.specs.Answering.{payloads_of_verdict}
@@ -39,8 +41,8 @@ use Rattle.further.specs.declared.concluding.Conclusion.TheVariants as conclusio
 use Rattle.create_child.specs.Answering.{AnswersFurther, ConcludesFurther}
 use Rattle.create_child.specs.Counting.{is_closing_conclusion, CountsFurther, EndsFurther}
 use Rattle.effects.specs.Taking.{asked_further, asker_of, prover_of, Does, DoesAnswer, DoesAtEstablished, DoesRequest, DoesResponse, IsPassedOver, Meaning, Says, TakesMessage}
-use Rattle.initial.specs.declared.answering.Answered.{Answered}
-use Rattle.initial.specs.declared.ending.Ended.{Ended}
+use Rattle.association.specs.declared.outcome.Answered.{Answered}
+use Rattle.association.specs.declared.outcome.Ended.{Ended}
 use Rattle.initial.specs.declared.reading.Continued.{Continued}
 use Rattle.initial.specs.declared.reading.Continued.TheVariants as continued
 use Rattle.effects.specs.declared.taking.Effect.{Effect}

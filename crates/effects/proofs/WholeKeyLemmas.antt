@@ -22,7 +22,7 @@ use Rattle.association.specs.declared.phase.Phase.TheVariants as phase
 use Rattle.initial.specs.Answering.{outcome_of}
 use Rattle.initial.specs.Beginning.{Admits}
 use Rattle.initial.specs.Concluding.{ConcludesBy}
-use Rattle.initial.specs.Configs.{Setup}
+use Rattle.setup.specs.Configs.{Setup}
 use Rattle.deletions.specs.Deciding.{is_closing_verdict, verdict_on}
 use Rattle.informational.specs.Answering.{gone_by}
 use Rattle.informational.specs.Counting.{gone_with, is_ended}

@@ -7,7 +7,7 @@ use Rattle.suite.specs.declared.key_record.KeyRecord.{KeyRecord}
 use Rattle.exchange.specs.declared.sealed.Plain.{Plain}
 use Rattle.requests.specs.Outgoing.{OwnRequests}
 use Rattle.sadb.specs.Database.{Database}
-use Rattle.association.specs.Phases.{established_of}
+use Rattle.association.specs.Phases.{established_of, IsEstablished}
 use Rattle.association.specs.Receiving.{opened_by, Answers, IsAnswering, IsEffective, IsReceived, Opening, TakesEffect}
 use Rattle.association.specs.declared.phase.Association.{Association}
 use Rattle.association.specs.declared.phase.AuthSent.{AuthSent}
@@ -19,16 +19,17 @@ use Rattle.association.specs.declared.phase.Request.{Request}
 use Rattle.auth.specs.Proofs.{Accepts}
 use Rattle.auth.specs.Windows.{peer_window}
 use Rattle.initial.specs.Answering.{outcome_of}
-use Rattle.initial.specs.Concluding.{with_incoming, with_outgoing, ConcludesBy}
-use Rattle.initial.specs.Configs.{Setup}
-use Rattle.initial.specs.Deciding.{IsDecision, IsRead}
+use Rattle.initial.specs.Concluding.{ConcludesBy}
+use Rattle.association.specs.Issuing.{with_incoming, with_outgoing, new_request}
+use Rattle.setup.specs.Configs.{Setup}
+use Rattle.initial.specs.Deciding.{IsDecision}
+use Rattle.exchange.specs.Chains.{IsRead}
 use Rattle.initial.specs.Ending.{IsVerdict}
-use Rattle.initial.specs.Issuing.{new_request}
 use Rattle.initial.specs.declared.concluding.Outcome.{Outcome}
 use Rattle.initial.specs.declared.concluding.Outcome.TheVariants as outcome
 use Rattle.initial.specs.declared.deciding.Decision.{Decision}
 use Rattle.initial.specs.declared.deciding.Decision.TheVariants as decision
-use Rattle.informational.specs.Orders.{ClosesIf, IsEstablished}
+use Rattle.informational.specs.Orders.{ClosesIf}
 use Rattle.requests.specs.Outgoing.{number_0_answered}
 use Rattle.association.specs.declared.purpose.Purpose.TheVariants.{Identify}
 use Rattle.effects.specs.Requests.{is_concluded, IsSoundlyHeld, KeepsPeersWindow, WidensPeersWindow, WidensWindow}

@@ -32,16 +32,15 @@ use Rattle.association.specs.declared.purpose.Purpose.TheVariants.{CreateChild, 
 use Rattle.children.specs.Accepting.{KeepsToRequest}
 use Rattle.children.specs.Asking.{child_request, HasChildPayloads}
 use Rattle.children.specs.Pairs.{HasFewSelectors, IsChild}
-use Rattle.initial.specs.Answering.{reply_message}
-use Rattle.initial.specs.Configs.{Setup}
-use Rattle.initial.specs.Issuing.{new_request}
-use Rattle.informational.specs.Asking.{request_message}
+use Rattle.association.specs.Sending.{reply_message, request_message}
+use Rattle.setup.specs.Configs.{Setup}
+use Rattle.association.specs.Issuing.{new_request}
 use Rattle.create_child.specs.Asking.{wanted}
 use Rattle.further.specs.Pairs.{IsFurtherChild}
 use Rattle.further.specs.Payloads.{further_payloads}
 use Rattle.effects.specs.Pairs.{IsUnused}
 use Rattle.effects.specs.Taking.{Meaning}
-use Rattle.initial.specs.declared.answering.Answered.{Answered}
+use Rattle.association.specs.declared.outcome.Answered.{Answered}
 use Rattle.effects.specs.declared.taking.Effect.{Effect}
 use Rattle.effects.specs.declared.taking.Effect.TheVariants as effect
 

@@ -9,7 +9,7 @@ use Rattle.association.specs.Finding.{is_meant}
 use Rattle.association.specs.Phases.{keys_in}
 use Rattle.association.specs.Receiving.{Opening}
 use Rattle.association.specs.declared.phase.Association.{Association}
-use Rattle.initial.specs.Configs.{Setup}
+use Rattle.setup.specs.Configs.{Setup}
 use Rattle.effects.specs.Children.{IsAsking}
 use Rattle.effects.specs.Keeping.{KeyedBy}
 use Rattle.effects.specs.LawCases.{EachMessage, EachMessageWith, IsTaken}

@@ -7,7 +7,7 @@ use Rattle.association.specs.Phases.{keys_in}
 use Rattle.association.specs.Purposes.{exchange_of}
 use Rattle.association.specs.declared.phase.Association.{Association}
 use Rattle.association.specs.declared.phase.Request.{Request}
-use Rattle.initial.specs.Configs.{IsConfig}
+use Rattle.setup.specs.Configs.{IsConfig}
 use Rattle.moments.specs.Due.{is_over, SendsAgain}
 use Rattle.moments.specs.Held.{IsClosedAt}
 use Rattle.effects.specs.LawCases.{begun_by, EachAdmission, EachBeginning, EachMessage, EachMessageWith, EachRequest, IsAdmission, IsBegun, IsSent, IsTaken}

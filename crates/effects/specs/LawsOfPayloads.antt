@@ -26,11 +26,11 @@ use Rattle.association.specs.declared.phase.Request.{Request}
 use Rattle.auth.specs.Proofs.{Accepts}
 use Rattle.initial.specs.Answering.{AnswersAuth, Prover}
 use Rattle.initial.specs.Beginning.{Admits}
-use Rattle.initial.specs.Configs.{Setup}
+use Rattle.setup.specs.Configs.{Setup}
 use Rattle.initial.specs.Ending.{EndsAuth}
-use Rattle.initial.specs.declared.answering.Answered.{Answered}
+use Rattle.association.specs.declared.outcome.Answered.{Answered}
 use Rattle.initial.specs.declared.beginning.Admitted.{Admitted}
-use Rattle.initial.specs.declared.ending.Ended.{Ended}
+use Rattle.association.specs.declared.outcome.Ended.{Ended}
 use Rattle.create_child.specs.Answering.{AnswersFurther}
 use Rattle.create_child.specs.Asking.{AsksForFurther}
 use Rattle.effects.specs.Children.{first_asked, AsksForChild, AsksForFurtherChild, IsAsking, MakesChild}

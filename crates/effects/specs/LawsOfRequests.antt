@@ -14,8 +14,8 @@ use Rattle.association.specs.declared.fault.MessageFault.TheVariants as why
 use Rattle.association.specs.declared.phase.Association.{Association}
 use Rattle.association.specs.declared.phase.HalfOpen.{HalfOpen}
 use Rattle.association.specs.declared.phase.Phase.TheVariants as phase
-use Rattle.initial.specs.Configs.{Setup}
-use Rattle.informational.specs.Orders.{IsEstablished}
+use Rattle.setup.specs.Configs.{Setup}
+use Rattle.association.specs.Phases.{IsEstablished}
 use Rattle.create_child.specs.Asking.{AsksForFurther}
 use Rattle.effects.specs.LawCases.{begun_by, EachAdmission, EachBeginning, EachMessage, EachMessageWith, EachOrder, EachRequest, IsAdmission, IsBegun, IsOrdered, IsSent, IsTaken}
 use Rattle.effects.specs.Requests.{is_concluded, IsPassing, IsSoundlyHeld, KeepsPeersWindow, KeepsWindow, PutsIntoEffect, StaysConcluded, WidensPeersWindow, WidensWindow}

@@ -17,8 +17,8 @@ use Rattle.exchange.specs.declared.sealed.Plain.{Plain}
 use Rattle.association.specs.Phases.{keys_in}
 use Rattle.association.specs.Receiving.{opened_by}
 use Rattle.association.specs.declared.phase.Association.{Association}
-use Rattle.initial.specs.Answering.{reply_message}
-use Rattle.initial.specs.Configs.{Setup}
+use Rattle.association.specs.Sending.{reply_message}
+use Rattle.setup.specs.Configs.{Setup}
 use Rattle.effects.specs.Taking.{Meaning}
 
 -- One proposal answers: it has the number and the protocol of one that was offered, and of each type of transform that this one has a

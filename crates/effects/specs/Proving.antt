@@ -13,7 +13,7 @@ use Rattle.association.specs.declared.phase.HalfOpen.{HalfOpen}
 use Rattle.association.specs.declared.phase.Phase.{Phase}
 use Rattle.association.specs.declared.phase.Phase.TheVariants as phase
 use Rattle.auth.specs.Proofs.{Accepts, ProvesItself}
-use Rattle.initial.specs.Configs.{Setup}
+use Rattle.setup.specs.Configs.{Setup}
 use Rattle.initial.specs.Deciding.{peer_proving}
 use Rattle.initial.specs.Ending.{responder_proving}
 use Rattle.effects.specs.Taking.{Meaning}

@@ -17,11 +17,11 @@ use Rattle.association.specs.declared.phase.Association.{Association}
 use Rattle.association.specs.declared.phase.Phase.{Phase}
 use Rattle.association.specs.declared.phase.Phase.TheVariants.{Established, Closed}
 use Rattle.auth.specs.Windows.{peer_window, WINDOW_LIMIT}
-use Rattle.informational.specs.Orders.{IsEstablished}
+use Rattle.association.specs.Phases.{IsEstablished}
 use Rattle.initial.specs.Answering.{IsHalfOpen}
 use Rattle.initial.specs.Ending.{IsAuthSent}
 use Rattle.initial.specs.Reading.{IsInitSent}
-use Rattle.initial.specs.declared.answering.Answered.{Answered}
+use Rattle.association.specs.declared.outcome.Answered.{Answered}
 use Rattle.effects.specs.Keeping.{HasKeys}
 use Rattle.effects.specs.Waiting.{AreIssued, TookFirstRequest, TookNoRequest, SuitPhase}
 use Rattle.effects.specs.declared.taking.Effect.{Effect}

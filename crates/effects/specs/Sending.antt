@@ -14,10 +14,9 @@ use Rattle.association.specs.declared.phase.Association.{Association}
 use Rattle.association.specs.declared.phase.Phase.TheVariants as phase
 use Rattle.association.specs.declared.phase.Request.{Request}
 use Rattle.association.specs.declared.purpose.Purpose.{Purpose}
-use Rattle.initial.specs.Concluding.{with_outgoing}
-use Rattle.initial.specs.Configs.{Setup}
-use Rattle.initial.specs.Issuing.{new_request, IssuesNext}
-use Rattle.informational.specs.Asking.{request_message}
+use Rattle.association.specs.Issuing.{with_outgoing, new_request, IssuesNext}
+use Rattle.setup.specs.Configs.{Setup}
+use Rattle.association.specs.Sending.{request_message}
 use Rattle.effects.specs.Waiting.{IsAskedLater}
 
 -- It is sealed under the association's keys, goes out under the next number, and waits for its answer from then on. None of its payloads is

@@ -23,20 +23,18 @@ use Rattle.association.specs.declared.phase.Phase.TheVariants as phase
 use Rattle.association.specs.declared.phase.Request.{Request}
 use Rattle.auth.specs.Proofs.{Accepts}
 use Rattle.initial.specs.Answering.{AnswersAuth, IsHalfOpen, Prover}
-use Rattle.initial.specs.Configs.{Setup}
+use Rattle.setup.specs.Configs.{Setup}
 use Rattle.initial.specs.Ending.{EndsAuth, IsAuthSent}
 use Rattle.initial.specs.Reading.{Asker, IsInitSent, ReadsResponse}
 use Rattle.informational.specs.Answering.{AnswersInformational}
 use Rattle.informational.specs.Counting.{CountsInformational}
-use Rattle.informational.specs.Orders.{IsEstablished}
+use Rattle.association.specs.Phases.{IsEstablished}
 use Rattle.create_child.specs.Answering.{AnswersFurther}
 use Rattle.create_child.specs.Counting.{CountsFurther}
 use Rattle.initial.specs.declared.reading.Continued.{Continued}
 use Rattle.initial.specs.declared.reading.Continued.TheVariants as continued
 use Rattle.effects.specs.declared.taking.Effect.{Effect}
 use Rattle.effects.specs.declared.taking.Effect.TheVariants as effect
-use Rattle.effects.specs.declared.taking.Taken.{Taken}
-use Rattle.effects.specs.declared.taking.Taken.TheVariants as taken
 
 -- what the caller means by its traits
 pub record Meaning : Type 0 where
@@ -199,14 +197,6 @@ pub record TakesMessage (meaning : Meaning) (setup : Setup) (old : Association) 
   pub reception : Reception
   pub received : IsReceived meaning.plain_of old octets m reception
   pub done : Does meaning setup old table octets m reception e new new_table
-
--- what a message is, by a copy of it; only private contracts cite this
-abbrev pub reception_of : Taken → Reception
-reception_of (taken.Refused fault) = Refused fault
-reception_of (taken.Repeat reply) = Repeat reply
-reception_of (taken.Request plain) = TakesEffect plain
-reception_of (taken.Response plain) = Answers plain
-reception_of taken.InitialResponse = AnswersInitial
 
 -- A message leaves an association its serial, its role and its SPIs, but that an initiator learns the responder's from the response to
 -- IKE_SA_INIT; none comes back to a phase in which an association begins, and who waits for the response to IKE_AUTH waited for that

@@ -5,20 +5,21 @@ ghost use Rattle.wire.specs.Numbers.{INFORMATIONAL};
 ghost use Rattle.requests.specs.Incoming.{IsFreshRequest};
 ghost use Rattle.sadb.specs.Database.{IsAsBefore};
 ghost use Rattle.association.specs.Closing.{HoldsReserved};
-ghost use Rattle.association.specs.Receiving.{admits, IsAnsweringInitial, IsAwaited, IsReceived};
-ghost use Rattle.initial.specs.Configs.{setup_of, IsConfig};
+ghost use Rattle.association.specs.Receiving.{admits, IsAnsweringInitial, IsAwaited};
+ghost use Rattle.setup.specs.Configs.{setup_of, IsConfig};
 ghost use Rattle.initial.specs.Reading.{IsInitSent};
-ghost use Rattle.informational.specs.Orders.{IsEstablished};
+ghost use Rattle.association.specs.Phases.{IsEstablished};
 ghost use Rattle.effects.specs.Waiting.{SuitPhase};
-ghost use Rattle.effects.specs.Taking.{asked_further, meaning_of, reception_of, CanWant, CanWantIn, DoesAnswer, DoesAtEstablished, DoesInitial, DoesRequest, DoesResponse, TakesMessage};
+ghost use Rattle.effects.specs.Taking.{asked_further, meaning_of, CanWant, CanWantIn, DoesAnswer, DoesAtEstablished, DoesInitial, DoesRequest, DoesResponse, TakesMessage};
 
 use association::laws::receptions_say_why;
-use association::{Association, MessageFault, Phase, Received, receive};
+use association::{Answered, Association, Ended, MessageFault, Phase, Received, receive};
 use base::Items;
 use children::MemoryFault;
 use exchange::Plain;
-use initial::{Answered, Continued, Ended, Setup, answer_auth, end_auth, read_response};
+use initial::{Continued, answer_auth, end_auth, read_response};
 use sadb::Table;
+use setup::Setup;
 use std::alloc::{AllocError, Global};
 use suite::{Agreement, Proof, Sealer};
 use wire::Message;
@@ -71,11 +72,11 @@ pub fn take_message<C: Sealer + Agreement + Proof>(
     ensures wanted { IfErr result (CanWant C.plain_of association.old table.old octets.now message.now) }
 {
     receptions_say_why();
-    match received(alloc, setup.caller, association, octets, message)? {
-        Taken::Refused(fault) => Ok(Effect::Refused(fault)),
-        Taken::Repeat(reply) => Ok(Effect::Repeated(reply)),
-        Taken::InitialResponse => Ok(take_initial(alloc, setup, association, octets, message)?),
-        Taken::Request(plain) => take_request(
+    match receive(alloc, setup.caller, association, octets, message)? {
+        Received::Refused(fault) => Ok(Effect::Refused(fault)),
+        Received::Repeat(reply) => Ok(Effect::Repeated(reply)),
+        Received::InitialResponse => Ok(take_initial(alloc, setup, association, octets, message)?),
+        Received::Request(plain) => take_request(
             alloc,
             setup,
             association,
@@ -84,37 +85,14 @@ pub fn take_message<C: Sealer + Agreement + Proof>(
             message.header.id,
             &plain,
         ),
-        Taken::Response(plain) => take_response(alloc, setup, association, table, message, &plain),
-    }
-}
-
-// What a message is, with a copy of the reply that goes out again.
-#[derive(Drop)]
-enum Taken {
-    Refused(MessageFault),
-    Repeat(Items<u8>),
-    Request(Plain),
-    Response(Plain),
-    InitialResponse,
-}
-
-fn received<S: Sealer>(
-    alloc: Global,
-    sealer: &S,
-    association: &Association,
-    octets: &[u8],
-    message: &Message,
-) -> Result<Taken, AllocError>
-    requires { Spells message.now octets.now }
-    ensures { IfOk result
-        (λ taken. IsReceived S.plain_of association.now octets.now message.now (reception_of taken)) }
-{
-    match receive(alloc, sealer, association, octets, message)? {
-        Received::Refused(fault) => Ok(Taken::Refused(fault)),
-        Received::Repeat(reply) => Ok(Taken::Repeat(Items::from_slice(alloc, reply)?)),
-        Received::Request(plain) => Ok(Taken::Request(plain)),
-        Received::Response(plain) => Ok(Taken::Response(plain)),
-        Received::InitialResponse => Ok(Taken::InitialResponse),
+        Received::Response(plain) => take_response(
+            alloc,
+            setup,
+            association,
+            table,
+            message,
+            &plain,
+        ),
     }
 }
 

@@ -2,7 +2,7 @@
 use Rattle.std.proofs.Common.{◌≡◌, ℕ, zero, suc, ◌+◌, ◌-◌, ◌/◌, ◌^◌, ◌<◌, ◌≤◌, List, [], ◌∷◌, ◌++◌, length, map, take, drop, get_or, refl, sym, ap, ◌∙◌, subst, arith, inl, inr, Some, None, Option, length-append, length-drop}
 use Rattle.std.specs.Prelude.{◌≢◌, IsSome, IfSome, if◌then◌else◌, All, replicate}
 use Rattle.std.proofs.lemmas.List.Elements.{All-append, All-from_get_or, All-more, All-take, All-drop, All-weaker}
-use Rattle.std.specs.Global.{Vec}
+use Rattle.std.specs.Borrow.{Bor}
 use Rattle.std.proofs.lemmas.List.{append_assoc, take_more, take_more_set, map-append, take-map, drop-map, length-take-le, take-take, get_or-set_same, get_or-set_other, get_or-replicate, get_or_past, length-replicate}
 use Rattle.std.proofs.Math.ListN.{set}
 use Rattle.std.proofs.lemmas.Bool.{cases_lt}
@@ -10,12 +10,11 @@ use Rattle.byteorder.specs.Endian.{big_bytes}
 use Rattle.mac.specs.Hmac.{icv_sha256}
 use Rattle.lanes.specs.Task.{icv_of}
 use Rattle.lanes.specs.declared.task.Task.{Task}
-use Rattle.esp.specs.declared.association.Association.{Association}
+use Rattle.esp.specs.declared.sa.Sa.{Sa}
 use Rattle.esp.specs.declared.ahead.Asked.{Asked}
 use Rattle.esp.specs.declared.ahead.Ahead.{Ahead}
-use Rattle.esp.specs.declared.answer.Answer.{Answer}
 use Rattle.esp.specs.Views.{Receiving}
-use Rattle.esp.specs.Opening.{Run}
+use Rattle.esp.specs.Opening.{Answer, Run}
 use Rattle.esp.specs.Ahead.{value_of, HasAhead, value_asked, IsAhead, AreAhead, RunsFirst}
 use Rattle.esp.specs.Delivery.{octets_of}
 use Rattle.esp.proofs.LayingLemmas.{take-more}
@@ -24,7 +23,7 @@ use Rattle.esp.proofs.Runs.{run_joined, step_keeps}
 -- ---- what is asked
 
 -- what is asked of one packet is its check value
-pub asked_value : (a : Association) (packets : List (List ℕ)) (one : Asked) (b part value : List ℕ) → value ≡ icv_sha256 a.key (part ++ (if a.extended then one.half else []))
+pub asked_value : (a : Sa) (packets : List (List ℕ)) (one : Asked) (b part value : List ℕ) → value ≡ icv_sha256 a.key (part ++ (if a.extended then one.half else []))
     → b ≡ get_or packets one.place [] → part ≡ take (length b - 16) b → one.half ≡ big_bytes 4 (one.number / 2 ^ 32) → value ≡ value_asked a packets one
 asked_value a packets one b part value is e_b e_part e_half =
     is
@@ -61,7 +60,7 @@ found_more P before after k m one is count within so_far here =
 -- ---- what was computed ahead
 
 -- nothing is ahead where nothing was put
-pub none_ahead : (a : Association) (packets : List (List ℕ)) (ahead : List (Option Ahead)) → ((i : ℕ) → get_or ahead i None ≡ None) → AreAhead a packets ahead
+pub none_ahead : (a : Sa) (packets : List (List ℕ)) (ahead : List (Option Ahead)) → ((i : ℕ) → get_or ahead i None ≡ None) → AreAhead a packets ahead
 none_ahead a packets ahead none = record { each = λ i found there. (let nothing = none i in absurd (cc)) }
 
 pub none_in : (n i : ℕ) → get_or {A = Option Ahead} (replicate n None) i None ≡ None
@@ -71,7 +70,7 @@ none_in n i = elim (cases_lt i n) [
 ]
 
 -- one value more
-pub ahead_more : (a : Association) (packets : List (List ℕ)) (ahead : List (Option Ahead)) (place : ℕ) (x : Ahead) → place < length ahead → AreAhead a packets ahead
+pub ahead_more : (a : Sa) (packets : List (List ℕ)) (ahead : List (Option Ahead)) (place : ℕ) (x : Ahead) → place < length ahead → AreAhead a packets ahead
     → x.value ≡ value_of a x.number (get_or packets place []) → AreAhead a packets (set ahead place (Some x))
 ahead_more a packets ahead place x within so_far right = record {
   each = λ i found there. elim (cases_lt i place) [
@@ -145,8 +144,8 @@ runs_more want g size k old mid new ps before between after first fits second =
     }
 
 -- the packets of a group are those of the list
-pub group_part : (ps : List (Vec ℕ)) (g size : ℕ) → octets_of (take size (drop g ps)) ≡ take size (drop g (octets_of ps))
-group_part ps g size = sym (take-map (λ p. p.items) size (drop g ps)) ∙ ap (take size) (sym (drop-map (λ p. p.items) g ps))
+pub group_part : (ps : List (Bor (List ℕ))) (g size : ℕ) → octets_of (take size (drop g ps)) ≡ take size (drop g (octets_of ps))
+group_part ps g size = sym (take-map (λ p. p.now) size (drop g ps)) ∙ ap (take size) (sym (drop-map (λ p. p.now) g ps))
 
-pub group_of : (P : List ℕ → Type 0) (ps : List (Vec ℕ)) (g size : ℕ) → All P (octets_of ps) → All P (octets_of (take size (drop g ps)))
+pub group_of : (P : List ℕ → Type 0) (ps : List (Bor (List ℕ))) (g size : ℕ) → All P (octets_of ps) → All P (octets_of (take size (drop g ps)))
 group_of P ps g size all = subst (All P) (sym (group_part ps g size)) (All-take P size (drop g (octets_of ps)) (All-drop P g (octets_of ps) all))

@@ -41,7 +41,7 @@ seals_one_more k n old next ps before between after mid new first within one =
 -- a group that stopped stops the list
 pub stops : (g size k : ℕ) (old : Sending) (next : ℕ) (ps qs : List (List ℕ)) (before between after : List ℕ) (mid new : Sending) (fault : EspFault)
     → SealsFirst g old next ps before mid between → g + size ≤ length ps → qs ≡ take size (drop g ps) → SealsFirst k mid next qs between new after
-    → k < length qs → IsSealRefusal new (get_or qs k []) fault → IsSealStop old next ps before (record { sealed = g + k; fault = fault }) new after
+    → k < length qs → IsSealRefusal new (get_or qs k []) fault → IsSealStop old next ps before (record { done = g + k; fault = fault }) new after
 stops g size k old next ps qs before between after mid new fault first fits are second within refusal =
     let long : length (take size (drop g ps)) ≡ size = length-take-le size (drop g ps) (omega (arith, length-drop g ps)) in
     let count : length qs ≡ size = ap length are ∙ long in

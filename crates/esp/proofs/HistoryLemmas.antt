@@ -7,7 +7,7 @@ use Rattle.std.specs.FinMap as map
 use Rattle.std.proofs.lemmas.Bool.{or_cases, or_left, or_right, eqb-true, eq-eqb, cases_Bool, cases_order, both_ways}
 use Rattle.std.proofs.lemmas.Option.{slice_get_within, slice_get-get_or}
 use Rattle.std.proofs.lemmas.List.{take_more, take_all}
-use Rattle.esp.specs.declared.association.Association.{Association}
+use Rattle.esp.specs.declared.sa.Sa.{Sa}
 use Rattle.esp.specs.Judging.{Judges}
 use Rattle.esp.specs.Delivery.{all_taken, taken_after, History, taken_at, IsJudged, AtMostOnce, Unforged, Arrives, IsFirstArrival, ExactlyAtFirst}
 use Rattle.esp.proofs.NumberLemmas.{contains-insert_nat}
@@ -142,7 +142,7 @@ module _ (h : History) (is : IsJudged h) where
     exactly_at_first = λ i n. (judged_is_first i n, first_is_judged i n)
 
 -- how packets were judged is determined by the packets
-module _ (a : Association) (size : ℕ) (before : set.FinSet nat_cmp) (bs : List (List ℕ)) where
+module _ (a : Sa) (size : ℕ) (before : set.FinSet nat_cmp) (bs : List (List ℕ)) where
   abbrev with : List (Option ℕ) → History
   with ns = record { association = a; size = size; before = before; packets = bs; numbers = ns }
 

@@ -10,7 +10,7 @@ use Rattle.std.proofs.lemmas.List.{append_assoc, append-nil, take_at, drop_at, d
 use Rattle.std.proofs.lemmas.Bool.{cases_lt}
 use Rattle.std.proofs.lemmas.Slice.{take-put_mid, drop-put_mid}
 use borrow.Rule.Slice.PartMut.{put_mid}
-use Rattle.esp.specs.declared.association.Association.{Association}
+use Rattle.esp.specs.declared.sa.Sa.{Sa}
 use Rattle.esp.specs.Packet.{head, padding, trailer, check_value, number_limit}
 use Rattle.esp.specs.Views.{Sending}
 use Rattle.esp.specs.Sealing.{FitsPacket, Seals, SealRun, SealsFirst, payloads_of, most_octets}
@@ -19,7 +19,7 @@ use Rattle.esp.proofs.ContentsLemmas.{length-padding}
 use Rattle.esp.proofs.PacketLemmas.{length-head}
 use Rattle.esp.proofs.SealingLemmas.{sealed}
 
-pub length-covered : (a : Association) (n next : ℕ) (payload : List ℕ) → length (covered a n next payload) ≡ covered_size (length payload)
+pub length-covered : (a : Sa) (n next : ℕ) (payload : List ℕ) → length (covered a n next payload) ≡ covered_size (length payload)
 length-covered a n next payload =
     length-append (head a n ++ payload) (trailer (pad_of (length payload)) next)
     ∙ (let l = length-append (head a n) payload in
@@ -29,7 +29,7 @@ length-covered a n next payload =
     omega arith)
 
 -- one packet more is laid
-pub laid_more : (a : Association) (last next : ℕ) (ps : List (List ℕ)) (p : List ℕ)
+pub laid_more : (a : Sa) (last next : ℕ) (ps : List (List ℕ)) (p : List ℕ)
     → laid a last next (ps ++ p ∷ []) ≡ laid a last next ps ++ (covered a (last + length ps + 1) next p ++ replicate 16 0)
 laid_more a last next [] p =
     let same : last + 1 ≡ last + 0 + 1 = omega arith in
@@ -48,7 +48,7 @@ pub sizes_are : (ps : List (Bor (List ℕ))) → covered_sizes ps ≡ sizes (pay
 sizes_are [] = refl
 sizes_are (p ∷ ps) = ap (λ (xs : List ℕ). covered_size (length p.now) ∷ xs) (sizes_are ps)
 
-pub laid_size : (a : Association) (last next : ℕ) (ps : List (List ℕ)) → packets_size (sizes ps) ≡ length (laid a last next ps)
+pub laid_size : (a : Sa) (last next : ℕ) (ps : List (List ℕ)) → packets_size (sizes ps) ≡ length (laid a last next ps)
 laid_size a last next [] = refl
 laid_size a last next (p ∷ ps) =
     let rest = laid_size a (last + 1) next ps in
@@ -65,11 +65,12 @@ pad_small n = omega arith
 pad_fills : (n : ℕ) → (n + pad_of n + 2) % 4 ≡ 0
 pad_fills n = omega arith
 
-abbrev sending : Association → ℕ → Sending
+abbrev sending : Sa → ℕ → Sending
 sending a last = record { association = a; last = last }
 
--- once they have their check values, the packets that were laid are those that so many calls would have sealed
-pub with_check_values : (a : Association) (last next : ℕ) (ps : List (List ℕ)) (before : List ℕ) (n : ℕ) → n ≡ length ps
+-- once they have their check values, the packets that were laid are those that so many calls would have
+-- sealed
+pub with_check_values : (a : Sa) (last next : ℕ) (ps : List (List ℕ)) (before : List ℕ) (n : ℕ) → n ≡ length ps
     → ((i : ℕ) → i < n → FitsPacket (get_or ps i [])) → (1 ≤ n → last + n < number_limit a.extended)
     → SealRun (sending a last) next ps before (sending a (last + n)) (before ++ with_values (sizes ps) (values_in a last (sizes ps) (laid a last next ps)) (laid a last next ps))
 with_check_values a last next [] before n none fit have =
@@ -147,7 +148,7 @@ octets_at ps j d within =
     ∙ ap (λ (p : List ℕ). length p + 29 + most_octets (drop (j + 1) (payloads_of ps))) (get_or-map (λ p. p.now) ps j d [] within)
 
 -- one check value more is asked for
-pub value_more : (a : Association) (last j start size : ℕ) (ss octets : List ℕ) (done : List (List ℕ)) (v : List ℕ) (all : List (List ℕ))
+pub value_more : (a : Sa) (last j start size : ℕ) (ss octets : List ℕ) (done : List (List ℕ)) (v : List ℕ) (all : List (List ℕ))
     → drop j ss ≡ size ∷ drop (j + 1) ss → v ≡ check_value a (last + j + 1) (take size (drop start octets))
     → done ++ values_in a (last + j) (drop j ss) (drop start octets) ≡ all
     → (done ++ v ∷ []) ++ values_in a (last + (j + 1)) (drop (j + 1) ss) (drop (start + size + 16) octets) ≡ all
@@ -169,7 +170,7 @@ take-more {A} xs a m =
     ∙ ap (λ (ys : List A). take a xs ++ ys) (drop-take a m xs)
 
 -- what is asked of one packet
-pub task_value : (a : Association) (last j size start : ℕ) (octets part half value : List ℕ) → value ≡ icv_sha256 a.key (part ++ (if a.extended then half else []))
+pub task_value : (a : Sa) (last j size start : ℕ) (octets part half value : List ℕ) → value ≡ icv_sha256 a.key (part ++ (if a.extended then half else []))
     → part ≡ take size (drop start octets) → half ≡ big_bytes 4 ((last + 1 + j) / 2 ^ 32) → value ≡ check_value a (last + j + 1) (take size (drop start octets))
 task_value a last j size start octets part half value is e_part e_half =
     let number : last + 1 + j ≡ last + j + 1 = omega arith in
@@ -177,7 +178,7 @@ task_value a last j size start octets part half value is e_part e_half =
     ∙ ap (λ (xs : List ℕ). icv_sha256 a.key (xs ++ (if a.extended then half else []))) e_part
     ∙ ap (λ (h : List ℕ). icv_sha256 a.key (take size (drop start octets) ++ (if a.extended then h else []))) (e_half ∙ ap (λ (n : ℕ). big_bytes 4 (n / 2 ^ 32)) number)
 
-pub task_more : (a : Association) (last j start size : ℕ) (ss octets : List ℕ) (tasks : List Task) (t : Task) (all : List (List ℕ)) → j < length tasks
+pub task_more : (a : Sa) (last j start size : ℕ) (ss octets : List ℕ) (tasks : List Task) (t : Task) (all : List (List ℕ)) → j < length tasks
     → drop j ss ≡ size ∷ drop (j + 1) ss → icv_of t ≡ check_value a (last + j + 1) (take size (drop start octets))
     → map icv_of (take j tasks) ++ values_in a (last + j) (drop j ss) (drop start octets) ≡ all
     → map icv_of (take (j + 1) (slice_set tasks j t)) ++ values_in a (last + (j + 1)) (drop (j + 1) ss) (drop (start + size + 16) octets) ≡ all
@@ -330,7 +331,7 @@ module _ (k : ℕ) (old : Sending) (next : ℕ) (payloads : List (Bor (List ℕ)
       in
       let same : after ≡ before ++ with_values (sizes ps) (values_in a old.last (sizes ps) octets) octets =
       is
-      ∙ ap (λ (x : Association). before ++ with_values (covered_sizes (take k payloads)) (values_in x old.last (covered_sizes (take k payloads)) (drop (length before) middle)) (drop (length before) middle)) ends
+      ∙ ap (λ (x : Sa). before ++ with_values (covered_sizes (take k payloads)) (values_in x old.last (covered_sizes (take k payloads)) (drop (length before) middle)) (drop (length before) middle)) ends
       ∙ ap (λ (xs : List ℕ). before ++ with_values xs (values_in a old.last xs (drop (length before) middle)) (drop (length before) middle)) their_sizes
       ∙ ap (λ (xs : List ℕ). before ++ with_values (sizes ps) (values_in a old.last (sizes ps) xs) xs) behind
       in
@@ -368,7 +369,7 @@ seals_more m size k old next payloads before between after mid new first fits se
     }
 
 -- a group's packets, written back behind what stood before them
-pub group_whole : (start len : ℕ) (before middle xs ys front : List ℕ) (ss : List ℕ) (a : Association) (last : ℕ)
+pub group_whole : (start len : ℕ) (before middle xs ys front : List ℕ) (ss : List ℕ) (a : Sa) (last : ℕ)
     → start ≡ length before → xs ≡ middle → len ≡ length middle → middle ≡ before ++ front → length ys ≡ length (take (length xs - start) (drop start xs))
     → ys ≡ with_values ss (values_in a last ss (take (length xs - start) (drop start xs))) (take (length xs - start) (drop start xs))
     → take len (put_mid start (length xs - start) xs ys ++ drop (length (put_mid start (length xs - start) xs ys)) middle)

@@ -6,6 +6,7 @@ mod SealingLemmas
 mod SealingLaws
 mod LayingLemmas
 mod AheadLemmas
+mod CheckLemmas
 mod PrecomputedLemmas
 mod GroupLemmas
 pub mod PacketLemmas

@@ -8,7 +8,7 @@ use Rattle.std.specs.FinSet as set
 use Rattle.std.proofs.lemmas.Bool.{or_cases, or_left, or_right, eqb-true, eq-eqb, cases_lt, false≢true}
 use Rattle.replay.specs.Recovery.{one_number}
 use Rattle.replay.specs.Window.{Seen}
-use Rattle.esp.specs.declared.association.Association.{Association}
+use Rattle.esp.specs.declared.sa.Sa.{Sa}
 use Rattle.esp.specs.Judging.{IsNumber, Judges, low_half}
 use Rattle.esp.specs.Delivery.{greatest_of, greatest}
 
@@ -23,10 +23,10 @@ number_positive false w low n h = h.1
 number_positive true w low n h = h.not_zero
 
 -- a packet is judged as one number, which is not 0
-pub judged_as_one : (a : Association) (w : Seen) (b : List ℕ) (n m : ℕ) → Judges a w b n → Judges a w b m → n ≡ m
+pub judged_as_one : (a : Sa) (w : Seen) (b : List ℕ) (n m : ℕ) → Judges a w b n → Judges a w b m → n ≡ m
 judged_as_one a w b n m j k = one_number_of a.extended w (low_half b) n m j.number k.number
 
-pub judged_positive : (a : Association) (w : Seen) (b : List ℕ) (n : ℕ) → Judges a w b n → 1 ≤ n
+pub judged_positive : (a : Sa) (w : Seen) (b : List ℕ) (n : ℕ) → Judges a w b n → 1 ≤ n
 judged_positive a w b n j = number_positive a.extended w (low_half b) n j.number
 
 -- no listed number is above the greatest

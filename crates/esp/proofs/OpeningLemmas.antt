@@ -1,6 +1,6 @@
 -- From what the steps of opening find to what is said of the whole.
-use Rattle.std.proofs.Common.{◌≡◌, ◌≢◌, ℕ, ◌+◌, ◌-◌, ◌%◌, ◌^◌, ◌<◌, ◌≤◌, Bool, true, false, List, ◌++◌, length, take, drop, get_or, refl, sym, ap, ◌∙◌, subst, arith, inl, inr, Result, Ok, Err, length-append, length-drop}
-use Rattle.std.specs.Prelude.{OnOk, OnErr}
+use Rattle.std.proofs.Common.{◌≡◌, ◌≢◌, ℕ, ◌+◌, ◌-◌, ◌%◌, ◌^◌, ◌<◌, ◌≤◌, Bool, true, false, List, ◌++◌, length, take, drop, get_or, sym, ap, ◌∙◌, subst, arith, inl, inr, Result, Ok, Err, length-append, length-drop}
+use Rattle.std.specs.Prelude.{OnOk, OnErr, IfOk, IfErr}
 use Rattle.std.specs.Result.{is_err}
 use Rattle.std.proofs.lemmas.List.{take-append-drop, take-take, drop-take, take_at, drop_at, get_or-take, get_or-drop, get_or_past, length-take-le}
 use Rattle.std.proofs.lemmas.Nat.{be_bytes_4}
@@ -8,14 +8,11 @@ use Rattle.std.proofs.lemmas.Bool.{cases_lt}
 use Rattle.byteorder.specs.Endian.{big_bytes}
 use Rattle.replay.specs.Window.{Seen, Takes}
 use Rattle.replay.proofs.WindowFacts.{fresh}
-use Rattle.esp.specs.declared.association.Association.{Association}
-use Rattle.esp.specs.Packet.{number_limit, head, check_value, PassesIntegrity, IsContents}
+use Rattle.esp.specs.declared.sa.Sa.{Sa}
+use Rattle.esp.specs.Packet.{number_limit, head, check_value, PassesIntegrity}
 use Rattle.esp.specs.Judging.{low_half, IsNumber, Judges}
 use Rattle.esp.specs.Views.{Receiving}
-use Rattle.esp.proofs.ContentsLemmas.{payload_at}
-use Rattle.esp.specs.Opening.{IsFreshNumber, TakesNumber, HandsUp, Refuses, Step}
-use Rattle.esp.specs.declared.answer.Answer.{Answer}
-use Rattle.esp.specs.declared.answer.Answer.TheVariants.{Refused}
+use Rattle.esp.specs.Opening.{Answer, IsFreshNumber, TakesNumber, HandsUp, Refuses, Step}
 use Rattle.esp.specs.declared.fault.EspFault.{EspFault}
 use Rattle.esp.specs.declared.fault.EspFault.TheVariants.{Memory}
 
@@ -59,14 +56,14 @@ low_half_spells b long octets =
     be_bytes_4 (take 4 (drop 4 b)) (low_half b) len (λ i. four_octets b i len octets) (omega arith)
 
 -- a packet's head, where its first four octets are the SPI
-head_is : (a : Association) (b : List ℕ) (n : ℕ) → 8 ≤ length b → AreOctets b → take 4 b ≡ big_bytes 4 a.spi → n % 2 ^ 32 ≡ low_half b → take 8 b ≡ head a n
+head_is : (a : Sa) (b : List ℕ) (n : ℕ) → 8 ≤ length b → AreOctets b → take 4 b ≡ big_bytes 4 a.spi → n % 2 ^ 32 ≡ low_half b → take 8 b ≡ head a n
 head_is a b n long octets spi low =
     sym (take-append-drop 4 (take 8 b))
     ∙ ap (λ (xs : List ℕ). xs ++ drop 4 (take 8 b)) (take-take 4 8 b (omega arith) ∙ spi)
     ∙ ap (λ (xs : List ℕ). big_bytes 4 a.spi ++ xs) (drop-take 4 4 b ∙ sym (low_half_spells b long octets) ∙ ap (big_bytes 4) (sym low))
 
 -- octets whose check value is right pass the integrity check
-pub intact : (a : Association) (b : List ℕ) (n : ℕ) → 24 ≤ length b → AreOctets b → take 4 b ≡ big_bytes 4 a.spi → n % 2 ^ 32 ≡ low_half b → n < number_limit a.extended
+pub intact : (a : Sa) (b : List ℕ) (n : ℕ) → 24 ≤ length b → AreOctets b → take 4 b ≡ big_bytes 4 a.spi → n % 2 ^ 32 ≡ low_half b → n < number_limit a.extended
     → drop (length b - 16) b ≡ check_value a n (take (length b - 16) b) → PassesIntegrity a n b
 intact a b n long octets spi low fits right = record {
   rest = take (length b - 16) b;
@@ -79,7 +76,7 @@ intact a b n long octets spi low fits right = record {
 }
 
 -- and those that pass have the right one
-pub right_check : (a : Association) (b : List ℕ) (n : ℕ) → PassesIntegrity a n b → drop (length b - 16) b ≡ check_value a n (take (length b - 16) b)
+pub right_check : (a : Sa) (b : List ℕ) (n : ℕ) → PassesIntegrity a n b → drop (length b - 16) b ≡ check_value a n (take (length b - 16) b)
 right_check a b n p =
     let len : length b ≡ length p.rest + 16 = ap length p.octets ∙ length-append p.rest p.check ∙ ap (λ (k : ℕ). length p.rest + k) p.sixteen in
     let at : length p.rest ≡ length b - 16 = omega arith in
@@ -114,28 +111,27 @@ judged r b n spi octets f right =
     }
 
 -- the receiver, from its parts
-abbrev pub receiving : Association → Seen → Receiving
+abbrev pub receiving : Sa → Seen → Receiving
 receiving a w = record { association = a; window = w }
 
-pub takes_number : (a : Association) (w w' : Seen) (old : Receiving) (n : ℕ) → receiving a w ≡ old → Takes w n w' → TakesNumber old n (receiving a w')
+pub takes_number : (a : Sa) (w w' : Seen) (old : Receiving) (n : ℕ) → receiving a w ≡ old → Takes w n w' → TakesNumber old n (receiving a w')
 takes_number a w w' old n is takes = record {
   association = ap (λ (r : Receiving). r.association) is;
   window = subst (λ (r : Receiving). Takes r.window n w') is takes;
 }
 
-pub unchanged : (a : Association) (w w' : Seen) (old : Receiving) → receiving a w ≡ old → w' ≡ w → receiving a w' ≡ old
+pub unchanged : (a : Sa) (w w' : Seen) (old : Receiving) → receiving a w ≡ old → w' ≡ w → receiving a w' ≡ old
 unchanged a w w' old is same = ap (receiving a) same ∙ is
 
--- what is handed up, as an answer in a list says it
-pub up_answer : (old : Receiving) (b : List ℕ) (n next : ℕ) (payload : List ℕ) (new : Receiving) → HandsUp old b n next payload new
-    → HandsUp old b n next (take (length payload) (drop 8 b)) new × (◌≡◌ {A = ℕ} 8 8) × (8 + length payload ≤ length b)
-up_answer old b n next payload new h =
-    let at = payload_at b next payload h.contents in
-    (record { judged = h.judged; taken = h.taken; contents = subst (λ (xs : List ℕ). IsContents b next xs) at.1 h.contents }, refl, at.0)
+-- what a call for one packet answers is its step
+pub step_of : (want : Type 0) (old : Receiving) (b : List ℕ) (r : Answer) (new : Receiving)
+    → IfOk r (λ o. HandsUp old b o.number o.next o.payload.now new) → IfErr r (λ e. Refuses want old b e new) → Step want old b r new
+step_of want old b (Ok o) new up refused = up
+step_of want old b (Err e) new up refused = refused
 
 -- where no window wants memory, no packet is refused for it
 pub never_for_memory : (r s : Receiving) (b : List ℕ) (e : EspFault) → Refuses ⊥ r b e s → e ≢ Memory
 never_for_memory r s b e refused is = (subst (λ x. Refuses ⊥ r b x s) is refused).0
 
-pub never_answered_for_memory : (r s : Receiving) (b : List ℕ) (x : Answer) → Step ⊥ r b x s → x ≢ Refused Memory
+pub never_answered_for_memory : (r s : Receiving) (b : List ℕ) (x : Answer) → Step ⊥ r b x s → x ≢ Err Memory
 never_answered_for_memory r s b x step is = (subst (λ y. Step ⊥ r b y s) is step).0

@@ -4,17 +4,17 @@ use Rattle.std.proofs.lemmas.List.{append_assoc, take_at, drop_at, get_or_at}
 use Rattle.byteorder.specs.Endian.{big_bytes, big_number}
 use Rattle.byteorder.specs.Numbers.{length-bytes_high_first, big_number-reads_back}
 use Rattle.mac.proofs.HmacLemmas.{length-icv_sha256}
-use Rattle.esp.specs.declared.association.Association.{Association}
+use Rattle.esp.specs.declared.sa.Sa.{Sa}
 use Rattle.esp.specs.Packet.{head, padding, trailer, check_value, IsPacket, PassesIntegrity, IsContents}
 use Rattle.esp.specs.Judging.{IsJudgedLength, low_half}
 use Rattle.esp.specs.Sealing.{IsShortestPacket, FitsPacket}
 use Rattle.esp.specs.Worked.{IsOpenable}
 use Rattle.esp.proofs.ContentsLemmas.{length-padding, payload_at}
 
-pub length-head : (a : Association) (n : ℕ) → length (head a n) ≡ 8
+pub length-head : (a : Sa) (n : ℕ) → length (head a n) ≡ 8
 length-head a n = length-append (big_bytes 4 a.spi) (big_bytes 4 (n % 2 ^ 32)) ∙ (let l = length-bytes_high_first 4 a.spi in let k = length-bytes_high_first 4 (n % 2 ^ 32) in omega arith)
 
-module _ (a : Association) (n next : ℕ) (payload : List ℕ) (p : ℕ) (b : List ℕ) (is : IsPacket a n next payload p b) where
+module _ (a : Sa) (n next : ℕ) (payload : List ℕ) (p : ℕ) (b : List ℕ) (is : IsPacket a n next payload p b) where
   abbrev covered : List ℕ
   covered = head a n ++ payload ++ trailer p next
 
@@ -128,7 +128,7 @@ one_contents b next next' payload payload' c d =
       (payload_at b next' payload' d).1 ∙ ap (λ (k : ℕ). take k (drop 8 b)) len ∙ sym (payload_at b next payload c).1,
     )
 
-pub openable : (a : Association) (n next : ℕ) (payload b : List ℕ) → IsShortestPacket a n next payload b → FitsPacket payload → IsOpenable a n next payload b
+pub openable : (a : Sa) (n next : ℕ) (payload b : List ℕ) → IsShortestPacket a n next payload b → FitsPacket payload → IsOpenable a n next payload b
 openable a n next payload b s small =
     let has = packet_contents a n next payload s.p b s.packet in
     record {

@@ -8,7 +8,7 @@ use Rattle.std.proofs.lemmas.Bool.{cases_lt}
 use Rattle.mac.specs.Hmac.{icv_sha256}
 use Rattle.lanes.specs.Task.{icv_of}
 use Rattle.lanes.specs.declared.task.Task.{Task}
-use Rattle.esp.specs.declared.association.Association.{Association}
+use Rattle.esp.specs.declared.sa.Sa.{Sa}
 use Rattle.esp.specs.declared.ahead.Ahead.{Ahead}
 use Rattle.esp.specs.declared.precomputed.Asked.{Asked}
 use Rattle.esp.specs.declared.precomputed.Precomputed.{Precomputed}
@@ -18,7 +18,7 @@ use Rattle.esp.specs.Packet.{unsent_half}
 use Rattle.esp.specs.Precomputed.{AreAnswers, ArePrecomputed, AreQuestions, IsAnswer, IsPrecomputed, IsQuestion, asked_value}
 
 -- the value is the association's own
-pub under_association : (b : List ℕ) (found : Precomputed) (a : Association) (own : Ahead) → IsPrecomputed b found → found.extended ≡ a.extended → found.key ≡ a.key
+pub under_association : (b : List ℕ) (found : Precomputed) (a : Sa) (own : Ahead) → IsPrecomputed b found → found.extended ≡ a.extended → found.key ≡ a.key
     → own.number ≡ found.number → own.value ≡ found.value → IsAhead a b own
 under_association b found a own is extended key number value = record {
   right =

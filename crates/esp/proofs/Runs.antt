@@ -1,5 +1,5 @@
 -- One delivery after another, as the window sees them, and what that is in words that know no window.
-use Rattle.std.proofs.Common.{◌≡◌, ℕ, zero, suc, ◌+◌, ◌<◌, ◌≤◌, Bool, true, false, List, [], ◌∷◌, ◌++◌, length, map, get_or, take, drop, refl, sym, ap, ◌∙◌, subst, arith, inl, inr, Some, None, Option, Result, Ok}
+use Rattle.std.proofs.Common.{◌≡◌, ℕ, zero, suc, ◌+◌, ◌<◌, ◌≤◌, Bool, true, false, List, [], ◌∷◌, ◌++◌, length, map, get_or, take, drop, refl, sym, ap, ◌∙◌, subst, arith, inl, inr, Some, None, Option, Result, Ok, Err}
 use Rattle.std.specs.Prelude.{◌||◌, ◌&&◌, nat_eq, nat_lt, slice_get, max}
 use Rattle.std.specs.Ordering.{nat_cmp}
 use Rattle.std.specs.FinSet as set
@@ -8,17 +8,15 @@ use Rattle.std.proofs.lemmas.List.{append_assoc, take-map, map_more}
 use Rattle.std.proofs.Math.Seq.{drop-append_seam}
 use Rattle.std.proofs.lemmas.Bool.{and_left, and_cases, and_parts, and_from, ltb-true, lt-ltb, cases_Bool, false≢true, both_ways}
 use Rattle.replay.specs.Window.{Seen, IsSoundWindow, Takes}
-use Rattle.esp.specs.declared.association.Association.{Association}
+use Rattle.esp.specs.declared.sa.Sa.{Sa}
 use Rattle.esp.specs.Packet.{PassesIntegrity}
 use Rattle.esp.specs.Judging.{low_half, IsNumber, Judges}
 use Rattle.esp.specs.Views.{Receiving}
-use Rattle.esp.specs.Opening.{IsOpeningRefusal, Step, Run, TakesNumber}
+use Rattle.esp.specs.Opening.{Answer, IsOpeningRefusal, Step, Run, TakesNumber}
 use Rattle.esp.specs.Delivery.{greatest, all_taken, taken_after, History, taken_at, IsJudged, IsAnswerDue, AreAnswers, delivered_packets, delivered_answers, WantsWhereJudged, Shows, history, Deliveries, AnswersFirst, answers_since, AnswersGiven, JudgesAtMostOnce, JudgesExactlyAtFirst, AtMostOnce, ExactlyAtFirst, Unforged, IsStop}
-use Rattle.std.specs.Prelude.{OnOk, IfErr, Err}
+use Rattle.std.specs.Prelude.{OnOk, IfErr}
 use Rattle.esp.specs.declared.fault.ListFault.{ListFault}
-use Rattle.esp.specs.declared.fault.ListFault.TheVariants.{NoRoom}
-use Rattle.esp.specs.declared.answer.Answer.{Answer}
-use Rattle.esp.specs.declared.answer.Answer.TheVariants.{Up, Refused}
+use Rattle.esp.specs.declared.fault.ListStop.{ListStop}
 use Rattle.esp.specs.declared.fault.EspFault.{EspFault}
 use Rattle.esp.specs.declared.fault.EspFault.TheVariants.{Exhausted, PayloadSize, BadLength, Old, Replayed, BadNumber, BadIcv, BadPadding, Memory}
 use Rattle.esp.proofs.NumberLemmas.{one_number_of, judged_as_one, judged_positive, contains-insert_nat, greatest-insert, greatest-is}
@@ -65,7 +63,7 @@ module _ (w : Seen) (size : ℕ) (taken : set.FinSet nat_cmp) (shows : Shows w s
   shown_taken : (n : ℕ) → set.contains w.taken n ≡ true → set.contains taken n ≡ true
   shown_taken n h = (and_parts (set.contains taken n) (nat_lt w.top (n + size)) (sym (shows.in_span n) ∙ h)).0
 
-  judges_all : (a : Association) (b : List ℕ) (n : ℕ) → Judges a w b n → Judges a (all_taken size taken) b n
+  judges_all : (a : Sa) (b : List ℕ) (n : ℕ) → Judges a w b n → Judges a (all_taken size taken) b n
   judges_all a b n j = record {
     whole = j.whole;
     number = number_all a.extended (low_half b) n j.number;
@@ -74,7 +72,7 @@ module _ (w : Seen) (size : ℕ) (taken : set.FinSet nat_cmp) (shows : Shows w s
     intact = j.intact;
   }
 
-  refuses_all : (a : Association) (b : List ℕ) (e : EspFault) → IsOpeningRefusal a w b e → IsOpeningRefusal a (all_taken size taken) b e
+  refuses_all : (a : Sa) (b : List ℕ) (e : EspFault) → IsOpeningRefusal a w b e → IsOpeningRefusal a (all_taken size taken) b e
   refuses_all a b BadLength h = h
   refuses_all a b BadNumber h = (h.0, λ n is. h.1 n (number_shown a.extended (low_half b) n is))
   refuses_all a b Old h = (h.0, (h.1.0, number_all a.extended (low_half b) h.1.0 h.1.1, (let below = h.1.2 in let top = shows.top in let kept = shows.size_kept in omega arith)))
@@ -86,7 +84,7 @@ module _ (w : Seen) (size : ℕ) (taken : set.FinSet nat_cmp) (shows : Shows w s
   refuses_all a b Memory h = h
 
 -- what is refused is judged as no number
-refused_unjudged : (a : Association) (w : Seen) (b : List ℕ) (e : EspFault) → IsOpeningRefusal a w b e → (n : ℕ) → ¬ Judges a w b n
+refused_unjudged : (a : Sa) (w : Seen) (b : List ℕ) (e : EspFault) → IsOpeningRefusal a w b e → (n : ℕ) → ¬ Judges a w b n
 refused_unjudged a w b BadLength h n j = h j.whole
 refused_unjudged a w b BadNumber h n j = h.1 n j.number
 refused_unjudged a w b Old h n j =
@@ -139,7 +137,7 @@ sound_shown w sound = record {
 }
 
 -- Packet by packet: each was judged as the number beside it, or as none because no number judges it.
-abbrev AreJudged : Association → ℕ → set.FinSet nat_cmp → List (List ℕ) → List (Option ℕ) → Type 0
+abbrev AreJudged : Sa → ℕ → set.FinSet nat_cmp → List (List ℕ) → List (Option ℕ) → Type 0
 AreJudged a size taken [] [] = Unit {0}
 AreJudged a size taken (b ∷ bs) (Some n ∷ ns) = Judges a (all_taken size taken) b n × AreJudged a size (set.insert taken n) bs ns
 AreJudged a size taken (b ∷ bs) (None ∷ ns) = ((n : ℕ) → ¬ Judges a (all_taken size taken) b n) × AreJudged a size taken bs ns
@@ -147,23 +145,23 @@ AreJudged a size taken [] (n ∷ ns) = ⊥
 AreJudged a size taken (b ∷ bs) [] = ⊥
 
 -- packet by packet, the answers
-abbrev AreDue : Association → ℕ → set.FinSet nat_cmp → List (List ℕ) → List (Option ℕ) → List Answer → Type 0
+abbrev AreDue : Sa → ℕ → set.FinSet nat_cmp → List (List ℕ) → List (Option ℕ) → List Answer → Type 0
 AreDue a size taken [] [] [] = Unit {0}
 AreDue a size taken (b ∷ bs) (n ∷ ns) (r ∷ rs) = IsAnswerDue a (all_taken size taken) b n r × AreDue a size (taken_after taken (n ∷ [])) bs ns rs
 AreDue a size taken bs ns rs = ⊥
 
-abbrev past : Association → ℕ → set.FinSet nat_cmp → List (List ℕ) → List (Option ℕ) → History
+abbrev past : Sa → ℕ → set.FinSet nat_cmp → List (List ℕ) → List (Option ℕ) → History
 past a size taken bs ns = record { association = a; size = size; before = taken; packets = bs; numbers = ns }
 
 -- the same, by positions
-judged_each : (a : Association) (size : ℕ) (taken : set.FinSet nat_cmp) (bs : List (List ℕ)) (ns : List (Option ℕ)) → AreJudged a size taken bs ns → length ns ≡ length bs
+judged_each : (a : Sa) (size : ℕ) (taken : set.FinSet nat_cmp) (bs : List (List ℕ)) (ns : List (Option ℕ)) → AreJudged a size taken bs ns → length ns ≡ length bs
 judged_each a size taken [] [] h = refl
 judged_each a size taken (b ∷ bs) (Some n ∷ ns) h = ap suc (judged_each a size (set.insert taken n) bs ns h.1)
 judged_each a size taken (b ∷ bs) (None ∷ ns) h = ap suc (judged_each a size taken bs ns h.1)
 judged_each a size taken [] (n ∷ ns) h = absurd h
 judged_each a size taken (b ∷ bs) [] h = absurd h
 
-judged_there : (a : Association) (size : ℕ) (taken : set.FinSet nat_cmp) (bs : List (List ℕ)) (ns : List (Option ℕ)) (i n : ℕ) (packet : List ℕ)
+judged_there : (a : Sa) (size : ℕ) (taken : set.FinSet nat_cmp) (bs : List (List ℕ)) (ns : List (Option ℕ)) (i n : ℕ) (packet : List ℕ)
     → AreJudged a size taken bs ns → slice_get bs i ≡ Some packet → slice_get ns i ≡ Some (Some n) → Judges a (taken_at (past a size taken bs ns) i) packet n
 judged_there a size taken [] ns i n packet h e at = absurd (cc)
 judged_there a size taken (b ∷ bs) [] i n packet h e at = absurd h
@@ -176,7 +174,7 @@ judged_there a size taken (b ∷ bs) (None ∷ ns) zero n packet h e at = absurd
 judged_there a size taken (b ∷ bs) (Some m ∷ ns) (suc i) n packet h e at = judged_there a size (set.insert taken m) bs ns i n packet h.1 e at
 judged_there a size taken (b ∷ bs) (None ∷ ns) (suc i) n packet h e at = judged_there a size taken bs ns i n packet h.1 e at
 
-judges_there : (a : Association) (size : ℕ) (taken : set.FinSet nat_cmp) (bs : List (List ℕ)) (ns : List (Option ℕ)) (i n : ℕ) (packet : List ℕ)
+judges_there : (a : Sa) (size : ℕ) (taken : set.FinSet nat_cmp) (bs : List (List ℕ)) (ns : List (Option ℕ)) (i n : ℕ) (packet : List ℕ)
     → AreJudged a size taken bs ns → slice_get bs i ≡ Some packet → Judges a (taken_at (past a size taken bs ns) i) packet n → slice_get ns i ≡ Some (Some n)
 judges_there a size taken [] ns i n packet h e j = absurd (cc)
 judges_there a size taken (b ∷ bs) [] i n packet h e j = absurd h
@@ -190,13 +188,13 @@ judges_there a size taken (b ∷ bs) (None ∷ ns) zero n packet h e j =
 judges_there a size taken (b ∷ bs) (Some m ∷ ns) (suc i) n packet h e j = judges_there a size (set.insert taken m) bs ns i n packet h.1 e j
 judges_there a size taken (b ∷ bs) (None ∷ ns) (suc i) n packet h e j = judges_there a size taken bs ns i n packet h.1 e j
 
-is_judged : (a : Association) (size : ℕ) (taken : set.FinSet nat_cmp) (bs : List (List ℕ)) (ns : List (Option ℕ)) → AreJudged a size taken bs ns → IsJudged (past a size taken bs ns)
+is_judged : (a : Sa) (size : ℕ) (taken : set.FinSet nat_cmp) (bs : List (List ℕ)) (ns : List (Option ℕ)) → AreJudged a size taken bs ns → IsJudged (past a size taken bs ns)
 is_judged a size taken bs ns h = record {
   each = judged_each a size taken bs ns h;
   judged = λ i n b e. (judged_there a size taken bs ns i n b h e, judges_there a size taken bs ns i n b h e);
 }
 
-due_each : (a : Association) (size : ℕ) (taken : set.FinSet nat_cmp) (bs : List (List ℕ)) (ns : List (Option ℕ)) (rs : List Answer) → AreDue a size taken bs ns rs → length rs ≡ length bs
+due_each : (a : Sa) (size : ℕ) (taken : set.FinSet nat_cmp) (bs : List (List ℕ)) (ns : List (Option ℕ)) (rs : List Answer) → AreDue a size taken bs ns rs → length rs ≡ length bs
 due_each a size taken [] [] [] h = refl
 due_each a size taken (b ∷ bs) (n ∷ ns) (r ∷ rs) h = ap suc (due_each a size (taken_after taken (n ∷ [])) bs ns rs h.1)
 due_each a size taken [] [] (r ∷ rs) h = absurd h
@@ -209,7 +207,7 @@ taken_one_more : (taken : set.FinSet nat_cmp) (n : Option ℕ) (ns : List (Optio
 taken_one_more taken None ns = refl
 taken_one_more taken (Some n) ns = refl
 
-due_there : (a : Association) (size : ℕ) (taken : set.FinSet nat_cmp) (bs : List (List ℕ)) (ns : List (Option ℕ)) (rs : List Answer) (i : ℕ) (b : List ℕ) (n : Option ℕ) (r : Answer)
+due_there : (a : Sa) (size : ℕ) (taken : set.FinSet nat_cmp) (bs : List (List ℕ)) (ns : List (Option ℕ)) (rs : List Answer) (i : ℕ) (b : List ℕ) (n : Option ℕ) (r : Answer)
     → AreDue a size taken bs ns rs → slice_get bs i ≡ Some b → slice_get ns i ≡ Some n → slice_get rs i ≡ Some r → IsAnswerDue a (taken_at (past a size taken bs ns) i) b n r
 due_there a size taken [] ns rs i b n r h e at is = absurd (cc)
 due_there a size taken (x ∷ bs) [] rs i b n r h e at is = absurd (cc)
@@ -225,14 +223,14 @@ due_there a size taken (x ∷ bs) (m ∷ ns) (s ∷ rs) (suc i) b n r h e at is 
     subst (λ (t : set.FinSet nat_cmp). IsAnswerDue a (all_taken size t) b n r) (taken_one_more taken m (take i ns))
     (due_there a size (taken_after taken (m ∷ [])) bs ns rs i b n r h.1 e at is)
 
-are_answers : (a : Association) (size : ℕ) (taken : set.FinSet nat_cmp) (bs : List (List ℕ)) (ns : List (Option ℕ)) (rs : List Answer) → AreDue a size taken bs ns rs → AreAnswers (past a size taken bs ns) rs
+are_answers : (a : Sa) (size : ℕ) (taken : set.FinSet nat_cmp) (bs : List (List ℕ)) (ns : List (Option ℕ)) (rs : List Answer) → AreDue a size taken bs ns rs → AreAnswers (past a size taken bs ns) rs
 are_answers a size taken bs ns rs h = record {
   each = due_each a size taken bs ns rs h;
   due = λ i b n r e at is. due_there a size taken bs ns rs i b n r h e at is;
 }
 
 -- What a run is, at a receiver whose window shows these numbers.
-record Outcome (want : Type 0) (a : Association) (size : ℕ) (taken : set.FinSet nat_cmp) (bs : List (List ℕ)) (rs : List Answer) (new : Receiving) : Type 0 where
+record Outcome (want : Type 0) (a : Sa) (size : ℕ) (taken : set.FinSet nat_cmp) (bs : List (List ℕ)) (rs : List Answer) (new : Receiving) : Type 0 where
   numbers : List (Option ℕ)
   judged : AreJudged a size taken (delivered_packets bs rs) numbers
   due : AreDue a size taken (delivered_packets bs rs) numbers (delivered_answers rs)
@@ -241,16 +239,16 @@ record Outcome (want : Type 0) (a : Association) (size : ℕ) (taken : set.FinSe
   window : Shows new.window size (taken_after taken numbers)
 
 -- A receiver of this association whose window shows these numbers.
-record Stands (r : Receiving) (a : Association) (size : ℕ) (taken : set.FinSet nat_cmp) : Type 0 where
+record Stands (r : Receiving) (a : Sa) (size : ℕ) (taken : set.FinSet nat_cmp) : Type 0 where
   association : r.association ≡ a
   window : Shows r.window size taken
 
-module _ (a : Association) (size : ℕ) (taken : set.FinSet nat_cmp) (r : Receiving) (stands : Stands r a size taken) where
+module _ (a : Sa) (size : ℕ) (taken : set.FinSet nat_cmp) (r : Receiving) (stands : Stands r a size taken) where
   judges_stands : (b : List ℕ) (n : ℕ) → Judges r.association r.window b n → Judges a (all_taken size taken) b n
-  judges_stands b n j = subst (λ (x : Association). Judges x (all_taken size taken) b n) stands.association (judges_all r.window size taken stands.window r.association b n j)
+  judges_stands b n j = subst (λ (x : Sa). Judges x (all_taken size taken) b n) stands.association (judges_all r.window size taken stands.window r.association b n j)
 
   refusal_stands : (b : List ℕ) (e : EspFault) → IsOpeningRefusal r.association r.window b e → IsOpeningRefusal a (all_taken size taken) b e
-  refusal_stands b e h = subst (λ (x : Association). IsOpeningRefusal x (all_taken size taken) b e) stands.association (refuses_all r.window size taken stands.window r.association b e h)
+  refusal_stands b e h = subst (λ (x : Sa). IsOpeningRefusal x (all_taken size taken) b e) stands.association (refuses_all r.window size taken stands.window r.association b e h)
 
   takes_stands : (n : ℕ) (new : Receiving) → 1 ≤ n → TakesNumber r n new → Stands new a size (set.insert taken n)
   takes_stands n new positive t = record {
@@ -261,21 +259,21 @@ module _ (a : Association) (size : ℕ) (taken : set.FinSet nat_cmp) (r : Receiv
   moved : (new : Receiving) → new ≡ r → Stands new a size taken
   moved new same = subst (λ (q : Receiving). Stands q a size taken) (sym same) stands
 
-module _ (want : Type 0) (a : Association) (size : ℕ) where
+module _ (want : Type 0) (a : Sa) (size : ℕ) where
   -- a packet in front that was refused, and is judged as no number
   without_number : (taken : set.FinSet nat_cmp) (b : List ℕ) (e : EspFault) (bs : List (List ℕ)) (rs : List Answer) (new : Receiving) → IsOpeningRefusal a (all_taken size taken) b e
-      → delivered_packets (b ∷ bs) (Refused e ∷ rs) ≡ b ∷ delivered_packets bs rs → delivered_answers (Refused e ∷ rs) ≡ Refused e ∷ delivered_answers rs
-      → ((ns : List (Option ℕ)) → WantsWhereJudged want a size taken bs rs ns → WantsWhereJudged want a size taken (b ∷ bs) (Refused e ∷ rs) (None ∷ ns))
-      → Outcome want a size taken bs rs new → Outcome want a size taken (b ∷ bs) (Refused e ∷ rs) new
+      → delivered_packets (b ∷ bs) (Err e ∷ rs) ≡ b ∷ delivered_packets bs rs → delivered_answers (Err e ∷ rs) ≡ Err e ∷ delivered_answers rs
+      → ((ns : List (Option ℕ)) → WantsWhereJudged want a size taken bs rs ns → WantsWhereJudged want a size taken (b ∷ bs) (Err e ∷ rs) (None ∷ ns))
+      → Outcome want a size taken bs rs new → Outcome want a size taken (b ∷ bs) (Err e ∷ rs) new
   without_number taken b e bs rs new h packets answers wants o =
       let judged : AreJudged a size taken (b ∷ delivered_packets bs rs) (None ∷ o.numbers) = (refused_unjudged a (all_taken size taken) b e h, o.judged) in
-      let due : AreDue a size taken (b ∷ delivered_packets bs rs) (None ∷ o.numbers) (Refused e ∷ delivered_answers rs) = (h, o.due) in
-      let due' : AreDue a size taken (b ∷ delivered_packets bs rs) (None ∷ o.numbers) (delivered_answers (Refused e ∷ rs)) =
+      let due : AreDue a size taken (b ∷ delivered_packets bs rs) (None ∷ o.numbers) (Err e ∷ delivered_answers rs) = (h, o.due) in
+      let due' : AreDue a size taken (b ∷ delivered_packets bs rs) (None ∷ o.numbers) (delivered_answers (Err e ∷ rs)) =
       subst (λ (qs : List Answer). AreDue a size taken (b ∷ delivered_packets bs rs) (None ∷ o.numbers) qs) (sym answers) due in
       record {
         numbers = None ∷ o.numbers;
         judged = subst (λ (ps : List (List ℕ)). AreJudged a size taken ps (None ∷ o.numbers)) (sym packets) judged;
-        due = subst (λ (ps : List (List ℕ)). AreDue a size taken ps (None ∷ o.numbers) (delivered_answers (Refused e ∷ rs))) (sym packets) due';
+        due = subst (λ (ps : List (List ℕ)). AreDue a size taken ps (None ∷ o.numbers) (delivered_answers (Err e ∷ rs))) (sym packets) due';
         memory = wants o.numbers o.memory;
         association = o.association;
         window = o.window;
@@ -293,20 +291,21 @@ module _ (want : Type 0) (a : Association) (size : ℕ) where
   }
   outcome taken old [] (r ∷ rs) new stands run = absurd run
   outcome taken old (b ∷ bs) [] new stands run = absurd run
-  outcome taken old (b ∷ bs) (Up n next start len ∷ rs) new stands run =
-      let up = run.1.0 in
-      let j = judges_stands a size taken old stands b n up.judged in
+  outcome taken old (b ∷ bs) (Ok up ∷ rs) new stands run =
+      let n = up.number in
+      let handed = run.1 in
+      let j = judges_stands a size taken old stands b n handed.judged in
       let positive = judged_positive a (all_taken size taken) b n j in
-      let o = outcome (set.insert taken n) run.0 bs rs new (takes_stands a size taken old stands n run.0 positive up.taken) run.2 in
+      let o = outcome (set.insert taken n) run.0 bs rs new (takes_stands a size taken old stands n run.0 positive handed.taken) run.2 in
       record {
         numbers = Some n ∷ o.numbers;
         judged = (j, o.judged);
-        due = ((refl, run.1.1, run.1.2, up.contents), o.due);
+        due = ((refl, handed.contents), o.due);
         memory = o.memory;
         association = o.association;
         window = o.window;
       }
-  outcome taken old (b ∷ bs) (Refused BadPadding ∷ rs) new stands run =
+  outcome taken old (b ∷ bs) (Err BadPadding ∷ rs) new stands run =
       let n = run.1.0 in
       let wasted = run.1.1 in
       let j = judges_stands a size taken old stands b n wasted.judged in
@@ -320,7 +319,7 @@ module _ (want : Type 0) (a : Association) (size : ℕ) where
         association = o.association;
         window = o.window;
       }
-  outcome taken old (b ∷ bs) (Refused Memory ∷ rs) new stands run =
+  outcome taken old (b ∷ bs) (Err Memory ∷ rs) new stands run =
       let o = outcome taken run.0 bs rs new (moved a size taken old stands run.0 run.1.2) run.2 in
       record {
         numbers = o.numbers;
@@ -330,18 +329,18 @@ module _ (want : Type 0) (a : Association) (size : ℕ) where
         association = o.association;
         window = o.window;
       }
-  outcome taken old (b ∷ bs) (Refused BadLength ∷ rs) new stands run =
+  outcome taken old (b ∷ bs) (Err BadLength ∷ rs) new stands run =
       without_number taken b BadLength bs rs new (refusal_stands a size taken old stands b BadLength run.1.0) refl refl (λ ns m. m) (outcome taken run.0 bs rs new (moved a size taken old stands run.0 run.1.1) run.2)
-  outcome taken old (b ∷ bs) (Refused BadNumber ∷ rs) new stands run =
+  outcome taken old (b ∷ bs) (Err BadNumber ∷ rs) new stands run =
       without_number taken b BadNumber bs rs new (refusal_stands a size taken old stands b BadNumber run.1.0) refl refl (λ ns m. m) (outcome taken run.0 bs rs new (moved a size taken old stands run.0 run.1.1) run.2)
-  outcome taken old (b ∷ bs) (Refused Old ∷ rs) new stands run =
+  outcome taken old (b ∷ bs) (Err Old ∷ rs) new stands run =
       without_number taken b Old bs rs new (refusal_stands a size taken old stands b Old run.1.0) refl refl (λ ns m. m) (outcome taken run.0 bs rs new (moved a size taken old stands run.0 run.1.1) run.2)
-  outcome taken old (b ∷ bs) (Refused Replayed ∷ rs) new stands run =
+  outcome taken old (b ∷ bs) (Err Replayed ∷ rs) new stands run =
       without_number taken b Replayed bs rs new (refusal_stands a size taken old stands b Replayed run.1.0) refl refl (λ ns m. m) (outcome taken run.0 bs rs new (moved a size taken old stands run.0 run.1.1) run.2)
-  outcome taken old (b ∷ bs) (Refused BadIcv ∷ rs) new stands run =
+  outcome taken old (b ∷ bs) (Err BadIcv ∷ rs) new stands run =
       without_number taken b BadIcv bs rs new (refusal_stands a size taken old stands b BadIcv run.1.0) refl refl (λ ns m. m) (outcome taken run.0 bs rs new (moved a size taken old stands run.0 run.1.1) run.2)
-  outcome taken old (b ∷ bs) (Refused Exhausted ∷ rs) new stands run = absurd run.1.0
-  outcome taken old (b ∷ bs) (Refused PayloadSize ∷ rs) new stands run = absurd run.1.0
+  outcome taken old (b ∷ bs) (Err Exhausted ∷ rs) new stands run = absurd run.1.0
+  outcome taken old (b ∷ bs) (Err PayloadSize ∷ rs) new stands run = absurd run.1.0
 
 -- one run after another
 pub run_joined : (want : Type 0) (old : Receiving) (bs : List (List ℕ)) (rs : List Answer) (mid : Receiving) (cs : List (List ℕ)) (qs : List Answer) (new : Receiving)
@@ -382,21 +381,21 @@ deliveries want old packets answers new sound run =
 
 -- a step keeps the association
 pub step_keeps : (want : Type 0) (old : Receiving) (b : List ℕ) (r : Answer) (new : Receiving) → Step want old b r new → new.association ≡ old.association
-step_keeps want old b (Up number next start len) new s = s.0.taken.association
-step_keeps want old b (Refused BadPadding) new s = s.1.taken.association
-step_keeps want old b (Refused Memory) new s = ap (λ (r : Receiving). r.association) s.2
-step_keeps want old b (Refused BadLength) new s = ap (λ (r : Receiving). r.association) s.1
-step_keeps want old b (Refused BadNumber) new s = ap (λ (r : Receiving). r.association) s.1
-step_keeps want old b (Refused Old) new s = ap (λ (r : Receiving). r.association) s.1
-step_keeps want old b (Refused Replayed) new s = ap (λ (r : Receiving). r.association) s.1
-step_keeps want old b (Refused BadIcv) new s = ap (λ (r : Receiving). r.association) s.1
-step_keeps want old b (Refused Exhausted) new s = absurd s.0
-step_keeps want old b (Refused PayloadSize) new s = absurd s.0
+step_keeps want old b (Ok o) new s = s.taken.association
+step_keeps want old b (Err BadPadding) new s = s.1.taken.association
+step_keeps want old b (Err Memory) new s = ap (λ (r : Receiving). r.association) s.2
+step_keeps want old b (Err BadLength) new s = ap (λ (r : Receiving). r.association) s.1
+step_keeps want old b (Err BadNumber) new s = ap (λ (r : Receiving). r.association) s.1
+step_keeps want old b (Err Old) new s = ap (λ (r : Receiving). r.association) s.1
+step_keeps want old b (Err Replayed) new s = ap (λ (r : Receiving). r.association) s.1
+step_keeps want old b (Err BadIcv) new s = ap (λ (r : Receiving). r.association) s.1
+step_keeps want old b (Err Exhausted) new s = absurd s.0
+step_keeps want old b (Err PayloadSize) new s = absurd s.0
 
 -- one more of a list in its image
-pub take-map_more : {X : Type 0} (f : X → List ℕ) (xs : List X) (i : ℕ) (x : X) → i < length xs → x ≡ get_or xs i x → take (i + 1) (map f xs) ≡ take i (map f xs) ++ f x ∷ []
-take-map_more f xs i x h is =
-    take-map f (i + 1) xs ∙ map_more f xs i x h ∙ ap (λ (y : _). map f (take i xs) ++ f y ∷ []) (sym is) ∙ ap (λ (ys : List (List ℕ)). ys ++ f x ∷ []) (sym (take-map f i xs))
+pub take-map_more : {X : Type 0} (f : X → List ℕ) (xs : List X) (i : ℕ) (d : X) → i < length xs → take (i + 1) (map f xs) ≡ take i (map f xs) ++ f (get_or xs i d) ∷ []
+take-map_more f xs i d h =
+    take-map f (i + 1) xs ∙ map_more f xs i d h ∙ ap (λ (ys : List (List ℕ)). ys ++ f (get_or xs i d) ∷ []) (sym (take-map f i xs))
 
 -- the answers to the first packets, once they are delivered
 pub answers_first : (want : Type 0) (k : ℕ) (old : Receiving) (packets : List (List ℕ)) (before : List Answer) (new : Receiving) (after answers : List Answer)
@@ -423,7 +422,7 @@ counted_front : (packets : List (List ℕ)) (answers : List Answer) → delivere
 counted_front [] [] = refl
 counted_front [] (r ∷ rs) = refl
 counted_front (b ∷ bs) [] = refl
-counted_front (b ∷ bs) (Refused Memory ∷ rs) = counted_front bs rs
+counted_front (b ∷ bs) (Err Memory ∷ rs) = counted_front bs rs
 counted_front (b ∷ bs) (r ∷ rs) = ap (λ (xs : List (List ℕ)). b ∷ xs) (counted_front bs rs)
 
 -- the packets that count are those of the first k, of which each has an answer
@@ -467,16 +466,16 @@ at_first {want} {k} {old} {packets} {before} {new} {after} a =
 
 -- whether all packets have an answer or only the first ones
 pub once_by : (want : Type 0) (old : Receiving) (packets : List (List ℕ)) (before : List Answer) (new : Receiving) (after : List Answer) (k : ℕ)
-    (r : Result (Unit {0}) ListFault) → OnOk r (AnswersFirst want k old packets before new after) → IfErr r (λ fault. IsStop want old packets before fault new after)
+    (r : Result (Unit {0}) (ListStop ListFault)) → OnOk r (AnswersFirst want k old packets before new after) → IfErr r (λ stop. IsStop want old packets before stop new after)
     → JudgesAtMostOnce old packets (answers_since before after)
 once_by want old packets before new after k (Ok u) all stopped = once all
-once_by want old packets before new after k (Err (NoRoom j)) all stopped = once stopped.1
+once_by want old packets before new after k (Err stop) all stopped = once stopped.first
 
 pub at_first_by : (want : Type 0) (old : Receiving) (packets : List (List ℕ)) (before : List Answer) (new : Receiving) (after : List Answer) (k : ℕ)
-    (r : Result (Unit {0}) ListFault) → OnOk r (AnswersFirst want k old packets before new after) → IfErr r (λ fault. IsStop want old packets before fault new after)
+    (r : Result (Unit {0}) (ListStop ListFault)) → OnOk r (AnswersFirst want k old packets before new after) → IfErr r (λ stop. IsStop want old packets before stop new after)
     → JudgesExactlyAtFirst old packets (answers_since before after)
 at_first_by want old packets before new after k (Ok u) all stopped = at_first all
-at_first_by want old packets before new after k (Err (NoRoom j)) all stopped = at_first stopped.1
+at_first_by want old packets before new after k (Err stop) all stopped = at_first stopped.first
 
 -- the length, where the push went well
 pub length_pushed : {T E : Type 0} (r : Result T E) (v : T) (before after : ℕ) → r ≡ Ok v → after ≡ (if is_ok r then before + 1 else before) → after ≡ before + 1

@@ -1,13 +1,14 @@
--- What a list that is sealed comes to: one thing alone, and with another list behind it what both in one come to.
+-- What a list that is sealed comes to: one thing alone, and with another list behind it what both in one come
+-- to.
 use Rattle.std.proofs.Common.{◌≡◌, ℕ, ◌+◌, List, [], ◌∷◌, ◌++◌, length, take, sym, ap, ◌∙◌, subst, refl, arith, length-append}
 use Rattle.std.proofs.lemmas.List.{take_all, take_at, drop_at}
-use Rattle.esp.specs.declared.association.Association.{Association}
+use Rattle.esp.specs.declared.sa.Sa.{Sa}
 use Rattle.esp.specs.Packet.{packet}
 use Rattle.esp.specs.Views.{Sending}
 use Rattle.esp.specs.Sealing.{IsShortestPacket, Seals, SealRun, SealsFirst}
 use Rattle.esp.proofs.LayingLemmas.{seal_run_joined, take-more}
 
-one_packet : (a : Association) (n next : ℕ) (payload b c : List ℕ) → IsShortestPacket a n next payload b → IsShortestPacket a n next payload c → b ≡ c
+one_packet : (a : Sa) (n next : ℕ) (payload b c : List ℕ) → IsShortestPacket a n next payload b → IsShortestPacket a n next payload c → b ≡ c
 one_packet a n next payload b c x y =
     let few = x.shortest y.p c y.packet in
     let more = y.shortest x.p b x.packet in

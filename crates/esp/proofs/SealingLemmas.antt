@@ -1,7 +1,7 @@
 -- From what the steps of sealing append to the packet.
 use Rattle.std.proofs.Common.{◌≡◌, ℕ, zero, suc, ◌+◌, ◌%◌, ◌<◌, ◌≤◌, List, [], ◌∷◌, ◌++◌, length, take, drop, refl, sym, ap, ◌∙◌, subst, arith}
 use Rattle.std.proofs.lemmas.List.{append_assoc, append-nil, drop_at}
-use Rattle.esp.specs.declared.association.Association.{Association}
+use Rattle.esp.specs.declared.sa.Sa.{Sa}
 use Rattle.esp.specs.Packet.{padding, packet, IsPacket, number_limit}
 use Rattle.esp.specs.Views.{Sending}
 use Rattle.esp.specs.Sealing.{IsShortestPacket, FitsPacket, Seals}
@@ -34,7 +34,7 @@ appended value before front payload pads tail check mid after e_mid e_check e_af
 least_padding : (len p q : ℕ) → (len + p + 2) % 4 ≡ 0 → p < 4 → (len + q + 2) % 4 ≡ 0 → p ≤ q
 least_padding len p q h small g = omega arith
 
-pub sealed : (old : Sending) (next : ℕ) (payload before : List ℕ) (n p : ℕ) (a : Association) (last : ℕ) (after : List ℕ)
+pub sealed : (old : Sending) (next : ℕ) (payload before : List ℕ) (n p : ℕ) (a : Sa) (last : ℕ) (after : List ℕ)
     → record { association = a; last = last } ≡ old → n ≡ last + 1 → n < number_limit a.extended → FitsPacket payload → (length payload + p + 2) % 4 ≡ 0 → p < 4
     → after ≡ before ++ packet a n next payload p → Seals old next payload before n (record { association = a; last = n }) after
 sealed old next payload before n p a last after is number fits short aligned small e =
@@ -47,11 +47,11 @@ sealed old next payload before n p a last after is number fits short aligned sma
       shortest = λ q c is_q. least_padding (length payload) p q aligned small is_q.aligned;
     } in
     record {
-      has_number = subst (λ (x : Association). old.last + 1 < number_limit x.extended) same (omega arith);
+      has_number = subst (λ (x : Sa). old.last + 1 < number_limit x.extended) same (omega arith);
       fits = short;
       number = omega arith;
-      last = ap (λ (x : Association). record { association = x; last = n }) same;
+      last = ap (λ (x : Sa). record { association = x; last = n }) same;
       packet = packet a n next payload p;
       appended = e;
-      shortest = subst (λ (x : Association). IsShortestPacket x n next payload (packet a n next payload p)) same shortest;
+      shortest = subst (λ (x : Sa). IsShortestPacket x n next payload (packet a n next payload p)) same shortest;
     }

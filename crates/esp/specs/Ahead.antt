@@ -1,16 +1,16 @@
--- Opening a list in steps: check values are computed before their packets are judged, and packets are opened in groups.
+-- Opening a list in steps: check values are computed before their packets are judged, and packets are opened
+-- in groups.
 use Rattle.std.specs.Prelude.{◌≡◌, ℕ, ◌-◌, ◌/◌, ◌^◌, ◌<◌, ◌≤◌, List, [], ◌++◌, Option, Some, None, IsSome, length, take, get_or}
 use Rattle.byteorder.specs.Endian.{big_bytes}
-use Rattle.esp.specs.declared.association.Association.{Association}
+use Rattle.esp.specs.declared.sa.Sa.{Sa}
 use Rattle.esp.specs.declared.ahead.Asked.{Asked}
 use Rattle.esp.specs.declared.ahead.Ahead.{Ahead}
-use Rattle.esp.specs.declared.answer.Answer.{Answer}
 use Rattle.esp.specs.Packet.{check_value}
-use Rattle.esp.specs.Opening.{IsFreshNumber, Run}
+use Rattle.esp.specs.Opening.{Answer, IsFreshNumber, Run}
 use Rattle.esp.specs.Views.{Receiving}
 
 -- what the check value of this packet is under this number
-abbrev pub value_of : Association → ℕ → List ℕ → List ℕ
+abbrev pub value_of : Sa → ℕ → List ℕ → List ℕ
 value_of a n b = check_value a n (take (length b - 16) b)
 
 -- one of these packets is asked for, which is long enough for a check value, with the high half of its number
@@ -24,15 +24,15 @@ abbrev pub HasFreshNumber : Receiving → List (List ℕ) → Asked → Type 0
 HasFreshNumber r packets one = IsFreshNumber r (get_or packets one.place []) one.number
 
 -- the check value that is asked for
-abbrev pub value_asked : Association → List (List ℕ) → Asked → List ℕ
+abbrev pub value_asked : Sa → List (List ℕ) → Asked → List ℕ
 value_asked a packets one = value_of a one.number (get_or packets one.place [])
 
 -- the value is that of the packet under the number
-pub record IsAhead (a : Association) (b : List ℕ) (found : Ahead) : Type 0 where
+pub record IsAhead (a : Sa) (b : List ℕ) (found : Ahead) : Type 0 where
   pub right : found.value ≡ value_of a found.number b
 
 -- each value that was computed ahead is that of the packet at its place
-pub record AreAhead (a : Association) (packets : List (List ℕ)) (ahead : List (Option Ahead)) : Type 0 where
+pub record AreAhead (a : Sa) (packets : List (List ℕ)) (ahead : List (Option Ahead)) : Type 0 where
   pub each : (i : ℕ) (found : Ahead) → get_or ahead i None ≡ Some found → IsAhead a (get_or packets i []) found
 
 -- a value stands at the place of the packet that is asked for

@@ -1,20 +1,18 @@
--- What becomes of a list of deliveries (RFC 4303 section 3.4): which packets are judged, in words that know nothing of how a
--- window forgets.
-use Rattle.std.specs.Prelude.{◌≡◌, ℕ, ◌+◌, ◌<◌, ◌≤◌, false, ◌↔◌, ◌&&◌, nat_lt, max, map, List, [], ◌∷◌, ◌++◌, length, take, drop, slice_get, Option, Some, None}
-use Rattle.std.specs.Global.{Vec}
+-- What becomes of a list of deliveries (RFC 4303 section 3.4): which packets are judged, in words that know
+-- nothing of how a window forgets.
+use Rattle.std.specs.Prelude.{◌≡◌, ℕ, ◌+◌, ◌<◌, false, ◌↔◌, ◌&&◌, nat_lt, max, map, List, [], ◌∷◌, ◌++◌, length, take, drop, slice_get, Option, Some, None, Ok, Err}
+use Rattle.std.specs.Borrow.{Bor}
 use Rattle.std.specs.Ordering.{nat_cmp}
 use Rattle.std.specs.FinSet as set
 use Rattle.std.specs.FinMap as finite_map
 use Rattle.replay.specs.Window.{Seen}
-use Rattle.esp.specs.declared.association.Association.{Association}
+use Rattle.esp.specs.declared.sa.Sa.{Sa}
 use Rattle.esp.specs.Packet.{PassesIntegrity, IsContents}
 use Rattle.esp.specs.Judging.{IsJudgedLength, low_half, IsNumber, Judges}
-use Rattle.esp.specs.Opening.{IsOpeningRefusal, Run}
+use Rattle.esp.specs.Opening.{Answer, IsOpeningRefusal, Run}
 use Rattle.esp.specs.Views.{Receiving}
-use Rattle.esp.specs.declared.answer.Answer.{Answer}
-use Rattle.esp.specs.declared.answer.Answer.TheVariants.{Up, Refused}
 use Rattle.esp.specs.declared.fault.ListFault.{ListFault}
-use Rattle.esp.specs.declared.fault.ListFault.TheVariants.{NoRoom}
+use Rattle.esp.specs.declared.fault.ListStop.{ListStop}
 use Rattle.esp.specs.declared.fault.EspFault.TheVariants.{BadPadding, Memory}
 
 -- the greatest of these numbers, 0 where there is none
@@ -37,7 +35,7 @@ taken_after taken (Some n ∷ ns) = taken_after (set.insert taken n) ns
 
 -- packets that were delivered in order, and how they were judged
 pub record History : Type 0 where
-  pub association : Association
+  pub association : Sa
   -- the size of the replay window
   pub size : ℕ
   -- the numbers that were taken before the list
@@ -56,14 +54,14 @@ pub record IsJudged (h : History) : Type 0 where
   pub judged : (i n : ℕ) (b : List ℕ) → slice_get h.packets i ≡ Some b
       → (slice_get h.numbers i ≡ Some (Some n)) ↔ Judges h.association (taken_at h i) b n
 
--- The answer to a packet that was judged as a number: its payload, or bad padding. To another: why it was refused.
-abbrev pub IsAnswerDue : Association → Seen → List ℕ → Option ℕ → Answer → Type 0
-IsAnswerDue a w b (Some n) (Up number next start len) =
-    (number ≡ n) × (start ≡ 8) × (start + len ≤ length b) × IsContents b next (take len (drop start b))
-IsAnswerDue a w b (Some n) (Refused BadPadding) = (next : ℕ) (payload : List ℕ) → ¬ IsContents b next payload
-IsAnswerDue a w b (Some n) (Refused e) = ⊥
-IsAnswerDue a w b None (Up number next start len) = ⊥
-IsAnswerDue a w b None (Refused e) = IsOpeningRefusal a w b e
+-- The answer to a packet that was judged as a number: its payload, or bad padding. To another: why it was
+-- refused.
+abbrev pub IsAnswerDue : Sa → Seen → List ℕ → Option ℕ → Answer → Type 0
+IsAnswerDue a w b (Some n) (Ok o) = (o.number ≡ n) × IsContents b o.next o.payload.now
+IsAnswerDue a w b (Some n) (Err BadPadding) = (next : ℕ) (payload : List ℕ) → ¬ IsContents b next payload
+IsAnswerDue a w b (Some n) (Err e) = ⊥
+IsAnswerDue a w b None (Ok o) = ⊥
+IsAnswerDue a w b None (Err e) = IsOpeningRefusal a w b e
 
 -- each packet has the answer that is due at the numbers taken before it
 pub record AreAnswers (h : History) (answers : List Answer) : Type 0 where
@@ -76,9 +74,9 @@ pub record AtMostOnce (h : History) : Type 0 where
   pub new : (i n : ℕ) → slice_get h.numbers i ≡ Some (Some n) → set.contains h.before n ≡ false
   pub once : (i j n : ℕ) → slice_get h.numbers i ≡ Some (Some n) → slice_get h.numbers j ≡ Some (Some n) → i ≡ j
 
--- The premise that no check value was forged. sent is what was sent, from number to octets: each entry passes the
--- integrity check under its number and has a length that is judged, and whatever passes at a delivery under the number of
--- that packet there is that number's entry.
+-- The premise that no check value was forged. sent is what was sent, from number to octets: each entry passes
+-- the integrity check under its number and has a length that is judged, and whatever passes at a delivery
+-- under the number of that packet there is that number's entry.
 pub record Unforged (h : History) (sent : finite_map.FinMap nat_cmp (List ℕ)) : Type 0 where
   pub whole : (n : ℕ) (b : List ℕ) → finite_map.get sent n ≡ Some b → IsJudgedLength (length b)
   pub intact : (n : ℕ) (b : List ℕ) → finite_map.get sent n ≡ Some b → PassesIntegrity h.association n b
@@ -86,8 +84,8 @@ pub record Unforged (h : History) (sent : finite_map.FinMap nat_cmp (List ℕ)) 
       → IsNumber h.association.extended (taken_at h i) (low_half b) n → PassesIntegrity h.association n b
       → finite_map.get sent n ≡ Some b
 
--- at position i the octets sent as n are delivered, the packet's number there is n, and n lies above the greatest number
--- taken less the size
+-- at position i the octets sent as n are delivered, the packet's number there is n, and n lies above the
+-- greatest number taken less the size
 pub record Arrives (h : History) (sent : finite_map.FinMap nat_cmp (List ℕ)) (n i : ℕ) : Type 0 where
   pub packet : List ℕ
   pub delivered_here : slice_get h.packets i ≡ Some packet
@@ -107,19 +105,19 @@ ExactlyAtFirst h sent = (i n : ℕ) → (slice_get h.numbers i ≡ Some (Some n)
 
 -- A packet that was refused for memory counts as not delivered. The packets that count, and their answers:
 abbrev pub delivered_packets : List (List ℕ) → List Answer → List (List ℕ)
-delivered_packets (b ∷ bs) (Refused Memory ∷ rs) = delivered_packets bs rs
+delivered_packets (b ∷ bs) (Err Memory ∷ rs) = delivered_packets bs rs
 delivered_packets (b ∷ bs) (r ∷ rs) = b ∷ delivered_packets bs rs
 delivered_packets bs rs = []
 
 abbrev pub delivered_answers : List Answer → List Answer
 delivered_answers [] = []
-delivered_answers (Refused Memory ∷ rs) = delivered_answers rs
+delivered_answers (Err Memory ∷ rs) = delivered_answers rs
 delivered_answers (r ∷ rs) = r ∷ delivered_answers rs
 
 -- memory is wanted only for a packet that would have been judged, and only where the window may want it
-abbrev pub WantsWhereJudged : Type 0 → Association → ℕ → set.FinSet nat_cmp → List (List ℕ) → List Answer → List (Option ℕ) → Type 0
+abbrev pub WantsWhereJudged : Type 0 → Sa → ℕ → set.FinSet nat_cmp → List (List ℕ) → List Answer → List (Option ℕ) → Type 0
 WantsWhereJudged want a size taken [] [] [] = Unit {0}
-WantsWhereJudged want a size taken (b ∷ bs) (Refused Memory ∷ rs) ns =
+WantsWhereJudged want a size taken (b ∷ bs) (Err Memory ∷ rs) ns =
     want × ((n : ℕ) × Judges a (all_taken size taken) b n) × WantsWhereJudged want a size taken bs rs ns
 WantsWhereJudged want a size taken (b ∷ bs) (r ∷ rs) (n ∷ ns) =
     WantsWhereJudged want a size (taken_after taken (n ∷ [])) bs rs ns
@@ -131,9 +129,9 @@ pub record Shows (w : Seen) (size : ℕ) (taken : set.FinSet nat_cmp) : Type 0 w
   pub size_kept : w.size ≡ size
   pub in_span : (n : ℕ) → set.contains w.taken n ≡ (set.contains taken n && nat_lt w.top (n + size))
 
--- packets in memory, as their octets
-abbrev pub octets_of : List (Vec ℕ) → List (List ℕ)
-octets_of packets = map (λ p. p.items) packets
+-- the octets of each packet of a list
+abbrev pub octets_of : List (Bor (List ℕ)) → List (List ℕ)
+octets_of packets = map (λ packet. packet.now) packets
 
 -- what came of these packets at this end
 abbrev pub history : Receiving → List (List ℕ) → List (Option ℕ) → History
@@ -175,8 +173,8 @@ pub record AnswersFirst (want : Type 0) (k : ℕ) (old : Receiving) (packets : L
 abbrev pub answers_since : List Answer → List Answer → List Answer
 answers_since before after = drop (length before) after
 
--- These answers were given to these packets, or to the first of them: the packets that count as delivered were judged as these
--- numbers, one list of which there is, and each of them has the answer that is due.
+-- These answers were given to these packets, or to the first of them: the packets that count as delivered
+-- were judged as these numbers, one list of which there is, and each of them has the answer that is due.
 pub record AnswersGiven (old : Receiving) (packets : List (List ℕ)) (answers : List Answer) : Type 0 where
   pub numbers : List (Option ℕ)
   pub judged : IsJudged (history old (delivered_packets packets answers) numbers)
@@ -187,7 +185,8 @@ pub record JudgesAtMostOnce (old : Receiving) (packets : List (List ℕ)) (answe
   pub given : AnswersGiven old packets answers
   pub at_most_once : AtMostOnce (history old (delivered_packets packets answers) given.numbers)
 
--- so answered, each sent packet was judged exactly at its first delivery in reach of the window, where no check value was forged
+-- so answered, each sent packet was judged exactly at its first delivery in reach of the window, where no
+-- check value was forged
 pub record JudgesExactlyAtFirst (old : Receiving) (packets : List (List ℕ)) (answers : List Answer) : Type 0 where
   pub given : AnswersGiven old packets answers
   pub exactly_at_first : (sent : finite_map.FinMap nat_cmp (List ℕ))
@@ -195,5 +194,6 @@ pub record JudgesExactlyAtFirst (old : Receiving) (packets : List (List ℕ)) (a
       → ExactlyAtFirst (history old (delivered_packets packets answers) given.numbers) sent
 
 -- There was no room for one more answer: the list was left after some of its packets, and not at its end.
-abbrev pub IsStop : Type 0 → Receiving → List (List ℕ) → List Answer → ListFault → Receiving → List Answer → Type 0
-IsStop want old packets before (NoRoom k) new after = (k < length packets) × AnswersFirst want k old packets before new after
+pub record IsStop (want : Type 0) (old : Receiving) (packets : List (List ℕ)) (before : List Answer) (stop : ListStop ListFault) (new : Receiving) (after : List Answer) : Type 0 where
+  pub some_left : stop.done < length packets
+  pub first : AnswersFirst want stop.done old packets before new after

@@ -4,10 +4,11 @@ use Rattle.std.specs.FinSet as set
 use Rattle.byteorder.specs.Endian.{big_number}
 use Rattle.replay.specs.Recovery.{IsRecovered}
 use Rattle.replay.specs.Window.{Seen}
-use Rattle.esp.specs.declared.association.Association.{Association}
+use Rattle.esp.specs.declared.sa.Sa.{Sa}
 use Rattle.esp.specs.Packet.{PassesIntegrity}
 
--- a packet's length in octets: whole words, from an empty payload up to one of 16,384 octets under the longest padding
+-- a packet's length in octets: whole words, from an empty payload up to one of 16,384 octets under the
+-- longest padding
 pub record IsJudgedLength (octets : ℕ) : Type 0 where
   pub words : octets % 4 ≡ 0
   pub least : 28 ≤ octets
@@ -17,14 +18,14 @@ pub record IsJudgedLength (octets : ℕ) : Type 0 where
 abbrev pub low_half : List ℕ → ℕ
 low_half b = big_number 4 (drop 4 b)
 
--- n is the number of a packet with this low half: the low half itself, or with extended numbers what is recovered from it
--- at this window. No packet has the number 0.
+-- n is the number of a packet with this low half: the low half itself, or with extended numbers what is
+-- recovered from it at this window. No packet has the number 0.
 abbrev pub IsNumber : Bool → Seen → ℕ → ℕ → Type 0
 IsNumber false w low n = (n ≡ low) × (1 ≤ n)
 IsNumber true w low n = IsRecovered w.top w.size low n
 
 -- the packet b is judged as number n, where the window is this one
-pub record Judges (a : Association) (w : Seen) (b : List ℕ) (n : ℕ) : Type 0 where
+pub record Judges (a : Sa) (w : Seen) (b : List ℕ) (n : ℕ) : Type 0 where
   pub whole : IsJudgedLength (length b)
   pub number : IsNumber a.extended w (low_half b) n
   pub in_reach : w.top < n + w.size

@@ -1,8 +1,8 @@
--- Sealing a list in steps: packets are laid one after the other with zeros in the place of their check values, and then each gets
--- its own.
+-- Sealing a list in steps: packets are laid one after the other with zeros in the place of their check
+-- values, and then each gets its own.
 use Rattle.std.specs.Prelude.{◌≡◌, ℕ, ◌+◌, ◌-◌, ◌/◌, ◌%◌, ◌^◌, ◌<◌, ◌≤◌, List, [], ◌∷◌, ◌++◌, length, map, get_or, take, drop, replicate}
 use Rattle.std.specs.Borrow.{Bor}
-use Rattle.esp.specs.declared.association.Association.{Association}
+use Rattle.esp.specs.declared.sa.Sa.{Sa}
 use Rattle.byteorder.specs.Endian.{big_bytes}
 use Rattle.esp.specs.Packet.{head, trailer, check_value, number_limit}
 use Rattle.esp.specs.Sealing.{HasNumber, FitsPacket}
@@ -16,7 +16,7 @@ pad_of octets = (4 - (octets + 2) % 4) % 4
 abbrev pub covered_size : ℕ → ℕ
 covered_size octets = 8 + octets + pad_of octets + 2
 
-abbrev pub covered : Association → ℕ → ℕ → List ℕ → List ℕ
+abbrev pub covered : Sa → ℕ → ℕ → List ℕ → List ℕ
 covered a n next payload = head a n ++ payload ++ trailer (pad_of (length payload)) next
 
 -- the end has a number for the payload, which a packet can carry: this number, and this padding
@@ -34,7 +34,7 @@ pub record Lays (old : Sending) (next : ℕ) (payload before : List ℕ) (new : 
   pub appended : after ≡ before ++ (covered old.association (old.last + 1) next payload ++ replicate 16 0)
 
 -- the packets of these payloads, with the numbers after this one
-abbrev pub laid : Association → ℕ → ℕ → List (List ℕ) → List ℕ
+abbrev pub laid : Sa → ℕ → ℕ → List (List ℕ) → List ℕ
 laid a last next [] = []
 laid a last next (p ∷ ps) = (covered a (last + 1) next p ++ replicate 16 0) ++ laid a (last + 1) next ps
 
@@ -60,7 +60,7 @@ packets_size [] = 0
 packets_size (size ∷ sizes) = size + 16 + packets_size sizes
 
 -- the check values of packets that lie one after the other, with the numbers after this one
-abbrev pub values_in : Association → ℕ → List ℕ → List ℕ → List (List ℕ)
+abbrev pub values_in : Sa → ℕ → List ℕ → List ℕ → List (List ℕ)
 values_in a last [] octets = []
 values_in a last (size ∷ sizes) octets =
     check_value a (last + 1) (take size octets) ∷ values_in a (last + 1) sizes (drop (size + 16) octets)

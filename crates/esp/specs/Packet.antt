@@ -5,7 +5,7 @@ use Rattle.std.specs.List.{flat_map}
 use Rattle.std.specs.Borrow.{Bor}
 use Rattle.byteorder.specs.Endian.{big_bytes}
 use Rattle.mac.specs.Hmac.{icv_sha256}
-use Rattle.esp.specs.declared.association.Association.{Association}
+use Rattle.esp.specs.declared.sa.Sa.{Sa}
 
 -- several runs of octets, one after the other
 abbrev pub joined_parts : List (Bor (List ℕ)) → List ℕ
@@ -20,11 +20,11 @@ abbrev pub unsent_half : Bool → ℕ → List ℕ
 unsent_half extended n = if extended then big_bytes 4 (n / 2 ^ 32) else []
 
 -- the check value of the packet with this number over these octets, SPI through next header (section 2.8)
-abbrev pub check_value : Association → ℕ → List ℕ → List ℕ
+abbrev pub check_value : Sa → ℕ → List ℕ → List ℕ
 check_value a n octets = icv_sha256 a.key (octets ++ unsent_half a.extended n)
 
 -- the octets that begin a packet: the SPI and the low half of the number (sections 2.1 and 2.2)
-abbrev pub head : Association → ℕ → List ℕ
+abbrev pub head : Sa → ℕ → List ℕ
 head a n = big_bytes 4 a.spi ++ big_bytes 4 (n % 2 ^ 32)
 
 -- the octets 1, 2, .., p (section 2.4)
@@ -37,25 +37,25 @@ abbrev pub trailer : ℕ → ℕ → List ℕ
 trailer p next = padding p ++ p ∷ next ∷ []
 
 -- the packet with number n that carries the payload under this next header, with p octets of padding
-abbrev pub packet : Association → ℕ → ℕ → List ℕ → ℕ → List ℕ
+abbrev pub packet : Sa → ℕ → ℕ → List ℕ → ℕ → List ℕ
 packet a n next payload p =
     let covered = head a n ++ payload ++ trailer p next in
     covered ++ check_value a n covered
 
 -- b is such a packet: whole words, with padding whose length one octet tells, and a number of the association
-pub record IsPacket (a : Association) (n next : ℕ) (payload : List ℕ) (p : ℕ) (b : List ℕ) : Type 0 where
+pub record IsPacket (a : Sa) (n next : ℕ) (payload : List ℕ) (p : ℕ) (b : List ℕ) : Type 0 where
   pub octets : b ≡ packet a n next payload p
   pub aligned : (length payload + p + 2) % 4 ≡ 0
   pub one_octet : p < 256
   pub fits : n < number_limit a.extended
 
 -- the packet is addressed to this association: its first four octets, where there are four, are the SPI
-abbrev pub BeginsWithItsSpi : Association → List ℕ → Type 0
+abbrev pub BeginsWithItsSpi : Sa → List ℕ → Type 0
 BeginsWithItsSpi a b = 4 ≤ length b → take 4 b ≡ big_bytes 4 a.spi
 
--- b passes the integrity check under the number n (section 3.4.4): it begins with the SPI and the number's low half, and its
--- last 16 octets are the check value over the rest. What else it holds is free.
-pub record PassesIntegrity (a : Association) (n : ℕ) (b : List ℕ) : Type 0 where
+-- b passes the integrity check under the number n (section 3.4.4): it begins with the SPI and the number's
+-- low half, and its last 16 octets are the check value over the rest. What else it holds is free.
+pub record PassesIntegrity (a : Sa) (n : ℕ) (b : List ℕ) : Type 0 where
   pub rest : List ℕ
   pub check : List ℕ
   pub octets : b ≡ rest ++ check
@@ -64,7 +64,8 @@ pub record PassesIntegrity (a : Association) (n : ℕ) (b : List ℕ) : Type 0 w
   pub fits : n < number_limit a.extended
   pub right : check ≡ check_value a n rest
 
--- what a packet carries: its octets are eight of head, the payload, a trailer that is padded 1, 2, .., p, and the check value
+-- what a packet carries: its octets are eight of head, the payload, a trailer that is padded 1, 2, .., p, and
+-- the check value
 pub record IsContents (b : List ℕ) (next : ℕ) (payload : List ℕ) : Type 0 where
   pub front : List ℕ
   pub p : ℕ

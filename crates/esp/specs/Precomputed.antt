@@ -1,4 +1,5 @@
--- Check values that are computed before their packets are opened, for packets of one association or of several.
+-- Check values that are computed before their packets are opened, for packets of one association or of
+-- several.
 use Rattle.std.specs.Prelude.{◌≡◌, ℕ, ◌-◌, ◌/◌, ◌^◌, ◌<◌, List, [], ◌++◌, if◌then◌else◌, Option, Some, None, length, take, get_or}
 use Rattle.byteorder.specs.Endian.{big_bytes}
 use Rattle.mac.specs.Hmac.{icv_sha256}
@@ -7,7 +8,8 @@ use Rattle.esp.specs.declared.precomputed.Precomputed.{Precomputed}
 use Rattle.esp.specs.declared.precomputed.Question.{Question}
 use Rattle.esp.specs.Packet.{unsent_half}
 
--- the question is about this packet: the octets that its check value covers, and the half of its number that is not sent
+-- the question is about this packet: the octets that its check value covers, and the half of its number that
+-- is not sent
 pub record IsQuestion (b : List ℕ) (question : Question) : Type 0 where
   pub covered : question.covered.now ≡ take (length b - 16) b
   pub half : question.half ≡ big_bytes 4 (question.number / 2 ^ 32)

@@ -11,8 +11,8 @@ pub record EndsRightly (payloads : List (List ℕ)) (progress : Progress) (new :
   pub some_left : IfSome progress.refusal (λ fault. progress.done < length payloads)
   pub refused : IfSome progress.refusal (λ fault. IsSealRefusal new (get_or payloads progress.done []) fault)
 
--- The room is used, from so many octets of such a capacity to so many others: memory was wanted only where there was no room
--- for the next packet behind those before it, and no packet took more than it may.
+-- The room is used, from so many octets of such a capacity to so many others: memory was wanted only where
+-- there was no room for the next packet behind those before it, and no packet took more than it may.
 pub record UsesRoom (payloads : List (List ℕ)) (progress : Progress) (before capacity after capacity_after : ℕ) : Type 0 where
   pub memory : IfSome progress.refusal (λ fault. fault ≡ Memory
       → capacity < before + most_octets (take (progress.done + 1) payloads))

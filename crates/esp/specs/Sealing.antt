@@ -1,15 +1,15 @@
 -- What sealing one packet does (RFC 4303 section 3.3).
 use Rattle.std.specs.Prelude.{◌≡◌, ℕ, ◌+◌, ◌<◌, ◌≤◌, List, [], ◌∷◌, ◌++◌, Some, length, map, slice_get, take}
 use Rattle.std.specs.Borrow.{Bor}
-use Rattle.esp.specs.declared.association.Association.{Association}
+use Rattle.esp.specs.declared.sa.Sa.{Sa}
 use Rattle.esp.specs.Packet.{IsPacket, number_limit}
 use Rattle.esp.specs.Views.{Sending}
 use Rattle.esp.specs.declared.fault.EspFault.{EspFault}
-use Rattle.esp.specs.declared.fault.SealStop.{SealStop}
+use Rattle.esp.specs.declared.fault.ListStop.{ListStop}
 use Rattle.esp.specs.declared.fault.EspFault.TheVariants.{Exhausted, PayloadSize, Memory}
 
 -- b is a packet with number n that carries the payload, with no more padding than any such packet
-pub record IsShortestPacket (a : Association) (n next : ℕ) (payload b : List ℕ) : Type 0 where
+pub record IsShortestPacket (a : Sa) (n next : ℕ) (payload b : List ℕ) : Type 0 where
   pub p : ℕ
   pub packet : IsPacket a n next payload p b
   pub shortest : (q : ℕ) (c : List ℕ) → IsPacket a n next payload q c → p ≤ q
@@ -32,7 +32,8 @@ pub record Seals (old : Sending) (next : ℕ) (payload before : List ℕ) (n : �
   pub appended : after ≡ before ++ packet
   pub shortest : IsShortestPacket old.association n next payload packet
 
--- why no packet was sealed, each where those before it don't apply: no number is left, the payload is too long, memory
+-- why no packet was sealed, each where those before it don't apply: no number is left, the payload is too
+-- long, memory
 abbrev pub IsSealRefusal : Sending → List ℕ → EspFault → Type 0
 IsSealRefusal s payload Exhausted = ¬ HasNumber s
 IsSealRefusal s payload PayloadSize = HasNumber s × (¬ FitsPacket payload)
@@ -57,12 +58,13 @@ pub record SealsFirst (k : ℕ) (old : Sending) (next : ℕ) (payloads : List (L
   pub last : new ≡ record old { last = old.last + k }
 
 -- The list was left after some of its payloads, and not at its end: sealing the next one is refused so.
-pub record IsSealStop (old : Sending) (next : ℕ) (payloads : List (List ℕ)) (before : List ℕ) (stop : SealStop) (new : Sending) (after : List ℕ) : Type 0 where
-  pub some_left : stop.sealed < length payloads
-  pub first : SealsFirst stop.sealed old next payloads before new after
-  pub refused : (payload : List ℕ) → slice_get payloads stop.sealed ≡ Some payload → IsSealRefusal new payload stop.fault
+pub record IsSealStop (old : Sending) (next : ℕ) (payloads : List (List ℕ)) (before : List ℕ) (stop : ListStop EspFault) (new : Sending) (after : List ℕ) : Type 0 where
+  pub some_left : stop.done < length payloads
+  pub first : SealsFirst stop.done old next payloads before new after
+  pub refused : (payload : List ℕ) → slice_get payloads stop.done ≡ Some payload → IsSealRefusal new payload stop.fault
 
--- at least as many octets as the packets of these payloads have: a packet is its payload and 26 to 29 octets more
+-- at least as many octets as the packets of these payloads have: a packet is its payload and 26 to 29 octets
+-- more
 abbrev pub most_octets : List (List ℕ) → ℕ
 most_octets [] = 0
 most_octets (payload ∷ payloads) = length payload + 29 + most_octets payloads

@@ -3,13 +3,13 @@ use Rattle.std.specs.Prelude.{◌≡◌, ℕ, Bool, true, false, List, [], ◌�
 use Rattle.std.specs.FinSet as set
 use Rattle.std.specs.FinMap as map
 use Rattle.std.specs.Ordering.{nat_cmp}
-use Rattle.esp.specs.declared.association.Association.{Association}
+use Rattle.esp.specs.declared.sa.Sa.{Sa}
 use Rattle.esp.specs.Packet.{packet, PassesIntegrity, IsContents}
 use Rattle.esp.specs.Judging.{IsJudgedLength}
 use Rattle.esp.specs.Delivery.{History, IsJudged, Unforged}
 
 -- SPI 256, a key of 32 octets 0b
-abbrev pub worked : Bool → Association
+abbrev pub worked : Bool → Sa
 worked extended = record { spi = 256; key = replicate 32 11; extended = extended }
 
 -- an IPv4 header of 20 octets, from 10.0.0.1 to 10.1.0.1
@@ -52,9 +52,9 @@ pub record IsWorked (h : History) (sent : map.FinMap nat_cmp (List ℕ)) : Type 
   pub judged : IsJudged h
   pub unforged : Unforged h sent
 
--- what a sealed packet is to its receiver: it has a length that is judged, passes the integrity check under its number, and
--- carries its payload and no other
-pub record IsOpenable (a : Association) (n next : ℕ) (payload b : List ℕ) : Type 0 where
+-- what a sealed packet is to its receiver: it has a length that is judged, passes the integrity check under
+-- its number, and carries its payload and no other
+pub record IsOpenable (a : Sa) (n next : ℕ) (payload b : List ℕ) : Type 0 where
   pub whole : IsJudgedLength (length b)
   pub intact : PassesIntegrity a n b
   pub contents : IsContents b next payload

@@ -1,13 +1,13 @@
 //! Check values of received packets, computed side by side before the packets are judged.
 ghost use Rattle.std.specs.Prelude.{◌≡◌, ℕ, ◌-◌, ◌<◌, ◌≤◌, All, List, None, get_or, length, map, take};
 ghost use Rattle.lanes.specs.Task.{icv_of};
-ghost use Rattle.esp.specs.declared.association.Association.{Association};
+ghost use Rattle.esp.specs.declared.sa.Sa.{Sa};
 ghost use Rattle.esp.specs.Ahead.{AreAhead, HasAhead, IsAsked, value_asked};
 ghost use Rattle.esp.specs.Delivery.{octets_of};
 
-use crate::association::Association;
 use crate::check_values::GROUP;
 use crate::packet::CHECK;
+use crate::sa::Sa;
 use lanes::{Task, icv_all};
 
 /// A packet whose check value is computed ahead.
@@ -41,11 +41,7 @@ pub fn ahead_at(ahead: &[Option<Ahead>], place: usize) -> Option<Ahead>
 }
 
 /// The check values of the packets that are asked for, each at its packet's place.
-pub fn values_ahead(
-    association: &Association,
-    packets: &[Vec<u8>],
-    asked: &[Asked],
-) -> [Option<Ahead>; GROUP]
+pub fn values_ahead(association: &Sa, packets: &[&[u8]], asked: &[Asked]) -> [Option<Ahead>; GROUP]
     requires few { length asked.now ≤ GROUP }
     requires room { length packets.now ≤ GROUP }
     requires asked { All (IsAsked (octets_of packets.now)) asked.now }
@@ -60,11 +56,7 @@ pub fn values_ahead(
 }
 
 // What is asked of each packet: its covered octets, and the half of its number that is not sent.
-fn tasks_for<'a>(
-    association: &'a Association,
-    packets: &'a [Vec<u8>],
-    asked: &'a [Asked],
-) -> [Task<'a>; GROUP]
+fn tasks_for<'a>(association: &'a Sa, packets: &[&'a [u8]], asked: &'a [Asked]) -> [Task<'a>; GROUP]
     requires few { length asked.now ≤ GROUP }
     requires asked { All (IsAsked (octets_of packets.now)) asked.now }
     ensures { map icv_of (take (length asked.now) result)
@@ -72,7 +64,7 @@ fn tasks_for<'a>(
 {
     let mut tasks = [association.task(&[], &[0; 4]); GROUP];
     for (turn, one) in asked.iter().enumerate() {
-        tasks[turn] = association.task(covered_of(&packets[one.place]), &one.half);
+        tasks[turn] = association.task(covered_of(packets[one.place]), &one.half);
     }
     tasks
 }
@@ -89,7 +81,7 @@ fn covered_of(packet: &[u8]) -> &[u8]
 fn placed(asked: &[Asked], values: &[[u8; CHECK]]) -> [Option<Ahead>; GROUP]
     requires same { length values.now ≡ length asked.now }
     requires places { All (λ one. one.place < GROUP) asked.now }
-    ensures right { (a : Association) (packets : List (List ℕ))
+    ensures right { (a : Sa) (packets : List (List ℕ))
         → values.now ≡ map (value_asked a packets) asked.now → AreAhead a packets result }
     ensures all { All (HasAhead result) asked.now }
 {

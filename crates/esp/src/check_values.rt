@@ -4,20 +4,16 @@ ghost use Rattle.lanes.specs.Task.{icv_of};
 ghost use Rattle.esp.specs.Laying.{AreHighHalves, covered_sizes, packets_size, values_in, with_values};
 ghost use Rattle.esp.specs.Sealing.{FitsPacket, payloads_of};
 
-use crate::association::Association;
 use crate::packet::{CHECK, covered_size, high_half};
+use crate::sa::Sa;
 use lanes::{Task, icv_all};
 
 /// How many check values are computed at once.
 pub const GROUP: usize = 64;
 
-/// Writes the check values of packets that lie one after the other and carry these payloads, with the numbers after `last`.
-pub fn write_check_values(
-    association: &Association,
-    last: u64,
-    payloads: &[&[u8]],
-    packets: &mut [u8],
-)
+/// Writes the check values of packets that lie one after the other and carry these payloads, with the numbers
+/// after `last`.
+pub fn write_check_values(association: &Sa, last: u64, payloads: &[&[u8]], packets: &mut [u8])
     requires few { length payloads.now ≤ GROUP }
     requires fit { (i : ℕ) → i < length payloads.now → FitsPacket (get_or (payloads_of payloads.now) i []) }
     requires numbers { 1 ≤ length payloads.now → last + length payloads.now < 2 ^ 64 }
@@ -33,7 +29,7 @@ pub fn write_check_values(
 
 // Computes the check value of each packet.
 fn compute_all(
-    association: &Association,
+    association: &Sa,
     last: u64,
     payloads: &[&[u8]],
     packets: &[u8],
@@ -53,7 +49,7 @@ fn compute_all(
 
 // What is asked of each packet: its covered octets, and the half of its number that is not sent.
 fn tasks_of<'a>(
-    association: &'a Association,
+    association: &'a Sa,
     payloads: &[&[u8]],
     packets: &'a [u8],
     halves: &'a [[u8; 4]; GROUP],

@@ -2,6 +2,7 @@
 ghost use Rattle.std.specs.Prelude.{◌≡◌};
 ghost use Rattle.esp.specs.Faults.{code_of_esp_fault};
 
+use std::fmt::{Debug, Display};
 use thiserror::Error;
 
 /// Why a packet was not sealed or not opened.
@@ -22,8 +23,8 @@ pub enum EspFault {
     /// The packet's number was taken already.
     #[error("E16: the number was taken already")]
     Replayed,
-    /// The packet has no number: without extended numbers its low half is 0; with them nothing is recovered from it
-    /// (RFC 4303 appendix A2).
+    /// The packet has no number: without extended numbers its low half is 0; with them nothing is recovered
+    /// from it (RFC 4303 appendix A2).
     #[error("E17: the packet has no sequence number")]
     BadNumber,
     /// The check value is not that of the octets before it.
@@ -32,7 +33,8 @@ pub enum EspFault {
     /// The padding is not 1, 2, .. or doesn't fit. The packet's number stays taken.
     #[error("E19: the padding is wrong")]
     BadPadding,
-    /// There was no memory for the packet to be sealed, or for the number in the replay window. Nothing was changed.
+    /// There was no memory for the packet to be sealed, or for the number in the replay window. Nothing was
+    /// changed.
     #[error("E20: no memory")]
     Memory,
 }
@@ -56,12 +58,12 @@ impl EspFault {
     }
 }
 
-/// Why a list of packets was not opened to its end.
+/// Why the next packet of a list was not opened.
 #[derive(Clone, Copy, Debug, PartialEq, Eq, Error)]
 pub enum ListFault {
-    /// There was no memory for one more answer. So many packets were opened and answered, and none after them.
-    #[error("E38: no room for an answer after {0} packets")]
-    NoRoom(usize),
+    /// There was no memory for one more answer.
+    #[error("E38: no room for an answer")]
+    NoRoom,
 }
 
 impl ListFault {
@@ -70,26 +72,19 @@ impl ListFault {
         ensures { result ≡ 38 }
     {
         match self {
-            ListFault::NoRoom(_) => 38,
+            ListFault::NoRoom => 38,
         }
     }
 }
 
-/// Why a list of payloads was not sealed to its end.
+/// How far a list came that was not sealed or opened to its end, and why it went no further. Sealing stops
+/// with an [`EspFault`], opening with a [`ListFault`].
 #[derive(Clone, Copy, Debug, PartialEq, Eq, Error)]
-#[error("{fault}, after {sealed} packets")]
-pub struct SealStop {
-    /// So many payloads were sealed, and none after them.
-    pub sealed: usize,
+#[error_bound(F: Debug + Display)]
+#[error("{fault}, after {done} packets")]
+pub struct ListStop<F> {
+    /// So many were sealed, or opened and answered, and none after them.
+    pub done: usize,
     /// Why the next one was not.
-    pub fault: EspFault,
-}
-
-impl SealStop {
-    /// The refusal's number, as programs print it behind `E`.
-    pub fn code(self) -> u8
-        ensures { result ≡ code_of_esp_fault self.fault }
-    {
-        self.fault.code()
-    }
+    pub fault: F,
 }

@@ -11,20 +11,22 @@ ghost use Rattle.esp.specs.Opening.{IsOpeningRefusal, IsFreshNumber, HandsUp, Re
 ghost use Rattle.esp.specs.Delivery.{AnswersFirst, IsStop, JudgesAtMostOnce, JudgesExactlyAtFirst, answers_since, octets_of};
 
 use crate::ahead::{Ahead, Asked, ahead_at, values_ahead};
-use crate::association::Association;
 use crate::check_values::GROUP;
 use crate::key::IntegrityKey;
 use crate::load::{PACKETS_LEAST, gain_by_lanes};
-use crate::packet::{CHECK, HEAD, contents, high_half, is_judged_length, low_half_of};
+use crate::packet::{
+    CHECK, HEAD, contents, high_half, is_check_value, is_judged_length, low_half_of,
+};
 use crate::precomputed::{Precomputed, Question};
-use crate::{Answer, EspFault, ListFault};
+use crate::sa::Sa;
+use crate::{EspFault, ListFault, ListStop};
 use replay::{Judgement, Window, recover};
 use std::marker::Model;
 
 /// The receiver's end of an association: it opens packets, each at most once.
 #[derive(Drop)]
 pub struct Inbound<W: Window> {
-    association: Association,
+    association: Sa,
     window: W,
 }
 
@@ -50,8 +52,8 @@ pub struct Opened<'a> {
 }
 
 impl<W: Window> Inbound<W> {
-    /// The end with this SPI, key of 32 octets and replay window, which knows the numbers taken so far. Numbers have 64
-    /// bits if `extended`, else 32.
+    /// The end with this SPI, key of 32 octets and replay window, which knows the numbers taken so far.
+    /// Numbers have 64 bits if `extended`, else 32.
     pub fn new(spi: u32, key: &[u8; 32], extended: bool, window: W) -> Inbound<W>
         ensures { result ≡ record {
           association = record { spi = spi; key = key.now; extended = extended };
@@ -60,7 +62,7 @@ impl<W: Window> Inbound<W> {
     {
         let key = IntegrityKey::new(key);
         Inbound {
-            association: Association { spi, key, extended },
+            association: Sa { spi, key, extended },
             window,
         }
     }
@@ -86,6 +88,13 @@ impl<W: Window> Inbound<W> {
         self.association.extended
     }
 
+    /// The greatest number that its replay window has taken, 0 for none.
+    pub fn top(&self) -> u64
+        ensures { result ≡ self.now.window.top }
+    {
+        self.window.top()
+    }
+
     /// What holds of the replay window at all times. Does nothing.
     pub fn window_is_sound(&self)
         ensures { IsSoundWindow self.now.window }
@@ -93,21 +102,22 @@ impl<W: Window> Inbound<W> {
         let _ = &self.window;
     }
 
-    /// Opens a packet: judges it, takes its number, and hands up its payload as a part of it (RFC 4303 section 3.4).
-    /// The caller asks only with packets that begin with the SPI, or are shorter than one.
+    /// Opens a packet: judges it, takes its number, and hands up its payload as a part of it (RFC 4303
+    /// section 3.4). The caller asks only with packets that begin with the SPI, or are shorter than one.
     ///
     /// Refused, in this order, with nothing changed:
     /// - [`EspFault::BadLength`] unless the length is a multiple of 4 from 28 to 16,664 octets;
     /// - [`EspFault::BadNumber`] where the low half of the number is 0, or, with extended numbers, where
     ///   [`replay::recover`] finds none;
     /// - [`EspFault::Old`] where the number lies below the window, [`EspFault::Replayed`] where it was taken;
-    /// - [`EspFault::BadIcv`] where the last 16 octets are not the check value of the rest (RFC 4303 section 3.4.4);
+    /// - [`EspFault::BadIcv`] where the last 16 octets are not the check value of the rest (RFC 4303 section
+    ///   3.4.4);
     /// - [`EspFault::Memory`] where the window wants memory to take the number.
     ///
     /// Then the number is taken, and [`EspFault::BadPadding`] leaves it so.
     ///
-    /// No memory but the window's is taken, and nothing is copied. A packet whose check value covers n octets costs
-    /// ceil((n + 9) / 64) + 1 compressions of SHA-256.
+    /// No memory but the window's is taken, and nothing is copied. A packet whose check value covers n octets
+    /// costs ceil((n + 9) / 64) + 1 compressions of SHA-256.
     pub fn open<'a>(&mut self, packet: &'a [u8]) -> Result<Opened<'a>, EspFault>
         requires { BeginsWithItsSpi self.old.association packet.now }
         ensures up { IfOk result (λ o. HandsUp self.old packet.now o.number o.next o.payload.now self.new) }
@@ -116,8 +126,8 @@ impl<W: Window> Inbound<W> {
         self.open_with(packet, None)
     }
 
-    /// What the check value of a packet is computed from, where the packet has a number that was not taken. For
-    /// [`precompute`](crate::precompute).
+    /// What the check value of a packet is computed from, where the packet has a number that was not taken.
+    /// For [`precompute`](crate::precompute).
     pub fn question<'a>(&'a self, packet: &'a [u8]) -> Option<Question<'a>>
         ensures { IfSome result (IsQuestion packet.now) }
     {
@@ -127,8 +137,9 @@ impl<W: Window> Inbound<W> {
         }
     }
 
-    /// Opens a packet as [`open`](Inbound::open) does. A check value that was computed before is used where it was computed with this
-    /// key, and for the number that the packet has now; else the packet's own is computed.
+    /// Opens a packet as [`open`](Inbound::open) does. A check value that was computed before is used where
+    /// it was computed with this key, and for the number that the packet has now; else the packet's own is
+    /// computed.
     pub fn open_ahead<'a>(
         &mut self,
         packet: &'a [u8],
@@ -154,7 +165,8 @@ impl<W: Window> Inbound<W> {
         }
     }
 
-    // Opens a packet as [`Inbound::open`] does, with its check value where it was computed ahead for its number.
+    // Opens a packet as [`Inbound::open`] does, with its check value where it was computed ahead for its
+    // number.
     fn open_with<'a>(
         &mut self,
         packet: &'a [u8],
@@ -214,8 +226,8 @@ impl<W: Window> Inbound<W> {
         }
     }
 
-    // Whether the packet's last octets are the check value for this number over the rest. A value that was computed ahead
-    // for another number is of no use.
+    // Whether the packet's last octets are the check value for this number over the rest. A value that was
+    // computed ahead for another number is of no use.
     fn is_intact(&self, packet: &[u8], number: u64, ahead: Option<Ahead>) -> bool
         requires long { 16 ≤ length packet.now }
         requires ahead { IfSome ahead (IsAhead self.now.association packet.now) }
@@ -227,26 +239,34 @@ impl<W: Window> Inbound<W> {
             Some(ahead) if ahead.number == number => ahead.value,
             _ => self.association.check_value(number, covered),
         };
-        value.as_slice() == check
+        is_check_value(check, &value)
     }
 
-    /// Opens packets in order, and appends an answer for each. The caller asks only with packets whose first four octets,
-    /// where there are four, are the SPI.
+    /// Opens packets in order, and appends for each what [`open`](Inbound::open) answers of it. The caller
+    /// asks only with packets whose first four octets, where there are four, are the SPI.
     ///
-    /// Whatever was delivered, no number is judged twice. If nothing but what was sent passes the integrity check, a packet
-    /// is judged exactly at its first delivery at which its number is rightly recovered and lies inside or above the
-    /// window; at every other delivery nothing is handed up and no number is taken. A packet that is refused for memory
-    /// counts as not delivered.
+    /// Whatever was delivered, no number is judged twice. If nothing but what was sent passes the integrity
+    /// check, a packet is judged exactly at its first delivery at which its number is rightly recovered and
+    /// lies inside or above the window; at every other delivery nothing is handed up and no number is taken.
+    /// A packet that is refused for memory counts as not delivered.
     ///
-    /// [`ListFault::NoRoom`] with the number of packets that were opened and answered, where there was no memory for the
-    /// next answer. The place of an answer is reserved before its packet is opened: none is opened without its answer.
+    /// Stopped by [`ListFault::NoRoom`], after so many packets as the refusal says, where there was no memory
+    /// for the next answer. The place of an answer is reserved before its packet is opened: none is opened
+    /// without its answer.
     ///
-    /// Check values are computed side by side, for at most 64 packets at a time, where that gains time: those of the packets that
-    /// pass length, number and window as they are at the head of the group. Packets are judged one after the other all the
-    /// same, and where another number is recovered when a packet's turn comes its check value is computed again, alone. No
-    /// value is computed ahead of a packet that is refused before its check value at the head of its group; one that an earlier
-    /// packet of its group makes old or replayed costs its own. No memory is taken but for `out` and the window.
-    pub fn open_all(&mut self, packets: &[Vec<u8>], out: &mut Vec<Answer>) -> Result<(), ListFault>
+    /// Check values are computed side by side, for at most 64 packets at a time, where that gains time: those
+    /// of the packets that pass length, number and window as they are at the head of the group. Packets are
+    /// judged one after the other all the same, and where another number is recovered when a packet's turn
+    /// comes its check value is computed again, alone.
+    ///
+    /// No value is computed ahead of a packet that is refused before its check value at the head of its group;
+    /// one that an earlier packet of its group makes old or replayed costs its own. No memory is taken but for
+    /// `out` and the window.
+    pub fn open_all<'a>(
+        &mut self,
+        packets: &[&'a [u8]],
+        out: &mut Vec<Result<Opened<'a>, EspFault>>,
+    ) -> Result<(), ListStop<ListFault>>
         requires { All (BeginsWithItsSpi self.old.association) (octets_of packets.now) }
         ensures at_most_once { JudgesAtMostOnce self.old (octets_of packets.now)
             (answers_since out.old.items out.new.items) }
@@ -254,20 +274,24 @@ impl<W: Window> Inbound<W> {
             (answers_since out.old.items out.new.items) }
         ensures answers { OnOk result (AnswersFirst W.may_want (length packets.now) self.old
             (octets_of packets.now) out.old.items self.new out.new.items) }
-        ensures stopped { IfErr result (λ fault. IsStop W.may_want self.old
-            (octets_of packets.now) out.old.items fault self.new out.new.items) }
+        ensures stopped { IfErr result (λ stop. IsStop W.may_want self.old
+            (octets_of packets.now) out.old.items stop self.new out.new.items) }
         ensures room { vec_len out.old + length packets.now ≤ vec_capacity out.old → IsOk result }
     {
         self.answer_each(packets, out)
     }
 
     // Opens packets in order, in groups.
-    fn answer_each(&mut self, packets: &[Vec<u8>], out: &mut Vec<Answer>) -> Result<(), ListFault>
+    fn answer_each<'a>(
+        &mut self,
+        packets: &[&'a [u8]],
+        out: &mut Vec<Result<Opened<'a>, EspFault>>,
+    ) -> Result<(), ListStop<ListFault>>
         requires { All (BeginsWithItsSpi self.old.association) (octets_of packets.now) }
         ensures all { OnOk result (AnswersFirst W.may_want (length packets.now) self.old
             (octets_of packets.now) out.old.items self.new out.new.items) }
-        ensures stopped { IfErr result (λ fault. IsStop W.may_want self.old
-            (octets_of packets.now) out.old.items fault self.new out.new.items) }
+        ensures stopped { IfErr result (λ stop. IsStop W.may_want self.old
+            (octets_of packets.now) out.old.items stop self.new out.new.items) }
         ensures room { vec_len out.old + length packets.now ≤ vec_capacity out.old → IsOk result }
     {
         // Every window is sound, also where no packet comes.
@@ -277,15 +301,22 @@ impl<W: Window> Inbound<W> {
             let count = (packets.len() - start).min(GROUP);
             let answered = self.answer_group(&packets[start..start + count], out);
             if answered < count {
-                return Err(ListFault::NoRoom(start + answered));
+                return Err(ListStop {
+                    done: start + answered,
+                    fault: ListFault::NoRoom,
+                });
             }
         }
         Ok(())
     }
 
-    // Opens packets in order, at most as many as a group has; answers how many. Check values are computed ahead where that
-    // gains time: a list of one packet, as most are, needs none of the arrays.
-    fn answer_group(&mut self, packets: &[Vec<u8>], out: &mut Vec<Answer>) -> usize
+    // Opens packets in order, at most as many as a group has; answers how many. Check values are computed
+    // ahead where that gains time: a list of one packet, as most are, needs none of the arrays.
+    fn answer_group<'a>(
+        &mut self,
+        packets: &[&'a [u8]],
+        out: &mut Vec<Result<Opened<'a>, EspFault>>,
+    ) -> usize
         requires mine { All (BeginsWithItsSpi self.old.association) (octets_of packets.now) }
         requires few { length packets.now ≤ GROUP }
         ensures first { RunsFirst W.may_want result self.old (octets_of packets.now)
@@ -307,7 +338,7 @@ impl<W: Window> Inbound<W> {
     }
 
     // The packets that have a number that was not taken, as the receiver is now; and how many.
-    fn fresh_packets(&self, packets: &[Vec<u8>]) -> ([Asked; GROUP], usize)
+    fn fresh_packets(&self, packets: &[&[u8]]) -> ([Asked; GROUP], usize)
         requires { length packets.now ≤ GROUP }
         ensures asked { All (IsAsked (octets_of packets.now)) (take result.1 result.0) }
         ensures fresh { All (HasFreshNumber self.now (octets_of packets.now)) (take result.1 result.0) }
@@ -332,13 +363,13 @@ impl<W: Window> Inbound<W> {
         (asked, count)
     }
 
-    // Opens packets in order, each after the place of its answer was reserved, with the check values that were computed
-    // ahead; answers how many.
-    fn answer_with(
+    // Opens packets in order, each after the place of its answer was reserved, with the check values that
+    // were computed ahead; answers how many.
+    fn answer_with<'a>(
         &mut self,
-        packets: &[Vec<u8>],
+        packets: &[&'a [u8]],
         ahead: &[Option<Ahead>],
-        out: &mut Vec<Answer>,
+        out: &mut Vec<Result<Opened<'a>, EspFault>>,
     ) -> usize
         requires mine { All (BeginsWithItsSpi self.old.association) (octets_of packets.now) }
         requires ahead { AreAhead self.old.association (octets_of packets.now) ahead.now }
@@ -353,32 +384,9 @@ impl<W: Window> Inbound<W> {
             if out.reserve(1).is_err() {
                 return done;
             }
-            let answer = self.answer(packet, ahead_at(ahead, done));
+            let answer = self.open_with(packet, ahead_at(ahead, done));
             out.push(answer).unwrap();
         }
         packets.len()
-    }
-
-    // Opens one packet of a list.
-    fn answer(&mut self, packet: &[u8], ahead: Option<Ahead>) -> Answer
-        requires mine { BeginsWithItsSpi self.old.association packet.now }
-        requires ahead { IfSome ahead (IsAhead self.old.association packet.now) }
-        ensures { Step W.may_want self.old packet.now result self.new }
-    {
-        match self.open_with(packet, ahead) {
-            Ok(
-                Opened {
-                    number,
-                    next,
-                    payload,
-                },
-            ) => Answer::Up {
-                number,
-                next,
-                start: HEAD,
-                length: payload.len(),
-            },
-            Err(fault) => Answer::Refused(fault),
-        }
     }
 }

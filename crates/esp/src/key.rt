@@ -2,7 +2,8 @@
 use lanes::LaneKey;
 use std::marker::Model;
 
-/// The integrity key of an association, 32 octets, prepared once for HMAC-SHA-256-128 (RFC 4868), alone and in lanes.
+/// The integrity key of an association, 32 octets, prepared once for HMAC-SHA-256-128 (RFC 4868), alone and
+/// in lanes.
 ///
 /// A contract sees the key's octets.
 #[derive(Drop)]

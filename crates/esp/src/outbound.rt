@@ -7,13 +7,13 @@ ghost use Rattle.esp.specs.Laying.{IsReady, Lays, LaysFirst};
 ghost use Rattle.esp.specs.Progress.{EndsRightly, UsesRoom};
 ghost use Rattle.esp.specs.declared.fault.EspFault.{EspFault};
 
-use crate::association::Association;
 use crate::check_values::{GROUP, write_check_values};
 use crate::key::IntegrityKey;
 use crate::load::gain_by_lanes;
 use crate::packet::{CHECK, HEAD, PAYLOAD_LIMIT, TAIL, head_of, least_padding};
 use crate::progress::Progress;
-use crate::{EspFault, SealStop};
+use crate::sa::Sa;
+use crate::{EspFault, ListStop};
 use std::marker::Model;
 
 // The padding is a beginning of these octets (RFC 4303 section 2.4).
@@ -22,7 +22,7 @@ const PADDING: [u8; 3] = [1, 2, 3];
 /// The sender's end of an association: it seals payloads into packets.
 #[derive(Drop)]
 pub struct Outbound {
-    association: Association,
+    association: Sa,
     last: u64,
 }
 
@@ -37,8 +37,8 @@ impl Model for Outbound {
 }
 
 impl Outbound {
-    /// The end with this SPI and key of 32 octets, which sealed its last packet with the number `last` (0 where there was
-    /// none). Numbers have 64 bits if `extended`, else 32.
+    /// The end with this SPI and key of 32 octets, which sealed its last packet with the number `last` (0
+    /// where there was none). Numbers have 64 bits if `extended`, else 32.
     pub fn new(spi: u32, key: &[u8; 32], extended: bool, last: u64) -> Outbound
         ensures { result ≡ record {
           association = record { spi = spi; key = key.now; extended = extended };
@@ -47,7 +47,7 @@ impl Outbound {
     {
         let key = IntegrityKey::new(key);
         Outbound {
-            association: Association { spi, key, extended },
+            association: Sa { spi, key, extended },
             last,
         }
     }
@@ -73,11 +73,19 @@ impl Outbound {
         self.association.extended
     }
 
-    /// Appends to `out` the packet that carries `payload` under the next header `next`, with the number after the last and
-    /// the least padding, and answers its number (RFC 4303 section 3.3).
+    /// The number of the last packet that was sealed: what [`Outbound::new`] was given, before the first.
+    pub fn last(&self) -> u64
+        ensures { result ≡ self.now.last }
+    {
+        self.last
+    }
+
+    /// Appends to `out` the packet that carries `payload` under the next header `next`, with the number after
+    /// the last and the least padding, and answers its number (RFC 4303 section 3.3).
     ///
-    /// Refused, with nothing changed, in this order: [`EspFault::Exhausted`] where the last number was 2^32 - 1 or more, or
-    /// 2^64 - 1 with extended numbers; [`EspFault::PayloadSize`] above 16,384 octets; [`EspFault::Memory`].
+    /// Refused, with nothing changed, in this order: [`EspFault::Exhausted`] where the last number was 2^32 -
+    /// 1 or more, or 2^64 - 1 with extended numbers; [`EspFault::PayloadSize`] above 16,384 octets;
+    /// [`EspFault::Memory`].
     ///
     /// A packet whose check value covers n octets costs ceil((n + 9) / 64) + 1 compressions of SHA-256.
     pub fn seal(&mut self, next: u8, payload: &[u8], out: &mut Vec<u8>) -> Result<u64, EspFault>
@@ -109,19 +117,21 @@ impl Outbound {
         Ok(number)
     }
 
-    /// Seals payloads in order, each as [`Outbound::seal`] does: appends their packets to `out`, one after the other, with the
-    /// numbers after the last.
+    /// Seals payloads in order, each as [`Outbound::seal`] does: appends their packets to `out`, one after
+    /// the other, with the numbers after the last.
     ///
-    /// Refused where sealing one of them would be, in the same way: those before it were sealed then, and none after them.
+    /// Refused where sealing one of them would be, in the same way: those before it were sealed then, and
+    /// none after them.
     ///
-    /// Check values are computed side by side, for at most 64 packets at a time, where that gains time; packets are laid out
-    /// one after the other. Nothing is computed that isn't sent, and no memory is taken but for `out`.
+    /// Check values are computed side by side, for at most 64 packets at a time, where that gains time;
+    /// packets are laid out one after the other. Nothing is computed that isn't sent, and no memory is taken
+    /// but for `out`.
     pub fn seal_all(
         &mut self,
         next: u8,
         payloads: &[&[u8]],
         out: &mut Vec<u8>,
-    ) -> Result<(), SealStop>
+    ) -> Result<(), ListStop<EspFault>>
         ensures sealed { OnOk result (SealsFirst (length payloads.now) self.old next
             (payloads_of payloads.now) out.old.items self.new out.new.items) }
         ensures stopped { IfErr result (λ stop. IsSealStop self.old next (payloads_of payloads.now)
@@ -129,15 +139,15 @@ impl Outbound {
         // With room for the first k packets, memory is wanted only after them; with room for all, never.
         ensures room { (k : ℕ)
             → vec_len out.old + most_octets (take k (payloads_of payloads.now)) ≤ vec_capacity out.old
-            → IfErr result (λ stop. stop.fault ≡ EspFault.Memory → k ≤ stop.sealed) }
+            → IfErr result (λ stop. stop.fault ≡ EspFault.Memory → k ≤ stop.done) }
     {
         for group in 0..payloads.len().div_ceil(GROUP) {
             let start = GROUP * group;
             let end = start + (payloads.len() - start).min(GROUP);
             let progress = self.seal_group(next, &payloads[start..end], out);
             if let Some(fault) = progress.refusal {
-                return Err(SealStop {
-                    sealed: start + progress.done,
+                return Err(ListStop {
+                    done: start + progress.done,
                     fault,
                 });
             }
@@ -274,7 +284,7 @@ impl Outbound {
 // Appends a packet, for which there is room.
 fn append_packet(
     out: &mut Vec<u8>,
-    association: &Association,
+    association: &Sa,
     number: u64,
     next: u8,
     payload: &[u8],
@@ -297,7 +307,7 @@ fn append_packet(
 // Appends a packet, for which there is room, with zeros in the place of its check value.
 fn append_without_check_value(
     out: &mut Vec<u8>,
-    association: &Association,
+    association: &Sa,
     number: u64,
     next: u8,
     payload: &[u8],

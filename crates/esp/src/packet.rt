@@ -1,5 +1,5 @@
-//! The layout of a packet (RFC 4303 section 2): the SPI in four octets, the low half of the number in four, the payload,
-//! padding, its length in one octet, the next header in one, and the check value in sixteen.
+//! The layout of a packet (RFC 4303 section 2): the SPI in four octets, the low half of the number in four,
+//! the payload, padding, its length in one octet, the next header in one, and the check value in sixteen.
 ghost use Rattle.std.specs.Prelude.{◌≡◌, ℕ, ◌+◌, ◌/◌, ◌%◌, ◌^◌, ◌<◌, ◌≤◌, ◌↔◌, List, [], ◌++◌, length, take, drop};
 ghost use Rattle.std.specs.Prelude.{IsTrue, if◌then◌else◌, IfSome, IfNone};
 ghost use Rattle.byteorder.specs.Endian.{big_bytes};
@@ -24,7 +24,8 @@ pub const PAYLOAD_LIMIT: usize = 16_384;
 /// The shortest packet that is opened, in octets: one of no payload, with two octets of padding.
 pub const PACKET_LEAST: usize = HEAD + 2 + TAIL + CHECK;
 
-/// The longest packet that is opened, in octets: [`PAYLOAD_LIMIT`] and the longest padding, which is 254 octets there.
+/// The longest packet that is opened, in octets: [`PAYLOAD_LIMIT`] and the longest padding, which is 254
+/// octets there.
 pub const PACKET_LIMIT: usize = 16_664;
 
 /// The least padding with which payload, padding, pad length and next header fill whole words of four octets.
@@ -62,7 +63,8 @@ pub fn head_of(spi: u32, number: u64) -> [u8; 8]
     head
 }
 
-/// The high half of a number, which is covered by the check value where numbers are extended and is never sent.
+/// The high half of a number, which is covered by the check value where numbers are extended and is never
+/// sent.
 pub fn high_half(number: u64) -> [u8; 4]
     ensures { result ≡ big_bytes 4 (number / 2 ^ 32) }
 {
@@ -86,7 +88,8 @@ pub fn low_half_of(packet: &[u8]) -> u32
     BigEndian::read_u32(&packet[4..])
 }
 
-/// The next header and the payload's length in octets; `None` where the padding doesn't fit or is not 1, 2, .. .
+/// The next header and the payload's length in octets; `None` where the padding doesn't fit or is not 1, 2,
+/// .. .
 pub fn contents(packet: &[u8]) -> Option<(u8, usize)>
     requires { IsJudgedLength (length packet.now) }
     ensures found { IfSome result (λ found. (HEAD + found.1 ≤ length packet.now)
@@ -101,6 +104,17 @@ pub fn contents(packet: &[u8]) -> Option<(u8, usize)>
     } else {
         None
     }
+}
+
+/// Whether these octets are this check value. They are compared as one number, which takes less time than
+/// octet by octet.
+pub fn is_check_value(octets: &[u8], value: &[u8; CHECK]) -> bool
+    requires { length octets.now ≡ CHECK }
+    ensures { IsTrue result ↔ (octets.now ≡ value.now) }
+{
+    let mut found = [0; CHECK];
+    found.copy_from_slice(octets);
+    u128::from_le_bytes(found) == u128::from_le_bytes(*value)
 }
 
 // Whether the octets are 1, 2, .. .

@@ -1,4 +1,5 @@
-//! Check values of received packets, of one association or of several, computed side by side before the packets are opened.
+//! Check values of received packets, of one association or of several, computed side by side before the
+//! packets are opened.
 ghost use Rattle.std.specs.Prelude.{◌≡◌, ℕ, ◌<◌, ◌≤◌, All, IfSome, List, Option, length, map, take};
 ghost use Rattle.lanes.specs.Task.{icv_of};
 ghost use Rattle.esp.specs.declared.precomputed.Question.{Question};
@@ -6,24 +7,26 @@ ghost use Rattle.esp.specs.Ahead.{IsAhead};
 ghost use Rattle.esp.specs.Precomputed.{AreAnswers, ArePrecomputed, AreQuestions, IsAskedIn, IsPrecomputed, IsQuestion, asked_value, value_of_asked};
 
 use crate::ahead::Ahead;
-use crate::association::Association;
 use crate::check_values::GROUP;
 use crate::load::gain_by_lanes;
 use crate::packet::{CHECK, high_half};
+use crate::sa::Sa;
 use lanes::{Task, icv_all};
 use std::convert::AsSlice;
 
-/// What the check value of a packet is computed from: made by [`Inbound::question`](crate::Inbound::question).
+/// What the check value of a packet is computed from: made by
+/// [`Inbound::question`](crate::Inbound::question).
 #[derive(Clone, Copy)]
 pub struct Question<'a> {
-    association: &'a Association,
+    association: &'a Sa,
     number: u64,
     half: [u8; 4],
     covered: &'a [u8],
 }
 
-/// A check value that was computed before its packet is opened, with all that it was computed from beside the packet. Whoever opens
-/// the packet compares that with what it is then, so it does no harm if the window moved meanwhile, or another association came.
+/// A check value that was computed before its packet is opened, with all that it was computed from beside the
+/// packet. Whoever opens the packet compares that with what it is then, so it does no harm if the window
+/// moved meanwhile, or another association came.
 #[derive(Clone, Copy)]
 pub struct Precomputed {
     key: [u8; 32],
@@ -50,7 +53,7 @@ impl AsSlice<u8> for Asked<'_> {
 
 impl<'a> Question<'a> {
     // What the check value of a packet with this number is computed from.
-    pub(crate) fn new(association: &'a Association, number: u64, packet: &'a [u8]) -> Question<'a>
+    pub(crate) fn new(association: &'a Sa, number: u64, packet: &'a [u8]) -> Question<'a>
         requires { CHECK ≤ length packet.now }
         ensures { IsQuestion packet.now result }
     {
@@ -86,9 +89,9 @@ impl<'a> Question<'a> {
 }
 
 impl Precomputed {
-    // The value, if it was computed with this association's key, and for numbers of the length that it has. Both keys are this end's
-    // own, so nobody learns anything by the time that it takes to compare them.
-    pub(crate) fn under(&self, association: &Association) -> Option<Ahead>
+    // The value, if it was computed with this association's key, and for numbers of the length that it has.
+    // Both keys are this end's own, so nobody learns anything by the time that it takes to compare them.
+    pub(crate) fn under(&self, association: &Sa) -> Option<Ahead>
         ensures { (packet : List ℕ) → IsPrecomputed packet self.now
             → IfSome result (IsAhead association.now packet) }
     {
@@ -105,8 +108,8 @@ impl Precomputed {
     }
 }
 
-/// The check values that are asked for, each at the place of its question, where it gains time to compute them side by side. Takes no
-/// memory.
+/// The check values that are asked for, each at the place of its question, where it gains time to compute
+/// them side by side. Takes no memory.
 pub fn precompute(questions: &[Option<Question<'_>>]) -> [Option<Precomputed>; GROUP]
     requires few { length questions.now ≤ GROUP }
     ensures { (packets : ℕ → List ℕ) → AreQuestions packets questions.now
@@ -132,7 +135,8 @@ fn first_of<'a>(questions: &[Option<Question<'a>>]) -> Option<Question<'a>> {
     None
 }
 
-// The questions, one behind the other, each with its place; and how many. Behind them stands the first one, which is of no use there.
+// The questions, one behind the other, each with its place; and how many. Behind them stands the first one,
+// which is of no use there.
 fn asked_of<'a>(
     questions: &[Option<Question<'a>>],
     first: Question<'a>,

@@ -2,6 +2,10 @@
 use Rattle.std.specs.Prelude.{List, [], ◌∷◌}
 use Rattle.wire.specs.declared.payload.Payload.{Payload}
 use Rattle.wire.specs.declared.payload.Payload.TheVariants.{Sa, TsI, TsR}
+use Rattle.wire.specs.Sizes.{FitsFields}
+use Rattle.exchange.specs.Notices.{payload_of_notice}
+use Rattle.exchange.specs.declared.child.ChildAnswer.{ChildAnswer}
+use Rattle.exchange.specs.declared.child.ChildAnswer.TheVariants as answered
 use Rattle.exchange.specs.declared.child.ChildOffer.{ChildOffer}
 use Rattle.exchange.specs.declared.child.ChildPayloads.{ChildPayloads}
 
@@ -12,3 +16,14 @@ child_payloads child = Sa child.proposals ∷ TsI child.ts_i ∷ TsR child.ts_r 
 -- what is offered, as plain data
 abbrev pub offered : ChildOffer → ChildPayloads
 offered offer = record { proposals = offer.proposals.now; ts_i = offer.ts_i.now; ts_r = offer.ts_r.now }
+
+-- what answers the child: its payloads, or the notice that refuses it (section 1.2)
+abbrev pub answering_payloads : ChildAnswer → List Payload
+answering_payloads (answered.Payloads child) = child_payloads child
+answering_payloads (answered.Notice notice) = payload_of_notice notice ∷ []
+
+-- what is offered was read, so its answer can be sent
+pub record CanBeAnswered (offer : ChildPayloads) : Type 0 where
+  pub proposals : FitsFields (Sa offer.proposals)
+  pub ts_i : FitsFields (TsI offer.ts_i)
+  pub ts_r : FitsFields (TsR offer.ts_r)

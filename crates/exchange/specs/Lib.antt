@@ -4,3 +4,4 @@ pub mod Counting
 pub mod Notices
 pub mod Deletions
 pub mod Children
+pub mod Chains

@@ -1,9 +1,10 @@
 //! The payloads of a child (RFC 7296, sections 1.2 and 1.3.1).
 ghost use Rattle.std.specs.Prelude.{◌≡◌, ◌++◌, OnOk};
-ghost use Rattle.exchange.specs.Children.{child_payloads};
+ghost use Rattle.exchange.specs.Children.{answering_payloads, child_payloads};
 
+use crate::Notice;
 use base::{Items, Selector};
-use std::alloc::AllocError;
+use std::alloc::{AllocError, Global};
 use wire::{Payload, Proposal};
 
 /// What a request says of a child, or its reply: the content of one SA, one TSi and one TSr payload (RFC 7296, sections 1.2
@@ -44,4 +45,28 @@ pub struct ChildOffer<'a> {
     pub ts_i: &'a [Selector],
     /// The selectors of the other side.
     pub ts_r: &'a [Selector],
+}
+
+/// What answers the child that was asked for.
+#[derive(Debug, Drop)]
+pub enum ChildAnswer {
+    /// It is made (RFC 7296, section 1.2).
+    Payloads(ChildPayloads),
+    /// It is not, for the reason that this notice tells; the IKE association is none the less (section 1.2).
+    Notice(Notice),
+}
+
+impl ChildAnswer {
+    /// Adds its payloads behind those of a message: those of the child, or the notice. An error is for want of memory alone.
+    pub fn append_to(self, alloc: Global, payloads: &mut Items<Payload>) -> Result<(), AllocError>
+        ensures { OnOk result (payloads.new ≡ payloads.old ++ answering_payloads self) }
+    {
+        match self {
+            ChildAnswer::Payloads(child) => child.append_to(payloads),
+            ChildAnswer::Notice(notice) => {
+                payloads.push(notice.payload(alloc)?)?;
+                Ok(())
+            }
+        }
+    }
 }

@@ -18,6 +18,7 @@
 //! ```
 #![tactic(auto)]
 
+mod chains;
 mod child;
 mod deletions;
 mod headers;
@@ -25,8 +26,10 @@ pub mod laws;
 mod notices;
 mod payloads;
 mod sealed;
+mod sending;
 
-pub use child::{ChildOffer, ChildPayloads};
+pub use chains::read_chain;
+pub use child::{ChildAnswer, ChildOffer, ChildPayloads};
 pub use deletions::{deletes_association, esp_spis, names_more_than};
 pub use headers::{Role, sent_header};
 pub use notices::{Notice, asked_cookie, has_invalid_syntax, leading_cookie, returned_cookie};
@@ -35,3 +38,4 @@ pub use payloads::{
     only_ts_i, only_ts_r, unknown_critical,
 };
 pub use sealed::{Plain, open_message, seal_message};
+pub use sending::sealed_message;

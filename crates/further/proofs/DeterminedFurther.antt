@@ -17,7 +17,7 @@ use Rattle.children.specs.declared.asking.Asked.{Asked}
 use Rattle.children.specs.declared.responding.Response.{Response}
 use Rattle.children.specs.declared.responding.Response.TheVariants as response
 use Rattle.children.specs.declared.setting.Setting.{Setting}
-use Rattle.initial.specs.Configs.{Setup}
+use Rattle.setup.specs.Configs.{Setup}
 use Rattle.further.specs.Concluding.{AcceptsFurtherChild, Concludes, HasNoChild, IsConclusion}
 use Rattle.further.specs.Deciding.{further_setting, responder_setting, DecidesFurther, DecidesFurtherBy, DecidesFurtherOn, IsFurtherDecision}
 use Rattle.further.specs.Judging.{Admitted, FurtherJudgement, FurtherRequestView, Refused}

@@ -21,8 +21,8 @@ use Rattle.children.specs.Responding.{IsMadeChild}
 use Rattle.children.specs.declared.asking.Asked.{Asked}
 use Rattle.children.specs.declared.responding.Made.{Made}
 use Rattle.children.specs.declared.setting.Setting.{Setting}
-use Rattle.initial.specs.Configs.{Setup}
-use Rattle.initial.specs.Deciding.{IsRead}
+use Rattle.setup.specs.Configs.{Setup}
+use Rattle.exchange.specs.Chains.{IsRead}
 use Rattle.further.specs.Concluding.{Concludes, IsConclusion}
 use Rattle.further.specs.Deciding.{further_setting, responder_setting, DecidesFurther, IsFurtherDecision}
 use Rattle.further.specs.declared.concluding.Conclusion.TheVariants as conclusion

@@ -9,8 +9,8 @@ use Rattle.exchange.specs.Notices.{payload_of_notice, FitsNotice}
 use Rattle.exchange.specs.declared.child.ChildPayloads.{ChildPayloads}
 use Rattle.exchange.specs.declared.notices.Notice.{Notice}
 use Rattle.auth.specs.Fitting.{FitWithin}
-use Rattle.auth.specs.declared.child.ChildAnswer.{ChildAnswer}
-use Rattle.auth.specs.declared.child.ChildAnswer.TheVariants as answered
+use Rattle.exchange.specs.declared.child.ChildAnswer.{ChildAnswer}
+use Rattle.exchange.specs.declared.child.ChildAnswer.TheVariants as answered
 use Rattle.children.specs.Asking.{FitMessages}
 use Rattle.further.specs.Answering.{further_answer, FitsAnswer}
 use Rattle.further.specs.Payloads.{further_payloads}

@@ -20,7 +20,7 @@ use Rattle.children.specs.Responding.{IsMadeChild, TakesProposal}
 use Rattle.children.specs.declared.asking.Asked.{Asked}
 use Rattle.children.specs.declared.responding.Made.{Made}
 use Rattle.children.specs.declared.setting.Setting.{Setting}
-use Rattle.initial.specs.Configs.{Setup}
+use Rattle.setup.specs.Configs.{Setup}
 use Rattle.further.specs.Concluding.{Concludes, IsConclusion}
 use Rattle.further.specs.Deciding.{further_setting, responder_setting, DecidesFurther, DecidesFurtherOn, IsFurtherDecision}
 use Rattle.further.specs.Judging.{FurtherRequestView}

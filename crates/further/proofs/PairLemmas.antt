@@ -24,7 +24,7 @@ use Rattle.children.specs.Responding.{IsMadeChild}
 use Rattle.children.specs.declared.asking.Asked.{Asked}
 use Rattle.children.specs.declared.responding.Made.{Made}
 use Rattle.children.specs.declared.setting.Setting.{Setting}
-use Rattle.initial.specs.Configs.{Setup}
+use Rattle.setup.specs.Configs.{Setup}
 use Rattle.further.specs.Concluding.{AcceptsFurtherChild, Concludes, IsConclusion}
 use Rattle.further.specs.Deciding.{further_setting, responder_setting, DecidesFurther, DecidesFurtherBy, DecidesFurtherOn, IsFurtherDecision}
 use Rattle.further.specs.Judging.{Admitted, AsksFor, FurtherJudgement, FurtherRequestView, IsFurtherJudgement, Refused}

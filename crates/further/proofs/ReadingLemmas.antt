@@ -4,7 +4,7 @@ use Rattle.base.specs.Octets.{Octets}
 use Rattle.wire.specs.Payloads.{SpellsChain}
 use Rattle.wire.specs.declared.payload.Payload.{Payload}
 use Rattle.exchange.specs.declared.sealed.Plain.{Plain}
-use Rattle.initial.specs.Deciding.{IsRead}
+use Rattle.exchange.specs.Chains.{IsRead}
 
 -- what the law of the format says
 abbrev pub OneChain : Type 0

@@ -4,8 +4,8 @@ use Rattle.base.specs.Octets.{Octets}
 use Rattle.wire.specs.declared.payload.Payload.{Payload}
 use Rattle.exchange.specs.Notices.{payload_of_notice, FitsNotice}
 use Rattle.sadb.specs.declared.pair.Pair.{Pair}
-use Rattle.auth.specs.declared.child.ChildAnswer.{ChildAnswer}
-use Rattle.auth.specs.declared.child.ChildAnswer.TheVariants as answered
+use Rattle.exchange.specs.declared.child.ChildAnswer.{ChildAnswer}
+use Rattle.exchange.specs.declared.child.ChildAnswer.TheVariants as answered
 use Rattle.children.specs.Asking.{FitMessages}
 use Rattle.further.specs.Payloads.{further_payloads}
 use Rattle.further.specs.declared.deciding.Decision.{Decision}

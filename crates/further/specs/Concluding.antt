@@ -10,7 +10,7 @@ use Rattle.exchange.specs.declared.sealed.Plain.{Plain}
 use Rattle.sadb.specs.declared.pair.Pair.{Pair}
 use Rattle.children.specs.Accepting.{IsAcceptedChild, IsUnacceptable, KeepsToRequest}
 use Rattle.children.specs.declared.asking.Asked.{Asked}
-use Rattle.initial.specs.Deciding.{IsRead}
+use Rattle.exchange.specs.Chains.{IsRead}
 use Rattle.further.specs.Deciding.{further_setting}
 use Rattle.further.specs.declared.concluding.Conclusion.{Conclusion}
 use Rattle.further.specs.declared.concluding.Conclusion.TheVariants as conclusion

@@ -12,8 +12,8 @@ use Rattle.children.specs.Responding.{IsChildResponse, LeavesRoom}
 use Rattle.children.specs.declared.responding.Response.{Response}
 use Rattle.children.specs.declared.responding.Response.TheVariants as response
 use Rattle.children.specs.declared.setting.Setting.{Setting}
-use Rattle.initial.specs.Configs.{Setup}
-use Rattle.initial.specs.Deciding.{IsRead}
+use Rattle.setup.specs.Configs.{Setup}
+use Rattle.exchange.specs.Chains.{IsRead}
 use Rattle.further.specs.Answering.{answer_to_further, FitsAnswer}
 use Rattle.further.specs.Judging.{Admitted, FurtherJudgement, FurtherRequestView, IsFurtherJudgement, Refused}
 use Rattle.further.specs.declared.deciding.Decision.{Decision}

@@ -5,8 +5,8 @@ ghost use Rattle.auth.specs.Fitting.{FitWithin};
 ghost use Rattle.further.specs.Answering.{further_answer, FitsAnswer};
 
 use crate::payloads::further_payloads;
-use auth::ChildAnswer;
 use base::Items;
+use exchange::ChildAnswer;
 use exchange::laws::notices_fit;
 use std::alloc::{AllocError, Global};
 use wire::Payload;

@@ -2,23 +2,21 @@
 ghost use Rattle.std.specs.Prelude.{◌≡◌, IfErr, IfOk, Some};
 ghost use Rattle.std.specs.List.{AllByRecursion};
 ghost use Rattle.wire.specs.Sizes.{FitsFields};
-ghost use Rattle.exchange.specs.Children.{offered};
+ghost use Rattle.exchange.specs.Children.{offered, CanBeAnswered};
 ghost use Rattle.sadb.specs.Database.{IsAsBefore};
 ghost use Rattle.children.specs.Faults.{CanBeWanted};
-ghost use Rattle.initial.specs.Configs.{setup_of, IsConfig};
-ghost use Rattle.initial.specs.Deciding.{CanBeAnswered};
+ghost use Rattle.setup.specs.Configs.{setup_of, IsConfig};
 ghost use Rattle.further.specs.Answering.{answer_to_further, further_pair, FitsAnswer};
 ghost use Rattle.further.specs.Deciding.{further_setting, is_closing_decision, DecidesFurther, DecidesFurtherBy, DecidesFurtherOn, FitsFurtherDecision, IsFurtherRefusedAtOnce, IsRefusedFurther, LeavesRoomForFurther};
 ghost use Rattle.further.specs.Judging.{further_request_view, Admitted};
 
 use crate::{FurtherRequest, Judgement, judge};
-use auth::ChildAnswer;
 use children::laws::payloads_fit;
 use children::{Made, MemoryFault, Response, Setting, respond};
 use exchange::laws::what_counts_fits;
-use exchange::{Notice, Plain};
-use initial::{Setup, read_chain};
+use exchange::{ChildAnswer, Notice, Plain, read_chain};
 use sadb::{Pair, Table};
+use setup::Setup;
 use std::alloc::Global;
 use suite::{KeyRecord, child_keys};
 use wire::Payload;

@@ -11,7 +11,7 @@ use Rattle.sa_init.specs.Judging.{Accepted, Answered, Full, Incomplete, Judgemen
 use Rattle.association.specs.Finding.{place_meant}
 use Rattle.association.specs.declared.fault.MessageFault.{MessageFault}
 use Rattle.association.specs.declared.phase.Association.{Association}
-use Rattle.initial.specs.Configs.{Setup}
+use Rattle.setup.specs.Configs.{Setup}
 use Rattle.effects.specs.Lengths.{HoldsWholeKeys}
 use Rattle.effects.specs.Taking.{Meaning}
 use Rattle.effects.specs.declared.taking.Effect.{Effect}
@@ -31,8 +31,8 @@ use Rattle.gateway.specs.States.{State}
 use Rattle.gateway.specs.WorldParties.{HasSent}
 use Rattle.gateway.specs.Worlds.{again_as, datagram_of, ike_mark, mark_under, requests_in, sent_by, sent_once, storing, Stored}
 use Rattle.gateway.specs.declared.world.stored.End.{End}
-use Rattle.gateway.specs.declared.world.stored.Mark.{Mark}
-use Rattle.gateway.specs.declared.world.stored.Mark.TheVariants as mark
+use Rattle.gateway.specs.declared.world.stored.Protection.{Protection}
+use Rattle.gateway.specs.declared.world.stored.Protection.TheVariants as mark
 use Rattle.gateway.proofs.MoveLemmas.{said_octets}
 use Rattle.gateway.proofs.PartyLemmas.{none_some}
 use Rattle.gateway.proofs.TurnLemmas.{is_once}
@@ -72,7 +72,7 @@ stored_message {C} end s trace gateway old serial number response octets keys ma
     ap (λ (o : Option marks.Mark). ike_mark gateway.machine o) marked ∙ ap (λ (k : Option KeyRecord). mark_under (record { ike = serial; response = response; number = number }) k) keyed in
     Contains-append_right old.sent (sent_by end s trace.sent gateway) sent
     (Contains-append_left (sent_once end s trace.sent gateway) (map (again_as end gateway.machine) (requests_in s)) sent
-    (subst (λ (m : Mark). Contains (sent_once end s trace.sent gateway) (datagram_of end m octets)) by (is_once end s trace.sent gateway octets said)))
+    (subst (λ (m : Protection). Contains (sent_once end s trace.sent gateway) (datagram_of end m octets)) by (is_once end s trace.sent gateway octets said)))
 
 -- ---- keys that come with a request: that is the one of number 1
 

@@ -13,7 +13,7 @@ use Rattle.suite.specs.declared.key_record.KeyRecord.{KeyRecord}
 use Rattle.suite.specs.declared.keys.Keys.{Keys}
 use Rattle.wire.specs.declared.payload.Payload.{Payload}
 use Rattle.esp.specs.Packet.{IsContents}
-use Rattle.esp.specs.declared.association.Association as esp
+use Rattle.esp.specs.declared.sa.Sa as esp
 use Rattle.sadb.specs.Database.{pair_at, Database, HasInbound, IsSoundTable}
 use Rattle.sadb.specs.Mirrors.{Mirrors}
 use Rattle.sadb.specs.declared.pair.Pair.{Pair}
@@ -26,6 +26,8 @@ use Rattle.traffic.specs.Outcomes.{Outcome}
 use Rattle.traffic.specs.Outcomes as traffic
 use Rattle.traffic.specs.Receiving.{IsAddressedTo, Receives, TakesNumberAt}
 use Rattle.traffic.specs.Sending.{IsDecided, Sends}
+use Rattle.gateway.specs.Inputs.{Event, Input}
+use Rattle.gateway.specs.Inputs as input
 use Rattle.gateway.specs.Outputs.{Up}
 use Rattle.gateway.specs.Packets.{PacketsAreDelivered}
 use Rattle.ike.specs.Machines.{association_of}
@@ -41,14 +43,11 @@ use Rattle.gateway.specs.WorldPromises.{IsUnforged, StaysSound}
 use Rattle.gateway.specs.WorldRuns.{HappensAs, IsLater}
 use Rattle.gateway.specs.WorldWindows.{window_at, AccountsForWindows, WindowsFit}
 use Rattle.gateway.specs.Worlds.{datagram_of, gateway_at, if_at, new_world, other_end, simplex_of, HoldsNothing, Stored, TakesEvent, WorldState}
-use Rattle.gateway.specs.declared.input.Input.{Input}
-use Rattle.gateway.specs.declared.input.Input.TheVariants as input
 use Rattle.gateway.specs.declared.output.Output.{Output}
 use Rattle.gateway.specs.declared.world.stored.Child.{Child}
 use Rattle.gateway.specs.declared.world.stored.End.{End}
 use Rattle.gateway.specs.declared.world.stored.End.TheVariants.{A, B}
-use Rattle.gateway.specs.declared.world.stored.Event.{Event}
-use Rattle.gateway.specs.declared.world.stored.Mark.TheVariants as mark
+use Rattle.gateway.specs.declared.world.stored.Protection.TheVariants as mark
 use Rattle.gateway.specs.declared.world.stored.Simplex.{Simplex}
 use Rattle.gateway.proofs.ChildLemmas.{gateway_here, known_after, ChildLaws, ShareCipher}
 use Rattle.gateway.proofs.DeliveryLemmas.{came_up, goes_up, packets_kept, told_outcome}
@@ -161,7 +160,7 @@ module _ {C : Type 0} (laws : PairLaws) (meaning_of : C → Meaning) where
 
 -- ---- pairs that both ends hold
 
-simplex_same : (a b : esp.Association) → simplex_of a ≡ simplex_of b → a ≡ b
+simplex_same : (a b : esp.Sa) → simplex_of a ≡ simplex_of b → a ≡ b
 simplex_same a b is =
     let spi = ap (λ (s : Simplex). s.spi) is in
     let key = ap (λ (s : Simplex). s.key) is in
@@ -181,7 +180,7 @@ other_way : (p q : Pair) → Mirrors p q → Mirrors q p
 other_way p q is = record {
   inward = sym is.outward;
   outward = sym is.inward;
-  extension = sym (ap (λ (a : esp.Association). a.extended) is.outward) ∙ sym is.extension ∙ ap (λ (a : esp.Association). a.extended) is.inward;
+  extension = sym (ap (λ (a : esp.Sa). a.extended) is.outward) ∙ sym is.extension ∙ ap (λ (a : esp.Sa). a.extended) is.inward;
   local = sym is.remote;
   remote = sym is.local;
 }

@@ -36,8 +36,8 @@ use Rattle.association.specs.declared.purpose.Purpose.{Purpose}
 use Rattle.association.specs.declared.purpose.Purpose.TheVariants as purpose
 use Rattle.children.specs.Asking.{asked_proposal, child_request, HasChildPayloads}
 use Rattle.further.specs.Payloads.{further_payloads}
-use Rattle.initial.specs.Configs.{Setup}
-use Rattle.initial.specs.declared.answering.Answered as answering
+use Rattle.setup.specs.Configs.{Setup}
+use Rattle.association.specs.declared.outcome.Answered as answering
 use Rattle.effects.specs.Children.{exchange_of_child, AnswersForChild, ChildKind, EndsWithChild, EndsWithFurther, First, Further, MadeBy, MayAnswer}
 use Rattle.effects.specs.Lengths.{AreWholeKeys}
 use Rattle.effects.specs.Moves.{Count, Make, Move, TakeEffect}
@@ -53,12 +53,14 @@ use Rattle.ike.specs.Moves.{Comes, ComesFor, HasFresh, HasSeal, KeysCome, MoveCo
 use Rattle.ike.specs.Outputs.{asking_step, child_of, no_trace, stepped_of}
 use Rattle.ike.specs.Soundness.{IsSoundMachine}
 use Rattle.ike.specs.Steps as ike
-use Rattle.ike.specs.declared.asking.Demand.TheVariants as demand
+use Rattle.ike.specs.Orders as orders
 use Rattle.ike.specs.declared.output.IkeOutput.TheVariants as output
 use Rattle.ike.specs.declared.output.MadeChild.{MadeChild}
 use Rattle.ike.specs.declared.output.Mark as marks
 use Rattle.ike.specs.declared.output.Stepped.{Stepped}
 use Rattle.ike.specs.declared.output.Trace.{Trace}
+use Rattle.gateway.specs.Inputs.{Input}
+use Rattle.gateway.specs.Inputs as input
 use Rattle.gateway.specs.Outputs.{view_of_ike, OutputView}
 use Rattle.gateway.specs.Requests.{for_ike, IsDatagram}
 use Rattle.gateway.specs.States.{association_in, State}
@@ -69,8 +71,6 @@ use Rattle.gateway.specs.WorldParties.{HasSent, HoldsUnder}
 use Rattle.gateway.specs.WorldPromises.{ComesUnder}
 use Rattle.gateway.specs.WorldRuns.{IsLater}
 use Rattle.gateway.specs.Worlds.{child_by, child_with, gateway_at, other_end, simplex_of, storing, with_gateway, IsFreshlyGiven, Stored, TakesEvent, WorldState}
-use Rattle.gateway.specs.declared.input.Input.{Input}
-use Rattle.gateway.specs.declared.input.Input.TheVariants as input
 use Rattle.gateway.specs.declared.world.stored.Child.{Child}
 use Rattle.gateway.specs.declared.world.stored.End.{End}
 use Rattle.gateway.specs.declared.world.stored.End.TheVariants.{A, B}
@@ -135,9 +135,9 @@ pub way_of : {C : Type 0} (meaning : Meaning) (given : Input) (old : State C) (s
     → DoesInput meaning old.entries given old.machine old.table s trace new.machine new.table → Way meaning (for_ike given) old s trace new
 way_of {C} meaning (input.Ike from octets fresh) old s trace new is = ike_way meaning (ike.Message from octets fresh) old s trace new is
 way_of {C} meaning (input.Start serial entry fresh) old s trace new is = ike_way meaning (ike.Start serial entry fresh) old s trace new is
-way_of {C} meaning (input.Probe serial fresh) old s trace new is = ike_way meaning (ike.Order (demand.Probe serial) fresh) old s trace new is
-way_of {C} meaning (input.DeleteChild serial fresh) old s trace new is = ike_way meaning (ike.Order (demand.DeleteChild serial) fresh) old s trace new is
-way_of {C} meaning (input.DeleteIke serial fresh) old s trace new is = ike_way meaning (ike.Order (demand.DeleteIke serial) fresh) old s trace new is
+way_of {C} meaning (input.Probe serial fresh) old s trace new is = ike_way meaning (ike.Order (orders.Probe serial) fresh) old s trace new is
+way_of {C} meaning (input.DeleteChild serial fresh) old s trace new is = ike_way meaning (ike.Order (orders.DeleteChild serial) fresh) old s trace new is
+way_of {C} meaning (input.DeleteIke serial fresh) old s trace new is = ike_way meaning (ike.Order (orders.DeleteIke serial) fresh) old s trace new is
 way_of {C} meaning (input.Secret secret) old s trace new is = ike_way meaning (ike.Secret secret) old s trace new is
 way_of {C} meaning (input.Tick moment) old s trace new is = ike_way meaning (ike.Tick moment) old s trace new is
 way_of {C} meaning (input.Esp octets) old s trace new is = inr (record { machine = is.0.machine; traced = is.0.traced })

@@ -19,7 +19,7 @@ use Rattle.effects.specs.Taking.{Meaning}
 use Rattle.ike.specs.Machines.{Machine}
 use Rattle.ike.specs.Pairs.{ChangesOne}
 use Rattle.ike.specs.Steps as ike
-use Rattle.ike.specs.declared.asking.Demand.TheVariants as demand
+use Rattle.ike.specs.Orders as orders
 use Rattle.ike.specs.declared.output.IkeOutput.{IkeOutput}
 use Rattle.ike.specs.declared.output.IkeOutput.TheVariants as made
 use Rattle.ike.specs.declared.output.Stepped.{Stepped}
@@ -35,12 +35,12 @@ use Rattle.deliveries.specs.Passages as tables
 use Rattle.deliveries.specs.Passages.{BringsUnused, ComesUnused, Leads, LeavesWindows, Reception}
 use Rattle.deliveries.specs.Promises.{PacketsAreJudged}
 use Rattle.gateway.specs.Histories.{IsPassage, IsTrail, Passage}
+use Rattle.gateway.specs.Inputs.{Input}
+use Rattle.gateway.specs.Inputs as input
 use Rattle.gateway.specs.Outputs.{view_of_ike, view_of_outcome, wants_memory, Dummy, OutputView, Up}
 use Rattle.gateway.specs.Packets.{outcome_of_said, reception_of, table_passage, table_passages, JudgesOne, PacketsAreDelivered, SaysDue, TakesPacket, TurnsAway}
 use Rattle.gateway.specs.States.{State}
 use Rattle.gateway.specs.Steps.{DoesInput, SendsPacket, StepsIke}
-use Rattle.gateway.specs.declared.input.Input.{Input}
-use Rattle.gateway.specs.declared.input.Input.TheVariants as input
 use Rattle.gateway.proofs.HistoryLemmas.{at_place}
 
 -- what is known of a step of the machine, and of a table
@@ -125,10 +125,10 @@ module _ (facts : DeliveryFacts) where
       → DoesInput meaning entries given old table s trace new new_table → Leads table (reception_of given s) new_table
   leads meaning entries (input.Ike from octets fresh) old table s trace new new_table sound is = steps_windows meaning entries (ike.Message from octets fresh) old table s trace new new_table sound is
   leads meaning entries (input.Start serial entry fresh) old table s trace new new_table sound is = steps_windows meaning entries (ike.Start serial entry fresh) old table s trace new new_table sound is
-  leads meaning entries (input.Probe serial fresh) old table s trace new new_table sound is = steps_windows meaning entries (ike.Order (demand.Probe serial) fresh) old table s trace new new_table sound is
+  leads meaning entries (input.Probe serial fresh) old table s trace new new_table sound is = steps_windows meaning entries (ike.Order (orders.Probe serial) fresh) old table s trace new new_table sound is
   leads meaning entries (input.DeleteChild serial fresh) old table s trace new new_table sound is =
-      steps_windows meaning entries (ike.Order (demand.DeleteChild serial) fresh) old table s trace new new_table sound is
-  leads meaning entries (input.DeleteIke serial fresh) old table s trace new new_table sound is = steps_windows meaning entries (ike.Order (demand.DeleteIke serial) fresh) old table s trace new new_table sound is
+      steps_windows meaning entries (ike.Order (orders.DeleteChild serial) fresh) old table s trace new new_table sound is
+  leads meaning entries (input.DeleteIke serial fresh) old table s trace new new_table sound is = steps_windows meaning entries (ike.Order (orders.DeleteIke serial) fresh) old table s trace new new_table sound is
   leads meaning entries (input.Secret secret) old table s trace new new_table sound is = steps_windows meaning entries (ike.Secret secret) old table s trace new new_table sound is
   leads meaning entries (input.Tick moment) old table s trace new new_table sound is = steps_windows meaning entries (ike.Tick moment) old table s trace new new_table sound is
   leads meaning entries (input.Esp octets) old table s trace new new_table sound is =
@@ -254,11 +254,11 @@ pub came_up : (meaning : Meaning) (entries : List Entry) (given : Input) (old : 
     → DoesInput meaning entries given old table s trace new new_table → goes_up s ≡ true → IsPacket given
 came_up meaning entries (input.Ike from octets fresh) old table s trace new new_table is up = neither (goes_up s) _ up (steps_up meaning entries (ike.Message from octets fresh) old table s trace new new_table is)
 came_up meaning entries (input.Start serial entry fresh) old table s trace new new_table is up = neither (goes_up s) _ up (steps_up meaning entries (ike.Start serial entry fresh) old table s trace new new_table is)
-came_up meaning entries (input.Probe serial fresh) old table s trace new new_table is up = neither (goes_up s) _ up (steps_up meaning entries (ike.Order (demand.Probe serial) fresh) old table s trace new new_table is)
+came_up meaning entries (input.Probe serial fresh) old table s trace new new_table is up = neither (goes_up s) _ up (steps_up meaning entries (ike.Order (orders.Probe serial) fresh) old table s trace new new_table is)
 came_up meaning entries (input.DeleteChild serial fresh) old table s trace new new_table is up =
-    neither (goes_up s) _ up (steps_up meaning entries (ike.Order (demand.DeleteChild serial) fresh) old table s trace new new_table is)
+    neither (goes_up s) _ up (steps_up meaning entries (ike.Order (orders.DeleteChild serial) fresh) old table s trace new new_table is)
 came_up meaning entries (input.DeleteIke serial fresh) old table s trace new new_table is up =
-    neither (goes_up s) _ up (steps_up meaning entries (ike.Order (demand.DeleteIke serial) fresh) old table s trace new new_table is)
+    neither (goes_up s) _ up (steps_up meaning entries (ike.Order (orders.DeleteIke serial) fresh) old table s trace new new_table is)
 came_up meaning entries (input.Secret secret) old table s trace new new_table is up = neither (goes_up s) _ up (steps_up meaning entries (ike.Secret secret) old table s trace new new_table is)
 came_up meaning entries (input.Tick moment) old table s trace new new_table is up = neither (goes_up s) _ up (steps_up meaning entries (ike.Tick moment) old table s trace new new_table is)
 came_up meaning entries (input.Esp octets) old table s trace new new_table is up = record { octets = octets; is = refl }

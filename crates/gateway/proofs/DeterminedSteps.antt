@@ -12,7 +12,7 @@ use Rattle.ike.specs.Faults.{is_want_of_memory}
 use Rattle.ike.specs.Lengths.{HoldWholeKeys, IsTold}
 use Rattle.ike.specs.Machines.{Machine}
 use Rattle.ike.specs.Steps as ike
-use Rattle.ike.specs.declared.asking.Demand.TheVariants as demand
+use Rattle.ike.specs.Orders as orders
 use Rattle.ike.specs.declared.fault.IkeFault.{IkeFault}
 use Rattle.ike.specs.declared.output.Stepped.{Stepped}
 use Rattle.ike.specs.declared.output.Trace.{Trace}
@@ -21,14 +21,14 @@ use Rattle.traffic.specs.Outcomes.{Outcome}
 use Rattle.traffic.specs.Receiving.{Receives}
 use Rattle.traffic.specs.Sending.{Sends}
 use Rattle.gateway.specs.Contents.{state_content}
+use Rattle.gateway.specs.Inputs.{Input}
+use Rattle.gateway.specs.Inputs as input
 use Rattle.gateway.specs.Lengths.{IsGiven}
 use Rattle.gateway.specs.Outputs.{wants_memory, output_view, view_of_ike, view_of_outcome, Refused, OutputView}
 use Rattle.gateway.specs.Runs.{Runs, StepsAs}
 use Rattle.gateway.specs.States.{State}
 use Rattle.gateway.specs.Steps.{AdmitsPacket, AnswersIke, DoesInput, LeavesIke, ReceivesPacket, RefusesIke, SendsPacket, Steps, StepsIke, Traces}
 use Rattle.gateway.specs.declared.fault.Reason.TheVariants as reason
-use Rattle.gateway.specs.declared.input.Input.{Input}
-use Rattle.gateway.specs.declared.input.Input.TheVariants as input
 use Rattle.gateway.specs.declared.output.Output.{Output}
 
 -- what the machine of IKE says of its steps
@@ -150,9 +150,9 @@ module _ (laws : Laws) (meaning : Meaning) (entries : List Entry) (old other : M
       → SameDoing one two trace mark a b a_table b_table
   one_doing (input.Ike from octets fresh) told whole is also = one_ike (ike.Message from octets fresh) told whole is also
   one_doing (input.Start serial entry fresh) told whole is also = one_ike (ike.Start serial entry fresh) told whole is also
-  one_doing (input.Probe serial fresh) told whole is also = one_ike (ike.Order (demand.Probe serial) fresh) told whole is also
-  one_doing (input.DeleteChild serial fresh) told whole is also = one_ike (ike.Order (demand.DeleteChild serial) fresh) told whole is also
-  one_doing (input.DeleteIke serial fresh) told whole is also = one_ike (ike.Order (demand.DeleteIke serial) fresh) told whole is also
+  one_doing (input.Probe serial fresh) told whole is also = one_ike (ike.Order (orders.Probe serial) fresh) told whole is also
+  one_doing (input.DeleteChild serial fresh) told whole is also = one_ike (ike.Order (orders.DeleteChild serial) fresh) told whole is also
+  one_doing (input.DeleteIke serial fresh) told whole is also = one_ike (ike.Order (orders.DeleteIke serial) fresh) told whole is also
   one_doing (input.Secret secret) told whole is also = one_ike (ike.Secret secret) tt whole is also
   one_doing (input.Tick moment) told whole is also = one_ike (ike.Tick moment) tt whole is also
   one_doing (input.Esp octets) told whole is also = one_arrival octets is also
@@ -202,9 +202,9 @@ done_whole : IkeLaws → (meaning : Meaning) (entries : List Entry) (given : Inp
     → DoesInput meaning entries given old table s trace new new_table → HoldWholeKeys new.held
 done_whole laws meaning entries (input.Ike from octets fresh) old table s trace new new_table whole is = ike_whole laws meaning entries (ike.Message from octets fresh) old table s trace new new_table whole is
 done_whole laws meaning entries (input.Start serial entry fresh) old table s trace new new_table whole is = ike_whole laws meaning entries (ike.Start serial entry fresh) old table s trace new new_table whole is
-done_whole laws meaning entries (input.Probe serial fresh) old table s trace new new_table whole is = ike_whole laws meaning entries (ike.Order (demand.Probe serial) fresh) old table s trace new new_table whole is
-done_whole laws meaning entries (input.DeleteChild serial fresh) old table s trace new new_table whole is = ike_whole laws meaning entries (ike.Order (demand.DeleteChild serial) fresh) old table s trace new new_table whole is
-done_whole laws meaning entries (input.DeleteIke serial fresh) old table s trace new new_table whole is = ike_whole laws meaning entries (ike.Order (demand.DeleteIke serial) fresh) old table s trace new new_table whole is
+done_whole laws meaning entries (input.Probe serial fresh) old table s trace new new_table whole is = ike_whole laws meaning entries (ike.Order (orders.Probe serial) fresh) old table s trace new new_table whole is
+done_whole laws meaning entries (input.DeleteChild serial fresh) old table s trace new new_table whole is = ike_whole laws meaning entries (ike.Order (orders.DeleteChild serial) fresh) old table s trace new new_table whole is
+done_whole laws meaning entries (input.DeleteIke serial fresh) old table s trace new new_table whole is = ike_whole laws meaning entries (ike.Order (orders.DeleteIke serial) fresh) old table s trace new new_table whole is
 done_whole laws meaning entries (input.Secret secret) old table s trace new new_table whole is = ike_whole laws meaning entries (ike.Secret secret) old table s trace new new_table whole is
 done_whole laws meaning entries (input.Tick moment) old table s trace new new_table whole is = ike_whole laws meaning entries (ike.Tick moment) old table s trace new new_table whole is
 done_whole laws meaning entries (input.Esp octets) old table s trace new new_table whole is = machine_whole old new is.0.machine whole

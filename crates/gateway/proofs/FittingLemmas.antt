@@ -2,7 +2,7 @@
 use Rattle.std.proofs.Common.{◌≡◌, ◌≤◌, ℕ, true, false, All, List, Option, Some, None, length, refl, sym, subst, inl, inr, arith}
 use Rattle.base.specs.Octets.{Octets}
 use Rattle.wire.specs.Numbers.{MESSAGE_LIMIT}
-use Rattle.esp.specs.declared.association.Association.{Association}
+use Rattle.esp.specs.declared.sa.Sa.{Sa}
 use Rattle.esp.specs.Sealing.{FitsPacket, IsShortestPacket}
 use Rattle.esp.specs.Worked.{IsOpenable}
 use Rattle.policy.specs.declared.entry.Entry.{Entry}
@@ -14,7 +14,7 @@ use Rattle.ike.specs.Machines.{Machine}
 use Rattle.ike.specs.Outputs.{no_trace, octets_in}
 use Rattle.ike.specs.Soundness.{IsSoundMachine}
 use Rattle.ike.specs.Steps as ike
-use Rattle.ike.specs.declared.asking.Demand.TheVariants as demand
+use Rattle.ike.specs.Orders as orders
 use Rattle.ike.specs.declared.output.IkeOutput.{IkeOutput}
 use Rattle.ike.specs.declared.output.IkeOutput.TheVariants as made
 use Rattle.ike.specs.declared.output.MadeChild.{MadeChild}
@@ -27,12 +27,12 @@ use Rattle.traffic.specs.Admitting.{Admits}
 use Rattle.traffic.specs.Outcomes as traffic
 use Rattle.traffic.specs.Receiving.{Receives}
 use Rattle.traffic.specs.Sending.{Sends}
+use Rattle.gateway.specs.Inputs.{Input}
+use Rattle.gateway.specs.Inputs as input
 use Rattle.gateway.specs.Outputs.{view_of_ike, view_of_outcome, FewAgain, FewSelectors, FitsChild, FitsDatagram, OutputView}
 use Rattle.gateway.specs.States.{State}
 use Rattle.gateway.specs.Storing.{again_by}
 use Rattle.gateway.specs.Steps.{DoesInput, SendsPacket, StepsIke, Traces}
-use Rattle.gateway.specs.declared.input.Input.{Input}
-use Rattle.gateway.specs.declared.input.Input.TheVariants as input
 
 -- what the crates below say
 pub record SentLaws : Type 0 where
@@ -40,7 +40,7 @@ pub record SentLaws : Type 0 where
       → IsSoundMachine old table → ike.Steps meaning entries given old table stepped new new_table → octets_in stepped.output ≡ Some octets → length octets ≤ MESSAGE_LIMIT
   pub again : (meaning : Meaning) (entries : List Entry) (given : ike.InputView) (old : Machine) (table : Database) (stepped : Stepped) (new : Machine) (new_table : Database) (ticked : Ticked)
       → IsSoundMachine old table → ike.Steps meaning entries given old table stepped new new_table → stepped.output ≡ made.Ticked ticked → All (λ (r : Resent). length r.octets ≤ MESSAGE_LIMIT) ticked.requests
-  pub openable : (a : Association) (n next : ℕ) (payload b : List ℕ) → IsShortestPacket a n next payload b → FitsPacket payload → IsOpenable a n next payload b
+  pub openable : (a : Sa) (n next : ℕ) (payload b : List ℕ) → IsShortestPacket a n next payload b → FitsPacket payload → IsOpenable a n next payload b
 
 said_fits : (output : IkeOutput) → ((octets : Octets) → octets_in output ≡ Some octets → length octets ≤ MESSAGE_LIMIT)
     → ((ticked : Ticked) → output ≡ made.Ticked ticked → All (λ (r : Resent). length r.octets ≤ MESSAGE_LIMIT) ticked.requests) → FitsDatagram (view_of_ike output)
@@ -67,7 +67,7 @@ received_fits old packet (traffic.Clear octets) new is = absurd is
 received_fits old packet traffic.Discarded new is = absurd is
 received_fits old packet (traffic.Dropped fault) new is = tt
 
-packet_fits : (laws : SentLaws) (a : Association) (n next : ℕ) (payload packet octets : List ℕ) → octets ≡ packet → IsShortestPacket a n next payload packet → FitsPacket payload → length octets ≤ 16664
+packet_fits : (laws : SentLaws) (a : Sa) (n next : ℕ) (payload packet octets : List ℕ) → octets ≡ packet → IsShortestPacket a n next payload packet → FitsPacket payload → length octets ≤ 16664
 packet_fits laws a n next payload packet octets same shortest fits =
     subst (λ (b : List ℕ). length b ≤ 16664) (sym same) (laws.openable a n next payload packet shortest fits).whole.most
 
@@ -97,9 +97,9 @@ input_fits : (laws : SentLaws) (meaning : Meaning) (entries : List Entry) (given
     → IsSoundMachine old table → DoesInput meaning entries given old table s trace new new_table → FitsDatagram s
 input_fits laws meaning entries (input.Ike from octets fresh) old table s trace new new_table sound is = by_ike_fits laws meaning entries (ike.Message from octets fresh) old table s trace new new_table sound is
 input_fits laws meaning entries (input.Start serial entry fresh) old table s trace new new_table sound is = by_ike_fits laws meaning entries (ike.Start serial entry fresh) old table s trace new new_table sound is
-input_fits laws meaning entries (input.Probe serial fresh) old table s trace new new_table sound is = by_ike_fits laws meaning entries (ike.Order (demand.Probe serial) fresh) old table s trace new new_table sound is
-input_fits laws meaning entries (input.DeleteChild serial fresh) old table s trace new new_table sound is = by_ike_fits laws meaning entries (ike.Order (demand.DeleteChild serial) fresh) old table s trace new new_table sound is
-input_fits laws meaning entries (input.DeleteIke serial fresh) old table s trace new new_table sound is = by_ike_fits laws meaning entries (ike.Order (demand.DeleteIke serial) fresh) old table s trace new new_table sound is
+input_fits laws meaning entries (input.Probe serial fresh) old table s trace new new_table sound is = by_ike_fits laws meaning entries (ike.Order (orders.Probe serial) fresh) old table s trace new new_table sound is
+input_fits laws meaning entries (input.DeleteChild serial fresh) old table s trace new new_table sound is = by_ike_fits laws meaning entries (ike.Order (orders.DeleteChild serial) fresh) old table s trace new new_table sound is
+input_fits laws meaning entries (input.DeleteIke serial fresh) old table s trace new new_table sound is = by_ike_fits laws meaning entries (ike.Order (orders.DeleteIke serial) fresh) old table s trace new new_table sound is
 input_fits laws meaning entries (input.Secret secret) old table s trace new new_table sound is = by_ike_fits laws meaning entries (ike.Secret secret) old table s trace new new_table sound is
 input_fits laws meaning entries (input.Tick moment) old table s trace new new_table sound is = by_ike_fits laws meaning entries (ike.Tick moment) old table s trace new new_table sound is
 input_fits laws meaning entries (input.Esp octets) old table s trace new new_table sound is =
@@ -158,11 +158,11 @@ input_few law meaning entries (input.Ike from octets fresh) old table s trace ne
 input_few law meaning entries (input.Start serial entry fresh) old table s trace new new_table is =
     few_by_ike law meaning entries (ike.Start serial entry fresh) old table s trace new new_table 0 (λ n e less. no_tick n 0 (outstanding_count old.held.associations) e less) is
 input_few law meaning entries (input.Probe serial fresh) old table s trace new new_table is =
-    few_by_ike law meaning entries (ike.Order (demand.Probe serial) fresh) old table s trace new new_table 0 (λ n e less. no_tick n 0 (outstanding_count old.held.associations) e less) is
+    few_by_ike law meaning entries (ike.Order (orders.Probe serial) fresh) old table s trace new new_table 0 (λ n e less. no_tick n 0 (outstanding_count old.held.associations) e less) is
 input_few law meaning entries (input.DeleteChild serial fresh) old table s trace new new_table is =
-    few_by_ike law meaning entries (ike.Order (demand.DeleteChild serial) fresh) old table s trace new new_table 0 (λ n e less. no_tick n 0 (outstanding_count old.held.associations) e less) is
+    few_by_ike law meaning entries (ike.Order (orders.DeleteChild serial) fresh) old table s trace new new_table 0 (λ n e less. no_tick n 0 (outstanding_count old.held.associations) e less) is
 input_few law meaning entries (input.DeleteIke serial fresh) old table s trace new new_table is =
-    few_by_ike law meaning entries (ike.Order (demand.DeleteIke serial) fresh) old table s trace new new_table 0 (λ n e less. no_tick n 0 (outstanding_count old.held.associations) e less) is
+    few_by_ike law meaning entries (ike.Order (orders.DeleteIke serial) fresh) old table s trace new new_table 0 (λ n e less. no_tick n 0 (outstanding_count old.held.associations) e less) is
 input_few law meaning entries (input.Secret secret) old table s trace new new_table is =
     few_by_ike law meaning entries (ike.Secret secret) old table s trace new new_table 0 (λ n e less. no_tick n 0 (outstanding_count old.held.associations) e less) is
 input_few law meaning entries (input.Tick moment) old table s trace new new_table is =
@@ -201,9 +201,9 @@ input_made : (laws : MadeLaws) (meaning : Meaning) (entries : List Entry) (given
     → IsSoundTable table → IsSoundMachine old table → DoesInput meaning entries given old table s trace new new_table → FitsChild trace.child new_table.pairs
 input_made laws meaning entries (input.Ike from octets fresh) old table s trace new new_table st sm is = by_ike_made laws meaning entries (ike.Message from octets fresh) old table s trace new new_table st sm is
 input_made laws meaning entries (input.Start serial entry fresh) old table s trace new new_table st sm is = by_ike_made laws meaning entries (ike.Start serial entry fresh) old table s trace new new_table st sm is
-input_made laws meaning entries (input.Probe serial fresh) old table s trace new new_table st sm is = by_ike_made laws meaning entries (ike.Order (demand.Probe serial) fresh) old table s trace new new_table st sm is
-input_made laws meaning entries (input.DeleteChild serial fresh) old table s trace new new_table st sm is = by_ike_made laws meaning entries (ike.Order (demand.DeleteChild serial) fresh) old table s trace new new_table st sm is
-input_made laws meaning entries (input.DeleteIke serial fresh) old table s trace new new_table st sm is = by_ike_made laws meaning entries (ike.Order (demand.DeleteIke serial) fresh) old table s trace new new_table st sm is
+input_made laws meaning entries (input.Probe serial fresh) old table s trace new new_table st sm is = by_ike_made laws meaning entries (ike.Order (orders.Probe serial) fresh) old table s trace new new_table st sm is
+input_made laws meaning entries (input.DeleteChild serial fresh) old table s trace new new_table st sm is = by_ike_made laws meaning entries (ike.Order (orders.DeleteChild serial) fresh) old table s trace new new_table st sm is
+input_made laws meaning entries (input.DeleteIke serial fresh) old table s trace new new_table st sm is = by_ike_made laws meaning entries (ike.Order (orders.DeleteIke serial) fresh) old table s trace new new_table st sm is
 input_made laws meaning entries (input.Secret secret) old table s trace new new_table st sm is = by_ike_made laws meaning entries (ike.Secret secret) old table s trace new new_table st sm is
 input_made laws meaning entries (input.Tick moment) old table s trace new new_table st sm is = by_ike_made laws meaning entries (ike.Tick moment) old table s trace new new_table st sm is
 input_made laws meaning entries (input.Esp octets) old table s trace new new_table st sm is = none_fits trace new_table.pairs is.0.traced

@@ -1,5 +1,5 @@
 -- Inputs that are taken in groups, with check values that were computed ahead.
-use Rattle.std.proofs.Common.{◌≡◌, ◌≢◌, ◌+◌, ◌<◌, ◌≤◌, ◌++◌, ◌∷◌, [], ℕ, List, length, take, drop, get_or, refl, sym, ap, ◌∙◌, subst, arith, inl, inr, append_assoc, Option, Some, None, length-drop}
+use Rattle.std.proofs.Common.{◌≡◌, ◌≢◌, ◌+◌, ◌<◌, ◌≤◌, ◌++◌, ℕ, List, length, map, take, drop, get_or, refl, sym, ap, ◌∙◌, subst, arith, inl, inr, append_assoc, Option, Some, None, length-drop}
 use Rattle.std.specs.Prelude.{IfSome, replicate}
 use Rattle.std.proofs.lemmas.Bool.{cases_lt}
 use Rattle.std.proofs.lemmas.List.{drop-take, length-take-le, take-append-drop, take-take, get_or-set_same, get_or-set_other, get_or-replicate, get_or_past, length-replicate}
@@ -11,11 +11,12 @@ use Rattle.esp.specs.Precomputed.{ArePrecomputed, AreQuestions, IsPrecomputed, I
 use Rattle.esp.specs.declared.precomputed.Precomputed.{Precomputed}
 use Rattle.esp.specs.declared.precomputed.Question.{Question}
 use Rattle.gateway.specs.Groups.{TakesFirst, packet_if, packet_in, packets_in}
+use Rattle.gateway.specs.Inputs.{Input, input_view}
+use Rattle.gateway.specs.declared.input.Input as lent
 use Rattle.gateway.specs.Runs.{Runs, StepsAs}
 use Rattle.gateway.specs.States.{State}
-use Rattle.gateway.specs.declared.input.Input.{Input}
 use Rattle.gateway.specs.declared.output.Output.{Output}
-use Rattle.gateway.proofs.RunLemmas.{runs_joined}
+use Rattle.gateway.proofs.RunLemmas.{next_in_image, runs_joined, within_image}
 
 -- ---- check values
 
@@ -25,6 +26,10 @@ if_found P (Some x) each = each x refl
 
 pub packet_at : (inputs : List Input) (k : ℕ) (i : Input) → k < length inputs → i ≡ get_or inputs k i → packets_in inputs k ≡ packet_in i
 packet_at inputs k i h is = ap packet_if (slice_get-get_or inputs k i h) ∙ ap packet_in (sym is)
+
+-- the same of what is lent; whatever an index past its end would give
+pub packet_at_place : (inputs : List lent.Input) (k : ℕ) (d : lent.Input) → k < length inputs → packets_in (map input_view inputs) k ≡ packet_in (input_view (get_or inputs k d))
+packet_at_place inputs k d h = packet_at (map input_view inputs) k (input_view (get_or inputs k d)) (within_image input_view inputs k h) (next_in_image input_view inputs k d h)
 
 -- the value at an input's place is that of its packet
 pub value_for : (inputs : List Input) (ahead : List (Option Precomputed)) (k : ℕ) (i : Input) (value : Option Precomputed)

@@ -15,20 +15,20 @@ use Rattle.ike.specs.Machines.{association_of, Machine}
 use Rattle.ike.specs.Requests.{first_requests, IsHeldThrough}
 use Rattle.ike.specs.Soundness.{IsSoundMachine}
 use Rattle.ike.specs.Steps as ike
-use Rattle.ike.specs.declared.asking.Demand.TheVariants as demand
+use Rattle.ike.specs.Orders as orders
 use Rattle.ike.specs.declared.fault.IkeFault.{IkeFault}
 use Rattle.ike.specs.declared.output.Stepped.{Stepped}
 use Rattle.ike.specs.declared.output.Trace.{Trace}
 use Rattle.gateway.specs.Histories.{IsHistory, IsPassage, IsTrail, Passage}
 use Rattle.traffic.specs.Outcomes as traffic
+use Rattle.gateway.specs.Inputs.{Input}
+use Rattle.gateway.specs.Inputs as input
 use Rattle.gateway.specs.Outputs.{output_view, view_of_ike, view_of_outcome, Refused, Repeat, Reply, OutputView, Ticked}
 use Rattle.gateway.specs.Requests.{for_ike}
 use Rattle.gateway.specs.Runs.{Runs, StepsAs}
 use Rattle.gateway.specs.States.{association_in, State}
 use Rattle.gateway.specs.Steps.{DoesInput, SendsPacket, StepsIke}
 use Rattle.gateway.specs.declared.fault.Reason.TheVariants as reason
-use Rattle.gateway.specs.declared.input.Input.{Input}
-use Rattle.gateway.specs.declared.input.Input.TheVariants as input
 use Rattle.gateway.specs.declared.output.Output.{Output}
 
 -- ---- the history of a run
@@ -146,9 +146,9 @@ pub does_way : {C : Type 0} (meaning : Meaning) (given : Input) (old : State C) 
     → DoesInput meaning old.entries given old.machine old.table s trace new.machine new.table → IkeWay meaning (for_ike given) old s new
 does_way {C} meaning (input.Ike from octets fresh) old s trace new is = ike_way meaning (ike.Message from octets fresh) old s trace new is
 does_way {C} meaning (input.Start serial entry fresh) old s trace new is = ike_way meaning (ike.Start serial entry fresh) old s trace new is
-does_way {C} meaning (input.Probe serial fresh) old s trace new is = ike_way meaning (ike.Order (demand.Probe serial) fresh) old s trace new is
-does_way {C} meaning (input.DeleteChild serial fresh) old s trace new is = ike_way meaning (ike.Order (demand.DeleteChild serial) fresh) old s trace new is
-does_way {C} meaning (input.DeleteIke serial fresh) old s trace new is = ike_way meaning (ike.Order (demand.DeleteIke serial) fresh) old s trace new is
+does_way {C} meaning (input.Probe serial fresh) old s trace new is = ike_way meaning (ike.Order (orders.Probe serial) fresh) old s trace new is
+does_way {C} meaning (input.DeleteChild serial fresh) old s trace new is = ike_way meaning (ike.Order (orders.DeleteChild serial) fresh) old s trace new is
+does_way {C} meaning (input.DeleteIke serial fresh) old s trace new is = ike_way meaning (ike.Order (orders.DeleteIke serial) fresh) old s trace new is
 does_way {C} meaning (input.Secret secret) old s trace new is = ike_way meaning (ike.Secret secret) old s trace new is
 does_way {C} meaning (input.Tick moment) old s trace new is = ike_way meaning (ike.Tick moment) old s trace new is
 does_way {C} meaning (input.Esp octets) old s trace new is = elsewhere (record { is = refl; same = is.0.machine; said = subst IsOfPacket (sym is.1.output) (outcome_said is.1.outcome) })

@@ -7,7 +7,7 @@ use Rattle.sadb.specs.Database.{Database, IsAsBefore}
 use Rattle.effects.specs.Taking.{Meaning}
 use Rattle.ike.specs.Machines.{Machine}
 use Rattle.ike.specs.Steps as ike
-use Rattle.ike.specs.declared.asking.Demand.TheVariants as demand
+use Rattle.ike.specs.Orders as orders
 use Rattle.ike.specs.declared.output.IkeOutput.{IkeOutput}
 use Rattle.ike.specs.declared.output.IkeOutput.TheVariants as made
 use Rattle.ike.specs.declared.output.Trace.{Trace}
@@ -22,13 +22,13 @@ use Rattle.traffic.specs.Sending.{IsDecided, Protects, Sends}
 use Rattle.traffic.specs.declared.fault.PacketFault.{PacketFault}
 use Rattle.traffic.specs.declared.fault.PacketFault.TheVariants.{UnknownAssociation, Esp, Inner, OutsideSelectors}
 use Rattle.gateway.specs.Faults.{is_after_judging_packet}
+use Rattle.gateway.specs.Inputs.{Input}
+use Rattle.gateway.specs.Inputs as input
 use Rattle.gateway.specs.Outputs.{OutputView, Clear, Dropped, Refused, view_of_ike, view_of_outcome}
 use Rattle.gateway.specs.States.{State}
 use Rattle.gateway.specs.Steps.{AdmitsPacket, DoesInput, GoesSealed, SendsPacket, Steps, StepsIke}
 use Rattle.gateway.specs.declared.fault.Reason.{Reason}
 use Rattle.gateway.specs.declared.fault.Reason.TheVariants as reason
-use Rattle.gateway.specs.declared.input.Input.{Input}
-use Rattle.gateway.specs.declared.input.Input.TheVariants as input
 
 -- the outcome of a packet that went in the clear
 clear_outcome : (outcome : traffic.Outcome) (octets : Octets) → Clear octets ≡ view_of_outcome outcome → outcome ≡ traffic.Clear octets
@@ -122,11 +122,11 @@ kept_by_refusal meaning entries (input.Ike from octets fresh) old table why trac
 kept_by_refusal meaning entries (input.Start serial entry fresh) old table why trace new new_table s =
     ike_kept meaning entries (ike.Start serial entry fresh) old table why trace new new_table s
 kept_by_refusal meaning entries (input.Probe serial fresh) old table why trace new new_table s =
-    ike_kept meaning entries (ike.Order (demand.Probe serial) fresh) old table why trace new new_table s
+    ike_kept meaning entries (ike.Order (orders.Probe serial) fresh) old table why trace new new_table s
 kept_by_refusal meaning entries (input.DeleteChild serial fresh) old table why trace new new_table s =
-    ike_kept meaning entries (ike.Order (demand.DeleteChild serial) fresh) old table why trace new new_table s
+    ike_kept meaning entries (ike.Order (orders.DeleteChild serial) fresh) old table why trace new new_table s
 kept_by_refusal meaning entries (input.DeleteIke serial fresh) old table why trace new new_table s =
-    ike_kept meaning entries (ike.Order (demand.DeleteIke serial) fresh) old table why trace new new_table s
+    ike_kept meaning entries (ike.Order (orders.DeleteIke serial) fresh) old table why trace new new_table s
 kept_by_refusal meaning entries (input.Secret secret) old table why trace new new_table s =
     ike_kept meaning entries (ike.Secret secret) old table why trace new new_table s
 kept_by_refusal meaning entries (input.Tick moment) old table why trace new new_table s =

@@ -12,6 +12,7 @@ pub mod HistoryLemmas
 mod RequestLemmas
 mod MomentLemmas
 mod DeliveryLemmas
+mod LentLemmas
 mod WorkedLemmas
 pub mod WorkedRequestLemmas
 mod PromiseLemmas

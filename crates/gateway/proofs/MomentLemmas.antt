@@ -14,12 +14,12 @@ use Rattle.ike.specs.declared.output.IkeOutput.{IkeOutput}
 use Rattle.ike.specs.declared.output.IkeOutput.TheVariants as made
 use Rattle.ike.specs.declared.output.Stepped.{Stepped}
 use Rattle.gateway.specs.Histories.{IsTrail, Passage}
+use Rattle.gateway.specs.Inputs.{Input}
+use Rattle.gateway.specs.Inputs as input
 use Rattle.gateway.specs.Moments.{is_moment, tells_moment, Brings, BringsNone, MomentsComeInTime}
 use Rattle.gateway.specs.Outputs.{view_of_ike, wants_memory, Clear, Counted, Discarded, Done, Dropped, Dummy, Refused, Repeat, Reply, Request, OutputView, Sealed, Ticked, Up}
 use Rattle.gateway.specs.Requests.{for_ike}
 use Rattle.gateway.specs.States.{State}
-use Rattle.gateway.specs.declared.input.Input.{Input}
-use Rattle.gateway.specs.declared.input.Input.TheVariants as input
 use Rattle.gateway.proofs.HistoryLemmas.{answered, at_place, elsewhere, passage_way, refused, IkeWay, IsOfPacket}
 
 -- what is known of a step of the machine

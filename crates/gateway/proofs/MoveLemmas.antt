@@ -17,7 +17,7 @@ use Rattle.ike.specs.Moves.{ledger_at, ComesFor, IsSentBy, MoveComes, MovesAt, T
 use Rattle.ike.specs.Outputs.{no_trace, octets_in}
 use Rattle.ike.specs.Soundness.{IsSoundMachine}
 use Rattle.ike.specs.Steps as ike
-use Rattle.ike.specs.declared.asking.Demand.TheVariants as demand
+use Rattle.ike.specs.Orders as orders
 use Rattle.ike.specs.declared.output.IkeOutput.{IkeOutput}
 use Rattle.ike.specs.declared.output.IkeOutput.TheVariants as output
 use Rattle.ike.specs.declared.output.Mark as marks
@@ -26,14 +26,14 @@ use Rattle.ike.specs.declared.output.Trace.{Trace}
 use Rattle.lockstep.specs.Ends.{request_of, response_of, sent_in, Entry, GoesOutAgain}
 use Rattle.lockstep.specs.Ends as ends
 use Rattle.lockstep.specs.Histories.{AreGenuine, HasRequest, HasResponse}
+use Rattle.gateway.specs.Inputs.{Input}
+use Rattle.gateway.specs.Inputs as input
 use Rattle.gateway.specs.Outputs.{view_of_ike, OutputView, Refused, Repeat, Reply, Request, Ticked}
 use Rattle.gateway.specs.Requests.{for_ike}
 use Rattle.gateway.specs.States.{State}
 use Rattle.gateway.specs.Steps.{DoesInput, StepsIke}
 use Rattle.gateway.specs.declared.fault.Reason.{Reason}
 use Rattle.gateway.specs.declared.fault.Reason.TheVariants as reason
-use Rattle.gateway.specs.declared.input.Input.{Input}
-use Rattle.gateway.specs.declared.input.Input.TheVariants as input
 use Rattle.gateway.proofs.HistoryLemmas.{answered, does_way, elsewhere, refused, IkeWay, IsOfPacket}
 use Rattle.gateway.proofs.PartyLemmas.{at_head, at_head_or_further, further_on, none_some, none_there}
 use Rattle.gateway.proofs.ToldLemmas.{none_told, ticked_by, AgainLaw, TraceLaw}
@@ -235,11 +235,11 @@ input_moves {C} laws meaning (input.Ike from octets fresh) old new s trace seria
 input_moves {C} laws meaning (input.Start what place fresh) old new s trace serial sound is =
     ike_step_moves laws meaning old.entries (ike.Start what place fresh) old.machine old.table s trace new.machine new.table serial sound is
 input_moves {C} laws meaning (input.Probe asked fresh) old new s trace serial sound is =
-    ike_step_moves laws meaning old.entries (ike.Order (demand.Probe asked) fresh) old.machine old.table s trace new.machine new.table serial sound is
+    ike_step_moves laws meaning old.entries (ike.Order (orders.Probe asked) fresh) old.machine old.table s trace new.machine new.table serial sound is
 input_moves {C} laws meaning (input.DeleteChild asked fresh) old new s trace serial sound is =
-    ike_step_moves laws meaning old.entries (ike.Order (demand.DeleteChild asked) fresh) old.machine old.table s trace new.machine new.table serial sound is
+    ike_step_moves laws meaning old.entries (ike.Order (orders.DeleteChild asked) fresh) old.machine old.table s trace new.machine new.table serial sound is
 input_moves {C} laws meaning (input.DeleteIke asked fresh) old new s trace serial sound is =
-    ike_step_moves laws meaning old.entries (ike.Order (demand.DeleteIke asked) fresh) old.machine old.table s trace new.machine new.table serial sound is
+    ike_step_moves laws meaning old.entries (ike.Order (orders.DeleteIke asked) fresh) old.machine old.table s trace new.machine new.table serial sound is
 input_moves {C} laws meaning (input.Secret secret) old new s trace serial sound is =
     ike_step_moves laws meaning old.entries (ike.Secret secret) old.machine old.table s trace new.machine new.table serial sound is
 input_moves {C} laws meaning (input.Tick moment) old new s trace serial sound is =

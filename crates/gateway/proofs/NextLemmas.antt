@@ -14,10 +14,10 @@ use Rattle.ike.specs.declared.fault.IkeFault.{IkeFault}
 use Rattle.ike.specs.declared.output.IkeOutput.TheVariants as made
 use Rattle.ike.specs.declared.output.Stepped.{Stepped}
 use Rattle.ike.specs.declared.output.Trace.{Trace}
+use Rattle.gateway.specs.Inputs as input
 use Rattle.gateway.specs.Outputs.{view_of_ike, wants_memory, OutputView, Ticked}
 use Rattle.gateway.specs.States.{State}
 use Rattle.gateway.specs.Steps.{Steps, StepsIke}
-use Rattle.gateway.specs.declared.input.Input.TheVariants as input
 
 -- what is known of a machine before the next moment
 abbrev pub NothingBefore : Type 0

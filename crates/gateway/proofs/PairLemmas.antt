@@ -13,7 +13,7 @@ use Rattle.effects.specs.Taking.{Meaning}
 use Rattle.ike.specs.Machines.{keys_of_serial, Machine}
 use Rattle.ike.specs.Soundness.{IsSoundMachine}
 use Rattle.ike.specs.Steps as ike
-use Rattle.ike.specs.declared.asking.Demand.TheVariants as demand
+use Rattle.ike.specs.Orders as orders
 use Rattle.ike.specs.declared.output.IkeOutput.{IkeOutput}
 use Rattle.ike.specs.declared.output.IkeOutput.TheVariants as output
 use Rattle.ike.specs.declared.output.MadeChild.{MadeChild}
@@ -25,6 +25,8 @@ use Rattle.traffic.specs.Outcomes.{Outcome}
 use Rattle.traffic.specs.Outcomes as traffic
 use Rattle.traffic.specs.Receiving.{Receives}
 use Rattle.traffic.specs.Sending.{Sends}
+use Rattle.gateway.specs.Inputs.{Input}
+use Rattle.gateway.specs.Inputs as input
 use Rattle.gateway.specs.Outputs.{view_of_ike, view_of_outcome, OutputView, Refused, Repeat, Reply, Request, Sealed}
 use Rattle.gateway.specs.States.{State}
 use Rattle.gateway.specs.Steps.{DoesInput, SendsPacket, StepsIke}
@@ -34,13 +36,11 @@ use Rattle.gateway.specs.WorldPackets.{AccountsForPairs, HasStored, HoldsPairOf,
 use Rattle.gateway.specs.Worlds.{again_as, child_by, child_with, datagram_of, esp_mark, gateway_at, ike_mark, mark_by, mark_under, other_end, requests_in, sent_by, sent_once, simplex_of, storing, Stored, TakesEvent, WorldState}
 use Rattle.gateway.specs.declared.fault.Reason.{Reason}
 use Rattle.gateway.specs.declared.fault.Reason.TheVariants as reason
-use Rattle.gateway.specs.declared.input.Input.{Input}
-use Rattle.gateway.specs.declared.input.Input.TheVariants as input
 use Rattle.gateway.specs.declared.world.stored.Child.{Child}
 use Rattle.gateway.specs.declared.world.stored.Datagram.{Datagram}
 use Rattle.gateway.specs.declared.world.stored.End.{End}
 use Rattle.gateway.specs.declared.world.stored.End.TheVariants.{A, B}
-use Rattle.gateway.specs.declared.world.stored.Mark.TheVariants as mark
+use Rattle.gateway.specs.declared.world.stored.Protection.TheVariants as mark
 use Rattle.gateway.specs.declared.world.stored.Simplex.{Simplex}
 use Rattle.gateway.proofs.ChildLemmas.{child_there, gateway_here, gateway_there}
 use Rattle.gateway.proofs.DeliveryLemmas.{ike_windows, DeliveryFacts}
@@ -140,9 +140,9 @@ module _ (laws : PairLaws) where
       → IsSoundTable table → IsSoundMachine old table → DoesInput meaning entries given old table s trace new new_table → LeavesPairs table trace.child new_table
   step_pairs meaning entries (input.Ike from octets fresh) old table s trace new new_table st sm is = ike_pairs meaning entries (ike.Message from octets fresh) old table s trace new new_table st sm is
   step_pairs meaning entries (input.Start serial entry fresh) old table s trace new new_table st sm is = ike_pairs meaning entries (ike.Start serial entry fresh) old table s trace new new_table st sm is
-  step_pairs meaning entries (input.Probe serial fresh) old table s trace new new_table st sm is = ike_pairs meaning entries (ike.Order (demand.Probe serial) fresh) old table s trace new new_table st sm is
-  step_pairs meaning entries (input.DeleteChild serial fresh) old table s trace new new_table st sm is = ike_pairs meaning entries (ike.Order (demand.DeleteChild serial) fresh) old table s trace new new_table st sm is
-  step_pairs meaning entries (input.DeleteIke serial fresh) old table s trace new new_table st sm is = ike_pairs meaning entries (ike.Order (demand.DeleteIke serial) fresh) old table s trace new new_table st sm is
+  step_pairs meaning entries (input.Probe serial fresh) old table s trace new new_table st sm is = ike_pairs meaning entries (ike.Order (orders.Probe serial) fresh) old table s trace new new_table st sm is
+  step_pairs meaning entries (input.DeleteChild serial fresh) old table s trace new new_table st sm is = ike_pairs meaning entries (ike.Order (orders.DeleteChild serial) fresh) old table s trace new new_table st sm is
+  step_pairs meaning entries (input.DeleteIke serial fresh) old table s trace new new_table st sm is = ike_pairs meaning entries (ike.Order (orders.DeleteIke serial) fresh) old table s trace new new_table st sm is
   step_pairs meaning entries (input.Secret secret) old table s trace new new_table st sm is = ike_pairs meaning entries (ike.Secret secret) old table s trace new new_table st sm is
   step_pairs meaning entries (input.Tick moment) old table s trace new new_table st sm is = ike_pairs meaning entries (ike.Tick moment) old table s trace new new_table st sm is
   step_pairs meaning entries (input.Esp octets) old table s trace new new_table st sm is =
@@ -191,9 +191,9 @@ sealed_now : (meaning : Meaning) (entries : List Entry) (given : Input) (old : M
     → DoesInput meaning entries given old table s trace new new_table → s ≡ Sealed child number octets → SealedNow entries table child number octets new_table
 sealed_now meaning entries (input.Ike from datagram fresh) old table s trace new new_table child number octets is said = ike_not meaning entries (ike.Message from datagram fresh) old table s trace new new_table child number octets is said
 sealed_now meaning entries (input.Start serial entry fresh) old table s trace new new_table child number octets is said = ike_not meaning entries (ike.Start serial entry fresh) old table s trace new new_table child number octets is said
-sealed_now meaning entries (input.Probe serial fresh) old table s trace new new_table child number octets is said = ike_not meaning entries (ike.Order (demand.Probe serial) fresh) old table s trace new new_table child number octets is said
-sealed_now meaning entries (input.DeleteChild serial fresh) old table s trace new new_table child number octets is said = ike_not meaning entries (ike.Order (demand.DeleteChild serial) fresh) old table s trace new new_table child number octets is said
-sealed_now meaning entries (input.DeleteIke serial fresh) old table s trace new new_table child number octets is said = ike_not meaning entries (ike.Order (demand.DeleteIke serial) fresh) old table s trace new new_table child number octets is said
+sealed_now meaning entries (input.Probe serial fresh) old table s trace new new_table child number octets is said = ike_not meaning entries (ike.Order (orders.Probe serial) fresh) old table s trace new new_table child number octets is said
+sealed_now meaning entries (input.DeleteChild serial fresh) old table s trace new new_table child number octets is said = ike_not meaning entries (ike.Order (orders.DeleteChild serial) fresh) old table s trace new new_table child number octets is said
+sealed_now meaning entries (input.DeleteIke serial fresh) old table s trace new new_table child number octets is said = ike_not meaning entries (ike.Order (orders.DeleteIke serial) fresh) old table s trace new new_table child number octets is said
 sealed_now meaning entries (input.Secret secret) old table s trace new new_table child number octets is said = ike_not meaning entries (ike.Secret secret) old table s trace new new_table child number octets is said
 sealed_now meaning entries (input.Tick moment) old table s trace new new_table child number octets is said = ike_not meaning entries (ike.Tick moment) old table s trace new new_table child number octets is said
 sealed_now meaning entries (input.Esp packet) old table s trace new new_table child number octets is said =

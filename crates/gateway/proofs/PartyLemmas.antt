@@ -23,8 +23,8 @@ use Rattle.gateway.specs.declared.world.stored.Datagram.{Datagram}
 use Rattle.gateway.specs.declared.world.stored.End.{End}
 use Rattle.gateway.specs.declared.world.stored.End.TheVariants.{A, B}
 use Rattle.gateway.specs.declared.world.stored.Keyed.{Keyed}
-use Rattle.gateway.specs.declared.world.stored.Mark.{Mark}
-use Rattle.gateway.specs.declared.world.stored.Mark.TheVariants as mark
+use Rattle.gateway.specs.declared.world.stored.Protection.{Protection}
+use Rattle.gateway.specs.declared.world.stored.Protection.TheVariants as mark
 
 -- ---- lists
 
@@ -94,7 +94,7 @@ marked_is : (end : End) (keys : KeyRecord) (response : Bool) (number : ℕ) (oct
 marked_is end keys response number octets m there =
     ap (λ (x : Marked). as_stored end x.keys x.entry) (single (record { keys = keys; entry = record { response = response; number = number; octets = octets } }) m there)
 
-of_is : (end other : End) (by : Mark) (octets : Octets) (m : Marked) → Contains (only_at end other (marked_by by octets)) m → datagram_of other by octets ≡ as_stored end m.keys m.entry
+of_is : (end other : End) (by : Protection) (octets : Octets) (m : Marked) → Contains (only_at end other (marked_by by octets)) m → datagram_of other by octets ≡ as_stored end m.keys m.entry
 of_is A A mark.Plain octets m there = absurd (none_there m there)
 of_is A A (mark.Ike keys response number) octets m there = marked_is A keys response number octets m there
 of_is A A (mark.Esp by number) octets m there = absurd (none_there m there)
@@ -122,7 +122,7 @@ only_other : {X : Type 0} (end : End) (xs : List X) → only_at (other_end end) 
 only_other {X} A xs = refl
 only_other {X} B xs = refl
 
-others_datagram : (end : End) (by : Mark) (octets : Octets) → sent_at (other_end end) (datagram_of end by octets ∷ []) ≡ []
+others_datagram : (end : End) (by : Protection) (octets : Octets) → sent_at (other_end end) (datagram_of end by octets ∷ []) ≡ []
 others_datagram end by octets = ap (λ (xs : List Marked). xs ++ []) (only_other end (marked_by by octets))
 
 others_again : (end : End) (machine : Machine) (requests : List Resent) → sent_at (other_end end) (map (again_as end machine) requests) ≡ []

@@ -1,10 +1,10 @@
 -- Every run keeps what is promised of it.
 use Rattle.std.proofs.Common.{List}
 use Rattle.effects.specs.Taking.{Meaning}
+use Rattle.gateway.specs.Inputs.{Input}
 use Rattle.gateway.specs.Promises.{KeepsPromises}
 use Rattle.gateway.specs.Runs.{Runs, StepsAs}
 use Rattle.gateway.specs.States.{State}
-use Rattle.gateway.specs.declared.input.Input.{Input}
 use Rattle.gateway.specs.declared.output.Output.{Output}
 use Rattle.gateway.proofs.DeliveryLemmas.{packets_kept, DeliveryFacts}
 use Rattle.gateway.proofs.HistoryLemmas.{told}

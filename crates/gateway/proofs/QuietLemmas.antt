@@ -12,10 +12,10 @@ use Rattle.ike.specs.declared.output.IkeOutput.{IkeOutput}
 use Rattle.ike.specs.declared.output.IkeOutput.TheVariants as made
 use Rattle.ike.specs.declared.output.Stepped.{Stepped}
 use Rattle.ike.specs.declared.output.Trace.{Trace}
+use Rattle.gateway.specs.Inputs as input
 use Rattle.gateway.specs.Outputs.{view_of_ike, IsQuiet, OutputView}
 use Rattle.gateway.specs.States.{State}
 use Rattle.gateway.specs.Steps.{Steps, StepsIke}
-use Rattle.gateway.specs.declared.input.Input.TheVariants as input
 
 -- what ike says of its steps
 pub record Facts : Type 0 where

@@ -29,13 +29,13 @@ use Rattle.ike.specs.declared.output.IkeOutput.{IkeOutput}
 use Rattle.ike.specs.declared.output.IkeOutput.TheVariants as made
 use Rattle.ike.specs.declared.output.Stepped.{Stepped}
 use Rattle.gateway.specs.Histories.{IsPassage, IsTrail, Passage}
+use Rattle.gateway.specs.Inputs.{Input}
 use Rattle.gateway.specs.Outputs.{view_of_ike, wants_memory, Clear, Counted, Discarded, Done, Dropped, Dummy, IsQuiet, Refused, Repeat, Reply, Request, OutputView, Sealed, Ticked, Up}
 use Rattle.gateway.specs.Requests.{for_ike, AnswersBy, IsDatagram, IsFirstReply, IsInitial, IsNew, IsOverAt, IsReplied, KeepsHalfOpen, MakesHalfOpen, OnlySays, Opens, RepeatsAreAnswered, RepeatsInitial, RepeatsRequest, RequestsTakeEffect, TakesEffect, TakesOne, TookEffect}
 use Rattle.gateway.specs.States.{association_in, State}
 use Rattle.gateway.specs.Steps.{Steps}
 use Rattle.gateway.specs.declared.fault.Reason.{Reason}
 use Rattle.gateway.specs.declared.fault.Reason.TheVariants as reason
-use Rattle.gateway.specs.declared.input.Input.{Input}
 use Rattle.gateway.proofs.HistoryLemmas.{answered, at_place, elsewhere, exists, held_between, passage_way, refused, state_at, through, way_begun, Facts, IkeWay, IsAt, IsOfPacket, Through}
 
 -- ---- what is known of a step of the machine

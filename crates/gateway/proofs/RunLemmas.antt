@@ -1,13 +1,13 @@
 -- Runs over lists: one more step at the end, and runs in a row.
-use Rattle.std.proofs.Common.{◌≡◌, ◌+◌, ◌<◌, ◌++◌, ◌∷◌, [], ℕ, List, length, map, take, get_or, refl, sym, ap, ◌∙◌, subst, append_assoc}
+use Rattle.std.proofs.Common.{◌≡◌, ◌+◌, ◌<◌, ◌++◌, ◌∷◌, [], ℕ, List, length, map, take, drop, get_or, refl, sym, ap, ◌∙◌, subst, append_assoc, arith}
 use Rattle.std.specs.Prelude.{flat_map}
-use Rattle.std.proofs.lemmas.List.{map-append, take_more}
+use Rattle.std.proofs.lemmas.List.{drop-map, get_or-map, length-map, map-append, take-map, take_more}
 use Rattle.effects.specs.Taking.{Meaning}
 use Rattle.gateway.specs.Histories.{IsHistory, IsTrail, Passage}
+use Rattle.gateway.specs.Inputs.{Input}
 use Rattle.gateway.specs.Outputs.{output_view}
 use Rattle.gateway.specs.Runs.{CallsAs, Runs, StepsAs}
 use Rattle.gateway.specs.States.{State}
-use Rattle.gateway.specs.declared.input.Input.{Input}
 use Rattle.gateway.specs.declared.output.Output.{Output}
 
 pub run_more : {I O S : Type 0} (step : I → S → O → S → Type 0) (old : S) (is : List I) (os : List O) (mid : S) (i : I) (o : O) (new : S)
@@ -20,6 +20,20 @@ run_more {I} {O} {S} step old (x ∷ is) [] mid i o new run taken = absurd run
 -- the list so far has one more input
 pub take_next : {X : Type 0} (xs : List X) (k : ℕ) (x : X) → k < length xs → x ≡ get_or xs k x → take (k + 1) xs ≡ take k xs ++ x ∷ []
 take_next {X} xs k x h is = take_more xs k x h ∙ ap (λ (y : X). take k xs ++ y ∷ []) (sym is)
+
+-- the same of a list in its image; whatever an index past its end would give
+pub next_in_image : {X Y : Type 0} (f : X → Y) (xs : List X) (k : ℕ) (d : X) → k < length xs → f (get_or xs k d) ≡ get_or (map f xs) k (f (get_or xs k d))
+next_in_image {X} {Y} f xs k d h = sym (get_or-map f xs k d (f (get_or xs k d)) h)
+
+pub within_image : {X Y : Type 0} (f : X → Y) (xs : List X) (k : ℕ) → k < length xs → k < length (map f xs)
+within_image {X} {Y} f xs k h = omega (arith, length-map xs f)
+
+pub take_next_image : {X Y : Type 0} (f : X → Y) (xs : List X) (k : ℕ) (d : X) → k < length xs → take (k + 1) (map f xs) ≡ take k (map f xs) ++ f (get_or xs k d) ∷ []
+take_next_image {X} {Y} f xs k d h = take_next (map f xs) k (f (get_or xs k d)) (within_image f xs k h) (next_in_image f xs k d h)
+
+-- a part of a list in its image
+pub part_of_image : {X Y : Type 0} (f : X → Y) (xs : List X) (at size : ℕ) → map f (take size (drop at xs)) ≡ take size (drop at (map f xs))
+part_of_image {X} {Y} f xs at size = sym (take-map f size (drop at xs)) ∙ ap (λ (ys : List Y). take size ys) (sym (drop-map f at xs))
 
 -- one more output, behind those so far
 pub pushed_after : {X : Type 0} (start front mid after : List X) (x : X) → after ≡ mid ++ x ∷ [] → mid ≡ start ++ front → after ≡ start ++ (front ++ x ∷ [])

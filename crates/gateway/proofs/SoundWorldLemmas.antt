@@ -18,6 +18,7 @@ use Rattle.lockstep.specs.Ends.{Entry}
 use Rattle.lockstep.specs.Parties.{times, under, AreHeldUnder, AreSoundParties, Holds, IsGenuineTurn, IsNewParty, IsSoundParty, Marked, Parties, Party, TakesTurn, Turn}
 use Rattle.lockstep.specs.Soundness.{IsInitial}
 use Rattle.lockstep.specs.Promises.{AreInStep, AreIssuedAndInEffect, AreWithinWindows}
+use Rattle.gateway.specs.Inputs.{Event}
 use Rattle.gateway.specs.Outputs.{output_view, OutputView}
 use Rattle.gateway.specs.Runs.{Runs}
 use Rattle.gateway.specs.States.{State}
@@ -30,9 +31,8 @@ use Rattle.gateway.specs.declared.output.Output.{Output}
 use Rattle.gateway.specs.declared.world.stored.Datagram.{Datagram}
 use Rattle.gateway.specs.declared.world.stored.End.{End}
 use Rattle.gateway.specs.declared.world.stored.End.TheVariants.{A, B}
-use Rattle.gateway.specs.declared.world.stored.Event.{Event}
 use Rattle.gateway.specs.declared.world.stored.Keyed.{Keyed}
-use Rattle.gateway.specs.declared.world.stored.Mark.TheVariants as mark
+use Rattle.gateway.specs.declared.world.stored.Protection.TheVariants as mark
 use Rattle.gateway.proofs.PartyLemmas.{ledger_there, made_appended, marked, others_made, others_sent, sent_appended, sent_there, there_sent}
 use Rattle.gateway.proofs.RunLemmas.{runs_joined}
 use Rattle.gateway.proofs.MoveLemmas.{TurnLaws}

@@ -14,7 +14,7 @@ use Rattle.ike.specs.Machines.{keys_of_serial, Held, Machine}
 use Rattle.ike.specs.Outputs.{no_trace}
 use Rattle.ike.specs.Soundness.{IsSoundMachine}
 use Rattle.ike.specs.Steps as ike
-use Rattle.ike.specs.declared.asking.Demand.TheVariants as demand
+use Rattle.ike.specs.Orders as orders
 use Rattle.ike.specs.Tracing.{HoldsKeys, IsTraced}
 use Rattle.ike.specs.declared.output.IkeOutput.{IkeOutput}
 use Rattle.ike.specs.declared.output.IkeOutput.TheVariants as made
@@ -22,6 +22,8 @@ use Rattle.ike.specs.declared.output.MadeChild.{MadeChild}
 use Rattle.ike.specs.declared.output.Mark.{Mark}
 use Rattle.ike.specs.declared.output.Stepped.{Stepped}
 use Rattle.ike.specs.declared.output.Trace.{Trace}
+use Rattle.gateway.specs.Inputs.{Input}
+use Rattle.gateway.specs.Inputs as input
 use Rattle.gateway.specs.Outputs.{view_of_ike, Refused, OutputView, Ticked}
 use Rattle.gateway.specs.Requests.{for_ike}
 use Rattle.gateway.specs.States.{State}
@@ -29,8 +31,6 @@ use Rattle.gateway.specs.Steps.{DoesInput, StepsIke, Traces}
 use Rattle.gateway.specs.Worlds.{child_by, child_with, ike_mark, keyed_by, keyed_with, mark_again, mark_under, IsMarked}
 use Rattle.gateway.specs.declared.fault.Reason.{Reason}
 use Rattle.gateway.specs.declared.fault.Reason.TheVariants as reason
-use Rattle.gateway.specs.declared.input.Input.{Input}
-use Rattle.gateway.specs.declared.input.Input.TheVariants as input
 use Rattle.gateway.specs.declared.world.stored.End.{End}
 use Rattle.gateway.proofs.HistoryLemmas.{answered, does_way, elsewhere, refused, IkeWay, IsOfPacket}
 
@@ -79,9 +79,9 @@ input_tells : TraceLaw → (meaning : Meaning) (entries : List Entry) (given : I
     → IsSoundTable table → IsSoundMachine old table → DoesInput meaning entries given old table s trace new new_table → TellsHeld trace new.held new_table
 input_tells law meaning entries (input.Ike from octets fresh) old table s trace new new_table st sm is = ike_tells law meaning entries (ike.Message from octets fresh) old table s trace new new_table st sm is
 input_tells law meaning entries (input.Start serial entry fresh) old table s trace new new_table st sm is = ike_tells law meaning entries (ike.Start serial entry fresh) old table s trace new new_table st sm is
-input_tells law meaning entries (input.Probe serial fresh) old table s trace new new_table st sm is = ike_tells law meaning entries (ike.Order (demand.Probe serial) fresh) old table s trace new new_table st sm is
-input_tells law meaning entries (input.DeleteChild serial fresh) old table s trace new new_table st sm is = ike_tells law meaning entries (ike.Order (demand.DeleteChild serial) fresh) old table s trace new new_table st sm is
-input_tells law meaning entries (input.DeleteIke serial fresh) old table s trace new new_table st sm is = ike_tells law meaning entries (ike.Order (demand.DeleteIke serial) fresh) old table s trace new new_table st sm is
+input_tells law meaning entries (input.Probe serial fresh) old table s trace new new_table st sm is = ike_tells law meaning entries (ike.Order (orders.Probe serial) fresh) old table s trace new new_table st sm is
+input_tells law meaning entries (input.DeleteChild serial fresh) old table s trace new new_table st sm is = ike_tells law meaning entries (ike.Order (orders.DeleteChild serial) fresh) old table s trace new new_table st sm is
+input_tells law meaning entries (input.DeleteIke serial fresh) old table s trace new new_table st sm is = ike_tells law meaning entries (ike.Order (orders.DeleteIke serial) fresh) old table s trace new new_table st sm is
 input_tells law meaning entries (input.Secret secret) old table s trace new new_table st sm is = ike_tells law meaning entries (ike.Secret secret) old table s trace new new_table st sm is
 input_tells law meaning entries (input.Tick moment) old table s trace new new_table st sm is = ike_tells law meaning entries (ike.Tick moment) old table s trace new new_table st sm is
 input_tells law meaning entries (input.Esp octets) old table s trace new new_table st sm is = nothing_told trace new.held new_table is.0.traced

@@ -23,17 +23,17 @@ use Rattle.ike.specs.declared.output.Mark as marks
 use Rattle.ike.specs.declared.output.Trace.{Trace}
 use Rattle.lockstep.specs.Ends.{request_of, sent_in, Entry, GoesOutAgain}
 use Rattle.lockstep.specs.Parties.{Holds, IsGenuineTurn, IsSentNow, Party, TakesTurn, Turn}
+use Rattle.gateway.specs.Inputs.{Input}
 use Rattle.gateway.specs.Outputs.{OutputView, Repeat, Reply, Request, Sealed, Ticked}
 use Rattle.gateway.specs.Requests.{for_ike, IsDatagram}
 use Rattle.gateway.specs.States.{State}
 use Rattle.gateway.specs.Steps.{Traces}
 use Rattle.gateway.specs.WorldParties.{made_at, sent_at}
 use Rattle.gateway.specs.Worlds.{again_as, datagram_of, esp_mark, ike_mark, keyed_by, mark_by, mark_under, requests_in, sent_by, sent_once, storing, Stored}
-use Rattle.gateway.specs.declared.input.Input.{Input}
 use Rattle.gateway.specs.declared.world.stored.Datagram.{Datagram}
 use Rattle.gateway.specs.declared.world.stored.End.{End}
-use Rattle.gateway.specs.declared.world.stored.Mark.{Mark}
-use Rattle.gateway.specs.declared.world.stored.Mark.TheVariants as mark
+use Rattle.gateway.specs.declared.world.stored.Protection.{Protection}
+use Rattle.gateway.specs.declared.world.stored.Protection.TheVariants as mark
 use Rattle.gateway.proofs.HistoryLemmas.{does_way, IkeWay}
 use Rattle.gateway.proofs.PartyLemmas.{as_stored, at_head, coming_by, coming_with, from_map, has_ledger, ledger_keys, ledger_there, made_appended, marked, none_some, none_there, own_made, sent_appended, sent_there, single, some_is, there_sent}
 use Rattle.gateway.proofs.ToldLemmas.{again_held, keys_found, step_tells, TellsHeld}
@@ -49,7 +49,7 @@ pub record IsUnder (machine : Machine) (sent : Option marks.Mark) (keys : KeyRec
   pub is_response : mark.response ≡ response
   pub number_is : mark.number ≡ number
 
-no_mark : (by : Mark) (keys : KeyRecord) (response : Bool) (number : ℕ) → mark.Plain ≡ mark.Ike keys response number → ⊥
+no_mark : (by : Protection) (keys : KeyRecord) (response : Bool) (number : ℕ) → mark.Plain ≡ mark.Ike keys response number → ⊥
 no_mark by keys response number is = cc
 
 under_by : (machine : Machine) (m : marks.Mark) (o : Option KeyRecord) (keys : KeyRecord) (response : Bool) (number : ℕ) → keys_of_serial m.ike machine.held.associations ≡ o
@@ -68,7 +68,7 @@ pub record IsSaid (s : OutputView) (sent : Option marks.Mark) (machine : Machine
   pub octets : said_octets s ≡ Some entry.octets
   pub under : ike_mark machine sent ≡ mark.Ike keys entry.response entry.number
 
-same_datagram : (end : End) (by : Mark) (octets : Octets) (keys : KeyRecord) (entry : Entry) → Contains (datagram_of end by octets ∷ []) (as_stored end keys entry)
+same_datagram : (end : End) (by : Protection) (octets : Octets) (keys : KeyRecord) (entry : Entry) → Contains (datagram_of end by octets ∷ []) (as_stored end keys entry)
     → (octets ≡ entry.octets) × (by ≡ mark.Ike keys entry.response entry.number)
 same_datagram end by octets keys entry there =
     let same = single (datagram_of end by octets) (as_stored end keys entry) there in
@@ -276,7 +276,7 @@ module _ {C : Type 0} (laws : TurnLaws) (meaning : Meaning) (given : Input) (end
       ∙ ap (λ (k : Option KeyRecord). mark_under (record { ike = serial; response = entry.response; number = entry.number }) k) (ledger_keys new.machine.held serial is there) in
       there_sent end (sent_by end s trace.sent new) is.keys entry
       (Contains-append_left (sent_once end s trace.sent new) (map (again_as end new.machine) (requests_in s)) (as_stored end is.keys entry)
-      (subst (λ (m : Mark). Contains (sent_once end s trace.sent new) (datagram_of end m entry.octets)) by (is_once end s trace.sent new entry.octets out.octets)))
+      (subst (λ (m : Protection). Contains (sent_once end s trace.sent new) (datagram_of end m entry.octets)) by (is_once end s trace.sent new entry.octets out.octets)))
 
   takes_turn : TakesTurn turn_of before after
   takes_turn = record {

@@ -41,8 +41,8 @@ use Rattle.auth.specs.Answers.{auth_answer}
 use Rattle.auth.specs.Proofs.{proving_of, ProvingView}
 use Rattle.auth.specs.Requests.{auth_request}
 use Rattle.auth.specs.Windows.{peer_window, window_notices, IsWindow}
-use Rattle.auth.specs.declared.child.ChildAnswer.{ChildAnswer}
-use Rattle.auth.specs.declared.child.ChildAnswer.TheVariants as child
+use Rattle.exchange.specs.declared.child.ChildAnswer.{ChildAnswer}
+use Rattle.exchange.specs.declared.child.ChildAnswer.TheVariants as child
 use Rattle.base.specs.declared.selector.Selector.{Selector}
 use Rattle.create_child.specs.Asking.{wanted}
 use Rattle.deletions.specs.Answering.{deletion_if_any, payloads_of_verdict}
@@ -51,7 +51,7 @@ use Rattle.deletions.specs.declared.deciding.Verdict.{Verdict}
 use Rattle.deletions.specs.declared.deciding.Verdict.TheVariants as verdict
 use Rattle.further.specs.Answering.{answer_to_further, further_answer}
 use Rattle.further.specs.Payloads.{further_payloads}
-use Rattle.informational.specs.Asking.{request_message}
+use Rattle.association.specs.Sending.{request_message, reply_message}
 use Rattle.informational.specs.Ordering.{payloads_of_order}
 use Rattle.informational.specs.declared.ordering.Order.{Order}
 use Rattle.informational.specs.declared.ordering.Order.TheVariants as asked
@@ -59,11 +59,11 @@ use Rattle.auth.specs.declared.identity.Identity.{Identity}
 use Rattle.children.specs.Asking.{child_request}
 use Rattle.exchange.specs.declared.child.ChildPayloads.{ChildPayloads}
 use Rattle.exchange.specs.declared.headers.Role.TheVariants.{Initiator}
-use Rattle.initial.specs.Answering.{child_answer, reply_message, reply_payloads}
-use Rattle.initial.specs.Configs.{Setup}
+use Rattle.initial.specs.Answering.{child_answer, reply_payloads}
+use Rattle.setup.specs.Configs.{Setup}
 use Rattle.initial.specs.Deciding.{own_proving}
 use Rattle.initial.specs.Reading.{identity_message, Continues}
-use Rattle.initial.specs.declared.answering.Answered as answering
+use Rattle.association.specs.declared.outcome.Answered as answering
 use Rattle.initial.specs.declared.deciding.Decision.{Decision}
 use Rattle.initial.specs.declared.deciding.Decision.TheVariants as decision
 use Rattle.initial.specs.declared.reading.Continued.{Continued}
@@ -77,8 +77,8 @@ use Rattle.ike.specs.Outputs.{closed_serial, octets_in, passed_over, plain_step,
 use Rattle.ike.specs.Receiving.{is_answered, is_initial_request, is_sound_initial, DoesJudgement, TakesDatagram, TakesFound, TakesRead, TakesRequestAt, TakesSound}
 use Rattle.ike.specs.Soundness.{AreSound, IsSoundMachine}
 use Rattle.ike.specs.Steps as ike
-use Rattle.ike.specs.declared.asking.Demand.{Demand}
-use Rattle.ike.specs.declared.asking.Demand.TheVariants as demand
+use Rattle.ike.specs.Orders.{OrderView}
+use Rattle.ike.specs.Orders as orders
 use Rattle.ike.specs.declared.fault.IkeFault.TheVariants as fault
 use Rattle.ike.specs.declared.output.IkeOutput.{IkeOutput}
 use Rattle.ike.specs.declared.output.IkeOutput.TheVariants as output
@@ -241,11 +241,11 @@ that_seals body_of setup serial order old table stepped new new_table m octets w
     order_seals body_of setup serial old stepped new m octets is.asks is.ordered.keys is.ordered.established INFORMATIONAL (payloads_of_order order) is.ordered.sealed
     (one_within (payloads_of_order order) setup.config.window window (order_tells order)) named said
 
-demand_seals : (body_of : Keys → Octets → Octets → Octets → Octets) (setup : Setup) (what : Demand) (old : Held) (table : Database) (stepped : Stepped) (new : Held) (new_table : Database) (m : marks.Mark) (octets : Octets)
+ordered_seals : (body_of : Keys → Octets → Octets → Octets → Octets) (setup : Setup) (what : OrderView) (old : Held) (table : Database) (stepped : Stepped) (new : Held) (new_table : Database) (m : marks.Mark) (octets : Octets)
     → IsWindow setup.config.window → AsksFor body_of setup what old table stepped new new_table → stepped.trace.sent ≡ Some m → octets_in stepped.output ≡ Some octets → SealsNow body_of old new setup.config.window setup.fresh m octets
-demand_seals body_of setup (demand.Probe serial) old table stepped new new_table m octets window is named said = that_seals body_of setup serial _ old table stepped new new_table m octets window is named said
-demand_seals body_of setup (demand.DeleteChild child) old table stepped new new_table m octets window is named said = that_seals body_of setup is.pair.ike _ old table stepped new new_table m octets window is.asks named said
-demand_seals body_of setup (demand.DeleteIke serial) old table stepped new new_table m octets window is named said = that_seals body_of setup serial _ old table stepped new new_table m octets window is named said
+ordered_seals body_of setup (orders.Probe serial) old table stepped new new_table m octets window is named said = that_seals body_of setup serial _ old table stepped new new_table m octets window is named said
+ordered_seals body_of setup (orders.DeleteChild child) old table stepped new new_table m octets window is named said = that_seals body_of setup is.pair.ike _ old table stepped new new_table m octets window is.asks named said
+ordered_seals body_of setup (orders.DeleteIke serial) old table stepped new new_table m octets window is named said = that_seals body_of setup serial _ old table stepped new new_table m octets window is named said
 
 further_seals : (body_of : Keys → Octets → Octets → Octets → Octets) (setup : Setup) (serial : ℕ) (local remote : Selector) (old : Held) (table : Database) (stepped : Stepped) (new : Held) (new_table : Database) (m : marks.Mark) (octets : Octets)
     → IsWindow setup.config.window → AsksFurther body_of setup serial local remote old table stepped new new_table → stepped.trace.sent ≡ Some m → octets_in stepped.output ≡ Some octets
@@ -475,7 +475,7 @@ step_goes laws meaning entries (ike.Start None place fresh) old table stepped ne
 step_goes laws meaning entries (ike.Start (Some serial) place fresh) old table stepped new new_table sound steps mark sent named said =
     (fresh, refl, inr (further_seals meaning.body_of (setup_at old entries fresh) serial _ _ old.held table stepped new.held new_table mark sent sound.config.window steps.1.asks named said))
 step_goes laws meaning entries (ike.Order what fresh) old table stepped new new_table sound steps mark sent named said =
-    (fresh, refl, inr (demand_seals meaning.body_of (setup_at old entries fresh) what old.held table stepped new.held new_table mark sent sound.config.window steps.1 named said))
+    (fresh, refl, inr (ordered_seals meaning.body_of (setup_at old entries fresh) what old.held table stepped new.held new_table mark sent sound.config.window steps.1 named said))
 step_goes laws meaning entries (ike.Secret secret) old table stepped new new_table sound steps mark sent named said =
     absurd (none_some mark (sym (ap (λ (x : Stepped). x.trace.sent) steps.said) ∙ named))
 step_goes laws meaning entries (ike.Tick moment) old table stepped new new_table sound steps mark sent named said =

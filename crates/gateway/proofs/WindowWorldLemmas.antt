@@ -21,7 +21,7 @@ use Rattle.association.specs.Phases.{keys_in}
 use Rattle.association.specs.Receiving.{Opening}
 use Rattle.association.specs.declared.phase.Association.{Association}
 use Rattle.auth.specs.Windows.{peer_window}
-use Rattle.initial.specs.Configs.{Setup}
+use Rattle.setup.specs.Configs.{Setup}
 use Rattle.effects.specs.Moves.{first_ledger, ledger_of, Close, Count, Issue, KeepsReply, Lead, Ledger, Make, Move, Moves, Remove, TakeEffect, WaitsWith}
 use Rattle.effects.specs.Requests.{IsSoundlyHeld, KeepsPeersWindow}
 use Rattle.effects.specs.Taking.{Meaning, TakesMessage}
@@ -50,7 +50,7 @@ use Rattle.gateway.specs.Worlds.{again_as, datagram_of, gateway_at, other_end, r
 use Rattle.gateway.specs.declared.world.stored.Datagram.{Datagram}
 use Rattle.gateway.specs.declared.world.stored.End.{End}
 use Rattle.gateway.specs.declared.world.stored.End.TheVariants.{A, B}
-use Rattle.gateway.specs.declared.world.stored.Mark.TheVariants as mark
+use Rattle.gateway.specs.declared.world.stored.Protection.TheVariants as mark
 use Rattle.gateway.proofs.AskedLemmas.{sound_at}
 use Rattle.gateway.proofs.ChildLemmas.{brought, gateway_here, gateway_there, keys_at, opened_with, way_of, Answered, Brought, ChildLaws, ShareCipher}
 use Rattle.gateway.proofs.HistoryLemmas.{does_way}

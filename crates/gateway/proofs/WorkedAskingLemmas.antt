@@ -17,8 +17,8 @@ use Rattle.association.specs.Receiving as receiving
 use Rattle.association.specs.Receiving.{reception_by}
 use Rattle.association.specs.Purposes.{spi_asked}
 use Rattle.association.specs.declared.phase.Request.{Request}
-use Rattle.initial.specs.Configs.{Setup}
-use Rattle.initial.specs.declared.ending.Ended.{Ended}
+use Rattle.setup.specs.Configs.{Setup}
+use Rattle.association.specs.declared.outcome.Ended.{Ended}
 use Rattle.moments.specs.Held.{IsInTime}
 use Rattle.effects.specs.Keeping.{IsShort}
 use Rattle.effects.specs.Lengths.{AreWholeKeys}

@@ -6,8 +6,8 @@ use Rattle.std.specs.Prelude.{slice_get}
 use Rattle.effects.specs.Taking.{Meaning}
 use Rattle.esp.specs.Worked.{repeated_sent, worked_payload}
 use Rattle.esp.specs.declared.fault.EspFault.TheVariants.{Replayed}
-use Rattle.initial.specs.Configs.{IsConfig}
-use Rattle.initial.specs.declared.config.Config.{Config}
+use Rattle.setup.specs.Configs.{IsConfig}
+use Rattle.setup.specs.declared.config.Config.{Config}
 use Rattle.policy.specs.Packets.{IsInnerRefusal, IsIpv4Packet, IsIpv6Packet}
 use Rattle.policy.specs.declared.fault.InnerFault.TheVariants.{BadInner}
 use Rattle.sadb.specs.Database.{Database, IsSoundTable}

@@ -25,9 +25,9 @@ use Rattle.association.specs.Closing.{HoldsSpi}
 use Rattle.association.specs.Receiving as receiving
 use Rattle.association.specs.declared.phase.Association.{Association}
 use Rattle.association.specs.declared.phase.Request.{Request}
-use Rattle.initial.specs.Configs.{IsConfig, Setup}
-use Rattle.initial.specs.declared.answering.Answered.{Answered}
-use Rattle.initial.specs.declared.config.Config.{Config}
+use Rattle.setup.specs.Configs.{IsConfig, Setup}
+use Rattle.association.specs.declared.outcome.Answered.{Answered}
+use Rattle.setup.specs.declared.config.Config.{Config}
 use Rattle.moments.specs.Held.{IsInTime}
 use Rattle.effects.specs.Keeping.{IsShort}
 use Rattle.effects.specs.Lengths.{AreWholeKeys}

@@ -15,8 +15,8 @@ use Rattle.exchange.specs.declared.headers.Role.TheVariants.{Initiator, Responde
 use Rattle.requests.specs.Numbers.{HasNumber, LacksNumber}
 use Rattle.association.specs.declared.phase.Association.{Association}
 use Rattle.association.specs.declared.phase.Request.{Request}
-use Rattle.initial.specs.Configs.{IsConfig}
-use Rattle.initial.specs.declared.config.Config.{Config}
+use Rattle.setup.specs.Configs.{IsConfig}
+use Rattle.setup.specs.declared.config.Config.{Config}
 use Rattle.effects.specs.Moves.{ledger_of, Ledger}
 use Rattle.effects.specs.Openings.{OpensAsMessage}
 use Rattle.effects.specs.declared.taking.Effect.TheVariants as effect
@@ -37,7 +37,7 @@ use Rattle.gateway.specs.Worlds.{datagram_of, other_end, TakesEvent, WorldState}
 use Rattle.gateway.specs.declared.world.stored.Datagram.{Datagram}
 use Rattle.gateway.specs.declared.world.stored.End.{End}
 use Rattle.gateway.specs.declared.world.stored.End.TheVariants.{A, B}
-use Rattle.gateway.specs.declared.world.stored.Mark.TheVariants as mark
+use Rattle.gateway.specs.declared.world.stored.Protection.TheVariants as mark
 use Rattle.gateway.proofs.PartyLemmas.{as_stored, at_head, at_head_or_further, further_on, has_ledger, sent_there, single, some_is, there_sent}
 use Rattle.gateway.proofs.SoundWorldLemmas.{PartyLaws}
 use Rattle.gateway.proofs.WorkedRequestLemmas.{answer_spelled, answered, asked, asked_spelled, can_be, fine_before, first_traces, first_two, gap_of, lacks_if_not, no_reply, reply_said, sound_state, sound_state_of}

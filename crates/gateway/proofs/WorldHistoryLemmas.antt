@@ -3,17 +3,16 @@ use Rattle.std.proofs.Common.{◌≡◌, ◌∷◌, [], List, map, refl, sym, ap
 use Rattle.effects.specs.Taking.{Meaning}
 use Rattle.ike.specs.declared.output.Trace.{Trace}
 use Rattle.gateway.specs.Histories.{IsHistory, IsTrail, Passage}
+use Rattle.gateway.specs.Inputs.{Event, Input}
 use Rattle.gateway.specs.Outputs.{output_view, OutputView}
 use Rattle.gateway.specs.States.{IsSoundState, State}
 use Rattle.gateway.specs.Steps.{Traces}
 use Rattle.gateway.specs.WorldHistories.{passage_at, passages_at, Happening, IsWorldHistory, IsWorldTrail}
 use Rattle.gateway.specs.WorldRuns.{inputs_at, outputs_at}
 use Rattle.gateway.specs.Worlds.{gateway_at, if_at, with_gateway, Stored, WorldState}
-use Rattle.gateway.specs.declared.input.Input.{Input}
 use Rattle.gateway.specs.declared.output.Output.{Output}
 use Rattle.gateway.specs.declared.world.stored.End.{End}
 use Rattle.gateway.specs.declared.world.stored.End.TheVariants.{A, B}
-use Rattle.gateway.specs.declared.world.stored.Event.{Event}
 
 mapped_front : {X Y : Type 0} (f : X → Y) (end place : End) (x : X) (xs : List X) → map f (if_at end place x xs) ≡ if_at end place (f x) (map f xs)
 mapped_front {X} {Y} f A A x xs = refl

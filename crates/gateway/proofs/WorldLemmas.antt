@@ -3,6 +3,7 @@ use Rattle.std.proofs.Common.{◌≡◌, ◌++◌, ◌∷◌, [], ℕ, List, tak
 use Rattle.std.proofs.lemmas.List.{append-nil}
 use Rattle.effects.specs.Taking.{Meaning}
 use Rattle.ike.specs.declared.output.Trace.{Trace}
+use Rattle.gateway.specs.Inputs.{Event, Input}
 use Rattle.gateway.specs.Outputs.{output_view, OutputView}
 use Rattle.gateway.specs.Promises.{KeepsPromises}
 use Rattle.gateway.specs.Requests.{for_ike}
@@ -13,11 +14,9 @@ use Rattle.gateway.specs.Storing.{TakesAt}
 use Rattle.gateway.specs.WorldPromises.{KeepsWorldPromises}
 use Rattle.gateway.specs.WorldRuns.{inputs_at, outputs_at, HappensAs, IsLater, PlaysFirst}
 use Rattle.gateway.specs.Worlds.{gateway_at, if_at, storing, with_gateway, IsFreshlyGiven, Stored, TakesEvent, WorldState}
-use Rattle.gateway.specs.declared.input.Input.{Input}
 use Rattle.gateway.specs.declared.output.Output.{Output}
 use Rattle.gateway.specs.declared.world.stored.End.{End}
 use Rattle.gateway.specs.declared.world.stored.End.TheVariants.{A, B}
-use Rattle.gateway.specs.declared.world.stored.Event.{Event}
 use Rattle.gateway.proofs.WorldHistoryLemmas.{history_at}
 
 -- an event in front of a run: a step of this end, or none

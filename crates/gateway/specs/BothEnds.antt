@@ -6,6 +6,7 @@ use Rattle.suite.specs.declared.key_record.KeyRecord.{KeyRecord}
 use Rattle.suite.specs.declared.keys.Keys.{Keys}
 use Rattle.association.specs.Receiving.{Opening}
 use Rattle.effects.specs.Taking.{Meaning}
+use Rattle.gateway.specs.Inputs.{Event}
 use Rattle.gateway.specs.Outputs.{Up}
 use Rattle.gateway.specs.WorldChildren.{AccountsForChildren, ChildrenMirror}
 use Rattle.gateway.specs.WorldHistories.{Happening, IsWorldHistory}
@@ -16,7 +17,6 @@ use Rattle.gateway.specs.WorldWindows.{AccountsForWindows, WindowsFit}
 use Rattle.gateway.specs.Worlds.{WorldState}
 use Rattle.gateway.specs.declared.output.Output.{Output}
 use Rattle.gateway.specs.declared.world.stored.Child.{Child}
-use Rattle.gateway.specs.declared.world.stored.Event.{Event}
 
 -- A world that is sound under a key record, and accounts for its windows and its children under it and for its pairs, as a new one does.
 pub record IsWhollySound {C : Type 0} (body_of : Keys → Octets → Octets → Octets → Octets) (plain_of : Opening) (keys : KeyRecord) (w : WorldState C) : Type 0 where

@@ -2,10 +2,9 @@
 use Rattle.std.specs.Prelude.{◌≡◌, ◌++◌, ◌≤◌, ℕ, List, [], Option, Some, None, length, take, slice_get}
 use Rattle.base.specs.Octets.{Octets}
 use Rattle.effects.specs.Taking.{Meaning}
+use Rattle.gateway.specs.Inputs.{Input, Ike, Esp, Outward, Inward, Start, Probe, DeleteChild, DeleteIke, Secret, Tick}
 use Rattle.gateway.specs.Runs.{Runs, StepsAs}
 use Rattle.gateway.specs.States.{State}
-use Rattle.gateway.specs.declared.input.Input.{Input}
-use Rattle.gateway.specs.declared.input.Input.TheVariants.{Ike, Esp, Outward, Inward, Start, Probe, DeleteChild, DeleteIke, Secret, Tick}
 use Rattle.gateway.specs.declared.output.Output.{Output}
 
 -- the ESP packet that comes, none where the input is another

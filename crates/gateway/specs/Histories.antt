@@ -1,10 +1,10 @@
 -- A run as the list of its steps.
 use Rattle.std.specs.Prelude.{◌≡◌, List, [], ◌∷◌, map}
 use Rattle.effects.specs.Taking.{Meaning}
+use Rattle.gateway.specs.Inputs.{Input}
 use Rattle.gateway.specs.Outputs.{output_view, OutputView}
 use Rattle.gateway.specs.States.{IsSoundState, State}
 use Rattle.gateway.specs.Steps.{Steps}
-use Rattle.gateway.specs.declared.input.Input.{Input}
 use Rattle.gateway.specs.declared.output.Output.{Output}
 
 -- the gateway before a step, its input, what came of it, and the gateway after

@@ -1,5 +1,6 @@
 -- What goes out of a step, what it makes, and what its trace tells.
-use Rattle.std.specs.Prelude.{◌≡◌, false, true, ℕ, Contains, IsSome, List, Some}
+use Rattle.std.specs.Prelude.{◌≡◌, ◌+◌, ◌≤◌, false, true, ℕ, Contains, IsSome, List, Some, length, take, drop}
+use Rattle.base.specs.Octets.{Octets}
 use Rattle.sadb.specs.Database.{IsSoundTable}
 use Rattle.moments.specs.declared.resent.Resent.{Resent}
 use Rattle.effects.specs.Taking.{Meaning}
@@ -7,13 +8,19 @@ use Rattle.ike.specs.Soundness.{IsSoundMachine}
 use Rattle.ike.specs.declared.output.MadeChild.{MadeChild}
 use Rattle.ike.specs.declared.output.Mark as ike
 use Rattle.ike.specs.declared.output.Trace.{Trace}
-use Rattle.gateway.specs.Outputs.{FewAgain, FitsChild, FitsDatagram, OutputView, Ticked}
+use Rattle.gateway.specs.Groups.{packet_in}
+use Rattle.gateway.specs.Inputs.{Input}
+use Rattle.gateway.specs.Outputs.{FewAgain, FitsChild, FitsDatagram, OutputView, Ticked, Up}
 use Rattle.gateway.specs.States.{State}
-use Rattle.gateway.specs.Steps.{Traces}
+use Rattle.gateway.specs.Steps.{Steps, Traces}
 use Rattle.gateway.specs.Storing.{again_by}
 use Rattle.gateway.specs.Worlds.{child_by, ike_mark, keyed_by, mark_again, IsMarked}
-use Rattle.gateway.specs.declared.input.Input.{Input}
 use Rattle.gateway.specs.declared.world.stored.End.{End}
+
+-- the packet is a part of an ESP packet, and begins behind its SPI and its sequence number, four octets each (RFC 4303 section 2)
+pub record IsPartBehindHead (came packet : Octets) : Type 0 where
+  pub part : packet ≡ take (length packet) (drop 8 came)
+  pub within : 8 + length packet ≤ length came
 
 -- of whatever type the caller is
 module _ (C : Type 0) where
@@ -29,6 +36,12 @@ module _ (C : Type 0) where
   FewGoOutAgain = (meaning : Meaning) (given : Input) (said : OutputView) (trace : Trace) (old new : State C)
       → Traces meaning given old said trace new
       → FewAgain said (again_by given old.machine)
+
+  -- ---- what_goes_up_is_part_of_what_came
+  abbrev pub WhatGoesUpIsPartOfWhatCame : Type 0
+  WhatGoesUpIsPartOfWhatCame = (meaning : Meaning) (given : Input) (child number : ℕ) (packet : Octets) (old new : State C)
+      → Steps meaning given old (Up child number packet) new
+      → IsPartBehindHead (packet_in given) packet
 
   -- ---- what_is_made_fits
   abbrev pub WhatIsMadeFits : Type 0

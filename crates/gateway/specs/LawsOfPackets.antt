@@ -9,11 +9,11 @@ use Rattle.effects.specs.Taking.{Meaning}
 use Rattle.traffic.specs.Receiving.{TakesOneNumber}
 use Rattle.traffic.specs.Sending.{IsDecided}
 use Rattle.gateway.specs.Faults.{is_after_judging_packet}
+use Rattle.gateway.specs.Inputs as input
 use Rattle.gateway.specs.Outputs.{Clear, Dropped, OutputView}
 use Rattle.gateway.specs.States.{State}
 use Rattle.gateway.specs.Steps.{GoesSealed, Steps}
 use Rattle.gateway.specs.declared.fault.Reason.{Reason}
-use Rattle.gateway.specs.declared.input.Input.TheVariants as input
 
 -- of whatever type the caller is
 module _ (C : Type 0) where

@@ -2,16 +2,16 @@
 use Rattle.std.specs.Prelude.{◌++◌, flat_map, List}
 use Rattle.base.specs.Octets.{Octets}
 use Rattle.suite.specs.declared.fresh.Fresh.{Fresh}
-use Rattle.initial.specs.Configs.{IsConfig}
-use Rattle.initial.specs.declared.config.Config.{Config}
+use Rattle.setup.specs.Configs.{IsConfig}
+use Rattle.setup.specs.declared.config.Config.{Config}
 use Rattle.effects.specs.Taking.{Meaning}
 use Rattle.gateway.specs.Histories.{IsHistory, Passage}
+use Rattle.gateway.specs.Inputs.{Input}
 use Rattle.gateway.specs.Promises.{KeepsPromises}
 use Rattle.gateway.specs.Runs.{CallsAs, Runs, StepsAs}
 use Rattle.gateway.specs.States.{State}
 use Rattle.gateway.specs.Worked.{IsWorkedRun}
 use Rattle.gateway.specs.WorkedRequests.{IsWorkedRequest}
-use Rattle.gateway.specs.declared.input.Input.{Input}
 use Rattle.gateway.specs.declared.output.Output.{Output}
 
 -- of whatever type the caller is

@@ -10,14 +10,14 @@ use Rattle.ike.specs.Lengths.{HoldWholeKeys}
 use Rattle.ike.specs.Moments.{IsTimely}
 use Rattle.ike.specs.declared.output.Trace.{Trace}
 use Rattle.gateway.specs.Contents.{state_content}
+use Rattle.gateway.specs.Inputs.{Input}
+use Rattle.gateway.specs.Inputs as input
 use Rattle.gateway.specs.Lengths.{IsGiven}
 use Rattle.gateway.specs.Outputs.{output_view, wants_memory, IsQuiet, OutputView, Refused, Ticked}
 use Rattle.gateway.specs.Runs.{Runs, StepsAs}
 use Rattle.gateway.specs.States.{State}
 use Rattle.gateway.specs.Steps.{Steps, Traces}
 use Rattle.gateway.specs.declared.fault.Reason.{Reason}
-use Rattle.gateway.specs.declared.input.Input.{Input}
-use Rattle.gateway.specs.declared.input.Input.TheVariants as input
 use Rattle.gateway.specs.declared.output.Output.{Output}
 
 -- of whatever type the caller is

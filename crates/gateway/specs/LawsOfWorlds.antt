@@ -3,11 +3,12 @@ use Rattle.std.specs.Prelude.{flat_map, ℕ, Bool, List}
 use Rattle.base.specs.Octets.{Octets}
 use Rattle.suite.specs.declared.fresh.Fresh.{Fresh}
 use Rattle.suite.specs.declared.key_record.KeyRecord.{KeyRecord}
-use Rattle.initial.specs.Configs.{IsConfig}
-use Rattle.initial.specs.declared.config.Config.{Config}
+use Rattle.setup.specs.Configs.{IsConfig}
+use Rattle.setup.specs.declared.config.Config.{Config}
 use Rattle.effects.specs.Taking.{Meaning}
 use Rattle.ike.specs.Moves.{HasSeal}
 use Rattle.gateway.specs.Histories.{IsHistory}
+use Rattle.gateway.specs.Inputs.{Event}
 use Rattle.gateway.specs.Runs.{Runs, StepsAs}
 use Rattle.gateway.specs.States.{State}
 use Rattle.gateway.specs.WorkedWorlds.{IsWorkedWorld}
@@ -18,7 +19,6 @@ use Rattle.gateway.specs.WorldRuns.{inputs_at, outputs_at, CallsWorldAs, Happens
 use Rattle.gateway.specs.Worlds.{gateway_at, new_world, HoldsNothing, Stored, WorldState}
 use Rattle.gateway.specs.declared.output.Output.{Output}
 use Rattle.gateway.specs.declared.world.stored.End.{End}
-use Rattle.gateway.specs.declared.world.stored.Event.{Event}
 
 -- of whatever type the caller is
 module _ (C : Type 0) where

@@ -2,15 +2,15 @@
 use Rattle.effects.specs.Taking.{Meaning}
 use Rattle.ike.specs.Lengths.{IsTold}
 use Rattle.ike.specs.Steps as ike
-use Rattle.ike.specs.declared.asking.Demand.TheVariants as demand
-use Rattle.gateway.specs.declared.input.Input.{Input}
-use Rattle.gateway.specs.declared.input.Input.TheVariants as input
+use Rattle.ike.specs.Orders as orders
+use Rattle.gateway.specs.Inputs.{Input}
+use Rattle.gateway.specs.Inputs as input
 
 -- A datagram of IKE is of octets, and a cipher tells how long bodies are with the octets that are fresh.
 abbrev pub IsGiven : Meaning → Input → Type 0
 IsGiven meaning (input.Ike from octets fresh) = IsTold meaning (ike.Message from octets fresh)
 IsGiven meaning (input.Start serial entry fresh) = IsTold meaning (ike.Start serial entry fresh)
-IsGiven meaning (input.Probe serial fresh) = IsTold meaning (ike.Order (demand.Probe serial) fresh)
-IsGiven meaning (input.DeleteChild serial fresh) = IsTold meaning (ike.Order (demand.DeleteChild serial) fresh)
-IsGiven meaning (input.DeleteIke serial fresh) = IsTold meaning (ike.Order (demand.DeleteIke serial) fresh)
+IsGiven meaning (input.Probe serial fresh) = IsTold meaning (ike.Order (orders.Probe serial) fresh)
+IsGiven meaning (input.DeleteChild serial fresh) = IsTold meaning (ike.Order (orders.DeleteChild serial) fresh)
+IsGiven meaning (input.DeleteIke serial fresh) = IsTold meaning (ike.Order (orders.DeleteIke serial) fresh)
 IsGiven meaning _ = Unit {0}

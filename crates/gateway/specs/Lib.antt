@@ -1,6 +1,8 @@
 pub mod Faults
 pub mod Outputs
+pub mod Datagrams
 pub mod States
+pub mod Inputs
 pub mod Steps
 pub mod Runs
 pub mod Groups

@@ -4,10 +4,10 @@ use Rattle.ike.specs.Moments.{BringsDue, IsTimely, StaysAt}
 use Rattle.ike.specs.declared.output.Stepped.{Stepped}
 use Rattle.moments.specs.declared.ticking.Ticked.{Ticked}
 use Rattle.gateway.specs.Histories.{Passage}
+use Rattle.gateway.specs.Inputs.{Input}
+use Rattle.gateway.specs.Inputs as input
 use Rattle.gateway.specs.Outputs as output
 use Rattle.gateway.specs.Outputs.{view_of_ike, wants_memory, OutputView}
-use Rattle.gateway.specs.declared.input.Input.{Input}
-use Rattle.gateway.specs.declared.input.Input.TheVariants as input
 
 abbrev pub is_moment : Input → Bool
 is_moment (input.Tick moment) = true

@@ -16,10 +16,10 @@ use Rattle.deliveries.specs.Numbers.{IsJudgedAs}
 use Rattle.deliveries.specs.Passages as tables
 use Rattle.deliveries.specs.Promises.{IsAnswerDue, PacketsAreJudged}
 use Rattle.gateway.specs.Histories.{Passage}
+use Rattle.gateway.specs.Inputs.{Input}
+use Rattle.gateway.specs.Inputs as input
 use Rattle.gateway.specs.Outputs.{view_of_outcome, wants_memory, Clear, Discarded, Dropped, Dummy, OutputView, Sealed, Up}
 use Rattle.gateway.specs.declared.fault.Reason.TheVariants as reason
-use Rattle.gateway.specs.declared.input.Input.{Input}
-use Rattle.gateway.specs.declared.input.Input.TheVariants as input
 
 -- what became of a packet, of which this is said: the other way round from `view_of_outcome`. Nothing else is said of a packet that came.
 abbrev pub outcome_of_said : OutputView → Option traffic.Outcome

@@ -2,11 +2,11 @@
 use Rattle.std.specs.Prelude.{List}
 use Rattle.effects.specs.Taking.{Meaning}
 use Rattle.gateway.specs.Histories.{IsHistory, Passage}
+use Rattle.gateway.specs.Inputs.{Input}
 use Rattle.gateway.specs.Moments.{MomentsComeInTime}
 use Rattle.gateway.specs.Packets.{PacketsAreDelivered}
 use Rattle.gateway.specs.Requests.{RepeatsAreAnswered, RequestsTakeEffect}
 use Rattle.gateway.specs.States.{State}
-use Rattle.gateway.specs.declared.input.Input.{Input}
 use Rattle.gateway.specs.declared.output.Output.{Output}
 
 -- what is promised of the peer's requests, of their repeats, of moments, and of ESP packets, over these steps

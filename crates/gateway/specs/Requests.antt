@@ -15,22 +15,22 @@ use Rattle.effects.specs.Taking.{Meaning}
 use Rattle.ike.specs.Machines.{Machine}
 use Rattle.ike.specs.Requests.{first_requests, ComesIntoEffect, IsGivenUp, IsHeldThrough, IsInitialDatagram, IsNewRequest, IsOfOctets, OpensAsRequest}
 use Rattle.ike.specs.Steps as ike
-use Rattle.ike.specs.declared.asking.Demand.TheVariants as demand
+use Rattle.ike.specs.Orders as orders
 use Rattle.ike.specs.declared.fault.IkeFault.TheVariants.{Message}
 use Rattle.gateway.specs.Histories.{Passage}
+use Rattle.gateway.specs.Inputs.{Input}
+use Rattle.gateway.specs.Inputs as input
 use Rattle.gateway.specs.Outputs.{wants_memory, Dropped, IsQuiet, Repeat, Reply, OutputView}
 use Rattle.gateway.specs.States.{association_in}
 use Rattle.gateway.specs.declared.fault.Reason.TheVariants.{Ike}
-use Rattle.gateway.specs.declared.input.Input.{Input}
-use Rattle.gateway.specs.declared.input.Input.TheVariants as input
 
 -- what the machine of IKE is given, if anything
 abbrev pub for_ike : Input → Option ike.InputView
 for_ike (input.Ike from octets fresh) = Some (ike.Message from octets fresh)
 for_ike (input.Start serial entry fresh) = Some (ike.Start serial entry fresh)
-for_ike (input.Probe serial fresh) = Some (ike.Order (demand.Probe serial) fresh)
-for_ike (input.DeleteChild serial fresh) = Some (ike.Order (demand.DeleteChild serial) fresh)
-for_ike (input.DeleteIke serial fresh) = Some (ike.Order (demand.DeleteIke serial) fresh)
+for_ike (input.Probe serial fresh) = Some (ike.Order (orders.Probe serial) fresh)
+for_ike (input.DeleteChild serial fresh) = Some (ike.Order (orders.DeleteChild serial) fresh)
+for_ike (input.DeleteIke serial fresh) = Some (ike.Order (orders.DeleteIke serial) fresh)
 for_ike (input.Secret secret) = Some (ike.Secret secret)
 for_ike (input.Tick moment) = Some (ike.Tick moment)
 for_ike (input.Esp octets) = None

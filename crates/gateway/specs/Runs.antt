@@ -1,13 +1,13 @@
 -- A list of inputs, and their outputs in order: of a gateway, or of events at two ends.
 use Rattle.std.specs.Prelude.{◌≡◌, ◌<◌, ◌++◌, ℕ, List, [], ◌∷◌, length, take}
 use Rattle.effects.specs.Taking.{Meaning}
+use Rattle.gateway.specs.Inputs.{Input}
 use Rattle.gateway.specs.Outputs.{output_view}
 use Rattle.gateway.specs.Promises.{KeepsPromises}
 use Rattle.gateway.specs.States.{IsSoundState, State}
 use Rattle.gateway.specs.Steps.{Steps}
 use Rattle.gateway.specs.declared.fault.RunFault.{RunFault}
 use Rattle.gateway.specs.declared.fault.RunFault.TheVariants.{NoRoom}
-use Rattle.gateway.specs.declared.input.Input.{Input}
 use Rattle.gateway.specs.declared.output.Output.{Output}
 
 -- each in order, by such a step, and its output

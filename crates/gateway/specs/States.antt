@@ -4,7 +4,7 @@ use Rattle.std.specs.Coded.{Coded, code_by, coded×}
 use Rattle.policy.specs.declared.entry.Entry.{Entry}
 use Rattle.sadb.specs.Database.{empty_table, Database, IsSoundTable}
 use Rattle.association.specs.declared.phase.Association.{Association}
-use Rattle.initial.specs.declared.config.Config.{Config}
+use Rattle.setup.specs.declared.config.Config.{Config}
 use Rattle.ike.specs.Machines.{association_of, new_machine, Machine}
 use Rattle.ike.specs.Moments.{IsTimely}
 use Rattle.ike.specs.Soundness.{AreReservationsHeld, IsSoundMachine}

@@ -8,7 +8,7 @@ use Rattle.effects.specs.Taking.{Meaning}
 use Rattle.ike.specs.Machines.{Machine}
 use Rattle.ike.specs.Outputs.{no_trace}
 use Rattle.ike.specs.Steps as ike
-use Rattle.ike.specs.declared.asking.Demand.TheVariants as demand
+use Rattle.ike.specs.Orders as orders
 use Rattle.ike.specs.declared.fault.IkeFault.{IkeFault}
 use Rattle.ike.specs.declared.output.Stepped.{Stepped}
 use Rattle.ike.specs.declared.output.Trace.{Trace}
@@ -16,11 +16,11 @@ use Rattle.traffic.specs.Admitting.{Admits}
 use Rattle.traffic.specs.Outcomes.{Outcome}
 use Rattle.traffic.specs.Receiving.{Receives}
 use Rattle.traffic.specs.Sending.{IsToBeSealed, Protects, Sends}
+use Rattle.gateway.specs.Inputs.{Input}
+use Rattle.gateway.specs.Inputs as input
 use Rattle.gateway.specs.Outputs.{OutputView, Refused, view_of_ike, view_of_outcome}
 use Rattle.gateway.specs.States.{State}
 use Rattle.gateway.specs.declared.fault.Reason.TheVariants as reason
-use Rattle.gateway.specs.declared.input.Input.{Input}
-use Rattle.gateway.specs.declared.input.Input.TheVariants as input
 
 -- the machine of IKE takes a step
 pub record AnswersIke (meaning : Meaning) (entries : List Entry) (given : ike.InputView) (old : Machine) (table : Database) (said : OutputView) (trace : Trace) (new : Machine) (new_table : Database) : Type 0 where
@@ -82,11 +82,11 @@ DoesInput meaning entries (input.Ike from octets fresh) old table said trace new
 DoesInput meaning entries (input.Start serial entry fresh) old table said trace new new_table =
     StepsIke meaning entries (ike.Start serial entry fresh) old table said trace new new_table
 DoesInput meaning entries (input.Probe serial fresh) old table said trace new new_table =
-    StepsIke meaning entries (ike.Order (demand.Probe serial) fresh) old table said trace new new_table
+    StepsIke meaning entries (ike.Order (orders.Probe serial) fresh) old table said trace new new_table
 DoesInput meaning entries (input.DeleteChild serial fresh) old table said trace new new_table =
-    StepsIke meaning entries (ike.Order (demand.DeleteChild serial) fresh) old table said trace new new_table
+    StepsIke meaning entries (ike.Order (orders.DeleteChild serial) fresh) old table said trace new new_table
 DoesInput meaning entries (input.DeleteIke serial fresh) old table said trace new new_table =
-    StepsIke meaning entries (ike.Order (demand.DeleteIke serial) fresh) old table said trace new new_table
+    StepsIke meaning entries (ike.Order (orders.DeleteIke serial) fresh) old table said trace new new_table
 DoesInput meaning entries (input.Secret secret) old table said trace new new_table =
     StepsIke meaning entries (ike.Secret secret) old table said trace new new_table
 DoesInput meaning entries (input.Tick moment) old table said trace new new_table =

@@ -7,12 +7,12 @@ use Rattle.moments.specs.Due.{outstanding_count}
 use Rattle.moments.specs.declared.resent.Resent.{Resent}
 use Rattle.ike.specs.Machines.{Machine}
 use Rattle.ike.specs.declared.output.Trace.{Trace}
+use Rattle.gateway.specs.Inputs.{Input}
+use Rattle.gateway.specs.Inputs as input
 use Rattle.gateway.specs.Outputs.{DATAGRAM_LIMIT, OutputView}
 use Rattle.gateway.specs.States.{State}
 use Rattle.gateway.specs.Steps.{Traces}
 use Rattle.gateway.specs.Worlds.{storing, Stored}
-use Rattle.gateway.specs.declared.input.Input.{Input}
-use Rattle.gateway.specs.declared.input.Input.TheVariants as input
 use Rattle.gateway.specs.declared.world.log.Log.{Log}
 use Rattle.gateway.specs.declared.world.log.Spare.{Spare}
 use Rattle.gateway.specs.declared.world.stored.End.{End}

@@ -3,7 +3,7 @@ use Rattle.std.specs.Prelude.{ℕ, false, Option, List, [], ◌∷◌}
 use Rattle.effects.specs.Taking.{Meaning}
 use Rattle.esp.specs.Worked.{repeated_sent, worked_packet, worked_payload}
 use Rattle.esp.specs.declared.fault.EspFault.TheVariants.{Replayed}
-use Rattle.initial.specs.declared.config.Config.{Config}
+use Rattle.setup.specs.declared.config.Config.{Config}
 use Rattle.policy.specs.declared.fault.InnerFault.TheVariants.{BadInner}
 use Rattle.sadb.specs.Database.{Database}
 use Rattle.traffic.specs.declared.fault.PacketFault.TheVariants.{Esp, Inner}
@@ -11,11 +11,11 @@ use Rattle.deliveries.specs.Arrivals.{Unforged}
 use Rattle.deliveries.specs.Numbers.{AreNumbersOf}
 use Rattle.deliveries.specs.Worked.{later_table, worked_table}
 use Rattle.gateway.specs.Histories.{IsTrail, Passage}
+use Rattle.gateway.specs.Inputs as input
 use Rattle.gateway.specs.Outputs.{Dropped, Up}
 use Rattle.gateway.specs.Packets.{table_passages}
 use Rattle.gateway.specs.States.{new_gateway, State}
 use Rattle.gateway.specs.declared.fault.Reason.TheVariants.{Packet}
-use Rattle.gateway.specs.declared.input.Input.TheVariants as input
 
 -- a gateway with this table, and no IKE association
 abbrev pub worked_gateway : {C : Type 0} → Config → C → Database → State C

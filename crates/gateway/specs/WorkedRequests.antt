@@ -12,16 +12,17 @@ use Rattle.suite.specs.declared.keys.Keys.{Keys}
 use Rattle.requests.specs.Incoming.{IsLeftBehind, PeerRequests}
 use Rattle.association.specs.declared.phase.Association.{Association}
 use Rattle.initial.specs.Beginning.{half_open}
-use Rattle.initial.specs.Concluding.{established, with_incoming}
-use Rattle.initial.specs.declared.config.Config.{Config}
+use Rattle.initial.specs.Concluding.{established}
+use Rattle.association.specs.Issuing.{with_incoming}
+use Rattle.setup.specs.declared.config.Config.{Config}
 use Rattle.effects.specs.Taking.{Meaning}
 use Rattle.ike.specs.Machines.{new_machine}
 use Rattle.gateway.specs.Histories.{IsTrail, Passage}
+use Rattle.gateway.specs.Inputs.{Input}
+use Rattle.gateway.specs.Inputs as input
 use Rattle.gateway.specs.Outputs.{Repeat, Reply}
 use Rattle.gateway.specs.Requests.{for_ike, AnswersBy, IsNew, Opens, TakesEffect}
 use Rattle.gateway.specs.States.{association_in, new_gateway, State}
-use Rattle.gateway.specs.declared.input.Input.{Input}
-use Rattle.gateway.specs.declared.input.Input.TheVariants as input
 
 -- What the laws of the traits say of what a caller means by them: what is sealed opens again, and is as long as is told, at most 128 octets
 -- longer than the plain text; both ends come to one secret, or both to none; and public values and proofs fit payloads.

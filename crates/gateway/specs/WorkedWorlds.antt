@@ -10,7 +10,8 @@ use Rattle.requests.specs.Incoming.{no_requests}
 use Rattle.association.specs.declared.phase.Association.{Association}
 use Rattle.association.specs.declared.phase.Request.{Request}
 use Rattle.association.specs.declared.purpose.Purpose.TheVariants.{Probe}
-use Rattle.initial.specs.declared.config.Config.{Config}
+use Rattle.setup.specs.declared.config.Config.{Config}
+use Rattle.gateway.specs.Inputs as input
 use Rattle.gateway.specs.Outputs.{Counted, Reply}
 use Rattle.gateway.specs.States.{IsSoundState}
 use Rattle.gateway.specs.WorkedRequests.{first_taken, gateway_with, one_more_taken, worked_association, worked_input, worked_keys, worked_meaning, worked_reply, worked_request, CanBeMeant}
@@ -18,9 +19,8 @@ use Rattle.gateway.specs.WorldHistories.{Happening, IsWorldTrail}
 use Rattle.gateway.specs.WorldParties.{AreBothHeld, IsNeverMadeTwice, IsSoundUnder}
 use Rattle.gateway.specs.WorldPromises.{ComesUnder, IsUnforgedByThen}
 use Rattle.gateway.specs.Worlds.{datagram_of, Stored, WorldState}
-use Rattle.gateway.specs.declared.input.Input.TheVariants as input
 use Rattle.gateway.specs.declared.world.stored.End.TheVariants.{A, B}
-use Rattle.gateway.specs.declared.world.stored.Mark.TheVariants as mark
+use Rattle.gateway.specs.declared.world.stored.Protection.TheVariants as mark
 
 -- the request that waits for its answer
 abbrev pub asked_request : Request

@@ -2,11 +2,11 @@
 use Rattle.std.specs.Prelude.{◌≡◌, List, [], ◌∷◌, map}
 use Rattle.effects.specs.Taking.{Meaning}
 use Rattle.gateway.specs.Histories.{Passage}
+use Rattle.gateway.specs.Inputs.{Event}
 use Rattle.gateway.specs.Outputs.{output_view, OutputView}
 use Rattle.gateway.specs.Worlds.{gateway_at, if_at, TakesEvent, WorldState}
 use Rattle.gateway.specs.declared.output.Output.{Output}
 use Rattle.gateway.specs.declared.world.stored.End.{End}
-use Rattle.gateway.specs.declared.world.stored.Event.{Event}
 
 -- the world before an event, the event, what came of it, and the world after
 pub record Happening (C : Type 0) : Type 0 where

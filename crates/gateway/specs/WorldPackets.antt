@@ -16,14 +16,14 @@ use Rattle.sadb.specs.declared.pair.Pair.{Pair}
 use Rattle.traffic.specs.Outcomes.{Sealed}
 use Rattle.traffic.specs.Receiving.{IsAddressedTo}
 use Rattle.traffic.specs.Sending.{IsDecided, Sends}
+use Rattle.gateway.specs.Inputs as input
 use Rattle.gateway.specs.Outputs.{Up}
 use Rattle.gateway.specs.WorldChildren.{AreEndsOfOneChild, AreOfOneRequest, IsStoredOf}
 use Rattle.gateway.specs.WorldHistories.{Happening}
 use Rattle.gateway.specs.Worlds.{datagram_of, gateway_at, other_end, Stored, WorldState}
-use Rattle.gateway.specs.declared.input.Input.TheVariants as input
 use Rattle.gateway.specs.declared.world.stored.Child.{Child}
 use Rattle.gateway.specs.declared.world.stored.End.{End}
-use Rattle.gateway.specs.declared.world.stored.Mark.TheVariants as mark
+use Rattle.gateway.specs.declared.world.stored.Protection.TheVariants as mark
 use Rattle.gateway.specs.declared.world.stored.Simplex.{Simplex}
 
 -- the end's table holds the pair of this child

@@ -14,8 +14,8 @@ use Rattle.gateway.specs.declared.world.stored.Datagram.{Datagram}
 use Rattle.gateway.specs.declared.world.stored.End.{End}
 use Rattle.gateway.specs.declared.world.stored.End.TheVariants.{A, B}
 use Rattle.gateway.specs.declared.world.stored.Keyed.{Keyed}
-use Rattle.gateway.specs.declared.world.stored.Mark.{Mark}
-use Rattle.gateway.specs.declared.world.stored.Mark.TheVariants as mark
+use Rattle.gateway.specs.declared.world.stored.Protection.{Protection}
+use Rattle.gateway.specs.declared.world.stored.Protection.TheVariants as mark
 
 -- the list, where both ends are one; else none
 abbrev pub only_at : {X : Type 0} → End → End → List X → List X
@@ -25,7 +25,7 @@ only_at {X} A B xs = []
 only_at {X} B A xs = []
 
 -- a message under SK, by its keys
-abbrev pub marked_by : Mark → Octets → List Marked
+abbrev pub marked_by : Protection → Octets → List Marked
 marked_by mark.Plain octets = []
 marked_by (mark.Ike keys response number) octets = record { keys = keys; entry = record { response = response; number = number; octets = octets } } ∷ []
 marked_by (mark.Esp by number) octets = []

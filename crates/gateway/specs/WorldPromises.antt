@@ -11,13 +11,13 @@ use Rattle.effects.specs.Openings.{OpensAsMessage}
 use Rattle.effects.specs.Taking.{Meaning}
 use Rattle.lockstep.specs.Promises.{AreInStep, AreIssuedAndInEffect, AreWithinWindows}
 use Rattle.lockstep.specs.Soundness.{IsInitial}
+use Rattle.gateway.specs.Inputs.{Event}
 use Rattle.gateway.specs.Requests.{for_ike, IsDatagram}
 use Rattle.gateway.specs.WorldHistories.{Happening, IsWorldHistory}
 use Rattle.gateway.specs.WorldParties.{AreBothHeld, HasSent, HasSentSome, HoldsUnder, IsNeverMadeTwice, IsSoundUnder}
 use Rattle.gateway.specs.Worlds.{gateway_at, other_end, Stored, WorldState}
 use Rattle.gateway.specs.declared.output.Output.{Output}
 use Rattle.gateway.specs.declared.world.stored.End.{End}
-use Rattle.gateway.specs.declared.world.stored.Event.{Event}
 
 -- A datagram of these octets comes to an end that holds an association under these keys, and opens there as the other role's request of this
 -- number, or as the other role's response to the request of this number (sections 3.1 and 3.14).

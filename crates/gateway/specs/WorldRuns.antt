@@ -2,6 +2,7 @@
 use Rattle.std.specs.Prelude.{◌≡◌, ◌<◌, ◌++◌, ℕ, List, [], ◌∷◌, length, take}
 use Rattle.effects.specs.Taking.{Meaning}
 use Rattle.gateway.specs.Histories.{IsHistory}
+use Rattle.gateway.specs.Inputs.{Event, Input}
 use Rattle.gateway.specs.Outputs.{output_view}
 use Rattle.gateway.specs.Promises.{KeepsPromises}
 use Rattle.gateway.specs.Runs.{Runs, StepsAs}
@@ -10,10 +11,8 @@ use Rattle.gateway.specs.WorldPromises.{KeepsWorldPromises}
 use Rattle.gateway.specs.Worlds.{gateway_at, if_at, Stored, TakesEvent, WorldState}
 use Rattle.gateway.specs.declared.fault.RunFault.{RunFault}
 use Rattle.gateway.specs.declared.fault.RunFault.TheVariants.{NoRoom}
-use Rattle.gateway.specs.declared.input.Input.{Input}
 use Rattle.gateway.specs.declared.output.Output.{Output}
 use Rattle.gateway.specs.declared.world.stored.End.{End}
-use Rattle.gateway.specs.declared.world.stored.Event.{Event}
 
 -- an event as the callers of both ends mean it
 abbrev pub HappensAs : {C : Type 0} → (C → Meaning) → Event → WorldState C → Output → WorldState C → Type 0

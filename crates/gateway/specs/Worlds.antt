@@ -3,7 +3,7 @@ use Rattle.std.specs.Prelude.{◌≡◌, ◌++◌, ◌∷◌, ℕ, zero, suc, Li
 use Rattle.std.specs.Coded.{Coded, code_by, coded×}
 use Rattle.std.specs.Option.{option_map, option_to_list}
 use Rattle.base.specs.Octets.{Octets}
-use Rattle.esp.specs.declared.association.Association.{Association}
+use Rattle.esp.specs.declared.sa.Sa.{Sa}
 use Rattle.suite.specs.declared.key_record.KeyRecord.{KeyRecord}
 use Rattle.sadb.specs.Database.{pair_at, Database}
 use Rattle.sadb.specs.declared.pair.Pair.{Pair}
@@ -15,6 +15,7 @@ use Rattle.ike.specs.Moves.{HasFresh}
 use Rattle.ike.specs.Steps as ike_steps
 use Rattle.ike.specs.declared.output.Mark as ike
 use Rattle.ike.specs.declared.output.Trace.{Trace}
+use Rattle.gateway.specs.Inputs.{Event}
 use Rattle.gateway.specs.Outputs.{OutputView, Counted, Clear, Discarded, Done, Dropped, Dummy, Refused, Repeat, Reply, Request, Sealed, Ticked, Up}
 use Rattle.gateway.specs.Requests.{for_ike}
 use Rattle.gateway.specs.States.{IsSoundState, State}
@@ -24,10 +25,9 @@ use Rattle.gateway.specs.declared.world.stored.Child.{Child}
 use Rattle.gateway.specs.declared.world.stored.Datagram.{Datagram}
 use Rattle.gateway.specs.declared.world.stored.End.{End}
 use Rattle.gateway.specs.declared.world.stored.End.TheVariants.{A, B}
-use Rattle.gateway.specs.declared.world.stored.Event.{Event}
 use Rattle.gateway.specs.declared.world.stored.Keyed.{Keyed}
-use Rattle.gateway.specs.declared.world.stored.Mark.{Mark}
-use Rattle.gateway.specs.declared.world.stored.Mark.TheVariants as mark
+use Rattle.gateway.specs.declared.world.stored.Protection.{Protection}
+use Rattle.gateway.specs.declared.world.stored.Protection.TheVariants as mark
 use Rattle.gateway.specs.declared.world.stored.Simplex.{Simplex}
 
 -- all in the order in which it was sent or made
@@ -74,32 +74,32 @@ with_gateway A gateway stored w = record w { a = gateway; stored = stored }
 with_gateway B gateway stored w = record w { b = gateway; stored = stored }
 
 -- one direction of a pair
-abbrev pub simplex_of : Association → Simplex
+abbrev pub simplex_of : Sa → Simplex
 simplex_of a = record { spi = a.spi; key = a.key; extended = a.extended }
 
 -- what a message of IKE was sealed under: the keys of the association that its trace names
-abbrev pub mark_under : ike.Mark → Option KeyRecord → Mark
+abbrev pub mark_under : ike.Mark → Option KeyRecord → Protection
 mark_under sent None = mark.Plain
 mark_under sent (Some keys) = mark.Ike keys sent.response sent.number
 
-abbrev pub ike_mark : Machine → Option ike.Mark → Mark
+abbrev pub ike_mark : Machine → Option ike.Mark → Protection
 ike_mark machine None = mark.Plain
 ike_mark machine (Some sent) = mark_under sent (keys_of_serial sent.ike machine.held.associations)
 
 -- what a packet was sealed by
-abbrev pub mark_by : ℕ → Option Pair → Mark
+abbrev pub mark_by : ℕ → Option Pair → Protection
 mark_by number None = mark.Plain
 mark_by number (Some pair) = mark.Esp (simplex_of pair.outbound.association) number
 
 -- the pair under this serial, which a packet was sealed by
-abbrev pub esp_mark : Database → ℕ → ℕ → Mark
+abbrev pub esp_mark : Database → ℕ → ℕ → Protection
 esp_mark table child number = mark_by number (pair_at table.pairs child)
 
-abbrev pub datagram_of : End → Mark → Octets → Datagram
+abbrev pub datagram_of : End → Protection → Octets → Datagram
 datagram_of end m octets = record { end = end; mark = m; octets = octets }
 
 -- a message under SK is marked so: under some key record, as this response or request
-pub record IsMarked (sent : ike.Mark) (m : Mark) : Type 0 where
+pub record IsMarked (sent : ike.Mark) (m : Protection) : Type 0 where
   pub keys : KeyRecord
   pub is : m ≡ mark.Ike keys sent.response sent.number
 

@@ -1,7 +1,8 @@
 //! Check values of the ESP packets of a group of inputs, computed side by side before any of the inputs is taken.
-ghost use Rattle.std.specs.Prelude.{◌≡◌, ◌≤◌, None, get_or, length};
+ghost use Rattle.std.specs.Prelude.{◌≡◌, ◌≤◌, None, get_or, length, map};
 ghost use Rattle.esp.specs.Precomputed.{ArePrecomputed, AreQuestions};
 ghost use Rattle.gateway.specs.Groups.{packets_in};
+ghost use Rattle.gateway.specs.Inputs.{input_view};
 
 use crate::Input;
 use esp::{GROUP, Precomputed, Question, precompute};
@@ -9,23 +10,23 @@ use sadb::Table;
 use traffic::question;
 
 /// The check values of the ESP packets among these inputs, each at its input's place, where it gains time to compute them side by side.
-pub fn values_ahead(table: &Table, inputs: &[Input]) -> [Option<Precomputed>; GROUP]
+pub fn values_ahead(table: &Table, inputs: &[Input<'_>]) -> [Option<Precomputed>; GROUP]
     requires { length inputs.now ≤ GROUP }
-    ensures { ArePrecomputed (packets_in inputs.now) result }
+    ensures { ArePrecomputed (packets_in (map input_view inputs.now)) result }
 {
     precompute(&questions_of(table, inputs))
 }
 
 // What the check values are computed from, as the table is at the group's head.
-fn questions_of<'a>(table: &'a Table, inputs: &'a [Input]) -> [Option<Question<'a>>; GROUP]
+fn questions_of<'a>(table: &'a Table, inputs: &[Input<'a>]) -> [Option<Question<'a>>; GROUP]
     requires { length inputs.now ≤ GROUP }
-    ensures questions { AreQuestions (packets_in inputs.now) result }
+    ensures questions { AreQuestions (packets_in (map input_view inputs.now)) result }
     ensures few { length result ≡ GROUP }
 {
     let mut questions = [None; GROUP];
     for (place, input) in inputs.iter().enumerate() {
-        if let Input::Esp { octets } = input {
-            questions[place] = question(table, octets.as_slice());
+        if let Input::Esp { octets } = *input {
+            questions[place] = question(table, octets);
         }
     }
     questions

@@ -8,7 +8,10 @@ mod steps;
 mod together;
 mod worlds;
 
-pub use outputs::{few_go_out_again, what_is_made_fits, what_is_sent_fits, what_is_told_is_stored};
+pub use outputs::{
+    few_go_out_again, what_goes_up_is_part_of_what_came, what_is_made_fits, what_is_sent_fits,
+    what_is_told_is_stored,
+};
 pub use packets::{
     a_dropped_packet_takes_one_number_at_most, the_protected_never_goes_in_the_clear,
 };

@@ -2,12 +2,13 @@
 ghost use Rattle.std.specs.Prelude.{◌≡◌, ◌<◌, IfSome};
 ghost use Rattle.std.specs.Option.{option_copied};
 ghost use Rattle.sadb.specs.Database.{IsSoundTable, IsStart};
-ghost use Rattle.initial.specs.Configs.{IsConfig};
+ghost use Rattle.setup.specs.Configs.{IsConfig};
 ghost use Rattle.ike.specs.Machines.{keys_of_serial};
 ghost use Rattle.ike.specs.Moments.{IsTimely};
 ghost use Rattle.ike.specs.Soundness.{AreReservationsHeld, IsSoundMachine};
 ghost use Rattle.esp.specs.Precomputed.{IsPrecomputed};
 ghost use Rattle.gateway.specs.Groups.{packet_in};
+ghost use Rattle.gateway.specs.Inputs.{input_view};
 ghost use Rattle.gateway.specs.Outputs.{output_view};
 ghost use Rattle.gateway.specs.States.{new_gateway};
 ghost use Rattle.gateway.specs.Steps.{Steps, Traces};
@@ -22,9 +23,9 @@ use flows::FlowMemory;
 use flows::laws::answers_stay_right;
 use ike::Ike;
 use ike::laws::{no_spi_is_lost, what_is_due_comes_in_time};
-use initial::Config;
 use policy::Policy;
 use sadb::Table;
+use setup::Config;
 use std::alloc::Global;
 use std::marker::Model;
 use suite::{Agreement, KeyRecord, Proof, Sealer};
@@ -137,10 +138,10 @@ impl<C: Sealer + Agreement + Proof> Gateway<C> {
     /// memory for it.
     ///
     /// What is refused changes nothing but the table's room.
-    pub fn step<'a>(&mut self, alloc: Global, input: &'a Input) -> Output<'a>
+    pub fn step<'a>(&mut self, alloc: Global, input: &Input<'a>) -> Output<'a>
         ensures { Steps
             (meaning_of C.Sealer C.Agreement C.Proof self.old.caller)
-            input.now self.old (output_view result) self.new }
+            (input_view input.now) self.old (output_view result) self.new }
     {
         self.traced_step(alloc, input).output
     }
@@ -149,23 +150,23 @@ impl<C: Sealer + Agreement + Proof> Gateway<C> {
     pub(crate) fn step_ahead<'a>(
         &mut self,
         alloc: Global,
-        input: &'a Input,
+        input: &Input<'a>,
         ahead: Option<Precomputed>,
     ) -> Output<'a>
-        requires { IfSome ahead (IsPrecomputed (packet_in input.now)) }
+        requires { IfSome ahead (IsPrecomputed (packet_in (input_view input.now))) }
         ensures { Steps
             (meaning_of C.Sealer C.Agreement C.Proof self.old.caller)
-            input.now self.old (output_view result) self.new }
+            (input_view input.now) self.old (output_view result) self.new }
     {
         self.traced_ahead(alloc, input, ahead).output
     }
 
     /// One step as [`step`](Gateway::step), that also answers which message it sent under which keys of IKE, and which keys and which
     /// child it made.
-    pub fn traced_step<'a>(&mut self, alloc: Global, input: &'a Input) -> Traced<'a>
+    pub fn traced_step<'a>(&mut self, alloc: Global, input: &Input<'a>) -> Traced<'a>
         ensures { Traces
             (meaning_of C.Sealer C.Agreement C.Proof self.old.caller)
-            input.now self.old (output_view result.output) result.trace self.new }
+            (input_view input.now) self.old (output_view result.output) result.trace self.new }
     {
         self.traced_ahead(alloc, input, None)
     }
@@ -174,13 +175,13 @@ impl<C: Sealer + Agreement + Proof> Gateway<C> {
     fn traced_ahead<'a>(
         &mut self,
         alloc: Global,
-        input: &'a Input,
+        input: &Input<'a>,
         ahead: Option<Precomputed>,
     ) -> Traced<'a>
-        requires { IfSome ahead (IsPrecomputed (packet_in input.now)) }
+        requires { IfSome ahead (IsPrecomputed (packet_in (input_view input.now))) }
         ensures { Traces
             (meaning_of C.Sealer C.Agreement C.Proof self.old.caller)
-            input.now self.old (output_view result.output) result.trace self.new }
+            (input_view input.now) self.old (output_view result.output) result.trace self.new }
     {
         take(
             alloc,

@@ -8,6 +8,7 @@ use crate::Reason;
 use base::Items;
 use ike::{IkeOutput, Stepped, Trace};
 use moments::{Resent, Ticked};
+use std::fmt;
 use traffic::{Admission, Arrival, Departure};
 
 /// What comes of an input. IKE associations and children are named by their serials.
@@ -45,7 +46,8 @@ pub enum Output<'a> {
     },
     /// An order was carried out.
     Done,
-    /// What an ESP packet carried goes up; it is a part of that packet.
+    /// What an ESP packet carried goes up: a part of the octets that were lent, from the ninth on
+    /// ([`what_goes_up_is_part_of_what_came`](crate::laws::what_goes_up_is_part_of_what_came)).
     Up {
         child: u32,
         /// The sequence number of the packet.
@@ -177,5 +179,75 @@ impl<'a> Output<'a> {
                 reason: Reason::Packet(fault),
             },
         }
+    }
+}
+
+/// A line without its end: what came of the input, with serials, numbers and lengths, and no contents. The text of a [`Reason`] begins
+/// with its number where it has one.
+impl<'a> fmt::Display for Output<'a> {
+    fn fmt<W: fmt::Write>(&self, f: &mut fmt::Formatter<W>) -> fmt::Result {
+        match self {
+            Output::Reply { octets, closed } => {
+                write!(f, "reply, {} octets", octets.len())?;
+                write_closed(f, *closed)
+            }
+            Output::Repeat { octets } => write!(f, "repeat, {} octets", octets.len()),
+            Output::Request { ike, octets } => {
+                write!(f, "request ike {ike}, {} octets", octets.len())
+            }
+            Output::Counted { ike, child, closed } => {
+                write!(f, "counted ike {ike}")?;
+                write_made(f, *child)?;
+                write_closed(f, *closed)
+            }
+            Output::Ticked { requests, closed } => {
+                write!(
+                    f,
+                    "ticked, {} requests again, {} closed",
+                    requests.len(),
+                    closed.len()
+                )
+            }
+            Output::Done => write!(f, "done"),
+            Output::Up {
+                child,
+                number,
+                packet,
+            } => write!(
+                f,
+                "up child {child} number {number}, {} octets",
+                packet.len()
+            ),
+            Output::Dummy { child, number } => write!(f, "dummy child {child} number {number}"),
+            Output::Sealed {
+                child,
+                number,
+                octets,
+            } => write!(
+                f,
+                "sealed child {child} number {number}, {} octets",
+                octets.len()
+            ),
+            Output::Clear { packet } => write!(f, "clear, {} octets", packet.len()),
+            Output::Discarded => write!(f, "discarded"),
+            Output::Dropped { reason } => write!(f, "dropped: {reason}"),
+            Output::Refused { reason } => write!(f, "refused: {reason}"),
+        }
+    }
+}
+
+// The child that was made, if one was.
+fn write_made<W: fmt::Write>(f: &mut fmt::Formatter<W>, child: Option<u32>) -> fmt::Result {
+    match child {
+        Some(serial) => write!(f, ", child {serial} made"),
+        None => Ok(()),
+    }
+}
+
+// The association that was closed, if one was.
+fn write_closed<W: fmt::Write>(f: &mut fmt::Formatter<W>, closed: Option<u32>) -> fmt::Result {
+    match closed {
+        Some(serial) => write!(f, ", ike {serial} closed"),
+        None => Ok(()),
     }
 }

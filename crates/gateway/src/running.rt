@@ -1,8 +1,9 @@
 //! A list of inputs.
-ghost use Rattle.std.specs.Prelude.{◌≡◌, ◌+◌, ◌≤◌, OnOk, IfErr, IsOk, length, vec_len};
+ghost use Rattle.std.specs.Prelude.{◌≡◌, ◌+◌, ◌≤◌, OnOk, IfErr, IsOk, length, map, vec_len};
 ghost use Rattle.std.specs.Vec.{vec_capacity};
 ghost use Rattle.esp.specs.Precomputed.{ArePrecomputed};
 ghost use Rattle.gateway.specs.Groups.{TakesFirst, packets_in};
+ghost use Rattle.gateway.specs.Inputs.{input_view};
 ghost use Rattle.gateway.specs.Runs.{RunsFirst, Stops};
 ghost use Rattle.effects.specs.Taking.{meaning_of};
 
@@ -32,15 +33,15 @@ use suite::{Agreement, Proof, Sealer};
 pub fn run<'a, C: Sealer + Agreement + Proof>(
     alloc: Global,
     gateway: &mut Gateway<C>,
-    inputs: &'a [Input],
+    inputs: &[Input<'a>],
     outputs: &mut Vec<Output<'a>>,
 ) -> Result<(), RunFault>
     ensures all { OnOk result (RunsFirst
         (meaning_of C.Sealer C.Agreement C.Proof)
-        (length inputs.now) inputs.now gateway.old outputs.old.items gateway.new outputs.new.items) }
+        (length inputs.now) (map input_view inputs.now) gateway.old outputs.old.items gateway.new outputs.new.items) }
     ensures stopped { IfErr result (λ fault. Stops
         (meaning_of C.Sealer C.Agreement C.Proof)
-        inputs.now gateway.old outputs.old.items fault gateway.new outputs.new.items) }
+        (map input_view inputs.now) gateway.old outputs.old.items fault gateway.new outputs.new.items) }
     ensures room { vec_len outputs.old + length inputs.now ≤ vec_capacity outputs.old → IsOk result }
 {
     every_run_keeps_its_promises::<C>();
@@ -61,13 +62,13 @@ pub fn run<'a, C: Sealer + Agreement + Proof>(
 fn run_group<'a, C: Sealer + Agreement + Proof>(
     alloc: Global,
     gateway: &mut Gateway<C>,
-    inputs: &'a [Input],
+    inputs: &[Input<'a>],
     outputs: &mut Vec<Output<'a>>,
 ) -> usize
     requires { length inputs.now ≤ GROUP }
     ensures first { TakesFirst
         (meaning_of C.Sealer C.Agreement C.Proof)
-        result inputs.now gateway.old outputs.old.items gateway.new outputs.new.items }
+        result (map input_view inputs.now) gateway.old outputs.old.items gateway.new outputs.new.items }
     ensures room { vec_len outputs.old + length inputs.now ≤ vec_capacity outputs.old
         → result ≡ length inputs.now }
     ensures capacity { vec_capacity outputs.old ≤ vec_capacity outputs.new }
@@ -84,14 +85,14 @@ fn run_group<'a, C: Sealer + Agreement + Proof>(
 fn run_with<'a, C: Sealer + Agreement + Proof>(
     alloc: Global,
     gateway: &mut Gateway<C>,
-    inputs: &'a [Input],
+    inputs: &[Input<'a>],
     ahead: &[Option<Precomputed>],
     outputs: &mut Vec<Output<'a>>,
 ) -> usize
-    requires { ArePrecomputed (packets_in inputs.now) ahead.now }
+    requires { ArePrecomputed (packets_in (map input_view inputs.now)) ahead.now }
     ensures first { TakesFirst
         (meaning_of C.Sealer C.Agreement C.Proof)
-        result inputs.now gateway.old outputs.old.items gateway.new outputs.new.items }
+        result (map input_view inputs.now) gateway.old outputs.old.items gateway.new outputs.new.items }
     ensures room { vec_len outputs.old + length inputs.now ≤ vec_capacity outputs.old
         → result ≡ length inputs.now }
     ensures capacity { vec_capacity outputs.old ≤ vec_capacity outputs.new }

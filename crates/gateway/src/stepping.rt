@@ -5,8 +5,9 @@ ghost use Rattle.flows.specs.Memory.{AllRight, HoldsNone};
 ghost use Rattle.flows.specs.Staying.{NoneComes};
 ghost use Rattle.ike.specs.Moments.{IsTimely};
 ghost use Rattle.ike.specs.Soundness.{AreReservationsHeld, IsSoundMachine};
-ghost use Rattle.ike.specs.Steps.{input_view};
+ghost use Rattle.ike.specs.Steps as ike_steps;
 ghost use Rattle.gateway.specs.Groups.{packet_in};
+ghost use Rattle.gateway.specs.Inputs.{input_view};
 ghost use Rattle.gateway.specs.Outputs.{output_view};
 ghost use Rattle.gateway.specs.Steps.{AdmitsPacket, DoesInput, ReceivesPacket, SendsPacket, StepsIke};
 ghost use Rattle.effects.specs.Taking.{meaning_of};
@@ -19,7 +20,7 @@ use ike::laws::{
     no_spi_is_lost, soundness_asks_for_reservations, traces_name_what_is_held,
     what_is_due_comes_in_time,
 };
-use ike::{Demand, Ike, IkeInput, MadeChild};
+use ike::{Ike, IkeInput, MadeChild};
 use policy::Policy;
 use sadb::Table;
 use std::alloc::Global;
@@ -30,7 +31,7 @@ use traffic::{admit, receive_ahead, send_remembering};
 // Takes an input of any kind, an ESP packet with its check value where that was computed before.
 pub(crate) fn take<'a, C: Sealer + Agreement + Proof>(
     alloc: Global,
-    input: &'a Input,
+    input: &Input<'a>,
     ahead: Option<Precomputed>,
     ike: &mut Ike,
     table: &mut Table,
@@ -38,14 +39,14 @@ pub(crate) fn take<'a, C: Sealer + Agreement + Proof>(
     policy: &Policy,
     caller: &C,
 ) -> Traced<'a>
-    requires ahead { IfSome ahead (IsPrecomputed (packet_in input.now)) }
+    requires ahead { IfSome ahead (IsPrecomputed (packet_in (input_view input.now))) }
     requires sound { IsSoundMachine ike.old table.old }
     requires timely { IsTimely ike.old }
     requires reservations { AreReservationsHeld ike.old.held table.old }
     requires right { AllRight policy.now table.old.pairs flows.old }
     ensures done { DoesInput
         (meaning_of C.Sealer C.Agreement C.Proof caller.now)
-        policy.now input.now ike.old table.old (output_view result.output) result.trace ike.new table.new }
+        policy.now (input_view input.now) ike.old table.old (output_view result.output) result.trace ike.new table.new }
     ensures sound { IsSoundMachine ike.new table.new }
     ensures timely { IsTimely ike.new }
     ensures reservations { AreReservationsHeld ike.new.held table.new }
@@ -54,15 +55,15 @@ pub(crate) fn take<'a, C: Sealer + Agreement + Proof>(
     soundness_asks_for_reservations();
     no_spi_is_lost();
     answers_stay_right();
-    match input {
+    match *input {
         Input::Ike {
             from,
             octets,
             fresh,
         } => {
             let message = IkeInput::Message {
-                from: *from,
-                octets: octets.as_slice(),
+                from,
+                octets,
                 fresh,
             };
             step_ike(alloc, &message, ike, table, flows, policy, caller)
@@ -73,25 +74,22 @@ pub(crate) fn take<'a, C: Sealer + Agreement + Proof>(
             fresh,
         } => {
             let order = IkeInput::Start {
-                ike: *serial,
-                entry: *entry,
+                ike: serial,
+                entry,
                 fresh,
             };
             step_ike(alloc, &order, ike, table, flows, policy, caller)
         }
         Input::Probe { ike: asked, fresh } => {
-            let what = Demand::Probe { ike: *asked };
-            let order = IkeInput::Order { what, fresh };
+            let order = IkeInput::Probe { ike: asked, fresh };
             step_ike(alloc, &order, ike, table, flows, policy, caller)
         }
         Input::DeleteChild { child, fresh } => {
-            let what = Demand::DeleteChild { child: *child };
-            let order = IkeInput::Order { what, fresh };
+            let order = IkeInput::DeleteChild { child, fresh };
             step_ike(alloc, &order, ike, table, flows, policy, caller)
         }
         Input::DeleteIke { ike: asked, fresh } => {
-            let what = Demand::DeleteIke { ike: *asked };
-            let order = IkeInput::Order { what, fresh };
+            let order = IkeInput::DeleteIke { ike: asked, fresh };
             step_ike(alloc, &order, ike, table, flows, policy, caller)
         }
         Input::Secret { secret } => {
@@ -108,7 +106,7 @@ pub(crate) fn take<'a, C: Sealer + Agreement + Proof>(
         Input::Tick { moment } => {
             step_ike(
                 alloc,
-                &IkeInput::Tick(*moment),
+                &IkeInput::Tick(moment),
                 ike,
                 table,
                 flows,
@@ -116,11 +114,11 @@ pub(crate) fn take<'a, C: Sealer + Agreement + Proof>(
                 caller,
             )
         }
-        Input::Esp { octets } => Traced::plain(receive_packet(table, octets.as_slice(), ahead)),
+        Input::Esp { octets } => Traced::plain(receive_packet(table, octets, ahead)),
         Input::Outward { packet } => {
-            Traced::plain(send_packet(alloc, table, flows, policy, packet.as_slice()))
+            Traced::plain(send_packet(alloc, table, flows, policy, packet))
         }
-        Input::Inward { packet } => Traced::plain(admit_packet(policy, packet.as_slice())),
+        Input::Inward { packet } => Traced::plain(admit_packet(policy, packet)),
     }
 }
 
@@ -140,7 +138,7 @@ fn step_ike<'a, C: Sealer + Agreement + Proof>(
     requires right { AllRight policy.now table.old.pairs flows.old }
     ensures stepped { StepsIke
         (meaning_of C.Sealer C.Agreement C.Proof caller.now)
-        policy.now (input_view input.now) ike.old table.old
+        policy.now (ike_steps.input_view input.now) ike.old table.old
         (output_view result.output) result.trace ike.new table.new }
     ensures sound { IsSoundMachine ike.new table.new }
     ensures timely { IsTimely ike.new }
@@ -175,7 +173,7 @@ fn step_machine<'a, C: Sealer + Agreement + Proof>(
     requires reservations { AreReservationsHeld ike.old.held table.old }
     ensures stepped { StepsIke
         (meaning_of C.Sealer C.Agreement C.Proof caller.now)
-        policy.now (input_view input.now) ike.old table.old
+        policy.now (ike_steps.input_view input.now) ike.old table.old
         (output_view result.output) result.trace ike.new table.new }
     ensures sound { IsSoundMachine ike.new table.new }
     ensures timely { IsTimely ike.new }

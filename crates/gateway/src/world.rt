@@ -2,6 +2,7 @@
 ghost use Rattle.std.specs.Prelude.{◌≡◌, MatchOption, None, Some, IfErr, IfOk};
 ghost use Rattle.base.specs.Octets.{AreOctets, Octets};
 ghost use Rattle.ike.specs.Moves.{HasSeal};
+ghost use Rattle.gateway.specs.Inputs.{event_view, input_view};
 ghost use Rattle.gateway.specs.Outputs.{output_view};
 ghost use Rattle.gateway.specs.Requests.{for_ike};
 ghost use Rattle.suite.specs.declared.key_record.KeyRecord.{KeyRecord};
@@ -22,7 +23,7 @@ use log::{Log, most_again, take};
 pub use running::run_world;
 use std::alloc::{AllocError, Global};
 use std::marker::Model;
-pub use stored::{Child, Datagram, End, Event, Keyed, Mark, Simplex};
+pub use stored::{Child, Datagram, End, Event, Keyed, Protection, Simplex};
 use suite::{Agreement, Fresh, Proof, Sealer};
 
 /// Two gateways; every datagram that they sent, in order, and under what; every key record that they made, and every child. Each may
@@ -120,11 +121,11 @@ impl<C: Sealer + Agreement + Proof> World<C> {
     pub(crate) fn happen<'a>(
         &mut self,
         alloc: Global,
-        event: &'a Event,
+        event: &Event<'a>,
     ) -> Result<Output<'a>, AllocError>
         ensures happened { IfOk result (λ output. TakesEvent
             (meaning_of C.Sealer C.Agreement C.Proof)
-            event.now self.old (output_view output) self.new) }
+            (event_view event.now) self.old (output_view output) self.new) }
         ensures refused { IfErr result (λ _. self.new ≡ self.old) }
     {
         input_is_fresh(&event.input);
@@ -145,10 +146,10 @@ impl<C: Sealer + Agreement + Proof> World<C> {
 }
 
 // Brings that the octets for sealing are 16. Does nothing.
-fn input_is_fresh(input: &Input)
-    ensures { IsFreshlyGiven (for_ike input.now) }
+fn input_is_fresh(input: &Input<'_>)
+    ensures { IsFreshlyGiven (for_ike (input_view input.now)) }
 {
-    match input {
+    match *input {
         Input::Ike { fresh, .. }
         | Input::Start { fresh, .. }
         | Input::Probe { fresh, .. }

@@ -17,8 +17,8 @@ use Rattle.association.specs.declared.phase.Request.{Request}
 use Rattle.association.specs.declared.purpose.FurtherChild.{FurtherChild}
 use Rattle.association.specs.declared.purpose.Purpose.TheVariants.{CreateChild}
 use Rattle.initial.specs.Beginning.{begun}
-use Rattle.initial.specs.Configs.{IsConfig, Setup}
-use Rattle.initial.specs.Issuing.{new_request}
+use Rattle.setup.specs.Configs.{IsConfig, Setup}
+use Rattle.association.specs.Issuing.{new_request}
 use Rattle.effects.specs.Children.{first_asked, MadeBy}
 use Rattle.effects.specs.Taking.{Meaning, TakesMessage}
 use Rattle.effects.specs.declared.taking.Effect.{Effect}

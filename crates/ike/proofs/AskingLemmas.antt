@@ -14,14 +14,13 @@ use Rattle.association.specs.Phases.{keys_in}
 use Rattle.association.specs.declared.fault.MessageFault.TheVariants.{UnknownAssociation}
 use Rattle.association.specs.declared.phase.Association.{Association}
 use Rattle.association.specs.declared.phase.Request.{Request}
-use Rattle.initial.specs.Concluding.{with_outgoing}
-use Rattle.initial.specs.Configs.{Setup}
-use Rattle.informational.specs.declared.fault.InformationalFault.{InformationalFault}
+use Rattle.association.specs.Issuing.{with_outgoing}
+use Rattle.setup.specs.Configs.{Setup}
+use Rattle.association.specs.declared.fault.OrderFault.{OrderFault}
 use Rattle.effects.specs.Taking.{KeepsIdentity}
-use Rattle.create_child.specs.declared.fault.AskFault.{AskFault}
 use Rattle.effects.specs.Sending.{SendsRequest}
 use Rattle.ike.specs.Machines.{association_of, has_serial, Held}
-use Rattle.ike.specs.Asking.{fault_of_ask, fault_of_informational, AsksAt, RefusesAskingAt, RefusesFurtherAt, RefusesFurtherThere, RefusesThere}
+use Rattle.ike.specs.Asking.{fault_of_order, fault_of_order, AsksAt, RefusesAskingAt, RefusesFurtherAt, RefusesFurtherThere, RefusesThere}
 use Rattle.ike.specs.declared.fault.IkeFault.{IkeFault}
 use Rattle.ike.specs.declared.fault.IkeFault.TheVariants as fault
 use Rattle.ike.specs.Soundness.{AreSound}
@@ -155,14 +154,14 @@ pub ok_and : {T E : Type 0} (r : Result T E) (P Q : T → Type 0) → IfOk r P �
 ok_and {T} {E} (Ok x) P Q is more = more x is
 ok_and {T} {E} (Err e) P Q is more = tt
 
-pub refused_order : (ike place : ℕ) (held : Held) (o : InformationalFault) (reason : IkeFault) → position (has_serial ike) held.associations ≡ Some place → RefusesThere place held o → reason ≡ fault_of_informational o → RefusesAskingAt (association_of ike held.associations) reason
+pub refused_order : (ike place : ℕ) (held : Held) (o : OrderFault) (reason : IkeFault) → position (has_serial ike) held.associations ≡ Some place → RefusesThere place held o → reason ≡ fault_of_order o → RefusesAskingAt (association_of ike held.associations) reason
 refused_order ike place held o reason first is same =
     subst (λ (x : Option Association). RefusesAskingAt x reason) (sym (found_first ike held.associations place is.association first is.there)) (o, is.refuses, same)
 
 pub refused_none : (ike : ℕ) (held : Held) (reason : IkeFault) → position (has_serial ike) held.associations ≡ None → reason ≡ fault.Message UnknownAssociation → RefusesAskingAt (association_of ike held.associations) reason
 refused_none ike held reason none same = subst (λ (x : Option Association). RefusesAskingAt x reason) (sym (found_none ike held.associations none)) same
 
-pub refused_further : (ike place : ℕ) (held : Held) (table : Database) (f : AskFault) (reason : IkeFault) → position (has_serial ike) held.associations ≡ Some place → RefusesFurtherThere place held table f → reason ≡ fault_of_ask f → RefusesFurtherAt (association_of ike held.associations) table reason
+pub refused_further : (ike place : ℕ) (held : Held) (table : Database) (f : OrderFault) (reason : IkeFault) → position (has_serial ike) held.associations ≡ Some place → RefusesFurtherThere place held table f → reason ≡ fault_of_order f → RefusesFurtherAt (association_of ike held.associations) table reason
 refused_further ike place held table f reason first is same =
     subst (λ (x : Option Association). RefusesFurtherAt x table reason) (sym (found_first ike held.associations place is.association first is.there)) (f, is.refuses, same)
 

@@ -19,7 +19,7 @@ use Rattle.association.specs.Contents.{association_content}
 use Rattle.association.specs.AskedChildren.{AskedChildView}
 use Rattle.association.specs.declared.phase.Association.{Association}
 use Rattle.initial.specs.Beginning.{begun, Admits, Begins}
-use Rattle.initial.specs.Configs.{Setup}
+use Rattle.setup.specs.Configs.{Setup}
 use Rattle.effects.specs.Lengths.{HoldsWholeKeys, TellsLengths}
 use Rattle.informational.specs.Asking.{Asks}
 use Rattle.moments.specs.Ticking.{Ticks}

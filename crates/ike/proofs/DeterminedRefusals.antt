@@ -10,7 +10,7 @@ use Rattle.sadb.specs.Contents.{table_content}
 use Rattle.sadb.specs.Database.{Database, IsFull, IsSpent}
 use Rattle.sa_init.specs.Cookies.{CookieSecrets}
 use Rattle.sa_init.specs.Judging.{Accepted, ASSOCIATION_LIMIT, JudgementView, OfferView}
-use Rattle.initial.specs.Configs.{Setup}
+use Rattle.setup.specs.Configs.{Setup}
 use Rattle.effects.specs.Taking.{Meaning}
 use Rattle.ike.specs.Contents.{held_content, machine_content}
 use Rattle.ike.specs.Faults.{is_want_of_memory}

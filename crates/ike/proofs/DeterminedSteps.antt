@@ -21,7 +21,7 @@ use Rattle.association.specs.declared.fault.MessageFault.{MessageFault}
 use Rattle.association.specs.declared.fault.MessageFault.TheVariants.{WrongPhase}
 use Rattle.association.specs.declared.phase.Association.{Association}
 use Rattle.initial.specs.Beginning.{begun, Admits}
-use Rattle.initial.specs.Configs.{Setup}
+use Rattle.setup.specs.Configs.{Setup}
 use Rattle.effects.specs.Lengths.{TellsLengths}
 use Rattle.moments.specs.Ticking.{Ticks}
 use Rattle.moments.specs.declared.ticking.Ticked.{Ticked}
@@ -31,8 +31,8 @@ use Rattle.initial.specs.declared.beginning.Beginning.{Beginning}
 use Rattle.effects.specs.declared.taking.Effect.{Effect}
 use Rattle.informational.specs.declared.ordering.Order.{Order}
 use Rattle.informational.specs.declared.ordering.Order.TheVariants as asked
-use Rattle.ike.specs.declared.asking.Demand.{Demand}
-use Rattle.ike.specs.declared.asking.Demand.TheVariants as demand
+use Rattle.ike.specs.Orders.{OrderView}
+use Rattle.ike.specs.Orders as orders
 use Rattle.sadb.specs.declared.pair.Pair.{Pair}
 use Rattle.ike.proofs.MarkLemmas.{marked_alike}
 use Rattle.ike.specs.Contents.{held_content, machine_content}
@@ -318,16 +318,16 @@ one_further laws body_of setup ike local remote old other one two a b table anot
 same_pair : (one other : Pair) → Some one ≡ Some other → one ≡ other
 same_pair one other same = cc
 
-one_asking : Laws → (body_of : Keys → Octets → Octets → Octets → Octets) (setup : Setup) (what : Demand) (old other : Held) (one two : Stepped) (a b : Held) (table another a_table b_table : Database)
+one_asking : Laws → (body_of : Keys → Octets → Octets → Octets → Octets) (setup : Setup) (what : OrderView) (old other : Held) (one two : Stepped) (a b : Held) (table another a_table b_table : Database)
     → TellsLengths body_of setup.fresh.seal → HoldWholeKeys old → held_content old ≡ held_content other → table_content table ≡ table_content another
     → AsksFor body_of setup what old table one a a_table → AsksFor body_of setup what other another two b b_table → SameLeft one two a b a_table b_table
-one_asking laws body_of setup (demand.Probe ike) old other one two a b table another a_table b_table tells whole same alike is also =
+one_asking laws body_of setup (orders.Probe ike) old other one two a b table another a_table b_table tells whole same alike is also =
     one_probing laws body_of setup ike asked.Probe old other one two a b table another a_table b_table tells whole same alike is also
-one_asking laws body_of setup (demand.DeleteChild serial) old other one two a b table another a_table b_table tells whole same alike is also =
+one_asking laws body_of setup (orders.DeleteChild serial) old other one two a b table another a_table b_table tells whole same alike is also =
     let pairs : also.pair ≡ is.pair = same_pair also.pair is.pair (sym also.there ∙ sym (ap (λ (d : Database). pair_at d.pairs serial) alike) ∙ is.there) in
     one_probing laws body_of setup is.pair.ike (asked.DeleteChild serial is.pair.inbound.association.spi) old other one two a b table another a_table b_table tells whole same alike is.asks
     (subst (λ (p : Pair). AsksThat body_of setup p.ike (asked.DeleteChild serial p.inbound.association.spi) other another two b b_table) pairs also.asks)
-one_asking laws body_of setup (demand.DeleteIke ike) old other one two a b table another a_table b_table tells whole same alike is also =
+one_asking laws body_of setup (orders.DeleteIke ike) old other one two a b table another a_table b_table tells whole same alike is also =
     one_probing laws body_of setup ike asked.DeleteAssociation old other one two a b table another a_table b_table tells whole same alike is also
 
 alike_after : (now : ℕ) (old other a b : Machine) → machine_content old ≡ machine_content other → a ≡ record old { moment = now; held = a.held } → b ≡ record other { moment = now; held = b.held } → held_content a.held ≡ held_content b.held

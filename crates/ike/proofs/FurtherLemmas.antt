@@ -17,8 +17,8 @@ use Rattle.association.specs.declared.phase.Association.{Association}
 use Rattle.association.specs.declared.phase.Request.{Request}
 use Rattle.association.specs.declared.purpose.Purpose.TheVariants.{CreateChild}
 use Rattle.initial.specs.Beginning.{begun, Begins}
-use Rattle.initial.specs.Configs.{Setup}
-use Rattle.initial.specs.Issuing.{new_request}
+use Rattle.setup.specs.Configs.{Setup}
+use Rattle.association.specs.Issuing.{new_request}
 use Rattle.initial.specs.declared.beginning.Beginning.{Beginning}
 use Rattle.informational.specs.Asking.{Asks}
 use Rattle.informational.specs.declared.ordering.Order.{Order}
@@ -38,8 +38,8 @@ use Rattle.ike.specs.Soundness.{AreSound, IsSoundMachine}
 use Rattle.ike.specs.Starting.{child_by, FurthersBy}
 use Rattle.ike.specs.Steps as steps
 use Rattle.ike.specs.Steps.{InputView, Steps}
-use Rattle.ike.specs.declared.asking.Demand.{Demand}
-use Rattle.ike.specs.declared.asking.Demand.TheVariants as demand
+use Rattle.ike.specs.Orders.{OrderView}
+use Rattle.ike.specs.Orders as orders
 use Rattle.ike.specs.declared.output.Stepped.{Stepped}
 use Rattle.ike.proofs.AskingLemmas.{changed_itself, probed_serial}
 use Rattle.ike.proofs.MoveLemmas.{at_changed, at_grown}
@@ -159,14 +159,14 @@ that_further laws meaning setup asker order old table stepped new new_table ike 
       | inr (apart, same) ↦ waited old ike number request a (sym same ∙ stands) there
     ]
 
-ordered_further : (laws : FurtherLaws) (meaning : Meaning) (setup : Setup) (what : Demand) (old : Held) (table : Database) (stepped : Stepped) (new : Held) (new_table : Database) (ike number : ℕ) (a : Association) (request : Request)
+ordered_further : (laws : FurtherLaws) (meaning : Meaning) (setup : Setup) (what : OrderView) (old : Held) (table : Database) (stepped : Stepped) (new : Held) (new_table : Database) (ike number : ℕ) (a : Association) (request : Request)
     → AreSound old table → AsksFor meaning.body_of setup what old table stepped new new_table → association_of ike new.associations ≡ Some a → map.get a.outgoing.outstanding number ≡ Some request
     → asks_for_child request.purpose ≡ true → FurtherWaited ike number request old
-ordered_further laws meaning setup (demand.Probe asker) old table stepped new new_table ike number a request sound is stands there asks =
+ordered_further laws meaning setup (orders.Probe asker) old table stepped new new_table ike number a request sound is stands there asks =
     that_further laws meaning setup asker asked.Probe old table stepped new new_table ike number a request sound is stands there asks
-ordered_further laws meaning setup (demand.DeleteChild child) old table stepped new new_table ike number a request sound is stands there asks =
+ordered_further laws meaning setup (orders.DeleteChild child) old table stepped new new_table ike number a request sound is stands there asks =
     that_further laws meaning setup is.pair.ike (asked.DeleteChild child is.pair.inbound.association.spi) old table stepped new new_table ike number a request sound is.asks stands there asks
-ordered_further laws meaning setup (demand.DeleteIke asker) old table stepped new new_table ike number a request sound is stands there asks =
+ordered_further laws meaning setup (orders.DeleteIke asker) old table stepped new new_table ike number a request sound is stands there asks =
     that_further laws meaning setup asker asked.DeleteAssociation old table stepped new new_table ike number a request sound is stands there asks
 
 -- the association that is ordered to ask waits for what it asks now, too

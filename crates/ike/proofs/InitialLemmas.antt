@@ -15,7 +15,7 @@ use Rattle.association.specs.declared.phase.Association.{Association}
 use Rattle.association.specs.declared.phase.HalfOpen.{HalfOpen}
 use Rattle.association.specs.declared.phase.InitSent.{InitSent}
 use Rattle.association.specs.declared.phase.Phase.TheVariants as phase
-use Rattle.initial.specs.Configs.{Setup}
+use Rattle.setup.specs.Configs.{Setup}
 use Rattle.effects.specs.Keeping.{kept_reply}
 use Rattle.effects.specs.Taking.{Meaning}
 use Rattle.ike.specs.Machines.{association_of, setup_at, Held, Machine}

@@ -15,7 +15,7 @@ use Rattle.children.specs.Pairs.{IsChild}
 use Rattle.further.specs.Pairs.{IsFurtherChild}
 use Rattle.further.specs.Payloads.{further_payloads}
 use Rattle.effects.specs.Children.{First, Further, IsAnsweredChild, IsAskedChild, IsAskedFurther}
-use Rattle.initial.specs.Configs.{Setup}
+use Rattle.setup.specs.Configs.{Setup}
 
 -- what is known of the two ends' pairs of a child
 pub record MirrorFacts : Type 0 where

@@ -15,7 +15,7 @@ use Rattle.sa_init.specs.Judging.{OfferView}
 use Rattle.association.specs.AskedChildren.{AskedChildView}
 use Rattle.association.specs.declared.phase.Association.{Association}
 use Rattle.initial.specs.Beginning.{begun, Admits, Begins}
-use Rattle.initial.specs.Configs.{Setup}
+use Rattle.setup.specs.Configs.{Setup}
 use Rattle.initial.specs.declared.beginning.Admitted.{Admitted}
 use Rattle.initial.specs.declared.beginning.Beginning.{Beginning}
 use Rattle.effects.specs.Sending.{SendsRequest}

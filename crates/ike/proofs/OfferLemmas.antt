@@ -20,8 +20,8 @@ use Rattle.association.specs.Finding.{place_meant}
 use Rattle.association.specs.declared.fault.MessageFault.{MessageFault}
 use Rattle.association.specs.declared.phase.Association.{Association}
 use Rattle.initial.specs.Beginning.{Admits}
-use Rattle.initial.specs.Configs.{Setup}
-use Rattle.initial.specs.declared.answering.Answered as answering
+use Rattle.setup.specs.Configs.{Setup}
+use Rattle.association.specs.declared.outcome.Answered as answering
 use Rattle.initial.specs.declared.beginning.Admitted.{Admitted}
 use Rattle.effects.specs.Offers.{AnswersInitialSa, AnswersMessageSa}
 use Rattle.effects.specs.Taking.{Meaning, TakesMessage}

@@ -18,23 +18,22 @@ use Rattle.association.specs.Contents.{association_content}
 use Rattle.association.specs.Purposes.{AwaitsDeletion}
 use Rattle.association.specs.declared.phase.Association.{Association}
 use Rattle.association.specs.declared.phase.Request.{Request}
-use Rattle.initial.specs.Configs.{Setup}
-use Rattle.informational.specs.Orders.{IsEstablished, RefusesOrder}
+use Rattle.setup.specs.Configs.{Setup}
+use Rattle.association.specs.Phases.{IsEstablished}
+use Rattle.association.specs.Ordering.{RefusesOrder}
 use Rattle.informational.specs.Asking.{Asks}
-use Rattle.informational.specs.declared.fault.InformationalFault.{InformationalFault}
-use Rattle.informational.specs.declared.fault.InformationalFault.TheVariants as order
+use Rattle.association.specs.declared.fault.OrderFault.{OrderFault}
+use Rattle.association.specs.declared.fault.OrderFault.TheVariants as order
 use Rattle.informational.specs.declared.ordering.Order.{Order}
 use Rattle.informational.specs.declared.ordering.Order.TheVariants as asked
 use Rattle.create_child.specs.Asking.{AsksForFurther, MayAsk, RefusesFurther}
-use Rattle.create_child.specs.declared.fault.AskFault.{AskFault}
-use Rattle.create_child.specs.declared.fault.AskFault.TheVariants as ask
 use Rattle.ike.specs.Contents.{held_content}
 use Rattle.ike.specs.Faults.{is_want_of_memory}
 use Rattle.ike.specs.Machines.{association_of, has_serial, Held}
-use Rattle.ike.specs.Asking.{fault_of_ask, fault_of_informational, AsksFor, AsksFurther, AsksThat, RefusesAsking, RefusesAskingAt, RefusesChild, RefusesChildBy, RefusesFurtherAt}
+use Rattle.ike.specs.Asking.{fault_of_order, fault_of_order, AsksFor, AsksFurther, AsksThat, RefusesAsking, RefusesAskingAt, RefusesChild, RefusesChildBy, RefusesFurtherAt}
 use Rattle.ike.specs.Starting.{RefusesFurtherBy}
-use Rattle.ike.specs.declared.asking.Demand.{Demand}
-use Rattle.ike.specs.declared.asking.Demand.TheVariants as demand
+use Rattle.ike.specs.Orders.{OrderView}
+use Rattle.ike.specs.Orders as orders
 use Rattle.ike.specs.Ticking.{RefusesMoment}
 use Rattle.ike.specs.declared.fault.IkeFault.{IkeFault}
 use Rattle.ike.specs.declared.fault.IkeFault.TheVariants as fault
@@ -91,14 +90,14 @@ same_outgoing a b same = ap (λ (z : Association). z.outgoing) same
 -- ---- one reason
 
 -- what an order meets that is not for want of memory
-abbrev pub Hinders : Association → InformationalFault → Type 0
-Hinders a o = RefusesOrder a o × (is_want_of_memory (fault_of_informational o) ≡ false)
+abbrev pub Hinders : Association → OrderFault → Type 0
+Hinders a o = RefusesOrder a o × (is_want_of_memory (fault_of_order o) ≡ false)
 
 memory_only : (b : Bool) → b ≡ true → b ≡ false → ⊥
 memory_only true one other = cc
 memory_only false one other = cc
 
-one_order : (a b : Association) → association_content a ≡ association_content b → (one two : InformationalFault) → Hinders a one → Hinders b two → fault_of_informational one ≡ fault_of_informational two
+one_order : (a b : Association) → association_content a ≡ association_content b → (one two : OrderFault) → Hinders a one → Hinders b two → fault_of_order one ≡ fault_of_order two
 one_order a b same order.WrongPhase order.WrongPhase is also = refl
 one_order a b same order.WrongPhase order.Busy is also = absurd (is.0 (established_as b a (sym same) also.0.0))
 one_order a b same order.WrongPhase order.NumbersSpent is also = absurd (is.0 (established_as b a (sym same) also.0.0))
@@ -110,6 +109,12 @@ one_order a b same order.NumbersSpent order.Busy is also = absurd (full_as b.out
 one_order a b same order.NumbersSpent order.NumbersSpent is also = refl
 one_order a b same order.Memory two is also = absurd (memory_only true refl is.1)
 one_order a b same one order.Memory is also = absurd (memory_only true refl also.1)
+one_order a b same order.TableFull two is also = absurd is.0
+one_order a b same order.SpisSpent two is also = absurd is.0
+one_order a b same order.TableMemory two is also = absurd is.0
+one_order a b same one order.TableFull is also = absurd also.0
+one_order a b same one order.SpisSpent is also = absurd also.0
+one_order a b same one order.TableMemory is also = absurd also.0
 
 one_at : (o p : Option Association) (one two : IkeFault) → option_map association_content o ≡ option_map association_content p → is_want_of_memory one ≡ false → is_want_of_memory two ≡ false
     → RefusesAskingAt o one → RefusesAskingAt p two → one ≡ two
@@ -145,11 +150,14 @@ further_may : (body_of : Keys → Octets → Octets → Octets → Octets) (setu
 further_may body_of setup local remote a table octets changed new_table is =
     record { established = record { keys = is.keys; is = is.established }; not_deleting = is.not_deleting; allowed = may_before a.outgoing is.issued.ready is.issued.prepared is.issued.issued.allowed }
 
-not_refused : (a b : Association) → association_content a ≡ association_content b → MayAsk a → (o : InformationalFault) → RefusesOrder b o → is_want_of_memory (fault_of_informational o) ≡ true
+not_refused : (a b : Association) → association_content a ≡ association_content b → MayAsk a → (o : OrderFault) → RefusesOrder b o → is_want_of_memory (fault_of_order o) ≡ true
 not_refused a b same may order.WrongPhase refuses = absurd (refuses (established_as a b same may.established))
 not_refused a b same may order.Busy refuses = absurd (full_as b.outgoing a.outgoing (sym (same_outgoing a b same)) refuses.1 may.not_deleting may.allowed.not_busy)
 not_refused a b same may order.NumbersSpent refuses = absurd (may.allowed.not_spent (spent_as b.outgoing a.outgoing (sym (same_outgoing a b same)) refuses.3))
 not_refused a b same may order.Memory refuses = refl
+not_refused a b same may order.TableFull refuses = absurd refuses
+not_refused a b same may order.SpisSpent refuses = absurd refuses
+not_refused a b same may order.TableMemory refuses = absurd refuses
 
 done_or_not : (a : Association) (p : Option Association) (reason : IkeFault) → Some (association_content a) ≡ option_map association_content p → MayAsk a → RefusesAskingAt p reason → is_want_of_memory reason ≡ true
 done_or_not a None reason same may refuses = absurd cc
@@ -168,14 +176,14 @@ probe_or_refused body_of setup serial order old other table stepped new new_tabl
 -- ---- a further child
 
 not_refused_further : (a b : Association) (table another : Database) → association_content a ≡ association_content b → table_content table ≡ table_content another → MayAsk a → ¬ IsFull table → ¬ IsSpent table
-    → (f : AskFault) → RefusesFurther b another f → is_want_of_memory (fault_of_ask f) ≡ true
-not_refused_further a b table another same alike may not_full not_spent ask.WrongPhase refuses = not_refused a b same may order.WrongPhase refuses
-not_refused_further a b table another same alike may not_full not_spent ask.Busy refuses = not_refused a b same may order.Busy refuses
-not_refused_further a b table another same alike may not_full not_spent ask.NumbersSpent refuses = not_refused a b same may order.NumbersSpent refuses
-not_refused_further a b table another same alike may not_full not_spent ask.TableFull refuses = absurd (not_full (subst (λ (d : Database). IsFull d) (sym alike) refuses.1))
-not_refused_further a b table another same alike may not_full not_spent ask.SpisSpent refuses = absurd (not_spent (subst (λ (d : Database). IsSpent d) (sym alike) refuses.2))
-not_refused_further a b table another same alike may not_full not_spent ask.TableMemory refuses = refl
-not_refused_further a b table another same alike may not_full not_spent ask.Memory refuses = refl
+    → (f : OrderFault) → RefusesFurther b another f → is_want_of_memory (fault_of_order f) ≡ true
+not_refused_further a b table another same alike may not_full not_spent order.WrongPhase refuses = not_refused a b same may order.WrongPhase refuses
+not_refused_further a b table another same alike may not_full not_spent order.Busy refuses = not_refused a b same may order.Busy refuses
+not_refused_further a b table another same alike may not_full not_spent order.NumbersSpent refuses = not_refused a b same may order.NumbersSpent refuses
+not_refused_further a b table another same alike may not_full not_spent order.TableFull refuses = absurd (not_full (subst (λ (d : Database). IsFull d) (sym alike) refuses.1))
+not_refused_further a b table another same alike may not_full not_spent order.SpisSpent refuses = absurd (not_spent (subst (λ (d : Database). IsSpent d) (sym alike) refuses.2))
+not_refused_further a b table another same alike may not_full not_spent order.TableMemory refuses = refl
+not_refused_further a b table another same alike may not_full not_spent order.Memory refuses = refl
 
 further_or_not : (a : Association) (p : Option Association) (table another : Database) (reason : IkeFault) → Some (association_content a) ≡ option_map association_content p → table_content table ≡ table_content another
     → MayAsk a → ¬ IsFull table → ¬ IsSpent table → RefusesFurtherAt p another reason → is_want_of_memory reason ≡ true
@@ -194,40 +202,40 @@ further_or_refused body_of setup serial local remote old other table another ste
     (further_may body_of setup local remote a.association table a.octets a.changed new_table is.further) is.further.not_full is.further.not_spent refuses
 
 -- what may be asked is not refused, but for the table or for want of memory
-may_clash : (a b : Association) → association_content a ≡ association_content b → MayAsk a → (o : InformationalFault) → RefusesOrder b o → is_want_of_memory (fault_of_informational o) ≡ false → ⊥
-may_clash a b same may o refuses other = memory_only (is_want_of_memory (fault_of_informational o)) (not_refused a b same may o refuses) other
+may_clash : (a b : Association) → association_content a ≡ association_content b → MayAsk a → (o : OrderFault) → RefusesOrder b o → is_want_of_memory (fault_of_order o) ≡ false → ⊥
+may_clash a b same may o refuses other = memory_only (is_want_of_memory (fault_of_order o)) (not_refused a b same may o refuses) other
 
-one_ask : (a b : Association) (table another : Database) → association_content a ≡ association_content b → table_content table ≡ table_content another → (one two : AskFault)
-    → is_want_of_memory (fault_of_ask one) ≡ false → is_want_of_memory (fault_of_ask two) ≡ false → RefusesFurther a table one → RefusesFurther b another two → fault_of_ask one ≡ fault_of_ask two
-one_ask a b table another same alike ask.TableMemory two not_one not_two is also = absurd (memory_only true refl not_one)
-one_ask a b table another same alike ask.Memory two not_one not_two is also = absurd (memory_only true refl not_one)
-one_ask a b table another same alike one ask.TableMemory not_one not_two is also = absurd (memory_only true refl not_two)
-one_ask a b table another same alike one ask.Memory not_one not_two is also = absurd (memory_only true refl not_two)
-one_ask a b table another same alike ask.WrongPhase ask.WrongPhase not_one not_two is also = refl
-one_ask a b table another same alike ask.WrongPhase ask.Busy not_one not_two is also = one_order a b same order.WrongPhase order.Busy (is, refl) (also, refl)
-one_ask a b table another same alike ask.WrongPhase ask.NumbersSpent not_one not_two is also = one_order a b same order.WrongPhase order.NumbersSpent (is, refl) (also, refl)
-one_ask a b table another same alike ask.WrongPhase ask.TableFull not_one not_two is also = absurd (may_clash b a (sym same) also.0 order.WrongPhase is refl)
-one_ask a b table another same alike ask.WrongPhase ask.SpisSpent not_one not_two is also = absurd (may_clash b a (sym same) also.0 order.WrongPhase is refl)
-one_ask a b table another same alike ask.Busy ask.WrongPhase not_one not_two is also = one_order a b same order.Busy order.WrongPhase (is, refl) (also, refl)
-one_ask a b table another same alike ask.Busy ask.Busy not_one not_two is also = refl
-one_ask a b table another same alike ask.Busy ask.NumbersSpent not_one not_two is also = one_order a b same order.Busy order.NumbersSpent (is, refl) (also, refl)
-one_ask a b table another same alike ask.Busy ask.TableFull not_one not_two is also = absurd (may_clash b a (sym same) also.0 order.Busy is refl)
-one_ask a b table another same alike ask.Busy ask.SpisSpent not_one not_two is also = absurd (may_clash b a (sym same) also.0 order.Busy is refl)
-one_ask a b table another same alike ask.NumbersSpent ask.WrongPhase not_one not_two is also = one_order a b same order.NumbersSpent order.WrongPhase (is, refl) (also, refl)
-one_ask a b table another same alike ask.NumbersSpent ask.Busy not_one not_two is also = one_order a b same order.NumbersSpent order.Busy (is, refl) (also, refl)
-one_ask a b table another same alike ask.NumbersSpent ask.NumbersSpent not_one not_two is also = refl
-one_ask a b table another same alike ask.NumbersSpent ask.TableFull not_one not_two is also = absurd (may_clash b a (sym same) also.0 order.NumbersSpent is refl)
-one_ask a b table another same alike ask.NumbersSpent ask.SpisSpent not_one not_two is also = absurd (may_clash b a (sym same) also.0 order.NumbersSpent is refl)
-one_ask a b table another same alike ask.TableFull ask.WrongPhase not_one not_two is also = absurd (may_clash a b same is.0 order.WrongPhase also refl)
-one_ask a b table another same alike ask.TableFull ask.Busy not_one not_two is also = absurd (may_clash a b same is.0 order.Busy also refl)
-one_ask a b table another same alike ask.TableFull ask.NumbersSpent not_one not_two is also = absurd (may_clash a b same is.0 order.NumbersSpent also refl)
-one_ask a b table another same alike ask.TableFull ask.TableFull not_one not_two is also = refl
-one_ask a b table another same alike ask.TableFull ask.SpisSpent not_one not_two is also = absurd (also.1 (subst (λ (d : Database). IsFull d) alike is.1))
-one_ask a b table another same alike ask.SpisSpent ask.WrongPhase not_one not_two is also = absurd (may_clash a b same is.0 order.WrongPhase also refl)
-one_ask a b table another same alike ask.SpisSpent ask.Busy not_one not_two is also = absurd (may_clash a b same is.0 order.Busy also refl)
-one_ask a b table another same alike ask.SpisSpent ask.NumbersSpent not_one not_two is also = absurd (may_clash a b same is.0 order.NumbersSpent also refl)
-one_ask a b table another same alike ask.SpisSpent ask.TableFull not_one not_two is also = absurd (is.1 (subst (λ (d : Database). IsFull d) (sym alike) also.1))
-one_ask a b table another same alike ask.SpisSpent ask.SpisSpent not_one not_two is also = refl
+one_ask : (a b : Association) (table another : Database) → association_content a ≡ association_content b → table_content table ≡ table_content another → (one two : OrderFault)
+    → is_want_of_memory (fault_of_order one) ≡ false → is_want_of_memory (fault_of_order two) ≡ false → RefusesFurther a table one → RefusesFurther b another two → fault_of_order one ≡ fault_of_order two
+one_ask a b table another same alike order.TableMemory two not_one not_two is also = absurd (memory_only true refl not_one)
+one_ask a b table another same alike order.Memory two not_one not_two is also = absurd (memory_only true refl not_one)
+one_ask a b table another same alike one order.TableMemory not_one not_two is also = absurd (memory_only true refl not_two)
+one_ask a b table another same alike one order.Memory not_one not_two is also = absurd (memory_only true refl not_two)
+one_ask a b table another same alike order.WrongPhase order.WrongPhase not_one not_two is also = refl
+one_ask a b table another same alike order.WrongPhase order.Busy not_one not_two is also = one_order a b same order.WrongPhase order.Busy (is, refl) (also, refl)
+one_ask a b table another same alike order.WrongPhase order.NumbersSpent not_one not_two is also = one_order a b same order.WrongPhase order.NumbersSpent (is, refl) (also, refl)
+one_ask a b table another same alike order.WrongPhase order.TableFull not_one not_two is also = absurd (may_clash b a (sym same) also.0 order.WrongPhase is refl)
+one_ask a b table another same alike order.WrongPhase order.SpisSpent not_one not_two is also = absurd (may_clash b a (sym same) also.0 order.WrongPhase is refl)
+one_ask a b table another same alike order.Busy order.WrongPhase not_one not_two is also = one_order a b same order.Busy order.WrongPhase (is, refl) (also, refl)
+one_ask a b table another same alike order.Busy order.Busy not_one not_two is also = refl
+one_ask a b table another same alike order.Busy order.NumbersSpent not_one not_two is also = one_order a b same order.Busy order.NumbersSpent (is, refl) (also, refl)
+one_ask a b table another same alike order.Busy order.TableFull not_one not_two is also = absurd (may_clash b a (sym same) also.0 order.Busy is refl)
+one_ask a b table another same alike order.Busy order.SpisSpent not_one not_two is also = absurd (may_clash b a (sym same) also.0 order.Busy is refl)
+one_ask a b table another same alike order.NumbersSpent order.WrongPhase not_one not_two is also = one_order a b same order.NumbersSpent order.WrongPhase (is, refl) (also, refl)
+one_ask a b table another same alike order.NumbersSpent order.Busy not_one not_two is also = one_order a b same order.NumbersSpent order.Busy (is, refl) (also, refl)
+one_ask a b table another same alike order.NumbersSpent order.NumbersSpent not_one not_two is also = refl
+one_ask a b table another same alike order.NumbersSpent order.TableFull not_one not_two is also = absurd (may_clash b a (sym same) also.0 order.NumbersSpent is refl)
+one_ask a b table another same alike order.NumbersSpent order.SpisSpent not_one not_two is also = absurd (may_clash b a (sym same) also.0 order.NumbersSpent is refl)
+one_ask a b table another same alike order.TableFull order.WrongPhase not_one not_two is also = absurd (may_clash a b same is.0 order.WrongPhase also refl)
+one_ask a b table another same alike order.TableFull order.Busy not_one not_two is also = absurd (may_clash a b same is.0 order.Busy also refl)
+one_ask a b table another same alike order.TableFull order.NumbersSpent not_one not_two is also = absurd (may_clash a b same is.0 order.NumbersSpent also refl)
+one_ask a b table another same alike order.TableFull order.TableFull not_one not_two is also = refl
+one_ask a b table another same alike order.TableFull order.SpisSpent not_one not_two is also = absurd (also.1 (subst (λ (d : Database). IsFull d) alike is.1))
+one_ask a b table another same alike order.SpisSpent order.WrongPhase not_one not_two is also = absurd (may_clash a b same is.0 order.WrongPhase also refl)
+one_ask a b table another same alike order.SpisSpent order.Busy not_one not_two is also = absurd (may_clash a b same is.0 order.Busy also refl)
+one_ask a b table another same alike order.SpisSpent order.NumbersSpent not_one not_two is also = absurd (may_clash a b same is.0 order.NumbersSpent also refl)
+one_ask a b table another same alike order.SpisSpent order.TableFull not_one not_two is also = absurd (is.1 (subst (λ (d : Database). IsFull d) (sym alike) also.1))
+one_ask a b table another same alike order.SpisSpent order.SpisSpent not_one not_two is also = refl
 
 one_further_at : (o p : Option Association) (table another : Database) (one two : IkeFault) → option_map association_content o ≡ option_map association_content p → table_content table ≡ table_content another
     → is_want_of_memory one ≡ false → is_want_of_memory two ≡ false → RefusesFurtherAt o table one → RefusesFurtherAt p another two → one ≡ two
@@ -261,24 +269,24 @@ one_named_refusal : (pair : Option Pair) (old other : Held) (one two : IkeFault)
 one_named_refusal None old other one two same not_one not_two is also = is ∙ sym also
 one_named_refusal (Some pair) old other one two same not_one not_two is also = one_child_refusal pair.state pair.ike old other one two same not_one not_two is also
 
-pub one_asking_refusal : (what : Demand) (old other : Held) (table another : Database) (one two : IkeFault) → held_content old ≡ held_content other → table_content table ≡ table_content another
+pub one_asking_refusal : (what : OrderView) (old other : Held) (table another : Database) (one two : IkeFault) → held_content old ≡ held_content other → table_content table ≡ table_content another
     → is_want_of_memory one ≡ false → is_want_of_memory two ≡ false → RefusesAsking what old table one → RefusesAsking what other another two → one ≡ two
-one_asking_refusal (demand.Probe ike) old other table another one two same alike not_one not_two is also = one_probe_refusal ike old other one two same not_one not_two is also
-one_asking_refusal (demand.DeleteChild serial) old other table another one two same alike not_one not_two is also =
+one_asking_refusal (orders.Probe ike) old other table another one two same alike not_one not_two is also = one_probe_refusal ike old other one two same not_one not_two is also
+one_asking_refusal (orders.DeleteChild serial) old other table another one two same alike not_one not_two is also =
     one_named_refusal (pair_at table.pairs serial) old other one two same not_one not_two is
     (subst (λ (p : Option Pair). RefusesChild p other two) (sym (ap (λ (d : Database). pair_at d.pairs serial) alike)) also)
-one_asking_refusal (demand.DeleteIke ike) old other table another one two same alike not_one not_two is also = one_probe_refusal ike old other one two same not_one not_two is also
+one_asking_refusal (orders.DeleteIke ike) old other table another one two same alike not_one not_two is also = one_probe_refusal ike old other one two same not_one not_two is also
 
-pub asked_or_refused : (body_of : Keys → Octets → Octets → Octets → Octets) (setup : Setup) (what : Demand) (old other : Held) (table another : Database) (stepped : Stepped) (new : Held) (new_table : Database) (reason : IkeFault)
+pub asked_or_refused : (body_of : Keys → Octets → Octets → Octets → Octets) (setup : Setup) (what : OrderView) (old other : Held) (table another : Database) (stepped : Stepped) (new : Held) (new_table : Database) (reason : IkeFault)
     → held_content old ≡ held_content other → table_content table ≡ table_content another → AsksFor body_of setup what old table stepped new new_table → RefusesAsking what other another reason
     → is_want_of_memory reason ≡ true
-asked_or_refused body_of setup (demand.Probe ike) old other table another stepped new new_table reason same alike is refuses = probe_or_refused body_of setup ike asked.Probe old other table stepped new new_table reason same is refuses
-asked_or_refused body_of setup (demand.DeleteChild serial) old other table another stepped new new_table reason same alike is refuses =
+asked_or_refused body_of setup (orders.Probe ike) old other table another stepped new new_table reason same alike is refuses = probe_or_refused body_of setup ike asked.Probe old other table stepped new new_table reason same is refuses
+asked_or_refused body_of setup (orders.DeleteChild serial) old other table another stepped new new_table reason same alike is refuses =
     let there : pair_at another.pairs serial ≡ Some is.pair = sym (ap (λ (d : Database). pair_at d.pairs serial) alike) ∙ is.there in
     let by : RefusesChildBy is.pair.state (association_of is.pair.ike other.associations) reason = subst (λ (p : Option Pair). RefusesChild p other reason) there refuses in
     probe_or_refused body_of setup is.pair.ike (asked.DeleteChild serial is.pair.inbound.association.spi) old other table stepped new new_table reason same is.asks
     (subst (λ (s : State). RefusesChildBy s (association_of is.pair.ike other.associations) reason) is.live by)
-asked_or_refused body_of setup (demand.DeleteIke ike) old other table another stepped new new_table reason same alike is refuses = probe_or_refused body_of setup ike asked.DeleteAssociation old other table stepped new new_table reason same is refuses
+asked_or_refused body_of setup (orders.DeleteIke ike) old other table another stepped new new_table reason same alike is refuses = probe_or_refused body_of setup ike asked.DeleteAssociation old other table stepped new new_table reason same is refuses
 
 pub moment_refused : (reason : IkeFault) → RefusesMoment reason → is_want_of_memory reason ≡ true
 moment_refused (fault.Unread f) is = absurd is

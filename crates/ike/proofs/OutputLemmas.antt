@@ -17,8 +17,8 @@ use Rattle.association.specs.Finding.{place_meant, sent_by_other}
 use Rattle.association.specs.Receiving.{IsRepeating}
 use Rattle.association.specs.declared.fault.MessageFault.{MessageFault}
 use Rattle.association.specs.declared.phase.Association.{Association}
-use Rattle.initial.specs.Configs.{Setup}
-use Rattle.initial.specs.declared.answering.Answered as answering
+use Rattle.setup.specs.Configs.{Setup}
+use Rattle.association.specs.declared.outcome.Answered as answering
 use Rattle.moments.specs.Due.{held_of, is_over}
 use Rattle.moments.specs.Held as moments
 use Rattle.moments.specs.Ticking.{Ticks}

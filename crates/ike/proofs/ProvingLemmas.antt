@@ -12,7 +12,7 @@ use Rattle.association.specs.declared.phase.HalfOpen.{HalfOpen}
 use Rattle.association.specs.declared.phase.InitSent.{InitSent}
 use Rattle.association.specs.declared.phase.Phase.TheVariants as phase
 use Rattle.initial.specs.Beginning.{begun}
-use Rattle.initial.specs.Configs.{Setup}
+use Rattle.setup.specs.Configs.{Setup}
 use Rattle.effects.specs.Proving.{ProvesByMessage}
 use Rattle.effects.specs.Taking.{Meaning, KeepsIdentity, TakesMessage}
 use Rattle.effects.specs.declared.taking.Effect.{Effect}

@@ -17,7 +17,7 @@ use Rattle.association.specs.Purposes.{spi_asked, AwaitsSpi}
 use Rattle.association.specs.declared.phase.Association.{Association}
 use Rattle.association.specs.declared.phase.Request.{Request}
 use Rattle.initial.specs.Beginning.{begun}
-use Rattle.initial.specs.Configs.{Setup}
+use Rattle.setup.specs.Configs.{Setup}
 use Rattle.informational.specs.declared.ordering.Order.{Order}
 use Rattle.informational.specs.declared.ordering.Order.TheVariants as asked
 use Rattle.create_child.specs.Asking.{AsksForFurther}
@@ -34,8 +34,8 @@ use Rattle.ike.specs.Soundness.{AreReservationsHeld, AreSound, HoldsReservation,
 use Rattle.ike.specs.Starting.{child_by, BeginsBy, FurthersBy}
 use Rattle.ike.specs.Steps.{InputView, Steps}
 use Rattle.ike.specs.Steps as steps
-use Rattle.ike.specs.declared.asking.Demand.{Demand}
-use Rattle.ike.specs.declared.asking.Demand.TheVariants as demand
+use Rattle.ike.specs.Orders.{OrderView}
+use Rattle.ike.specs.Orders as orders
 use Rattle.ike.specs.declared.output.Stepped.{Stepped}
 use Rattle.ike.proofs.MarkLemmas.{marked_but}
 use Rattle.ike.proofs.WayLemmas.{datagram_came, joined, stood, taken, AdmitsOne, Came, Takes}
@@ -263,12 +263,12 @@ that_then : ReleaseLaws → (body_of : Keys → Octets → Octets → Octets →
 that_then laws body_of setup ike order old table stepped new new_table q sound is there held =
     asking_holds laws body_of setup ike old table stepped new q sound is.asks (held q (subst (λ (d : Database). IsReserved d q) (marked_but order table new_table is.marked) there))
 
-order_then : ReleaseLaws → (body_of : Keys → Octets → Octets → Octets → Octets) (setup : Setup) (what : Demand) (old : Held) (table : Database) (stepped : Stepped) (new : Held) (new_table : Database) (q : ℕ)
+order_then : ReleaseLaws → (body_of : Keys → Octets → Octets → Octets → Octets) (setup : Setup) (what : OrderView) (old : Held) (table : Database) (stepped : Stepped) (new : Held) (new_table : Database) (q : ℕ)
     → AreSound old table → AsksFor body_of setup what old table stepped new new_table → IsReserved new_table q → HeldThen old table new q
-order_then laws body_of setup (demand.Probe ike) old table stepped new new_table q sound is there = that_then laws body_of setup ike asked.Probe old table stepped new new_table q sound is there
-order_then laws body_of setup (demand.DeleteChild child) old table stepped new new_table q sound is there =
+order_then laws body_of setup (orders.Probe ike) old table stepped new new_table q sound is there = that_then laws body_of setup ike asked.Probe old table stepped new new_table q sound is there
+order_then laws body_of setup (orders.DeleteChild child) old table stepped new new_table q sound is there =
     that_then laws body_of setup is.pair.ike (asked.DeleteChild child is.pair.inbound.association.spi) old table stepped new new_table q sound is.asks there
-order_then laws body_of setup (demand.DeleteIke ike) old table stepped new new_table q sound is there = that_then laws body_of setup ike asked.DeleteAssociation old table stepped new new_table q sound is there
+order_then laws body_of setup (orders.DeleteIke ike) old table stepped new new_table q sound is there = that_then laws body_of setup ike asked.DeleteAssociation old table stepped new new_table q sound is there
 
 stepped_then : ReleaseLaws → (meaning : Meaning) (entries : List Entry) (input : InputView) (old : Machine) (table : Database) (stepped : Stepped) (new : Machine) (new_table : Database) (q : ℕ)
     → AreSound old.held table → Steps meaning entries input old table stepped new new_table → IsReserved new_table q → HeldThen old.held table new.held q

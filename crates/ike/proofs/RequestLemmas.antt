@@ -34,7 +34,7 @@ use Rattle.association.specs.declared.fault.MessageFault.TheVariants as why
 use Rattle.association.specs.declared.phase.Association.{Association}
 use Rattle.association.specs.declared.phase.HalfOpen.{HalfOpen}
 use Rattle.association.specs.declared.phase.Phase.TheVariants as phase
-use Rattle.initial.specs.Configs.{Setup}
+use Rattle.setup.specs.Configs.{Setup}
 use Rattle.moments.specs.Holding.{HoldsOn}
 use Rattle.effects.specs.Keeping.{HasKeys}
 use Rattle.effects.specs.Requests.{is_concluded, IsNew, IsSoundlyHeld, OpensAs, PutsIntoEffect, StaysConcluded}

@@ -30,7 +30,7 @@ use Rattle.association.specs.declared.phase.HalfOpen.{HalfOpen}
 use Rattle.association.specs.declared.phase.InitSent.{InitSent}
 use Rattle.association.specs.declared.phase.Phase.TheVariants as phase
 use Rattle.exchange.specs.declared.headers.Role.TheVariants.{Initiator, Responder}
-use Rattle.initial.specs.Configs.{Setup}
+use Rattle.setup.specs.Configs.{Setup}
 use Rattle.initial.specs.Answering.{IsHalfOpen}
 use Rattle.initial.specs.Ending.{IsAuthSent}
 use Rattle.initial.specs.Reading.{IsInitSent}
@@ -56,8 +56,8 @@ use Rattle.ike.proofs.MarkLemmas.{marked_reserved}
 use Rattle.ike.specs.Machines.{half_open_count, is_bad_spi, own_spi, setup_at, Held, Machine, SERIAL_END}
 use Rattle.ike.specs.Receiving.{is_initial_request, is_sound_initial, is_answered, is_answered_phase, same_octets, with_next, AdmitsNext, CanMake, DoesJudgement, IsInitialRequest, TakesAt, TakesDatagram, TakesFound, TakesOffer, TakesRead, TakesRequestAt, TakesSound}
 use Rattle.ike.specs.Asking.{AsksAt, AsksFor, AsksThat}
-use Rattle.ike.specs.declared.asking.Demand.{Demand}
-use Rattle.ike.specs.declared.asking.Demand.TheVariants as demand
+use Rattle.ike.specs.Orders.{OrderView}
+use Rattle.ike.specs.Orders as orders
 use Rattle.ike.specs.Soundness.{AreSound, At, IsSound, IsSoundMachine}
 use Rattle.ike.specs.Ticking.{TakesHeld}
 use Rattle.ike.specs.Starting.{child_by, new_association_fault, beginning_fault_of, protecting_entry, BeginsBy, FurthersBy}
@@ -504,12 +504,12 @@ that_sound laws body_of setup ike order old table stepped new new_table sound is
     probed_sound laws body_of setup ike old table new_table stepped new sound a
     (ordered_spis laws body_of setup order a.association a.octets a.changed table new_table (sound.each a.place a.association a.there).reserved is.ordered is.marked)
 
-order_sound : (laws : OrderLaws) (body_of : Keys → Octets → Octets → Octets → Octets) (setup : Setup) (what : Demand) (old : Held) (table : Database) (stepped : Stepped) (new : Held) (new_table : Database)
+order_sound : (laws : OrderLaws) (body_of : Keys → Octets → Octets → Octets → Octets) (setup : Setup) (what : OrderView) (old : Held) (table : Database) (stepped : Stepped) (new : Held) (new_table : Database)
     → AreSound old table → AsksFor body_of setup what old table stepped new new_table → AreSound new new_table
-order_sound laws body_of setup (demand.Probe ike) old table stepped new new_table sound is = that_sound laws body_of setup ike asked.Probe old table stepped new new_table sound is
-order_sound laws body_of setup (demand.DeleteChild child) old table stepped new new_table sound is =
+order_sound laws body_of setup (orders.Probe ike) old table stepped new new_table sound is = that_sound laws body_of setup ike asked.Probe old table stepped new new_table sound is
+order_sound laws body_of setup (orders.DeleteChild child) old table stepped new new_table sound is =
     that_sound laws body_of setup is.pair.ike (asked.DeleteChild child is.pair.inbound.association.spi) old table stepped new new_table sound is.asks
-order_sound laws body_of setup (demand.DeleteIke ike) old table stepped new new_table sound is = that_sound laws body_of setup ike asked.DeleteAssociation old table stepped new new_table sound is
+order_sound laws body_of setup (orders.DeleteIke ike) old table stepped new new_table sound is = that_sound laws body_of setup ike asked.DeleteAssociation old table stepped new new_table sound is
 
 further_sound : (laws : OrderLaws) (meaning : Meaning) (setup : Setup) (ike place : ℕ) (old : Held) (table : Database) (stepped : Stepped) (new : Held) (new_table : Database)
     → IsSoundTable table → AreSound old table → FurthersBy meaning setup ike place old table stepped new new_table → AreSound new new_table

@@ -25,7 +25,7 @@ use Rattle.association.specs.declared.phase.Phase.{Phase}
 use Rattle.association.specs.declared.phase.Phase.TheVariants as phase
 use Rattle.initial.specs.Beginning.{begun, half_open, Admits, Begins}
 use Rattle.effects.specs.Children.{AsksForChild, IsAsking, MakesChild}
-use Rattle.initial.specs.Configs.{Setup}
+use Rattle.setup.specs.Configs.{Setup}
 use Rattle.effects.specs.Keeping.{child_in, octets_of_effect, HasKeys, IsShort, KeepsShort, KeyedBy}
 use Rattle.effects.specs.Pairs.{IsUnused}
 use Rattle.effects.specs.Requests.{IsSoundlyHeld}

@@ -12,7 +12,7 @@ use Rattle.sa_init.specs.Judging.{Accepted, Answered, Full, Incomplete, Judgemen
 use Rattle.association.specs.Finding.{place_meant}
 use Rattle.association.specs.declared.fault.MessageFault.{MessageFault}
 use Rattle.association.specs.declared.phase.Association.{Association}
-use Rattle.initial.specs.Configs.{Setup}
+use Rattle.setup.specs.Configs.{Setup}
 use Rattle.effects.specs.Keeping.{kept_reply, IsShort}
 use Rattle.effects.specs.Taking.{Meaning}
 use Rattle.ike.specs.Machines.{setup_at, Held, Machine}
@@ -23,8 +23,8 @@ use Rattle.informational.specs.declared.ordering.Order.{Order}
 use Rattle.informational.specs.declared.ordering.Order.TheVariants as asked
 use Rattle.ike.specs.Asking.{AsksAt, AsksFor, AsksThat}
 use Rattle.ike.specs.Pairs.{IsOwnLive}
-use Rattle.ike.specs.declared.asking.Demand.{Demand}
-use Rattle.ike.specs.declared.asking.Demand.TheVariants as demand
+use Rattle.ike.specs.Orders.{OrderView}
+use Rattle.ike.specs.Orders as orders
 use Rattle.ike.specs.Starting.{BeginsBy, FurthersBy}
 use Rattle.ike.specs.Ticking.{TakesHeld}
 use Rattle.ike.specs.Steps.{is_tick, InputView, Steps}
@@ -119,13 +119,13 @@ further_one meaning setup ike place old table stepped new new_table is =
     let f = is.asks.further in
     record { ike = ike; probes = is.asks.asks; leaves = inr (record { between = f.between; room = f.room; spi = f.spi; reserved = f.reserved }) }
 
-pub asked_one : (meaning : Meaning) (setup : Setup) (what : Demand) (old : Held) (table : Database) (stepped : Stepped) (new : Held) (new_table : Database)
+pub asked_one : (meaning : Meaning) (setup : Setup) (what : OrderView) (old : Held) (table : Database) (stepped : Stepped) (new : Held) (new_table : Database)
     → AsksFor meaning.body_of setup what old table stepped new new_table → AsksOne meaning setup old table stepped new new_table
-asked_one meaning setup (demand.Probe ike) old table stepped new new_table is = that_one meaning setup ike asked.Probe old table stepped new new_table tt is
-asked_one meaning setup (demand.DeleteChild child) old table stepped new new_table is =
+asked_one meaning setup (orders.Probe ike) old table stepped new new_table is = that_one meaning setup ike asked.Probe old table stepped new new_table tt is
+asked_one meaning setup (orders.DeleteChild child) old table stepped new new_table is =
     that_one meaning setup is.pair.ike (asked.DeleteChild child is.pair.inbound.association.spi) old table stepped new new_table
     (record { pair = is.pair; there = is.there; its = refl; live = is.live }) is.asks
-asked_one meaning setup (demand.DeleteIke ike) old table stepped new new_table is = that_one meaning setup ike asked.DeleteAssociation old table stepped new new_table tt is
+asked_one meaning setup (orders.DeleteIke ike) old table stepped new new_table is = that_one meaning setup ike asked.DeleteAssociation old table stepped new new_table tt is
 
 -- what is due at a moment is done
 pub record PassesMoment (input : InputView) (old : Held) (table : Database) (stepped : Stepped) (new : Held) (new_table : Database) : Type 0 where

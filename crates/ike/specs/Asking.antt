@@ -12,23 +12,20 @@ use Rattle.sadb.specs.declared.pair.State.TheVariants.{Live, Deleting}
 use Rattle.children.specs.declared.fault.MemoryFault.TheVariants as child
 use Rattle.association.specs.declared.fault.MessageFault.TheVariants.{UnknownAssociation, WrongPhase}
 use Rattle.association.specs.declared.phase.Association.{Association}
-use Rattle.initial.specs.Configs.{Setup}
+use Rattle.setup.specs.Configs.{Setup}
 use Rattle.informational.specs.Asking.{Asks}
 use Rattle.informational.specs.Ordering.{MarksFor}
-use Rattle.informational.specs.Orders.{RefusesOrder}
-use Rattle.informational.specs.declared.asking.Issued.{Issued}
-use Rattle.informational.specs.declared.fault.InformationalFault.{InformationalFault}
-use Rattle.informational.specs.declared.fault.InformationalFault.TheVariants as order
+use Rattle.association.specs.Ordering.{RefusesOrder}
+use Rattle.association.specs.declared.outcome.Issued.{Issued}
+use Rattle.association.specs.declared.fault.OrderFault.{OrderFault}
+use Rattle.association.specs.declared.fault.OrderFault.TheVariants as order
 use Rattle.informational.specs.declared.ordering.Order.{Order}
 use Rattle.informational.specs.declared.ordering.Order.TheVariants as asked
 use Rattle.create_child.specs.Asking.{AsksForFurther, RefusesFurther}
-use Rattle.create_child.specs.declared.fault.AskFault.{AskFault}
-use Rattle.create_child.specs.declared.fault.AskFault.TheVariants as ask
 use Rattle.effects.specs.Sending.{SendsRequest}
 use Rattle.ike.specs.Machines.{association_of, has_serial, Held}
 use Rattle.ike.specs.Outputs.{asking_step}
-use Rattle.ike.specs.declared.asking.Demand.{Demand}
-use Rattle.ike.specs.declared.asking.Demand.TheVariants.{Probe, DeleteChild, DeleteIke}
+use Rattle.ike.specs.Orders.{OrderView, Probe, DeleteChild, DeleteIke}
 use Rattle.ike.specs.declared.fault.IkeFault.{IkeFault}
 use Rattle.ike.specs.declared.fault.IkeFault.TheVariants as fault
 use Rattle.ike.specs.declared.output.Stepped.{Stepped}
@@ -63,7 +60,7 @@ pub record AsksFurther (body_of : Keys → Octets → Octets → Octets → Octe
   pub asks : AsksAt body_of setup ike old stepped new
   pub further : AsksForFurther body_of setup local remote asks.association table asks.octets asks.changed new_table
 
-abbrev pub AsksFor : (Keys → Octets → Octets → Octets → Octets) → Setup → Demand → Held → Database → Stepped → Held → Database → Type 0
+abbrev pub AsksFor : (Keys → Octets → Octets → Octets → Octets) → Setup → OrderView → Held → Database → Stepped → Held → Database → Type 0
 AsksFor body_of setup (Probe ike) old table stepped new new_table = AsksThat body_of setup ike asked.Probe old table stepped new new_table
 AsksFor body_of setup (DeleteChild serial) old table stepped new new_table = DeletesChild body_of setup serial old table stepped new new_table
 AsksFor body_of setup (DeleteIke ike) old table stepped new new_table = AsksThat body_of setup ike asked.DeleteAssociation old table stepped new new_table
@@ -78,7 +75,7 @@ pub record AsksThere (body_of : Keys → Octets → Octets → Octets → Octets
   pub content : new ≡ record old { associations = slice_set old.associations place changed }
   pub marked : MarksFor order table new_table
 
-pub record RefusesThere (place : ℕ) (old : Held) (o : InformationalFault) : Type 0 where
+pub record RefusesThere (place : ℕ) (old : Held) (o : OrderFault) : Type 0 where
   pub association : Association
   pub there : slice_get old.associations place ≡ Some association
   pub refuses : RefusesOrder association o
@@ -92,35 +89,29 @@ pub record AsksFurtherThere (body_of : Keys → Octets → Octets → Octets →
   pub number : issued.number ≡ association.outgoing.next
   pub content : new ≡ record old { associations = slice_set old.associations place changed }
 
-pub record RefusesFurtherThere (place : ℕ) (old : Held) (table : Database) (f : AskFault) : Type 0 where
+pub record RefusesFurtherThere (place : ℕ) (old : Held) (table : Database) (f : OrderFault) : Type 0 where
   pub association : Association
   pub there : slice_get old.associations place ≡ Some association
   pub refuses : RefusesFurther association table f
 
-abbrev pub fault_of_ask : AskFault → IkeFault
-fault_of_ask ask.WrongPhase = fault.Message WrongPhase
-fault_of_ask ask.Busy = fault.Busy
-fault_of_ask ask.NumbersSpent = fault.NumbersSpent
-fault_of_ask ask.TableFull = fault.TableFull
-fault_of_ask ask.SpisSpent = fault.SpisSpent
-fault_of_ask ask.TableMemory = fault.Memory child.Table
-fault_of_ask ask.Memory = fault.Memory child.Message
+abbrev pub fault_of_order : OrderFault → IkeFault
+fault_of_order order.WrongPhase = fault.Message WrongPhase
+fault_of_order order.Busy = fault.Busy
+fault_of_order order.NumbersSpent = fault.NumbersSpent
+fault_of_order order.TableFull = fault.TableFull
+fault_of_order order.SpisSpent = fault.SpisSpent
+fault_of_order order.TableMemory = fault.Memory child.Table
+fault_of_order order.Memory = fault.Memory child.Message
 
 -- there is no such association, or no further child can be asked for under it
 abbrev pub RefusesFurtherAt : Option Association → Database → IkeFault → Type 0
 RefusesFurtherAt None table reason = reason ≡ fault.Message UnknownAssociation
-RefusesFurtherAt (Some a) table reason = (f : AskFault) × (RefusesFurther a table f) × (reason ≡ fault_of_ask f)
-
-abbrev pub fault_of_informational : InformationalFault → IkeFault
-fault_of_informational order.WrongPhase = fault.Message WrongPhase
-fault_of_informational order.Busy = fault.Busy
-fault_of_informational order.NumbersSpent = fault.NumbersSpent
-fault_of_informational order.Memory = fault.Memory child.Message
+RefusesFurtherAt (Some a) table reason = (f : OrderFault) × (RefusesFurther a table f) × (reason ≡ fault_of_order f)
 
 -- there is no such association, or it refuses the order
 abbrev pub RefusesAskingAt : Option Association → IkeFault → Type 0
 RefusesAskingAt None reason = reason ≡ fault.Message UnknownAssociation
-RefusesAskingAt (Some a) reason = (o : InformationalFault) × (RefusesOrder a o) × (reason ≡ fault_of_informational o)
+RefusesAskingAt (Some a) reason = (o : OrderFault) × (RefusesOrder a o) × (reason ≡ fault_of_order o)
 
 -- by the state of the child's pair: what is being deleted is not deleted again
 abbrev pub RefusesChildBy : State → Option Association → IkeFault → Type 0
@@ -132,7 +123,7 @@ abbrev pub RefusesChild : Option Pair → Held → IkeFault → Type 0
 RefusesChild None old reason = reason ≡ fault.Message UnknownAssociation
 RefusesChild (Some pair) old reason = RefusesChildBy pair.state (association_of pair.ike old.associations) reason
 
-abbrev pub RefusesAsking : Demand → Held → Database → IkeFault → Type 0
+abbrev pub RefusesAsking : OrderView → Held → Database → IkeFault → Type 0
 RefusesAsking (Probe ike) old table reason = RefusesAskingAt (association_of ike old.associations) reason
 RefusesAsking (DeleteChild serial) old table reason = RefusesChild (pair_at table.pairs serial) old reason
 RefusesAsking (DeleteIke ike) old table reason = RefusesAskingAt (association_of ike old.associations) reason

@@ -12,7 +12,7 @@ use Rattle.association.specs.declared.phase.Phase.TheVariants as phase
 use Rattle.association.specs.declared.phase.Request.{Request}
 use Rattle.moments.specs.Holding.{WasOutstanding}
 use Rattle.effects.specs.Children.{AsksForChild, AsksForFurtherChild, MakesChild}
-use Rattle.initial.specs.Configs.{Setup}
+use Rattle.setup.specs.Configs.{Setup}
 use Rattle.effects.specs.Taking.{Meaning}
 use Rattle.effects.specs.declared.taking.Effect.{Effect}
 use Rattle.ike.specs.Machines.{association_of, Held}

@@ -18,7 +18,7 @@ use Rattle.association.specs.declared.phase.Request.{Request}
 use Rattle.association.specs.declared.purpose.FurtherChild.{FurtherChild}
 use Rattle.children.specs.Asking.{child_request, HasChildPayloads}
 use Rattle.children.specs.Pairs.{HasFewSelectors}
-use Rattle.initial.specs.Configs.{Setup}
+use Rattle.setup.specs.Configs.{Setup}
 use Rattle.further.specs.Payloads.{further_payloads}
 use Rattle.effects.specs.Children.{First, Further, IsAnsweredChild, IsAskedChild, IsAskedFurther}
 use Rattle.effects.specs.Taking.{Meaning}

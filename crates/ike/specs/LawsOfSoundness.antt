@@ -1,7 +1,7 @@
 -- What holds of a machine and its table, whatever is done.
 use Rattle.std.specs.Prelude.{ℕ}
 use Rattle.sadb.specs.Database.{Database, IsReserved, IsSoundTable}
-use Rattle.initial.specs.declared.config.Config.{Config}
+use Rattle.setup.specs.declared.config.Config.{Config}
 use Rattle.ike.specs.LawCases.{EachStep, IsStep}
 use Rattle.ike.specs.Lengths.{HoldWholeKeys}
 use Rattle.ike.specs.Machines.{new_machine, Held, Machine}

@@ -2,7 +2,7 @@
 use Rattle.std.specs.Prelude.{◌≡◌, ◌<◌, ◌^◌, [], false, max, true, ℕ, List, Option}
 use Rattle.policy.specs.declared.entry.Entry.{Entry}
 use Rattle.sadb.specs.Database.{Database}
-use Rattle.initial.specs.declared.config.Config.{Config}
+use Rattle.setup.specs.declared.config.Config.{Config}
 use Rattle.moments.specs.Next.{IsBefore, NothingIsDueBefore}
 use Rattle.effects.specs.Taking.{Meaning}
 use Rattle.ike.specs.Faults.{is_want_of_memory}

@@ -26,3 +26,4 @@ pub mod LawsOfChildren
 pub mod LawsOfPeers
 pub mod LawsOfRequests
 pub mod LawsOfTimes
+pub mod Orders

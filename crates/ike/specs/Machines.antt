@@ -11,8 +11,8 @@ use Rattle.association.specs.Phases.{keys_in}
 use Rattle.association.specs.declared.phase.Association.{Association}
 use Rattle.association.specs.declared.phase.Phase.{Phase}
 use Rattle.association.specs.declared.phase.Phase.TheVariants.{HalfOpen}
-use Rattle.initial.specs.Configs.{Setup}
-use Rattle.initial.specs.declared.config.Config.{Config}
+use Rattle.setup.specs.Configs.{Setup}
+use Rattle.setup.specs.declared.config.Config.{Config}
 
 -- The associations that an end holds, and the serial of the next one.
 pub record Held : Type 0 where

@@ -7,7 +7,7 @@ use Rattle.wire.specs.declared.payload.Payload.TheVariants.{Sa}
 use Rattle.wire.specs.declared.proposal.Proposal.{Proposal}
 use Rattle.association.specs.Finding.{is_meant}
 use Rattle.association.specs.declared.phase.Association.{Association}
-use Rattle.initial.specs.Configs.{Setup}
+use Rattle.setup.specs.Configs.{Setup}
 use Rattle.effects.specs.Offers.{AnswersInitialSa, AnswersMessageSa}
 use Rattle.effects.specs.Taking.{Meaning}
 use Rattle.ike.specs.Machines.{association_of, Held}

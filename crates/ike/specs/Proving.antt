@@ -9,7 +9,7 @@ use Rattle.exchange.specs.declared.sealed.Plain.{Plain}
 use Rattle.association.specs.Receiving.{opened_by}
 use Rattle.association.specs.declared.phase.Association.{Association}
 use Rattle.association.specs.declared.phase.Phase.TheVariants.{Established}
-use Rattle.initial.specs.Configs.{Setup}
+use Rattle.setup.specs.Configs.{Setup}
 use Rattle.effects.specs.Proving.{ProvesByRequest, ProvesByResponse}
 use Rattle.effects.specs.Taking.{Meaning}
 use Rattle.ike.specs.Machines.{association_of, setup_at, Machine}

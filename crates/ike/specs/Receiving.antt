@@ -26,7 +26,7 @@ use Rattle.association.specs.declared.phase.Association.{Association}
 use Rattle.association.specs.declared.phase.Phase.{Phase}
 use Rattle.association.specs.declared.phase.Phase.TheVariants.{HalfOpen}
 use Rattle.initial.specs.Beginning.{Admits}
-use Rattle.initial.specs.Configs.{Setup}
+use Rattle.setup.specs.Configs.{Setup}
 use Rattle.effects.specs.Keeping.{kept_reply}
 use Rattle.effects.specs.Taking.{CanMakeChild, CanTakeOf, Meaning, TakesMessage}
 use Rattle.initial.specs.declared.beginning.Admitted.{Admitted}

@@ -13,7 +13,7 @@ use Rattle.association.specs.declared.phase.Request.{Request}
 use Rattle.association.specs.declared.purpose.FurtherChild.{FurtherChild}
 use Rattle.association.specs.declared.purpose.Purpose.TheVariants.{CreateChild}
 use Rattle.initial.specs.Answering.{IsHalfOpen}
-use Rattle.initial.specs.Configs.{IsConfig}
+use Rattle.setup.specs.Configs.{IsConfig}
 use Rattle.initial.specs.Ending.{IsAuthSent}
 use Rattle.effects.specs.Children.{first_asked}
 use Rattle.effects.specs.Keeping.{KeepsShort}

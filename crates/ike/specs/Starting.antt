@@ -10,7 +10,7 @@ use Rattle.sa_init.specs.Judging.{ASSOCIATION_LIMIT}
 use Rattle.children.specs.declared.fault.MemoryFault.TheVariants as child
 use Rattle.association.specs.AskedChildren.{AskedChildView}
 use Rattle.initial.specs.Beginning.{begun, Begins}
-use Rattle.initial.specs.Configs.{Setup}
+use Rattle.setup.specs.Configs.{Setup}
 use Rattle.effects.specs.Taking.{Meaning}
 use Rattle.initial.specs.declared.beginning.Beginning.{Beginning}
 use Rattle.ike.specs.Asking.{AsksFurther, RefusesFurtherAt}

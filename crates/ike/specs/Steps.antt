@@ -14,7 +14,8 @@ use Rattle.ike.specs.Starting.{RefusesStart, Starts}
 use Rattle.ike.specs.Ticking.{RefusesMoment, TakesMoment}
 use Rattle.ike.specs.declared.fault.IkeFault.{IkeFault}
 use Rattle.ike.specs.declared.fault.IkeFault.TheVariants.{NumbersSpent}
-use Rattle.ike.specs.declared.asking.Demand.{Demand}
+use Rattle.ike.specs.Orders.{OrderView}
+use Rattle.ike.specs.Orders as orders
 use Rattle.ike.specs.declared.input.IkeInput.{IkeInput}
 use Rattle.ike.specs.declared.input.IkeInput.TheVariants as input
 use Rattle.ike.specs.declared.output.IkeOutput.TheVariants.{Done}
@@ -24,14 +25,16 @@ use Rattle.ike.specs.declared.output.Stepped.{Stepped}
 pub data InputView : Type 0 where
   Message : Octets → Octets → Fresh → InputView
   Start : Option ℕ → ℕ → Fresh → InputView
-  Order : Demand → Fresh → InputView
+  Order : OrderView → Fresh → InputView
   Secret : Octets → InputView
   Tick : ℕ → InputView
 
 abbrev pub input_view : IkeInput → InputView
 input_view (input.Message from octets fresh) = Message from octets.now fresh.now
 input_view (input.Start ike entry fresh) = Start ike entry fresh.now
-input_view (input.Order what fresh) = Order what fresh.now
+input_view (input.Probe ike fresh) = Order (orders.Probe ike) fresh.now
+input_view (input.DeleteChild child fresh) = Order (orders.DeleteChild child) fresh.now
+input_view (input.DeleteIke ike fresh) = Order (orders.DeleteIke ike) fresh.now
 input_view (input.Secret secret) = Secret secret.now
 input_view (input.Tick moment) = Tick moment
 

@@ -3,64 +3,26 @@ ghost use Rattle.std.specs.Prelude.{◌≡◌, ◌<◌, Some, IfOk, IfErr, lengt
 ghost use Rattle.std.specs.List.{position};
 ghost use Rattle.policy.specs.Narrowing.{IsSendableSelector};
 ghost use Rattle.sadb.specs.Database.{IsAsBefore};
-ghost use Rattle.initial.specs.Configs.{setup_of};
+ghost use Rattle.setup.specs.Configs.{setup_of};
 ghost use Rattle.informational.specs.Ordering.{IsOfLive};
 ghost use Rattle.ike.specs.Asking.{AsksFor, AsksFurther, AsksFurtherThere, AsksThat, AsksThere, RefusesAsking, RefusesAskingAt, RefusesFurtherAt, RefusesFurtherThere, RefusesThere};
 ghost use Rattle.ike.specs.Machines.{association_of, has_serial};
+ghost use Rattle.ike.specs.Orders.{DeleteChild};
 ghost use Rattle.ike.specs.Outputs.{asking_step};
 
 use crate::held::Held;
 use crate::{IkeFault, IkeOutput, Mark, Stepped, Trace};
-use association::{Association, MessageFault};
+use association::{Association, Issued, MessageFault, OrderFault};
 use base::{Items, Selector};
-use create_child::AskFault;
 use effects::laws::orders_send_requests;
-use informational::{InformationalFault, Issued, Order};
-use initial::Setup;
+use informational::Order;
 use sadb::{State, Table};
+use setup::Setup;
 use std::alloc::Global;
 use suite::Sealer;
 
-/// What is asked of the peer of an association that stands.
-#[derive(Clone, Copy, Debug, PartialEq, Eq)]
-pub enum Demand {
-    /// Whether it is there, under the association with this serial, by an empty request of INFORMATIONAL (RFC 7296, section 2.4).
-    Probe { ike: u32 },
-    /// To delete the child with this serial: its pair carries nothing outward any more, and goes with the peer's answer (section 1.4.1).
-    DeleteChild { child: u32 },
-    /// To delete the association with this serial, with all its children: it is closed by the peer's answer (section 1.4.1).
-    DeleteIke { ike: u32 },
-}
-
-// Asks the peer what is ordered.
-pub(crate) fn ask<C: Sealer>(
-    alloc: Global,
-    setup: &Setup<'_, C>,
-    held: &mut Held,
-    table: &mut Table,
-    what: Demand,
-) -> Result<Stepped, IkeFault>
-    ensures asked { IfOk result (λ stepped.
-        AsksFor C.body_of (setup_of setup.now) what held.old table.old stepped held.new table.new) }
-    ensures refused { IfErr result (λ reason. RefusesAsking what held.old table.old reason
-        × (held.new ≡ held.old) × (table.new ≡ table.old)) }
-{
-    match what {
-        Demand::Probe { ike } => ask_by(alloc, setup, held, table, ike, Order::Probe),
-        Demand::DeleteChild { child } => delete_child(alloc, setup, held, table, child),
-        Demand::DeleteIke { ike } => ask_by(
-            alloc,
-            setup,
-            held,
-            table,
-            ike,
-            Order::DeleteAssociation,
-        ),
-    }
-}
-
-// Asks the peer to delete a child.
-fn delete_child<C: Sealer>(
+// Asks the peer to delete a child: its pair carries nothing outward any more, and goes with the peer's answer (RFC 7296, section 1.4.1).
+pub(crate) fn delete_child<C: Sealer>(
     alloc: Global,
     setup: &Setup<'_, C>,
     held: &mut Held,
@@ -69,9 +31,9 @@ fn delete_child<C: Sealer>(
 ) -> Result<Stepped, IkeFault>
     ensures asked { IfOk result (λ stepped.
         AsksFor C.body_of (setup_of setup.now)
-        (Demand.DeleteChild child) held.old table.old stepped held.new table.new) }
+        (DeleteChild child) held.old table.old stepped held.new table.new) }
     ensures refused { IfErr result
-        (λ reason. RefusesAsking (Demand.DeleteChild child) held.old table.old reason
+        (λ reason. RefusesAsking (DeleteChild child) held.old table.old reason
         × (held.new ≡ held.old) × (table.new ≡ table.old)) }
 {
     let Some(pair) = table.get(child) else {
@@ -89,7 +51,7 @@ fn delete_child<C: Sealer>(
 }
 
 // Asks the peer of the association with this serial what is ordered.
-fn ask_by<C: Sealer>(
+pub(crate) fn ask_by<C: Sealer>(
     alloc: Global,
     setup: &Setup<'_, C>,
     held: &mut Held,
@@ -119,7 +81,7 @@ fn ask_at<C: Sealer>(
     table: &mut Table,
     place: usize,
     order: Order,
-) -> Result<Issued, InformationalFault>
+) -> Result<Issued, OrderFault>
     requires within { place < length held.old.associations }
     requires live { IsOfLive order table.old.pairs }
     ensures asked { IfOk result (λ issued.
@@ -169,7 +131,7 @@ fn ask_further_at<C: Sealer>(
     place: usize,
     local: &Selector,
     remote: &Selector,
-) -> Result<Issued, AskFault>
+) -> Result<Issued, OrderFault>
     requires within { place < length held.old.associations }
     requires local { IsSendableSelector local.now }
     requires remote { IsSendableSelector remote.now }

@@ -2,10 +2,8 @@
 ghost use Rattle.std.specs.Prelude.{◌≡◌};
 ghost use Rattle.ike.specs.Faults.{code_of_ike_fault};
 
-use association::MessageFault;
+use association::{MessageFault, OrderFault};
 use children::MemoryFault;
-use create_child::AskFault;
-use informational::InformationalFault;
 use sadb::TableFault;
 use std::alloc::AllocError;
 use thiserror::Error;
@@ -108,37 +106,21 @@ impl From<TableFault> for IkeFault {
     }
 }
 
-impl From<AskFault> for IkeFault {
+impl From<OrderFault> for IkeFault {
     ghost use Rattle.std.specs.Prelude.{◌≡◌};
-    ghost use Rattle.ike.specs.Asking.{fault_of_ask};
+    ghost use Rattle.ike.specs.Asking.{fault_of_order};
 
-    ghost from_gives = { λ f e. e ≡ fault_of_ask f };
+    ghost from_gives = { λ f e. e ≡ fault_of_order f };
 
-    fn from(fault: AskFault) -> IkeFault {
+    fn from(fault: OrderFault) -> IkeFault {
         match fault {
-            AskFault::WrongPhase => IkeFault::Message(MessageFault::WrongPhase),
-            AskFault::Busy => IkeFault::Busy,
-            AskFault::NumbersSpent => IkeFault::NumbersSpent,
-            AskFault::TableFull => IkeFault::TableFull,
-            AskFault::SpisSpent => IkeFault::SpisSpent,
-            AskFault::TableMemory => IkeFault::Memory(MemoryFault::Table),
-            AskFault::Memory => IkeFault::Memory(MemoryFault::Message),
-        }
-    }
-}
-
-impl From<InformationalFault> for IkeFault {
-    ghost use Rattle.std.specs.Prelude.{◌≡◌};
-    ghost use Rattle.ike.specs.Asking.{fault_of_informational};
-
-    ghost from_gives = { λ f e. e ≡ fault_of_informational f };
-
-    fn from(fault: InformationalFault) -> IkeFault {
-        match fault {
-            InformationalFault::WrongPhase => IkeFault::Message(MessageFault::WrongPhase),
-            InformationalFault::Busy => IkeFault::Busy,
-            InformationalFault::NumbersSpent => IkeFault::NumbersSpent,
-            InformationalFault::Memory => IkeFault::Memory(MemoryFault::Message),
+            OrderFault::WrongPhase => IkeFault::Message(MessageFault::WrongPhase),
+            OrderFault::Busy => IkeFault::Busy,
+            OrderFault::NumbersSpent => IkeFault::NumbersSpent,
+            OrderFault::TableFull => IkeFault::TableFull,
+            OrderFault::SpisSpent => IkeFault::SpisSpent,
+            OrderFault::TableMemory => IkeFault::Memory(MemoryFault::Table),
+            OrderFault::Memory => IkeFault::Memory(MemoryFault::Message),
         }
     }
 }

@@ -1,6 +1,5 @@
 //! What is given to a step.
 
-use crate::Demand;
 use suite::Fresh;
 
 /// A datagram that came, or an order.
@@ -19,9 +18,19 @@ pub enum IkeInput<'a> {
         entry: u32,
         fresh: &'a Fresh,
     },
-    /// Ask the peer something under an association that stands.
-    Order {
-        what: Demand,
+    /// Ask the peer whether it is there, under the association with this serial, by an empty request of INFORMATIONAL (RFC 7296, section 2.4).
+    Probe {
+        ike: u32,
+        fresh: &'a Fresh,
+    },
+    /// Ask it to delete the child with this serial: its pair carries nothing outward any more, and goes with the peer's answer (section 1.4.1).
+    DeleteChild {
+        child: u32,
+        fresh: &'a Fresh,
+    },
+    /// Ask it to delete the association with this serial, with all its children: it is closed by the peer's answer (section 1.4.1).
+    DeleteIke {
+        ike: u32,
         fresh: &'a Fresh,
     },
     /// Make cookies under another secret (RFC 7296, section 2.6).

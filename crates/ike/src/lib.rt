@@ -3,8 +3,8 @@
 //!
 //! A step asks, in this order: which association a message is for, what it is to that association ([`association`]), and what its
 //! payloads do ([`effects`], over [`initial`], [`informational`] and [`create_child`]). An order begins an association, or asks the peer
-//! something under one that stands: for a further child ([`IkeInput::Start`]), or what [`Demand`] names. All that can be refused is made
-//! before anything is changed. What a step says beside its output, a
+//! something under one that stands: for a further child ([`IkeInput::Start`]), whether it is there, or that a child or the
+//! association is deleted. All that can be refused is made before anything is changed. What a step says beside its output, a
 //! [`Trace`], is which message was sent under which keys, and which keys and which child were made.
 //!
 //! ```text
@@ -27,7 +27,6 @@ mod receiving;
 mod starting;
 mod ticking;
 
-pub use asking::Demand;
 pub use fault::IkeFault;
 pub use input::IkeInput;
 pub use machine::Ike;

@@ -2,7 +2,7 @@
 ghost use Rattle.std.specs.Prelude.{◌≡◌, ◌+◌, ◌<◌, ◌^◌, IfOk, IfErr, IfSome};
 ghost use Rattle.std.specs.Option.{option_copied};
 ghost use Rattle.sadb.specs.Database.{Database, IsAsBefore};
-ghost use Rattle.initial.specs.Configs.{IsConfig};
+ghost use Rattle.setup.specs.Configs.{IsConfig};
 ghost use Rattle.ike.specs.Machines.{keys_of_serial, new_machine};
 ghost use Rattle.ike.specs.Moments.{IsTimely};
 ghost use Rattle.ike.specs.Outputs.{plain_step};
@@ -12,7 +12,7 @@ ghost use Rattle.ike.specs.Steps.{input_view, Refuses, Steps};
 ghost use Rattle.effects.specs.Taking.{meaning_of};
 ghost use Rattle.moments.specs.Next.{NothingIsDueBefore, SomethingIsDue};
 
-use crate::asking::ask;
+use crate::asking::{ask_by, delete_child};
 use crate::held::{Held, association_of};
 use crate::laws::soundness_stays;
 use crate::receiving::take_datagram;
@@ -20,12 +20,13 @@ use crate::starting::start;
 use crate::ticking::take_moment;
 use crate::{IkeFault, IkeInput, IkeOutput, Stepped};
 use association::Association;
-use initial::{Config, Setup};
+use informational::Order;
 use moments::laws::what_is_due_next_lies_ahead;
 use moments::next_due;
 use policy::Policy;
 use sa_init::{Cookies, SecretsSpent};
 use sadb::Table;
+use setup::{Config, Setup};
 use std::alloc::Global;
 use std::marker::Model;
 use suite::{Agreement, KeyRecord, Proof, Sealer};
@@ -45,7 +46,7 @@ pub struct Ike {
 impl Model for Ike {
     ghost use Rattle.std.specs.Coded.{codes};
     ghost use Rattle.association.specs.contracts.phase.Association as association;
-    ghost use Rattle.initial.specs.Configs.{IsConfig};
+    ghost use Rattle.setup.specs.Configs.{IsConfig};
     ghost use Rattle.ike.specs.Machines.{Machine};
 
     ghost Value = { Machine };
@@ -190,7 +191,7 @@ impl Ike {
                 };
                 start(alloc, &setup, &mut self.held, table, *ike, *entry)
             }
-            IkeInput::Order { what, fresh } => {
+            IkeInput::Probe { ike, fresh } => {
                 let setup = Setup {
                     caller,
                     config: &self.config,
@@ -198,7 +199,34 @@ impl Ike {
                     fresh,
                     moment: self.moment,
                 };
-                ask(alloc, &setup, &mut self.held, table, *what)
+                ask_by(alloc, &setup, &mut self.held, table, *ike, Order::Probe)
+            }
+            IkeInput::DeleteChild { child, fresh } => {
+                let setup = Setup {
+                    caller,
+                    config: &self.config,
+                    policy,
+                    fresh,
+                    moment: self.moment,
+                };
+                delete_child(alloc, &setup, &mut self.held, table, *child)
+            }
+            IkeInput::DeleteIke { ike, fresh } => {
+                let setup = Setup {
+                    caller,
+                    config: &self.config,
+                    policy,
+                    fresh,
+                    moment: self.moment,
+                };
+                ask_by(
+                    alloc,
+                    &setup,
+                    &mut self.held,
+                    table,
+                    *ike,
+                    Order::DeleteAssociation,
+                )
             }
             IkeInput::Secret(secret) => change_secret(&mut self.cookies, secret),
             IkeInput::Tick(moment) => {

@@ -13,11 +13,11 @@ use Rattle.requests.specs.Incoming.{HasSameRequests, PeerRequests, TakesRequest}
 use Rattle.sadb.specs.Database.{Database}
 use Rattle.association.specs.declared.phase.Association.{Association}
 use Rattle.association.specs.declared.phase.Phase.TheVariants as phase
-use Rattle.initial.specs.Answering.{reply_message}
-use Rattle.initial.specs.Concluding.{with_incoming}
-use Rattle.initial.specs.Configs.{Setup}
-use Rattle.initial.specs.Deciding.{IsRead}
-use Rattle.initial.specs.declared.answering.Answered.{Answered}
+use Rattle.association.specs.Sending.{reply_message}
+use Rattle.association.specs.Issuing.{with_incoming}
+use Rattle.setup.specs.Configs.{Setup}
+use Rattle.exchange.specs.Chains.{IsRead}
+use Rattle.association.specs.declared.outcome.Answered.{Answered}
 use Rattle.deletions.specs.Answering.{payloads_of_verdict}
 use Rattle.deletions.specs.Deciding.{is_closing_verdict, verdict_on}
 use Rattle.deletions.specs.declared.deciding.Verdict.{Verdict}

@@ -13,18 +13,11 @@ use Rattle.association.specs.Purposes.{AwaitsDeletion}
 use Rattle.association.specs.declared.phase.Association.{Association}
 use Rattle.association.specs.declared.phase.Phase.TheVariants as phase
 use Rattle.association.specs.declared.phase.Request.{Request}
-use Rattle.initial.specs.Concluding.{with_outgoing}
-use Rattle.initial.specs.Configs.{Setup}
-use Rattle.initial.specs.Issuing.{new_request, IssuesNext}
+use Rattle.association.specs.Issuing.{with_outgoing, new_request, IssuesNext}
+use Rattle.setup.specs.Configs.{Setup}
 use Rattle.informational.specs.Ordering.{payloads_of_order, purpose_of}
 use Rattle.informational.specs.declared.ordering.Order.{Order}
-
--- a request under the association's SPIs, from its own role
-abbrev pub request_message : Association → ℕ → ℕ → List Payload → Message
-request_message a exchange number payloads = record {
-  header = sent_header a.spi_i a.spi_r exchange a.role false number;
-  payloads = payloads;
-}
+use Rattle.association.specs.Sending.{request_message}
 
 -- The request goes out under the next number, and waits for its answer. None goes out while one to delete the association waits for its own.
 pub record Asks (body_of : Keys → Octets → Octets → Octets → Octets) (setup : Setup) (order : Order) (old : Association) (octets : Octets) (new : Association) : Type 0 where

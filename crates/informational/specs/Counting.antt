@@ -12,10 +12,10 @@ use Rattle.association.specs.declared.phase.Association.{Association}
 use Rattle.association.specs.declared.phase.Request.{Request}
 use Rattle.association.specs.declared.purpose.Purpose.{Purpose}
 use Rattle.association.specs.declared.purpose.Purpose.TheVariants as purpose
-use Rattle.initial.specs.Concluding.{with_outgoing}
-use Rattle.initial.specs.Configs.{Setup}
-use Rattle.initial.specs.Deciding.{IsRead}
-use Rattle.initial.specs.declared.ending.Ended.{Ended}
+use Rattle.association.specs.Issuing.{with_outgoing}
+use Rattle.setup.specs.Configs.{Setup}
+use Rattle.exchange.specs.Chains.{IsRead}
+use Rattle.association.specs.declared.outcome.Ended.{Ended}
 use Rattle.informational.specs.Orders.{ClosesIf}
 
 -- The peer tells that a request was not in its grammar: that ends the association, whatever else the response says. What is not in the

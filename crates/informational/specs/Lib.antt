@@ -3,4 +3,3 @@ pub mod Ordering
 pub mod Asking
 pub mod Answering
 pub mod Counting
-pub mod Faults

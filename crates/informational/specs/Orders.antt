@@ -10,21 +10,8 @@ use Rattle.association.specs.declared.phase.Association.{Association}
 use Rattle.association.specs.declared.phase.Phase.{Phase}
 use Rattle.association.specs.declared.phase.Phase.TheVariants as phase
 use Rattle.deletions.specs.Removing.{RemovesNamed}
-use Rattle.informational.specs.declared.fault.InformationalFault.{InformationalFault}
-use Rattle.informational.specs.declared.fault.InformationalFault.TheVariants.{WrongPhase, Busy, NumbersSpent, Memory}
-
--- both ends know who the other is
-pub record IsEstablished (p : Phase) : Type 0 where
-  pub keys : KeyRecord
-  pub is : p ≡ phase.Established keys
-
--- why an order on an association is refused, each where those before it don't apply; none is taken while a request of this end to delete the
--- association waits for its answer
-abbrev pub RefusesOrder : Association → InformationalFault → Type 0
-RefusesOrder a WrongPhase = ¬ IsEstablished a.phase
-RefusesOrder a Busy = IsEstablished a.phase × (AwaitsDeletion a.outgoing ⊎ IsBusy a.outgoing)
-RefusesOrder a NumbersSpent = IsEstablished a.phase × (¬ AwaitsDeletion a.outgoing) × (¬ IsBusy a.outgoing) × AreNumbersSpent a.outgoing
-RefusesOrder a Memory = IsEstablished a.phase × (¬ AwaitsDeletion a.outgoing) × MayIssue a.outgoing
+use Rattle.association.specs.declared.fault.OrderFault.{OrderFault}
+use Rattle.association.specs.declared.fault.OrderFault.TheVariants.{WrongPhase, Busy, NumbersSpent, Memory}
 
 -- the pairs with these serials go, which are this IKE association's
 pub record RemovesOwn (ike : ℕ) (serials : List ℕ) (old new : Database) : Type 0 where

@@ -5,22 +5,23 @@ ghost use Rattle.exchange.specs.Headers.{keys_of};
 ghost use Rattle.exchange.specs.Sealed.{IsSealed};
 ghost use Rattle.requests.specs.Incoming.{IsFreshRequest};
 ghost use Rattle.association.specs.Closing.{HoldsReserved};
-ghost use Rattle.initial.specs.Answering.{reply_message};
-ghost use Rattle.initial.specs.Configs.{setup_of};
+ghost use Rattle.association.specs.Sending.{reply_message};
+ghost use Rattle.setup.specs.Configs.{setup_of};
 ghost use Rattle.deletions.specs.Answering.{payloads_of_verdict};
 ghost use Rattle.deletions.specs.Deciding.{is_closing_verdict, IsSoundVerdict};
 ghost use Rattle.informational.specs.Answering.{gone_by, AnswersInformational};
-ghost use Rattle.informational.specs.Orders.{ClosesIf, IsEstablished};
+ghost use Rattle.informational.specs.Orders.{ClosesIf};
+ghost use Rattle.association.specs.Phases.{IsEstablished};
 
 use association::laws::spis_stay_held;
-use association::{Association, Phase};
+use association::{Answered, Association, Phase};
 use base::Items;
 use deletions::laws::what_is_decided_can_be_removed;
 use deletions::{Verdict, answer_payloads, decide, remove_named};
 use exchange::laws::short_messages_can_be_sent;
-use exchange::{Plain, sent_header};
-use initial::{Answered, Setup, sealed};
+use exchange::{Plain, sealed_message, sent_header};
 use sadb::Table;
+use setup::Setup;
 use std::alloc::{AllocError, Global};
 use suite::{KeyRecord, Sealer};
 use wire::Message;
@@ -97,7 +98,7 @@ fn make_reply<C: Sealer>(
         ),
         payloads,
     };
-    sealed(alloc, setup.caller, role, keys, &message, &setup.fresh.seal)
+    sealed_message(alloc, setup.caller, role, keys, &message, &setup.fresh.seal)
 }
 
 // The association is closed, or the pairs go that a request names.

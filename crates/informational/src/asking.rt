@@ -3,42 +3,34 @@ ghost use Rattle.std.specs.Prelude.{◌≡◌, IfOk, IfErr};
 ghost use Rattle.wire.specs.Numbers.{INFORMATIONAL};
 ghost use Rattle.requests.specs.Outgoing.{MayIssue};
 ghost use Rattle.association.specs.Purposes.{AwaitsDeletion};
-ghost use Rattle.informational.specs.Asking.{request_message, Asks};
+ghost use Rattle.informational.specs.Asking.{Asks};
+ghost use Rattle.association.specs.Sending.{request_message};
 ghost use Rattle.informational.specs.Ordering.{IsOfLive, MarksFor};
-ghost use Rattle.informational.specs.Orders.{IsEstablished, RefusesOrder};
-ghost use Rattle.initial.specs.Concluding.{with_outgoing};
-ghost use Rattle.initial.specs.Configs.{setup_of};
-ghost use Rattle.initial.specs.Issuing.{new_request, IssuesNext};
+ghost use Rattle.association.specs.Phases.{IsEstablished};
+ghost use Rattle.association.specs.Ordering.{RefusesOrder};
+ghost use Rattle.association.specs.Issuing.{with_outgoing, new_request, IssuesNext};
+ghost use Rattle.setup.specs.Configs.{setup_of};
 
+use crate::Order;
 use crate::ordering::payloads_of;
-use crate::{InformationalFault, Order};
-use association::{Association, Phase, Purpose};
+use association::{Association, Issued, OrderFault, Phase, Purpose, new_request};
 use base::Items;
 use exchange::laws::short_messages_can_be_sent;
-use exchange::sent_header;
-use initial::{Setup, new_request, sealed};
+use exchange::{sealed_message, sent_header};
 use requests::RequestFault;
 use sadb::Table;
+use setup::Setup;
 use std::alloc::{AllocError, Global};
 use suite::Sealer;
 use wire::Message;
 use wire::numbers::INFORMATIONAL;
 
-/// A request that goes out.
-#[derive(Debug, Drop)]
-pub struct Issued {
-    /// Its number.
-    pub number: u32,
-    /// The datagram.
-    pub octets: Items<u8>,
-}
-
 /// Makes a request of INFORMATIONAL (RFC 7296, sections 1.4, 1.4.1 and 2.4), which waits for its answer from then on. The pair of a child
 /// that is to be deleted is Deleting from then on, and goes with the answer.
 ///
-/// Refused, in this order: [`InformationalFault::WrongPhase`] where the association is not established, [`InformationalFault::Busy`] where a request to
-/// delete it waits for its answer or the peer takes no more requests at once, [`InformationalFault::NumbersSpent`] where no number is left,
-/// [`InformationalFault::Memory`]. What is refused changes nothing.
+/// Refused, in this order: [`OrderFault::WrongPhase`] where the association is not established, [`OrderFault::Busy`] where a request to
+/// delete it waits for its answer or the peer takes no more requests at once, [`OrderFault::NumbersSpent`] where no number is left,
+/// [`OrderFault::Memory`]. What is refused changes nothing.
 ///
 /// The caller asks to delete a child only where its pair is there, and Live.
 pub fn ask<C: Sealer>(
@@ -47,7 +39,7 @@ pub fn ask<C: Sealer>(
     association: &mut Association,
     table: &mut Table,
     order: Order,
-) -> Result<Issued, InformationalFault>
+) -> Result<Issued, OrderFault>
     requires live { IsOfLive order table.old.pairs }
     ensures asked { IfOk result (λ issued.
         Asks C.body_of (setup_of setup.now) order association.old issued.octets association.new) }
@@ -57,7 +49,7 @@ pub fn ask<C: Sealer>(
         RefusesOrder association.old fault × (association.new ≡ association.old) × (table.new ≡ table.old)) }
 {
     let Phase::Established(keys) = &association.phase else {
-        return Err(InformationalFault::WrongPhase);
+        return Err(OrderFault::WrongPhase);
     };
     short_messages_can_be_sent();
     let number = may_issue(association)?;
@@ -74,7 +66,7 @@ pub fn ask<C: Sealer>(
         ),
         payloads,
     };
-    let octets = sealed(alloc, setup.caller, role, keys, &message, &setup.fresh.seal)?;
+    let octets = sealed_message(alloc, setup.caller, role, keys, &message, &setup.fresh.seal)?;
     let kept = Items::from_slice(alloc, octets.as_slice())?;
     issue(association, kept, order.purpose(), setup.moment)?;
     mark(table, order);
@@ -82,7 +74,7 @@ pub fn ask<C: Sealer>(
 }
 
 // The number that the next request is to have.
-fn may_issue(association: &Association) -> Result<u32, InformationalFault>
+fn may_issue(association: &Association) -> Result<u32, OrderFault>
     requires { IsEstablished association.now.phase }
     ensures number { IfOk result (λ number. number ≡ association.now.outgoing.next) }
     ensures allowed { IfOk result (λ _. MayIssue association.now.outgoing) }
@@ -90,12 +82,12 @@ fn may_issue(association: &Association) -> Result<u32, InformationalFault>
     ensures refused { IfErr result (RefusesOrder association.now) }
 {
     if association.is_deleting() {
-        return Err(InformationalFault::Busy);
+        return Err(OrderFault::Busy);
     }
     match association.outgoing.may_issue() {
         Ok(number) => Ok(number),
-        Err(RequestFault::Busy) => Err(InformationalFault::Busy),
-        Err(RequestFault::NumbersSpent) => Err(InformationalFault::NumbersSpent),
+        Err(RequestFault::Busy) => Err(OrderFault::Busy),
+        Err(RequestFault::NumbersSpent) => Err(OrderFault::NumbersSpent),
         // It takes no memory.
         Err(RequestFault::Memory) => unreachable!(),
     }

@@ -3,16 +3,17 @@ ghost use Rattle.std.specs.Prelude.{◌≡◌, IfOk, IfErr};
 ghost use Rattle.requests.specs.Outgoing.{IsOutstanding};
 ghost use Rattle.association.specs.Closing.{HoldsReserved};
 ghost use Rattle.informational.specs.Counting.{gone_with, CountsInformational, IsRejectedBy};
-ghost use Rattle.informational.specs.Orders.{ClosesIf, IsEstablished, RemovesOwn};
-ghost use Rattle.initial.specs.Configs.{setup_of};
-ghost use Rattle.initial.specs.Ending.{AsksForNoFurtherChild};
+ghost use Rattle.informational.specs.Orders.{ClosesIf, RemovesOwn};
+ghost use Rattle.association.specs.Phases.{IsEstablished};
+ghost use Rattle.setup.specs.Configs.{setup_of};
+ghost use Rattle.association.specs.Purposes.{AsksForNoFurtherChild};
 
 use association::laws::spis_stay_held;
-use association::{Association, Purpose};
+use association::{Association, Ended, Purpose};
 use deletions::remove_named;
-use exchange::{Plain, has_invalid_syntax};
-use initial::{Ended, Setup, read_chain};
+use exchange::{Plain, has_invalid_syntax, read_chain};
 use sadb::Table;
+use setup::Setup;
 use std::alloc::{AllocError, Global};
 
 /// Counts the response to a request of INFORMATIONAL (RFC 7296, sections 1.4 and 1.4.1), by the payloads that it opened to. The association

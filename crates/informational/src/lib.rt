@@ -15,11 +15,9 @@
 mod answering;
 mod asking;
 mod counting;
-mod fault;
 mod ordering;
 
 pub use answering::answer;
-pub use asking::{Issued, ask};
+pub use asking::ask;
 pub use counting::count;
-pub use fault::InformationalFault;
 pub use ordering::Order;

@@ -7,7 +7,7 @@ use Rattle.association.specs.declared.phase.AuthSent.{AuthSent}
 use Rattle.children.specs.Accepting.{IsAcceptedChild, IsUnacceptable}
 use Rattle.children.specs.declared.asking.Asked.{Asked}
 use Rattle.children.specs.declared.setting.Setting.{Setting}
-use Rattle.initial.specs.Configs.{first_setting, Setup}
+use Rattle.setup.specs.Configs.{first_setting, Setup}
 use Rattle.initial.specs.Ending.{IsFirstChild}
 
 pub first_child : (setup : Setup) (ike : ℕ) (sent : AuthSent) (payloads : List Payload) (asked : Asked) (setting : Setting) (pair : Option Pair)

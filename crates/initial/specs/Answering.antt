@@ -20,18 +20,20 @@ use Rattle.association.specs.declared.phase.Phase.{Phase}
 use Rattle.association.specs.declared.phase.Phase.TheVariants as phase
 use Rattle.auth.specs.Answers.{auth_answer}
 use Rattle.auth.specs.Proofs.{Accepts}
-use Rattle.auth.specs.declared.child.ChildAnswer.{ChildAnswer}
-use Rattle.auth.specs.declared.child.ChildAnswer.TheVariants as answered
+use Rattle.exchange.specs.declared.child.ChildAnswer.{ChildAnswer}
+use Rattle.exchange.specs.declared.child.ChildAnswer.TheVariants as answered
 use Rattle.children.specs.declared.responding.Response.{Response}
 use Rattle.children.specs.declared.responding.Response.TheVariants as response
-use Rattle.initial.specs.Concluding.{is_closing, with_incoming, ConcludesBy}
-use Rattle.initial.specs.Configs.{Setup}
+use Rattle.initial.specs.Concluding.{is_closing, ConcludesBy}
+use Rattle.association.specs.Issuing.{with_incoming}
+use Rattle.setup.specs.Configs.{Setup}
 use Rattle.initial.specs.Deciding.{own_proving, Decides}
-use Rattle.initial.specs.declared.answering.Answered.{Answered}
+use Rattle.association.specs.declared.outcome.Answered.{Answered}
 use Rattle.initial.specs.declared.concluding.Outcome.{Outcome}
 use Rattle.initial.specs.declared.concluding.Outcome.TheVariants as outcome
 use Rattle.initial.specs.declared.deciding.Decision.{Decision}
 use Rattle.initial.specs.declared.deciding.Decision.TheVariants as decision
+use Rattle.association.specs.Sending.{reply_message}
 
 -- what the caller means by its traits, as far as IKE_AUTH asks it
 pub record Prover : Type 0 where
@@ -63,13 +65,6 @@ abbrev pub reply_payloads : ℕ → (Octets → Octets) → Setup → HalfOpen �
 reply_payloads own_method proof_of setup opened (decision.Refused notice) = payload_of_notice notice ∷ []
 reply_payloads own_method proof_of setup opened (decision.Accepted answer window) =
     auth_answer own_method proof_of setup.config.own.identity (own_proving opened) (child_answer answer) setup.config.window
-
--- an answer under the association's SPIs, from its own role
-abbrev pub reply_message : Association → ℕ → ℕ → List Payload → Message
-reply_message a exchange number payloads = record {
-  header = sent_header a.spi_i a.spi_r exchange a.role true number;
-  payloads = payloads;
-}
 
 abbrev pub outcome_of : Decision → Outcome
 outcome_of (decision.Refused notice) = outcome.Closes

@@ -16,7 +16,7 @@ use Rattle.association.specs.AskedChildren.{AskedChildView}
 use Rattle.association.specs.declared.phase.Association.{Association}
 use Rattle.association.specs.declared.phase.Phase.TheVariants as phase
 use Rattle.association.specs.declared.purpose.Purpose.TheVariants.{Begin}
-use Rattle.initial.specs.Issuing.{new_request, IssuesNext}
+use Rattle.association.specs.Issuing.{new_request, IssuesNext}
 use Rattle.initial.specs.declared.beginning.Admitted.{Admitted}
 use Rattle.initial.specs.declared.beginning.Beginning.{Beginning}
 

@@ -10,7 +10,7 @@ use Rattle.association.specs.declared.phase.Association.{Association}
 use Rattle.association.specs.declared.phase.Request.{Request}
 use Rattle.auth.specs.Windows.{IsWindow}
 use Rattle.children.specs.Responding.{AddsNext, CanTake}
-use Rattle.initial.specs.Configs.{Setup}
+use Rattle.setup.specs.Configs.{Setup}
 use Rattle.initial.specs.declared.concluding.Outcome.{Outcome}
 use Rattle.initial.specs.declared.concluding.Outcome.TheVariants as outcome
 
@@ -35,13 +35,6 @@ widened own peers a = record a { incoming = widened_incoming own a.incoming; out
 
 abbrev pub established : Association → Association
 established a = record a { phase = established_of a.phase }
-
--- with other requests of the peer, or other own ones
-abbrev pub with_incoming : Association → PeerRequests → Association
-with_incoming a incoming = record a { incoming = incoming }
-
-abbrev pub with_outgoing : Association → OwnRequests Request → Association
-with_outgoing a outgoing = record a { outgoing = outgoing }
 
 pub record ClosesBy (setup : Setup) (old : Association) (table : Database) (child : Option ℕ) (new : Association) (new_table : Database) : Type 0 where
   pub none : child ≡ None

@@ -18,14 +18,10 @@ use Rattle.children.specs.Asking.{FitMessages}
 use Rattle.children.specs.Responding.{IsChildResponse, LeavesRoom}
 use Rattle.children.specs.declared.responding.Response.{Response}
 use Rattle.children.specs.declared.responding.Response.TheVariants as response
-use Rattle.initial.specs.Configs.{first_setting, Setup}
+use Rattle.setup.specs.Configs.{first_setting, Setup}
 use Rattle.initial.specs.declared.deciding.Decision.{Decision}
 use Rattle.initial.specs.declared.deciding.Decision.TheVariants as decision
-
--- the payloads that octets spell, if they spell any
-abbrev pub IsRead : Plain → Option (List Payload) → Type 0
-IsRead plain None = (payloads : List Payload) → ¬ SpellsChain plain.first payloads plain.octets
-IsRead plain (Some payloads) = SpellsChain plain.first payloads plain.octets
+use Rattle.exchange.specs.Chains.{IsRead}
 
 -- what the peer of a half-open association has to prove, and what this end has
 abbrev pub peer_proving : HalfOpen → ProvingView
@@ -69,9 +65,3 @@ FitsDecision (decision.Accepted answer window) = FitsResponse answer × IsWindow
 abbrev pub LeavesRoomFor : Decision → Database → Type 0
 LeavesRoomFor (decision.Refused notice) table = Unit
 LeavesRoomFor (decision.Accepted answer window) table = LeavesRoom answer table
-
--- what is offered was read, so its answer can be sent
-pub record CanBeAnswered (offer : ChildPayloads) : Type 0 where
-  pub proposals : FitsFields (Sa offer.proposals)
-  pub ts_i : FitsFields (TsI offer.ts_i)
-  pub ts_r : FitsFields (TsR offer.ts_r)

@@ -18,10 +18,11 @@ use Rattle.auth.specs.Answers.{is_accepted}
 use Rattle.auth.specs.Proofs.{proving_of, Accepts, ProvingView}
 use Rattle.auth.specs.Windows.{peer_window, IsWindow}
 use Rattle.children.specs.Accepting.{IsAcceptedChild, IsUnacceptable}
-use Rattle.initial.specs.Concluding.{is_closing, with_outgoing, ConcludesBy}
-use Rattle.initial.specs.Configs.{first_setting, Setup}
-use Rattle.initial.specs.Deciding.{IsRead}
-use Rattle.initial.specs.declared.ending.Ended.{Ended}
+use Rattle.initial.specs.Concluding.{is_closing, ConcludesBy}
+use Rattle.association.specs.Issuing.{with_outgoing}
+use Rattle.setup.specs.Configs.{first_setting, Setup}
+use Rattle.exchange.specs.Chains.{IsRead}
+use Rattle.association.specs.declared.outcome.Ended.{Ended}
 use Rattle.initial.specs.declared.concluding.Outcome.{Outcome}
 use Rattle.initial.specs.declared.concluding.Outcome.TheVariants as outcome
 
@@ -68,10 +69,6 @@ pub record EndsAuth (accepts : Accepts) (setup : Setup) (old : Association) (tab
 pub record IsAuthSent (p : Phase) : Type 0 where
   pub sent : AuthSent
   pub is : p ≡ phase.AuthSent sent
-
--- the request of this number asks for no further child, whose SPI would have to be given up with it
-abbrev pub AsksForNoFurtherChild : OwnRequests Request → ℕ → Type 0
-AsksForNoFurtherChild requests number = (request : Request) → map.get requests.outstanding number ≡ Some request → asks_for_child request.purpose ≡ false
 
 -- the child that is made has the SPI that was reserved for it
 abbrev pub HasItsSpi : ℕ → Option Pair → Type 0

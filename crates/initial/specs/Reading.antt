@@ -28,9 +28,9 @@ use Rattle.association.specs.declared.phase.Request.{Request}
 use Rattle.auth.specs.Proofs.{proving_of}
 use Rattle.auth.specs.Requests.{auth_request}
 use Rattle.children.specs.Asking.{child_request}
-use Rattle.initial.specs.Configs.{Setup}
+use Rattle.setup.specs.Configs.{Setup}
 use Rattle.association.specs.declared.purpose.Purpose.TheVariants.{Begin, Identify}
-use Rattle.initial.specs.Issuing.{new_request, IssuesNext}
+use Rattle.association.specs.Issuing.{new_request, IssuesNext}
 use Rattle.initial.specs.declared.reading.Continued.{Continued}
 use Rattle.initial.specs.declared.reading.Continued.TheVariants as continued
 

@@ -6,42 +6,32 @@ ghost use Rattle.requests.specs.Incoming.{IsFreshRequest};
 ghost use Rattle.sadb.specs.Database.{IsAsBefore};
 ghost use Rattle.association.specs.Closing.{HoldsReserved};
 ghost use Rattle.auth.specs.Fitting.{FitWithin};
-ghost use Rattle.auth.specs.Answers.{answering_payloads, auth_answer};
-ghost use Rattle.initial.specs.Answering.{child_answer, outcome_of, pair_of, prover_by, reply_message, reply_payloads, AnswersAuth, IsHalfOpen};
+ghost use Rattle.auth.specs.Answers.{auth_answer};
+ghost use Rattle.exchange.specs.Children.{answering_payloads};
+ghost use Rattle.initial.specs.Answering.{child_answer, outcome_of, pair_of, prover_by, reply_payloads, AnswersAuth, IsHalfOpen};
+ghost use Rattle.association.specs.Sending.{reply_message};
 ghost use Rattle.initial.specs.Concluding.{is_closing};
 ghost use Rattle.children.specs.Faults.{CanBeWanted};
-ghost use Rattle.initial.specs.Configs.{setup_of, IsConfig};
+ghost use Rattle.setup.specs.Configs.{setup_of, IsConfig};
 ghost use Rattle.initial.specs.Deciding.{own_proving, FitsDecision, FitsResponse};
 ghost use Rattle.wire.specs.Numbers.{IKE_AUTH};
 
-use crate::Setup;
 use crate::concluding::{Outcome, conclude};
 use crate::deciding::{Decision, decide};
-use crate::sealing::sealed;
 use association::laws::spis_stay_held;
-use association::{Association, HalfOpen, Phase};
+use association::{Answered, Association, HalfOpen, Phase};
 use auth::laws::what_is_sent_fits;
-use auth::{ChildAnswer, Proving, answer};
+use auth::{Proving, answer};
 use base::Items;
 use children::{MemoryFault, Response};
 use exchange::laws::{notices_fit, short_messages_can_be_sent};
-use exchange::{Plain, Role, sent_header};
+use exchange::{ChildAnswer, Plain, Role, sealed_message, sent_header};
 use sadb::{Pair, Table};
+use setup::Setup;
 use std::alloc::{AllocError, Global};
 use suite::{Proof, Sealer};
 use wire::numbers::IKE_AUTH;
 use wire::{Message, Payload};
-
-/// A request that took effect.
-#[derive(Debug, Drop)]
-pub struct Answered {
-    /// The reply.
-    pub octets: Items<u8>,
-    /// The serial of the child that was made.
-    pub child: Option<u32>,
-    /// Whether the association is closed.
-    pub closed: bool,
-}
 
 /// Answers a request of IKE_AUTH at a half-open association (RFC 7296, section 1.2), by the payloads that it opened to.
 ///
@@ -130,7 +120,7 @@ fn make_reply<C: Sealer + Proof>(
         ),
         payloads,
     };
-    let octets = sealed(
+    let octets = sealed_message(
         alloc,
         setup.caller,
         role,

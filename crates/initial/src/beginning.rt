@@ -4,13 +4,14 @@ ghost use Rattle.sa_init.specs.Fitting.{FitsOffer};
 ghost use Rattle.sa_init.specs.Judging.{offer_view};
 ghost use Rattle.initial.specs.Beginning.{begun, half_open, Admits, Begins};
 
-use crate::Setup;
-use crate::issuing::{issued, new_request};
-use association::{AskedChild, Association, HalfOpen, InitSent, Phase, Purpose, Request};
+use association::{
+    AskedChild, Association, HalfOpen, InitSent, Phase, Purpose, Request, issued, new_request,
+};
 use base::Items;
 use exchange::Role;
 use requests::{Incoming, Outgoing};
 use sa_init::{Agreed, Offer, answer, request};
+use setup::Setup;
 use std::alloc::{AllocError, Global};
 use suite::{Agreement, Sealer};
 

@@ -3,12 +3,12 @@ ghost use Rattle.std.specs.Prelude.{◌≡◌, Option, Some, None};
 ghost use Rattle.auth.specs.Windows.{IsWindow};
 ghost use Rattle.association.specs.Phases.{established_spi};
 ghost use Rattle.initial.specs.Concluding.{established, is_closing, widened, AddsChild, CanAdd, CanConclude, ConcludesBy, EstablishesBy};
-ghost use Rattle.initial.specs.Configs.{setup_of};
+ghost use Rattle.setup.specs.Configs.{setup_of};
 
-use crate::Setup;
 use association::Association;
 use children::install;
 use sadb::{Pair, Spi, Table};
+use setup::Setup;
 
 /// How IKE_AUTH ends.
 #[derive(Drop)]

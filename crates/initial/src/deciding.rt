@@ -2,28 +2,27 @@
 ghost use Rattle.std.specs.Prelude.{◌≡◌, Some, IfErr, IfOk};
 ghost use Rattle.std.specs.List.{AllByRecursion};
 ghost use Rattle.wire.specs.Sizes.{FitsFields};
-ghost use Rattle.exchange.specs.Children.{offered};
+ghost use Rattle.exchange.specs.Children.{offered, CanBeAnswered};
 ghost use Rattle.sadb.specs.Database.{IsAsBefore};
 ghost use Rattle.children.specs.Faults.{CanBeWanted};
-ghost use Rattle.initial.specs.Configs.{setup_of, IsConfig};
-ghost use Rattle.initial.specs.Deciding.{AcceptsAuth, CanBeAnswered, Decides, FitsDecision, FitsResponse, IsDecision, IsRead, LeavesRoomFor};
+ghost use Rattle.setup.specs.Configs.{setup_of, IsConfig, first_setting};
+ghost use Rattle.initial.specs.Deciding.{AcceptsAuth, Decides, FitsDecision, FitsResponse, IsDecision, LeavesRoomFor};
+ghost use Rattle.exchange.specs.Chains.{IsRead};
 ghost use Rattle.children.specs.Responding.{IsChildResponse, LeavesRoom};
-ghost use Rattle.initial.specs.Configs.{first_setting};
 
-use crate::Setup;
 use association::HalfOpen;
 use auth::laws::windows_are_read_again;
 use auth::{Judgement, Proving, judge};
-use base::Items;
 use children::laws::payloads_fit;
 use children::{MemoryFault, Response, Setting, respond};
 use exchange::laws::what_counts_fits;
-use exchange::{ChildOffer, Notice, Plain, Role};
+use exchange::{ChildOffer, Notice, Plain, Role, read_chain};
 use sadb::Table;
-use std::alloc::{AllocError, Global};
+use setup::Setup;
+use std::alloc::Global;
 use suite::{KeyRecord, Proof};
+use wire::Payload;
 use wire::laws::what_is_read_fits;
-use wire::{Payload, WireFault, decode_chain};
 
 /// What is decided.
 #[derive(Drop)]
@@ -60,17 +59,6 @@ pub fn decide<C: Proof>(
     match read_chain(alloc, plain)? {
         None => Ok(Decision::Refused(Notice::InvalidSyntax)),
         Some(payloads) => decide_on(alloc, setup, table, ike, half_open, payloads.as_slice()),
-    }
-}
-
-/// The payloads that octets spell, if they spell any. An error is for want of memory alone.
-pub fn read_chain(alloc: Global, plain: &Plain) -> Result<Option<Items<Payload>>, AllocError>
-    ensures { IfOk result (IsRead plain.now) }
-{
-    match decode_chain(alloc, plain.first, plain.octets.as_slice()) {
-        Ok(payloads) => Ok(Some(payloads)),
-        Err(WireFault::Memory) => Err(AllocError),
-        Err(_) => Ok(None),
     }
 }
 

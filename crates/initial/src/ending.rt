@@ -3,32 +3,23 @@ ghost use Rattle.std.specs.Prelude.{◌≡◌, ◌≢◌, Some, IfOk, IfErr};
 ghost use Rattle.requests.specs.Outgoing.{IsOutstanding};
 ghost use Rattle.association.specs.Closing.{HoldsReserved};
 ghost use Rattle.children.specs.declared.fault.MemoryFault.TheVariants as child;
-ghost use Rattle.initial.specs.Configs.{setup_of, IsConfig};
+ghost use Rattle.setup.specs.Configs.{setup_of, IsConfig};
 ghost use Rattle.initial.specs.Concluding.{is_closing, CanConclude};
-ghost use Rattle.initial.specs.Ending.{AsksForNoFurtherChild, EndsAuth, FitsVerdict, IsAuthSent, IsVerdict, Judges};
+ghost use Rattle.initial.specs.Ending.{EndsAuth, FitsVerdict, IsAuthSent, IsVerdict, Judges};
+ghost use Rattle.association.specs.Purposes.{AsksForNoFurtherChild};
 
-use crate::Setup;
 use crate::concluding::{Outcome, conclude};
-use crate::deciding::read_chain;
 use association::laws::spis_stay_held;
-use association::{Association, AuthSent, Phase};
+use association::{Association, AuthSent, Ended, Phase};
 use auth::laws::windows_are_read_again;
 use auth::{Proving, is_accepted, peer_window};
 use children::{MemoryFault, Setting, accept};
-use exchange::{Plain, Role};
+use exchange::{Plain, Role, read_chain};
 use sadb::Table;
+use setup::Setup;
 use std::alloc::Global;
 use suite::Proof;
 use wire::Payload;
-
-/// A response that was counted.
-#[derive(Clone, Copy, Debug, PartialEq, Eq)]
-pub struct Ended {
-    /// The serial of the child that was made.
-    pub child: Option<u32>,
-    /// Whether the association is closed.
-    pub closed: bool,
-}
 
 /// Counts the response to IKE_AUTH (RFC 7296, section 1.2), by the payloads that it opened to.
 ///

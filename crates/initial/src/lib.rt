@@ -22,20 +22,11 @@
 mod answering;
 mod beginning;
 mod concluding;
-mod config;
 mod deciding;
 mod ending;
-mod issuing;
 mod reading;
-mod sealing;
-mod setup;
 
-pub use answering::{Answered, answer_auth};
+pub use answering::answer_auth;
 pub use beginning::{Admitted, Beginning, admit, begin};
-pub use config::{Config, EndConfig};
-pub use deciding::read_chain;
-pub use ending::{Ended, end_auth};
-pub use issuing::{issued, new_request};
+pub use ending::end_auth;
 pub use reading::{Continued, read_response};
-pub use sealing::sealed;
-pub use setup::Setup;

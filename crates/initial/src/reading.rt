@@ -5,7 +5,7 @@ ghost use Rattle.exchange.specs.Headers.{keys_of};
 ghost use Rattle.exchange.specs.Sealed.{PAYLOADS_LIMIT, IsSealed};
 ghost use Rattle.requests.specs.Outgoing.{IsOutstanding};
 ghost use Rattle.sa_init.specs.Reading.{waiting_view};
-ghost use Rattle.initial.specs.Configs.{setup_of, IsConfig};
+ghost use Rattle.setup.specs.Configs.{setup_of, IsConfig};
 ghost use Rattle.initial.specs.Reading.{asker_by, carrying, identity_message, telling, waiting_of, IsInitSent, ReadsResponse, TakesFew};
 ghost use Rattle.std.specs.Prelude.{Some};
 ghost use Rattle.sa_init.specs.Messages.{request_message};
@@ -16,19 +16,19 @@ ghost use Rattle.auth.specs.Requests.{auth_request};
 ghost use Rattle.children.specs.Asking.{child_request};
 ghost use Rattle.exchange.specs.declared.headers.Role.TheVariants.{Initiator};
 
-use crate::Setup;
-use crate::issuing::{issued, new_request};
-use crate::sealing::sealed;
-use association::{AskedChild, Association, AuthSent, InitSent, Phase, Purpose};
+use association::{
+    AskedChild, Association, AuthSent, InitSent, Phase, Purpose, issued, new_request,
+};
 use auth::laws::what_is_sent_fits;
 use auth::{Proving, request};
 use base::Items;
 use children::ask;
 use children::laws::payloads_fit;
 use exchange::laws::{cookies_are_short, short_messages_can_be_sent};
-use exchange::{Role, sent_header};
+use exchange::{Role, sealed_message, sent_header};
 use requests::Outgoing;
 use sa_init::{Response, Waiting, read};
+use setup::Setup;
 use std::alloc::{AllocError, Global};
 use std::mem;
 use suite::{Agreement, KeyRecord, Proof, Sealer};
@@ -181,7 +181,7 @@ fn identity_request<C: Sealer + Proof>(
         header: sent_header(association.spi_i, spi_r, IKE_AUTH, role, false, 1),
         payloads,
     };
-    sealed(alloc, setup.caller, role, keys, &message, &setup.fresh.seal)
+    sealed_message(alloc, setup.caller, role, keys, &message, &setup.fresh.seal)
 }
 
 fn identity_payloads<C: Proof>(

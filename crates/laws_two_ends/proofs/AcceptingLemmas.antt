@@ -32,9 +32,9 @@ use Rattle.children.specs.Responding.{made_of, AddsNext, AreMadeTerms}
 use Rattle.children.specs.declared.responding.Made.{Made}
 use Rattle.children.specs.declared.responding.Response.TheVariants as response
 use Rattle.deliveries.specs.Worked.{any_traffic}
-use Rattle.initial.specs.Configs.{first_setting, Setup}
+use Rattle.setup.specs.Configs.{first_setting, Setup}
 use Rattle.initial.specs.Deciding.{AcceptsAuth}
-use Rattle.initial.specs.declared.answering.Answered.{Answered}
+use Rattle.association.specs.declared.outcome.Answered.{Answered}
 use Rattle.initial.specs.declared.deciding.Decision.TheVariants as decision
 use Rattle.moments.specs.Held.{IsInTime}
 use Rattle.effects.specs.Taking.{TakesMessage}

@@ -23,7 +23,7 @@ use Rattle.gateway.specs.WorldPromises.{ComesUnder}
 use Rattle.gateway.specs.Worlds.{datagram_of, Stored}
 use Rattle.gateway.specs.declared.world.stored.Datagram.{Datagram}
 use Rattle.gateway.specs.declared.world.stored.End.{End}
-use Rattle.gateway.specs.declared.world.stored.Mark.TheVariants as mark
+use Rattle.gateway.specs.declared.world.stored.Protection.TheVariants as mark
 use Rattle.gateway.proofs.WorkedWorldLemmas.{OneMessage}
 
 -- a machine that holds this association alone

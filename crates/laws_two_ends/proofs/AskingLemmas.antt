@@ -21,10 +21,10 @@ use Rattle.association.specs.Receiving.{reception_by}
 use Rattle.association.specs.declared.phase.Association.{Association}
 use Rattle.association.specs.declared.phase.Request.{Request}
 use Rattle.association.specs.declared.purpose.Purpose.TheVariants as purpose
-use Rattle.initial.specs.Configs.{Setup}
-use Rattle.initial.specs.Issuing.{IssuesNext}
-use Rattle.initial.specs.declared.config.Config.{Config}
-use Rattle.informational.specs.Asking.{request_message}
+use Rattle.setup.specs.Configs.{Setup}
+use Rattle.association.specs.Issuing.{IssuesNext}
+use Rattle.setup.specs.declared.config.Config.{Config}
+use Rattle.association.specs.Sending.{request_message}
 use Rattle.informational.specs.declared.ordering.Order.TheVariants as order
 use Rattle.effects.specs.Openings.{OpensAsMessage}
 use Rattle.effects.specs.Taking.{TakesMessage}

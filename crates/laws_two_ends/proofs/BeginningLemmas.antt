@@ -14,7 +14,7 @@ use Rattle.association.specs.Receiving.{reception_by}
 use Rattle.association.specs.declared.phase.Association.{Association}
 use Rattle.association.specs.declared.phase.Request.{Request}
 use Rattle.initial.specs.Beginning.{Admits}
-use Rattle.initial.specs.Configs.{Setup}
+use Rattle.setup.specs.Configs.{Setup}
 use Rattle.initial.specs.Reading.{ReadsResponse, TellsIdentity}
 use Rattle.initial.specs.declared.beginning.Admitted.{Admitted}
 use Rattle.initial.specs.declared.reading.Continued.TheVariants as continued

@@ -1,8 +1,8 @@
 -- There can be the worked caller, and the worked words, and the initiator is rightly set up.
 use Rattle.std.proofs.Common.{◌∷◌, [], arith, refl}
 use Rattle.std.specs.Prelude.{false, replicate}
-use Rattle.initial.specs.Configs.{IsConfig, Setup}
-use Rattle.initial.specs.declared.config.Config.{Config}
+use Rattle.setup.specs.Configs.{IsConfig, Setup}
+use Rattle.setup.specs.declared.config.Config.{Config}
 use Rattle.laws_two_ends.specs.WorkedRecords.{answering_fresh, beginning_fresh, reading_fresh, worked_asker, worked_plain_of, CanBeMeant, IsFresh}
 use Rattle.laws_two_ends.proofs.OctetLemmas.{octets_if}
 

@@ -15,7 +15,7 @@ use Rattle.esp.specs.Judging.{low_half, Judges}
 use Rattle.esp.specs.Packet.{check_value, head, packet, trailer, IsContents, IsPacket}
 use Rattle.esp.specs.Sealing.{IsShortestPacket}
 use Rattle.esp.specs.Worked.{worked_payload}
-use Rattle.esp.specs.declared.association.Association as esp
+use Rattle.esp.specs.declared.sa.Sa as esp
 use Rattle.esp.proofs.NumberLemmas.{contains-insert_nat}
 use Rattle.esp.proofs.PacketLemmas.{packet_contents, packet_low_half, packet_passes, packet_whole}
 use Rattle.sadb.specs.Database.{Database, IsInbound, PairMap}
@@ -25,13 +25,13 @@ use Rattle.traffic.specs.Outcomes.{Sealed, Up}
 use Rattle.traffic.specs.Receiving.{spi_of, IsAddressedTo, Receives}
 use Rattle.traffic.specs.Sending.{Sends}
 use Rattle.deliveries.specs.Worked.{any_traffic}
+use Rattle.gateway.specs.Inputs.{Input}
+use Rattle.gateway.specs.Inputs as input
 use Rattle.gateway.specs.WorldPackets.{HasSentPacket}
 use Rattle.gateway.specs.Worlds.{datagram_of, simplex_of, Stored}
-use Rattle.gateway.specs.declared.input.Input.{Input}
-use Rattle.gateway.specs.declared.input.Input.TheVariants as input
 use Rattle.gateway.specs.declared.world.stored.Datagram.{Datagram}
 use Rattle.gateway.specs.declared.world.stored.End.TheVariants.{A}
-use Rattle.gateway.specs.declared.world.stored.Mark.TheVariants as mark
+use Rattle.gateway.specs.declared.world.stored.Protection.TheVariants as mark
 use Rattle.laws_two_ends.specs.WorkedChildren.{all_protected, lone_pair, one_taken}
 use Rattle.laws_two_ends.proofs.FlowLemmas.{worked_covered, worked_decided, worked_flow, worked_traffic}
 use Rattle.laws_two_ends.proofs.TableLemmas.{lone_in, lone_inbound, none_taken, unused_sound, HasLone}
@@ -72,10 +72,10 @@ esp_octets _ = []
 
 -- by the SPI of what A sends and that of what B sends, and by the keys of both
 module _ (spi other : ℕ) (small : spi < 2 ^ 32) (first second : Octets) where
-  abbrev by : esp.Association
+  abbrev by : esp.Sa
   by = record { spi = spi; key = first; extended = false }
 
-  abbrev back : esp.Association
+  abbrev back : esp.Sa
   back = record { spi = other; key = second; extended = false }
 
   abbrev carried : Octets

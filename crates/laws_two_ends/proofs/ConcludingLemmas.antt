@@ -23,10 +23,10 @@ use Rattle.association.specs.declared.phase.Request.{Request}
 use Rattle.children.specs.Accepting.{AreAcceptedTerms}
 use Rattle.children.specs.Pairs.{new_pair}
 use Rattle.deliveries.specs.Worked.{any_traffic}
-use Rattle.initial.specs.Configs.{first_setting, Setup}
+use Rattle.setup.specs.Configs.{first_setting, Setup}
 use Rattle.initial.specs.Ending.{ProvesPeer}
 use Rattle.initial.specs.declared.concluding.Outcome.TheVariants as outcome
-use Rattle.initial.specs.declared.ending.Ended.{Ended}
+use Rattle.association.specs.declared.outcome.Ended.{Ended}
 use Rattle.moments.specs.Held.{IsInTime}
 use Rattle.effects.specs.Taking.{TakesMessage}
 use Rattle.effects.specs.declared.taking.Effect.TheVariants as effect

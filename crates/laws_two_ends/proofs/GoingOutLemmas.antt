@@ -8,15 +8,15 @@ use Rattle.effects.specs.Taking.{Meaning}
 use Rattle.moments.specs.declared.resent.Resent.{Resent}
 use Rattle.ike.specs.Machines.{Machine}
 use Rattle.ike.specs.declared.output.Mark as ike
+use Rattle.gateway.specs.Inputs.{Event}
 use Rattle.gateway.specs.Outputs.{Clear, Counted, Discarded, Done, Dropped, Dummy, OutputView, Refused, Repeat, Reply, Request, Sealed, Ticked, Up}
 use Rattle.gateway.specs.States.{State}
 use Rattle.gateway.specs.Worlds.{again_as, datagram_of, esp_mark, gateway_at, ike_mark, mark_again, mark_by, sent_by, simplex_of, storing, with_gateway, Stored, TakesEvent, WorldState}
 use Rattle.gateway.specs.declared.world.stored.Datagram.{Datagram}
 use Rattle.gateway.specs.declared.world.stored.End.{End}
 use Rattle.gateway.specs.declared.world.stored.End.TheVariants.{A, B}
-use Rattle.gateway.specs.declared.world.stored.Event.{Event}
-use Rattle.gateway.specs.declared.world.stored.Mark.{Mark}
-use Rattle.gateway.specs.declared.world.stored.Mark.TheVariants as mark
+use Rattle.gateway.specs.declared.world.stored.Protection.{Protection}
+use Rattle.gateway.specs.declared.world.stored.Protection.TheVariants as mark
 use Rattle.gateway.proofs.PartyLemmas.{at_head, at_head_or_further, further_on, none_there}
 use Rattle.laws_two_ends.specs.GoingOut.{GoesOut, IsAmong, IsStoredAsSent}
 use Rattle.laws_two_ends.proofs.WorldRecordLemmas.{gateway_then}
@@ -34,11 +34,11 @@ mapped {X} {Y} f (y ∷ ys) x there = elim (at_head_or_further y ys x there) [
 
 -- a datagram with these octets is in the list
 record IsIn (end : End) (octets : Octets) (sent : List Datagram) : Type 0 where
-  pub mark : Mark
+  pub mark : Protection
   pub there : Contains sent (datagram_of end mark octets)
 
 -- the one datagram of a step
-single : (end : End) (m : Mark) (octets sent : Octets) → octets ≡ sent → IsIn end sent (datagram_of end m octets ∷ [])
+single : (end : End) (m : Protection) (octets sent : Octets) → octets ≡ sent → IsIn end sent (datagram_of end m octets ∷ [])
 single end m octets sent same = record { mark = m; there = subst (λ (os : Octets). Contains (datagram_of end m octets ∷ []) (datagram_of end m os)) same (at_head (datagram_of end m octets) []) }
 
 in_front : (end : End) (octets : Octets) (xs ys : List Datagram) → IsIn end octets xs → IsIn end octets (xs ++ ys)
@@ -49,7 +49,7 @@ behind end octets xs ys is = record { mark = is.mark; there = Contains-append_ri
 
 again : (end : End) (machine : Machine) (requests : List Resent) (sent : Octets) → IsAmong requests sent → IsIn end sent (map (again_as end machine) requests)
 again end machine requests sent is =
-    let m : Mark = ike_mark machine (mark_again is.request) in
+    let m : Protection = ike_mark machine (mark_again is.request) in
     record {
       mark = m;
       there = subst (λ (os : Octets). Contains (map (again_as end machine) requests) (datagram_of end m os)) is.is (mapped (again_as end machine) requests is.request is.there);
@@ -96,7 +96,7 @@ module _ {C : Type 0} (meaning_of : C → Meaning) (event : Event) (old : WorldS
       let by_pair : esp_mark takes.gateway.table child number ≡ mark.Esp (simplex_of pair.outbound.association) number = ap (λ (p : Option Pair). mark_by number p) found in
       let in_sent : Contains (sent_by event.end said takes.trace.sent takes.gateway) (datagram_of event.end (mark.Esp (simplex_of pair.outbound.association) number) octets) =
       subst (λ (o : OutputView). Contains (sent_by event.end o takes.trace.sent takes.gateway) (datagram_of event.end (mark.Esp (simplex_of pair.outbound.association) number) octets)) (sym is)
-      (subst (λ (m : Mark). Contains (sent_by event.end (Sealed child number octets) takes.trace.sent takes.gateway) (datagram_of event.end m octets)) by_pair there) in
+      (subst (λ (m : Protection). Contains (sent_by event.end (Sealed child number octets) takes.trace.sent takes.gateway) (datagram_of event.end m octets)) by_pair there) in
       subst (λ (s : Stored). Contains s.sent (datagram_of event.end (mark.Esp (simplex_of pair.outbound.association) number) octets)) (sym stored_is)
       (Contains-append_right old.stored.sent (sent_by event.end said takes.trace.sent takes.gateway)
       (datagram_of event.end (mark.Esp (simplex_of pair.outbound.association) number) octets) in_sent)

@@ -23,11 +23,11 @@ use Rattle.association.specs.declared.phase.Association.{Association}
 use Rattle.association.specs.declared.phase.Phase.TheVariants as phase
 use Rattle.association.specs.declared.phase.Request.{Request}
 use Rattle.association.specs.declared.purpose.Purpose.TheVariants.{Probe}
-use Rattle.initial.specs.Answering.{reply_message}
-use Rattle.initial.specs.Concluding.{with_incoming, with_outgoing}
-use Rattle.initial.specs.Configs.{Setup}
-use Rattle.initial.specs.declared.answering.Answered.{Answered}
-use Rattle.initial.specs.declared.ending.Ended.{Ended}
+use Rattle.association.specs.Sending.{reply_message}
+use Rattle.association.specs.Issuing.{with_incoming, with_outgoing}
+use Rattle.setup.specs.Configs.{Setup}
+use Rattle.association.specs.declared.outcome.Answered.{Answered}
+use Rattle.association.specs.declared.outcome.Ended.{Ended}
 use Rattle.informational.specs.Answering.{AnswersInformational}
 use Rattle.informational.specs.Orders.{ClosesIf}
 use Rattle.effects.specs.Openings.{OpensAsMessage}

@@ -19,9 +19,11 @@ use Rattle.effects.specs.declared.taking.Effect.TheVariants as effect
 use Rattle.ike.specs.Machines.{new_machine}
 use Rattle.ike.specs.Outputs.{asking_step, no_trace, stepped_of}
 use Rattle.ike.specs.Steps as ike
-use Rattle.ike.specs.declared.asking.Demand.TheVariants as demand
+use Rattle.ike.specs.Orders as orders
 use Rattle.lockstep.specs.Parties.{times}
 use Rattle.traffic.specs.Outcomes as traffic
+use Rattle.gateway.specs.Inputs.{Input}
+use Rattle.gateway.specs.Inputs as input
 use Rattle.gateway.specs.States.{IsSoundState}
 use Rattle.gateway.specs.WorldChildren.{AreOfOneRequest}
 use Rattle.gateway.specs.WorldHistories.{Happening, IsWorldTrail}
@@ -30,8 +32,6 @@ use Rattle.gateway.specs.WorldParties.{AreBothHeld, HasSent, IsNeverMadeTwice}
 use Rattle.gateway.specs.WorldPromises.{ComesUnder}
 use Rattle.gateway.specs.WorkedRequests.{worked_reply, worked_request}
 use Rattle.gateway.specs.Worlds.{datagram_of, mark_by, other_end, Stored, TakesEvent, WorldState}
-use Rattle.gateway.specs.declared.input.Input.{Input}
-use Rattle.gateway.specs.declared.input.Input.TheVariants as input
 use Rattle.gateway.specs.declared.world.stored.Child.{Child}
 use Rattle.gateway.specs.declared.world.stored.End.{End}
 use Rattle.gateway.specs.declared.world.stored.End.TheVariants.{A, B}
@@ -175,7 +175,7 @@ module _ {C : Type 0} (a b : C) (response : Octets) where
   sound_delivered sound =
       other_pair B b (answering response) 512 (pair_of Responder 0 (unused_window 2)) (pair_of Responder 0 one_taken) later_table_is_sound sound
 
-  probe_steps : ike.Steps run_meaning all_protected (ike.Order (demand.Probe 1) (fresh_of 6)) (end_with A a asking (asking_table 1)).machine (asking_table 1)
+  probe_steps : ike.Steps run_meaning all_protected (ike.Order (orders.Probe 1) (fresh_of 6)) (end_with A a asking (asking_table 1)).machine (asking_table 1)
       (asking_step 1 2 worked_request) (end_with A a probing (asking_table 1)).machine (asking_table 1)
   probe_steps = (refl, probe_asks (config_at A) all_protected (fresh_of 6) (asking_table 1))
 
@@ -212,7 +212,7 @@ module _ {C : Type 0} (a b : C) (response : Octets) where
   -- A after it sent the probe
   sound_probing : SoundnessStays → NoSpiIsLost → IsSoundState (child_world a b response).a → IsSoundState (probing_world a b response).a
   sound_probing stays none_lost sound =
-      sound_next stays none_lost run_meaning (ike.Order (demand.Probe 1) (fresh_of 6)) (asking_step 1 2 worked_request)
+      sound_next stays none_lost run_meaning (ike.Order (orders.Probe 1) (fresh_of 6)) (asking_step 1 2 worked_request)
       (sealed_world a b response).a (probing_world a b response).a (sound_sealed sound) probe_steps (asking_table_is_sound 1)
       (timely_alone (config_at A) probing probing_in_time)
 

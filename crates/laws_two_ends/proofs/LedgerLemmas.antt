@@ -14,7 +14,7 @@ use Rattle.association.specs.declared.phase.Request.{Request}
 use Rattle.effects.specs.Moves.{ledger_of, Ledger}
 use Rattle.ike.specs.Machines.{association_of}
 use Rattle.ike.specs.Moves.{ledger_at}
-use Rattle.initial.specs.declared.config.Config.{Config}
+use Rattle.setup.specs.declared.config.Config.{Config}
 use Rattle.lockstep.specs.Ends.{request_of, response_of, Entry}
 use Rattle.lockstep.specs.Parties.{times, Holds, IsSoundParty}
 use Rattle.lockstep.specs.Soundness.{HasAnswered, HasAsked, IsSoundLedger}

@@ -17,8 +17,8 @@ use Rattle.sadb.specs.Database.{empty_table, pair_at, Database, HasInbound, IsSo
 use Rattle.sadb.specs.declared.pair.Pair.{Pair}
 use Rattle.association.specs.Receiving.{Opening}
 use Rattle.association.specs.declared.phase.Association.{Association}
-use Rattle.initial.specs.Configs.{IsConfig}
-use Rattle.initial.specs.declared.config.Config.{Config}
+use Rattle.setup.specs.Configs.{IsConfig}
+use Rattle.setup.specs.declared.config.Config.{Config}
 use Rattle.effects.specs.Taking.{asker_of}
 use Rattle.ike.specs.Machines.{association_of, new_machine}
 use Rattle.ike.specs.Moves.{HasSeal}

@@ -12,7 +12,7 @@ use Rattle.sadb.specs.Database.{Database}
 use Rattle.association.specs.Receiving as receiving
 use Rattle.association.specs.Receiving.{reception_by}
 use Rattle.association.specs.declared.phase.Request.{Request}
-use Rattle.initial.specs.Configs.{Setup}
+use Rattle.setup.specs.Configs.{Setup}
 use Rattle.effects.specs.Openings.{OpensAsMessage}
 use Rattle.effects.specs.Taking.{TakesMessage}
 use Rattle.effects.specs.declared.taking.Effect.TheVariants as effect

@@ -13,7 +13,7 @@ use Rattle.sa_init.specs.declared.response.Response.TheVariants as response
 use Rattle.association.specs.Phases.{keys_in}
 use Rattle.association.specs.declared.phase.Association.{Association}
 use Rattle.association.specs.declared.phase.InitSent.{InitSent}
-use Rattle.initial.specs.Configs.{Setup}
+use Rattle.setup.specs.Configs.{Setup}
 use Rattle.initial.specs.Reading.{Asker, Continues, waiting_of}
 use Rattle.initial.specs.declared.reading.Continued.TheVariants as continued
 use Rattle.laws_two_ends.specs.Records.{ComesToKeysAsInitiator, ComesToKeysAsResponder, Introduction}

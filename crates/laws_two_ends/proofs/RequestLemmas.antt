@@ -8,7 +8,7 @@ use Rattle.std.specs.Ordering.{nat_cmp}
 use Rattle.requests.specs.Numbers.{HasNumber, LacksNumber}
 use Rattle.requests.specs.Outgoing.{none_issued, number_0_answered, MayIssue, OwnRequests}
 use Rattle.association.specs.declared.phase.Request.{Request}
-use Rattle.initial.specs.Issuing.{IssuesNext}
+use Rattle.association.specs.Issuing.{IssuesNext}
 
 -- with room for one more
 abbrev ready : OwnRequests Request → OwnRequests Request

@@ -12,7 +12,7 @@ use Rattle.gateway.specs.Worlds.{datagram_of}
 use Rattle.gateway.specs.declared.world.stored.Datagram.{Datagram}
 use Rattle.gateway.specs.declared.world.stored.End.{End}
 use Rattle.gateway.specs.declared.world.stored.End.TheVariants.{A, B}
-use Rattle.gateway.specs.declared.world.stored.Mark.TheVariants as mark
+use Rattle.gateway.specs.declared.world.stored.Protection.TheVariants as mark
 use Rattle.gateway.specs.declared.world.stored.Simplex.{Simplex}
 use Rattle.gateway.proofs.PartyLemmas.{as_stored, at_head, at_head_or_further, further_on, marked, sent_there, single, there_sent}
 use Rattle.laws_two_ends.specs.WorkedChildren.{sent_so_far}

@@ -3,7 +3,7 @@ use Rattle.std.proofs.Common.{zero, suc, List, [], ◌∷◌, arith}
 use Rattle.policy.specs.declared.entry.Entry.{Entry}
 use Rattle.sadb.specs.Database.{Database, IsSoundTable}
 use Rattle.association.specs.declared.phase.Association.{Association}
-use Rattle.initial.specs.declared.config.Config.{Config}
+use Rattle.setup.specs.declared.config.Config.{Config}
 use Rattle.moments.specs.Held.{IsInTime}
 use Rattle.effects.specs.Taking.{Meaning}
 use Rattle.ike.specs.Machines.{new_machine, Machine}

@@ -6,7 +6,7 @@ use Rattle.base.specs.Octets.{Octets}
 use Rattle.replay.specs.Window.{unused_window, Seen}
 use Rattle.esp.specs.Packet.{packet}
 use Rattle.esp.specs.Worked.{worked_payload}
-use Rattle.esp.specs.declared.association.Association as esp
+use Rattle.esp.specs.declared.sa.Sa as esp
 use Rattle.sadb.specs.Database.{empty_table, Database}
 use Rattle.sadb.specs.declared.pair.Pair.{Pair}
 use Rattle.sadb.specs.declared.pair.State.TheVariants.{Live}
@@ -22,22 +22,22 @@ use Rattle.association.specs.declared.purpose.Purpose.TheVariants.{Identify, Pro
 use Rattle.children.specs.Pairs.{inbound_of, outbound_of}
 use Rattle.children.specs.Terms.{Terms}
 use Rattle.initial.specs.Beginning.{half_open}
-use Rattle.initial.specs.Concluding.{established, widened, with_incoming, with_outgoing}
-use Rattle.initial.specs.Issuing.{new_request}
+use Rattle.initial.specs.Concluding.{established, widened}
+use Rattle.association.specs.Issuing.{with_incoming, with_outgoing, new_request}
 use Rattle.deliveries.specs.Worked.{any_traffic}
 use Rattle.ike.specs.Machines.{new_machine}
+use Rattle.gateway.specs.Inputs as input
 use Rattle.gateway.specs.Outputs.{Counted, Reply, Request as Requested, Sealed, Up}
 use Rattle.gateway.specs.States.{State}
 use Rattle.gateway.specs.WorkedRequests.{worked_reply, worked_request}
 use Rattle.gateway.specs.WorldHistories.{Happening}
 use Rattle.gateway.specs.Worlds.{datagram_of, simplex_of, Stored, WorldState}
-use Rattle.gateway.specs.declared.input.Input.TheVariants as input
 use Rattle.gateway.specs.declared.world.stored.Child.{Child}
 use Rattle.gateway.specs.declared.world.stored.Datagram.{Datagram}
 use Rattle.gateway.specs.declared.world.stored.End.{End}
 use Rattle.gateway.specs.declared.world.stored.End.TheVariants.{A, B}
 use Rattle.gateway.specs.declared.world.stored.Keyed.{Keyed}
-use Rattle.gateway.specs.declared.world.stored.Mark.TheVariants as mark
+use Rattle.gateway.specs.declared.world.stored.Protection.TheVariants as mark
 use Rattle.laws_two_ends.specs.WorkedRecords.{answering_fresh, beginning_fresh, fresh_of, worked_record}
 use Rattle.laws_two_ends.proofs.AuthLemmas.{auth_octets, worked_child}
 use Rattle.laws_two_ends.proofs.InitLemmas.{answer_octets, request_octets}
@@ -185,7 +185,7 @@ end_with {C} end caller a table = record (new_end end caller) {
 -- ---- what is stored
 
 -- what A sends by
-abbrev pub carrying : esp.Association
+abbrev pub carrying : esp.Sa
 carrying = outbound_of Initiator agreed_keys agreed_terms
 
 -- the packet that A seals under number 1, with two octets of padding

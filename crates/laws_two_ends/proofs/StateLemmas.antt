@@ -15,8 +15,8 @@ use Rattle.sadb.specs.Database.{Database, IsSoundTable}
 use Rattle.association.specs.Closing.{HoldsSpi}
 use Rattle.association.specs.declared.phase.Association.{Association}
 use Rattle.association.specs.declared.phase.Request.{Request}
-use Rattle.initial.specs.Configs.{IsConfig}
-use Rattle.initial.specs.declared.config.Config.{Config}
+use Rattle.setup.specs.Configs.{IsConfig}
+use Rattle.setup.specs.declared.config.Config.{Config}
 use Rattle.moments.specs.Due.{is_over}
 use Rattle.moments.specs.Held.{began, IsInTime}
 use Rattle.effects.specs.Keeping.{IsShort}

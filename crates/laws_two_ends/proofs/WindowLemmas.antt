@@ -3,8 +3,8 @@ use Rattle.std.proofs.Common.{◌⊎◌, ◌≤◌, inl, inr, ℕ, Bool, [], sub
 use Rattle.base.specs.Octets.{Octets}
 use Rattle.auth.specs.Windows.{WINDOW_LEAST}
 use Rattle.association.specs.declared.phase.Association.{Association}
-use Rattle.initial.specs.Configs.{IsConfig}
-use Rattle.initial.specs.declared.config.Config.{Config}
+use Rattle.setup.specs.Configs.{IsConfig}
+use Rattle.setup.specs.declared.config.Config.{Config}
 use Rattle.ike.specs.Machines.{has_serial}
 use Rattle.lockstep.specs.Ends.{request_of, response_of, Entry}
 use Rattle.gateway.specs.WorkedRequests.{worked_keys, worked_meaning}

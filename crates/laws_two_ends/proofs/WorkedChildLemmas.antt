@@ -12,14 +12,15 @@ use Rattle.sadb.specs.Database.{pair_at}
 use Rattle.sadb.specs.declared.pair.Pair.{Pair}
 use Rattle.association.specs.declared.phase.Association.{Association}
 use Rattle.association.specs.declared.phase.Request.{Request}
-use Rattle.initial.specs.Configs.{IsConfig}
-use Rattle.initial.specs.declared.config.Config.{Config}
+use Rattle.setup.specs.Configs.{IsConfig}
+use Rattle.setup.specs.declared.config.Config.{Config}
 use Rattle.effects.specs.Children.{Further}
 use Rattle.effects.specs.declared.taking.Effect.TheVariants as effect
 use Rattle.ike.specs.Machines.{has_serial, new_machine}
 use Rattle.ike.specs.Moves.{HasSeal}
 use Rattle.ike.specs.Outputs.{no_trace, stepped_of}
 use Rattle.traffic.specs.Outcomes as traffic
+use Rattle.gateway.specs.Inputs as input
 use Rattle.gateway.specs.States.{IsSoundState}
 use Rattle.gateway.specs.WorkedRequests.{worked_keys, worked_meaning}
 use Rattle.gateway.specs.BothEnds.{IsWhollySound}
@@ -29,12 +30,11 @@ use Rattle.gateway.specs.WorldPackets.{AccountsForPairs, HasSentPacket, HasStore
 use Rattle.gateway.specs.WorldParties.{HasSent, HoldsUnder}
 use Rattle.gateway.specs.WorldPromises.{ComesUnder, IsUnforged}
 use Rattle.gateway.specs.Worlds.{datagram_of, gateway_at, other_end, simplex_of, Stored, TakesEvent, WorldState}
-use Rattle.gateway.specs.declared.input.Input.TheVariants as input
 use Rattle.gateway.specs.declared.world.stored.Child.{Child}
 use Rattle.gateway.specs.declared.world.stored.Datagram.{Datagram}
 use Rattle.gateway.specs.declared.world.stored.End.{End}
 use Rattle.gateway.specs.declared.world.stored.End.TheVariants.{A, B}
-use Rattle.gateway.specs.declared.world.stored.Mark.TheVariants as mark
+use Rattle.gateway.specs.declared.world.stored.Protection.TheVariants as mark
 use Rattle.gateway.specs.declared.world.stored.Simplex.{Simplex}
 use Rattle.gateway.proofs.PartyLemmas.{at_head, further_on, some_is}
 use Rattle.gateway.proofs.WorkedRequestLemmas.{can_be, none_asked}

@@ -15,7 +15,7 @@ use Rattle.association.specs.declared.phase.Phase.TheVariants as phase
 use Rattle.association.specs.declared.phase.Request.{Request}
 use Rattle.association.specs.declared.purpose.Purpose.TheVariants.{Begin, Identify}
 use Rattle.initial.specs.Beginning.{begun, half_open, Admits, Begins}
-use Rattle.initial.specs.Issuing.{new_request}
+use Rattle.association.specs.Issuing.{new_request}
 use Rattle.initial.specs.Reading.{waiting_of, ReadsResponse, TellsIdentity}
 use Rattle.initial.specs.declared.beginning.Admitted.{Admitted}
 use Rattle.initial.specs.declared.beginning.Beginning.{Beginning}

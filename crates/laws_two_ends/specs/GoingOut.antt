@@ -5,7 +5,7 @@ use Rattle.moments.specs.declared.resent.Resent.{Resent}
 use Rattle.gateway.specs.Outputs.{OutputView, Repeat, Reply, Request, Sealed, Ticked}
 use Rattle.gateway.specs.Worlds.{datagram_of, Stored}
 use Rattle.gateway.specs.declared.world.stored.End.{End}
-use Rattle.gateway.specs.declared.world.stored.Mark.{Mark}
+use Rattle.gateway.specs.declared.world.stored.Protection.{Protection}
 
 -- one of these requests goes out again, with these octets
 pub record IsAmong (requests : List Resent) (octets : Octets) : Type 0 where
@@ -24,5 +24,5 @@ GoesOut said sent = ⊥
 
 -- these octets are stored as sent by this end, under whatever mark
 pub record IsStoredAsSent (end : End) (octets : Octets) (stored : Stored) : Type 0 where
-  pub mark : Mark
+  pub mark : Protection
   pub there : Contains stored.sent (datagram_of end mark octets)

@@ -12,7 +12,7 @@ use Rattle.sa_init.specs.Parts.{HasParts, PartsView}
 use Rattle.association.specs.Phases.{keys_in}
 use Rattle.association.specs.declared.phase.Association.{Association}
 use Rattle.initial.specs.Beginning.{Admits}
-use Rattle.initial.specs.Configs.{Setup}
+use Rattle.setup.specs.Configs.{Setup}
 use Rattle.initial.specs.Reading.{Asker, ReadsResponse}
 use Rattle.initial.specs.declared.beginning.Admitted.{Admitted}
 use Rattle.initial.specs.declared.reading.Continued.TheVariants as continued

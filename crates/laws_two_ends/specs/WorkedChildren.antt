@@ -9,7 +9,7 @@ use Rattle.base.specs.declared.address.Range.TheVariants.{V4}
 use Rattle.replay.specs.Window.{unused_window, Seen}
 use Rattle.esp.specs.Packet.{packet}
 use Rattle.esp.specs.Worked.{worked_payload}
-use Rattle.esp.specs.declared.association.Association as esp
+use Rattle.esp.specs.declared.sa.Sa as esp
 use Rattle.policy.specs.declared.entry.Action.TheVariants.{Protect}
 use Rattle.policy.specs.declared.entry.Entry.{Entry}
 use Rattle.sadb.specs.Database.{Database, PairMap}
@@ -26,8 +26,9 @@ use Rattle.association.specs.declared.phase.Request.{Request}
 use Rattle.association.specs.declared.purpose.Purpose.TheVariants.{Probe}
 use Rattle.children.specs.Pairs.{inbound_of, outbound_of}
 use Rattle.children.specs.Terms.{Terms}
-use Rattle.initial.specs.declared.config.Config.{Config}
+use Rattle.setup.specs.declared.config.Config.{Config}
 use Rattle.deliveries.specs.Worked.{any_traffic}
+use Rattle.gateway.specs.Inputs as input
 use Rattle.gateway.specs.Outputs.{Counted, Reply, Up}
 use Rattle.gateway.specs.States.{IsSoundState, State}
 use Rattle.gateway.specs.WorkedRequests.{first_taken, gateway_with, worked_association, worked_keys, worked_meaning, CanBeMeant}
@@ -38,12 +39,11 @@ use Rattle.gateway.specs.WorldPackets.{HasOneSender, HoldsSomePairOf, IsUnforged
 use Rattle.gateway.specs.WorldParties.{AreBothHeld, IsNeverMadeTwice}
 use Rattle.gateway.specs.WorldPromises.{ComesUnder, IsUnforged}
 use Rattle.gateway.specs.Worlds.{datagram_of, simplex_of, Stored, WorldState}
-use Rattle.gateway.specs.declared.input.Input.TheVariants as input
 use Rattle.gateway.specs.declared.world.stored.Child.{Child}
 use Rattle.gateway.specs.declared.world.stored.Datagram.{Datagram}
 use Rattle.gateway.specs.declared.world.stored.End.{End}
 use Rattle.gateway.specs.declared.world.stored.End.TheVariants.{A, B}
-use Rattle.gateway.specs.declared.world.stored.Mark.TheVariants as mark
+use Rattle.gateway.specs.declared.world.stored.Protection.TheVariants as mark
 use Rattle.gateway.specs.declared.world.stored.Simplex.{Simplex}
 use Rattle.laws_two_ends.specs.WorkedMessages.{alive_octets, answering_octets, asking_octets, first_answering, first_asking, nonce_of, probe_octets}
 
@@ -178,7 +178,7 @@ gateway_of {C} config caller a table = record (gateway_with config caller a) { t
 -- ---- the world
 
 -- what A sends by
-abbrev pub carrying : esp.Association
+abbrev pub carrying : esp.Sa
 carrying = outbound_of Initiator agreed_keys agreed_terms
 
 -- the packet that A sealed under number 1, with two octets of padding

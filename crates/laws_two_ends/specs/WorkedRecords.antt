@@ -17,7 +17,7 @@ use Rattle.sa_init.specs.declared.judging.Sender.{Sender}
 use Rattle.association.specs.AskedChildren.{AskedChildView, IsSendableChild}
 use Rattle.association.specs.declared.phase.Request.{Request}
 use Rattle.initial.specs.Beginning.{begun, Begins}
-use Rattle.initial.specs.Configs.{IsConfig}
+use Rattle.setup.specs.Configs.{IsConfig}
 use Rattle.initial.specs.Reading.{Asker}
 use Rattle.initial.specs.declared.beginning.Beginning.{Beginning}
 use Rattle.laws_two_ends.specs.Records.{ComesToKeysAsInitiator, ComesToKeysAsResponder, Introduction}

@@ -13,11 +13,13 @@ use Rattle.suite.specs.declared.key_record.KeyRecord.{KeyRecord}
 use Rattle.requests.specs.Numbers.{HasNumber}
 use Rattle.association.specs.declared.phase.Association.{Association}
 use Rattle.association.specs.declared.phase.Phase.TheVariants.{Established}
-use Rattle.initial.specs.Configs.{IsConfig}
-use Rattle.initial.specs.declared.config.Config.{Config}
-use Rattle.initial.specs.declared.config.EndConfig.{EndConfig}
+use Rattle.setup.specs.Configs.{IsConfig}
+use Rattle.setup.specs.declared.config.Config.{Config}
+use Rattle.setup.specs.declared.config.EndConfig.{EndConfig}
 use Rattle.effects.specs.Taking.{asker_of, Meaning}
 use Rattle.gateway.specs.BothEnds.{IsWhollySound}
+use Rattle.gateway.specs.Inputs.{Event}
+use Rattle.gateway.specs.Inputs as input
 use Rattle.gateway.specs.Outputs.{Counted, OutputView, Reply, Request, Sealed, Up}
 use Rattle.gateway.specs.States.{new_gateway, State}
 use Rattle.gateway.specs.WorldChildren.{AreOfOneRequest}
@@ -26,11 +28,9 @@ use Rattle.gateway.specs.WorldPackets.{HasOneSender, HoldsSomePairOf, IsJudgedAt
 use Rattle.gateway.specs.WorldParties.{AreBothHeld, IsNeverMadeTwice}
 use Rattle.gateway.specs.WorldPromises.{ComesUnder, IsUnforgedByThen}
 use Rattle.gateway.specs.Worlds.{gateway_at, new_world, other_end, HoldsNothing, WorldState}
-use Rattle.gateway.specs.declared.input.Input.TheVariants as input
 use Rattle.gateway.specs.declared.world.stored.Child.{Child}
 use Rattle.gateway.specs.declared.world.stored.End.{End}
 use Rattle.gateway.specs.declared.world.stored.End.TheVariants.{A, B}
-use Rattle.gateway.specs.declared.world.stored.Event.{Event}
 use Rattle.laws_two_ends.specs.WorkedRecords.{fresh_of, introduction_of, worked_asker, worked_plain_of, worked_record, CanBeMeant, IsFresh}
 use Rattle.laws_two_ends.specs.WorldRecords.{CameToKeysAsInitiator, CameToKeysAsResponder}
 

@@ -12,9 +12,9 @@ use Rattle.association.specs.Phases.{keys_in}
 use Rattle.association.specs.declared.phase.Association.{Association}
 use Rattle.association.specs.declared.phase.InitSent.{InitSent}
 use Rattle.association.specs.declared.phase.Phase.TheVariants as phase
+use Rattle.gateway.specs.Inputs as input
 use Rattle.gateway.specs.WorldHistories.{Happening}
 use Rattle.gateway.specs.Worlds.{gateway_at, WorldState}
-use Rattle.gateway.specs.declared.input.Input.TheVariants as input
 use Rattle.gateway.specs.declared.world.stored.End.{End}
 use Rattle.laws_two_ends.specs.Records.{Introduction}
 

@@ -1,7 +1,8 @@
 //! The entries of a policy.
 ghost use Rattle.std.specs.Prelude.{◌≡◌, IsTrue, ◌↔◌};
 ghost use Rattle.policy.specs.Decisions.{local_side, remote_side};
-ghost use Rattle.policy.specs.Entries.{IsSoundEntry};
+ghost use Rattle.policy.specs.Entries.{IsSoundEntry, entry_for, with_local_ports, with_protocol, with_remote_ports};
+ghost use Rattle.policy.specs.declared.entry.Action.TheVariants.{Protect as ToProtect, Bypass as ToBypass, Discard as ToDiscard};
 
 use crate::ports::PortRange;
 use base::{Range, Selector};
@@ -30,6 +31,68 @@ pub struct Entry {
 }
 
 impl Entry {
+    /// Protects the flows between two ranges, of all protocols and all ports (RFC 4301 section 4.4.1.1).
+    /// Nothing is refused here: [`crate::Policy::new`] judges whether the entry is sound.
+    pub fn protect(local: Range, remote: Range) -> Entry
+        ensures { result ≡ entry_for ToProtect local remote }
+    {
+        Entry::between(local, remote, Action::Protect)
+    }
+
+    /// Lets the flows between two ranges go in the clear, those of all protocols and all ports.
+    pub fn bypass(local: Range, remote: Range) -> Entry
+        ensures { result ≡ entry_for ToBypass local remote }
+    {
+        Entry::between(local, remote, Action::Bypass)
+    }
+
+    /// Discards the flows between two ranges, those of all protocols and all ports.
+    pub fn discard(local: Range, remote: Range) -> Entry
+        ensures { result ≡ entry_for ToDiscard local remote }
+    {
+        Entry::between(local, remote, Action::Discard)
+    }
+
+    /// The same entry for one IP protocol, or for all of them where it is 0.
+    pub fn with_protocol(self, protocol: u8) -> Entry
+        ensures { result ≡ with_protocol protocol self }
+    {
+        Entry { protocol, ..self }
+    }
+
+    /// The same entry for the local ports from `start` to `end`, both included.
+    pub fn with_local_ports(self, start: u16, end: u16) -> Entry
+        ensures { result ≡ with_local_ports start end self }
+    {
+        Entry {
+            local_ports: (start, end),
+            ..self
+        }
+    }
+
+    /// The same entry for the remote ports from `start` to `end`, both included.
+    pub fn with_remote_ports(self, start: u16, end: u16) -> Entry
+        ensures { result ≡ with_remote_ports start end self }
+    {
+        Entry {
+            remote_ports: (start, end),
+            ..self
+        }
+    }
+
+    fn between(local: Range, remote: Range, action: Action) -> Entry
+        ensures { result ≡ entry_for action local remote }
+    {
+        Entry {
+            protocol: 0,
+            local,
+            remote,
+            local_ports: (0, u16::MAX),
+            remote_ports: (0, u16::MAX),
+            action,
+        }
+    }
+
     /// The points of the local side: what an initiator offers as its own selector (TSi), and a responder narrows TSr to.
     pub fn local_side(&self) -> Selector
         ensures { result ≡ local_side self.now }

@@ -6,25 +6,20 @@
 //! are not understood, a limit of this implementation. A list of selectors is the union of its members. A point of one family
 //! is in no set of the other.
 //!
-//! [`inner`] finds the [`Flow`] of an IP packet, [`family_of_packet`] the family that its version names, [`Policy::decide`] what is done with a flow, [`covers`] whether selectors hold
-//! it, [`narrow`] what an offer becomes under a policy, and [`are_inside`] whether an answer keeps to its offer. Only [`narrow`]
+//! [`inner`] finds the [`Flow`] of an IP packet, [`family_of_packet`] the family that its version names, [`Policy::decide`] what is done
+//! with a flow, [`covers`] whether selectors hold it, [`narrow`] what an offer becomes under a policy, and [`are_inside`] whether an answer keeps to its offer. Only [`narrow`]
 //! takes memory. [`laws`] has facts about these answers.
 //!
 //! The sets stand in `specs/Points`, decisions in `specs/Decisions`, the responder's choice in `specs/Narrowing`, and the
 //! layout of packets in `specs/Packets`.
 //!
 //! ```rust
-//! use base::{Items, Range};
-//! use policy::{Action, Decision, Direction, Entry, Policy, inner};
+//! use base::{Address, Items, Range};
+//! use policy::{Decision, Direction, Entry, Policy, inner};
 //!
-//! let entry = Entry {
-//!     protocol: 0,
-//!     local: Range::V4(0x0a00_0000, 0x0a00_00ff),
-//!     remote: Range::V4(0x0a01_0000, 0x0a01_00ff),
-//!     local_ports: (0, 65535),
-//!     remote_ports: (0, 65535),
-//!     action: Action::Protect,
-//! };
+//! let local = Range::prefix(Address::v4([10, 0, 0, 0]), 24)?;
+//! let remote = Range::prefix(Address::v4([10, 1, 0, 0]), 24)?;
+//! let entry = Entry::protect(local, remote);
 //! let policy = Policy::new(Items::from_slice(rt.alloc(), &[entry])?)?;
 //! // A header of IPv4 alone, from 10.0.0.1 to 10.1.0.1.
 //! let packet = [

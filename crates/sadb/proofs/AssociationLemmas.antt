@@ -1,12 +1,15 @@
 -- The pairs of one IKE association: found one after the other, and removed.
-use Rattle.std.proofs.Common.{◌≡◌, ◌≢◌, ◌+◌, ◌<◌, ◌≤◌, ◌↔◌, ℕ, Bool, true, false, Some, None, Option, IsTrue, IfNone, refl, sym, ap, subst, ◌∙◌, inl, inr, arith}
-use Rattle.std.specs.Prelude.{◌⊎◌, nat_eq, IsSome}
+use Rattle.std.proofs.Common.{◌≡◌, ◌≢◌, ◌+◌, ◌<◌, ◌≤◌, ◌↔◌, ℕ, Bool, true, false, Some, IsTrue, refl, sym, ap, subst, ◌∙◌, inl, inr, arith}
+use Rattle.std.specs.Prelude.{nat_eq}
 use Rattle.std.proofs.lemmas.Bool.{eqb-true, eq-eqb}
 use Rattle.std.proofs.lemmas.Bool.Decides.{eqb_tells, leb_tells}
 use Rattle.std.proofs.lemmas.Option.{none-some}
 use Rattle.std.specs.FinMap as map
 use Rattle.sadb.specs.declared.pair.Pair.{Pair}
-use Rattle.sadb.specs.Database.{Database, PairMap, pair_at, BelongsTo, SendsUnder, IsSoundTable, Removes, RemovesAllOf}
+use Rattle.policy.specs.declared.flow.Flow.{Flow}
+use Rattle.policy.specs.Decisions.{Covers}
+use Rattle.sadb.specs.declared.pair.State.TheVariants.{Live}
+use Rattle.sadb.specs.Database.{Database, PairMap, pair_at, BelongsTo, Carries, IsSoundTable, RemovesAllOf}
 use Rattle.sadb.specs.Storage.{RemovesIfOf}
 use Rattle.sadb.proofs.NumberedLemmas.{removed_here, removed_apart}
 
@@ -18,6 +21,15 @@ pub belongs_by : (pairs : PairMap) (ike serial : ℕ) (pair : Pair) → Some pai
 belongs_by pairs ike serial pair here = (
   λ equal. record { pair = pair; there = sym here; its = eqb-true pair.ike ike equal },
   λ b. eq-eqb pair.ike ike (ap (λ (p : Pair). p.ike) (same_pair pair b.pair (here ∙ b.there)) ∙ b.its),
+)
+
+pub carries_by : (pairs : PairMap) (flow : Flow) (serial : ℕ) (pair : Pair) (result : Bool) → Some pair ≡ map.get pairs serial
+    → IsTrue result ↔ ((pair.state ≡ Live) × Covers pair.local pair.remote flow) → IsTrue result ↔ Carries pairs flow serial
+carries_by pairs flow serial pair result here is = (
+  λ yes. (let both = is.0 yes in record { pair = pair; there = sym here; live = both.0; covered = both.1 }),
+  λ carries.
+      (let same : carries.pair ≡ pair = same_pair carries.pair pair (sym carries.there ∙ sym here) in
+      is.1 (subst (λ (p : Pair). (p.state ≡ Live) × Covers p.local p.remote flow) same (carries.live, carries.covered))),
 )
 
 pub not_both : (b : Bool) → b ≡ false → b ≡ true → ⊥

@@ -1,5 +1,5 @@
 -- What a by_serial of pairs shows, and how it changes.
-use Rattle.std.proofs.Common.{◌≡◌, ◌≢◌, ◌+◌, ◌-◌, ◌<◌, ◌≤◌, ◌⊎◌, ◌++◌, ◌∷◌, [], ℕ, zero, suc, List, length, set, get_or, true, cond, Option, Some, None, is_some, IsSome, IfSome, IfNone, IsSomeAnd, Contains, Bor, min, max, count_by, arith, sym, ap, ◌∙◌, refl, inl, inr, subst, rules}
+use Rattle.std.proofs.Common.{◌≡◌, ◌≢◌, ◌+◌, ◌-◌, ◌<◌, ◌≤◌, ◌⊎◌, ◌++◌, ◌∷◌, [], ℕ, zero, suc, List, length, set, get_or, true, cond, Option, Some, None, is_some, IsSome, IfSome, IsSomeAnd, Contains, Bor, min, count_by, arith, sym, ap, ◌∙◌, refl, inl, inr, subst, rules}
 use Rattle.std.proofs.lemmas.Bool.{cases_eq, cases_lt}
 use Rattle.std.proofs.lemmas.List.{get_or-set_same, get_or-set_other, get_or_past, get_or_append_left, length_push}
 use Rattle.std.proofs.Math.Seq.{get_or-append_seam}
@@ -12,10 +12,7 @@ use Rattle.slab.specs.Slab.{Slab, get, slab_len, entries, Updates, with_value}
 use Rattle.slab.proofs.SlabLemmas.{Updates-with_value, Contains-cons, Contains-cons_cases, Contains-entries}
 use Rattle.replay.specs.Window.{IsSoundWindow}
 use Rattle.sadb.specs.declared.pair.Pair.{Pair}
-use Rattle.policy.specs.declared.flow.Flow.{Flow}
-use Rattle.policy.specs.Decisions.{Covers}
-use Rattle.sadb.specs.declared.pair.State.TheVariants.{Live}
-use Rattle.sadb.specs.Database.{IsAfter, Carries, IsOutbound}
+use Rattle.sadb.specs.Database.{IsAfter}
 use Rattle.sadb.specs.Numbered.{numbered}
 use Rattle.sadb.specs.Storage.{PairsBySerial, slab_key_at, key_of, at_key, serial_of, shown_pairs, IsIndexed}
 use Rattle.sadb.proofs.NumberedLemmas.{numbered_at, numbered_below, numbered_inserts, numbered_removes, inserted_same, EndsAt}
@@ -451,8 +448,8 @@ pub record Waits (left : List (ℕ × Pair)) (pair : Pair) : Type 0 where
   pub key : ℕ
   pub there : Contains left (key, pair)
 
--- A walk over the entries of a slab: those that are left are the view's pairs, and each pair that is wanted is left, or its
--- serial was counted.
+-- A walk over the entries of a slab: those that are left are the view's pairs, and each pair that is wanted
+-- is left, or its serial was counted.
 pub record Walk (pairs : map.FinMap nat_cmp Pair) (left : List (ℕ × Pair)) (Wanted : Pair → Type 0) (Counted : ℕ → Type 0) : Type 0 where
   pub there : (key : ℕ) (pair : Pair) → Contains left (key, pair) → map.get pairs pair.serial ≡ Some pair
   pub met : (serial : ℕ) (pair : Pair) → map.get pairs serial ≡ Some pair → Wanted pair → Waits left pair ⊎ Counted serial
@@ -512,22 +509,6 @@ lower_is_one P (Some f) serial before now =
       | inr not_less ↦ (let same : serial ≡ min f serial = omega arith in subst P same now)
     ]
 
--- the latest serial so far likewise
-abbrev pub NotAbove : Option ℕ → ℕ → Type 0
-NotAbove latest serial = IsSomeAnd latest (λ (l : ℕ). serial ≤ l)
-
-pub raise_keeps : (latest : Option ℕ) (serial n : ℕ) → NotAbove latest n → n ≤ max (unwrap_or latest serial) serial
-raise_keeps None serial n counted = absurd counted
-raise_keeps (Some l) serial n counted = omega arith
-
-pub raise_is_one : (P : ℕ → Type 0) (latest : Option ℕ) (serial : ℕ) → ((l : ℕ) → latest ≡ Some l → P l) → P serial → P (max (unwrap_or latest serial) serial)
-raise_is_one P None serial before now = (let same : serial ≡ max serial serial = omega arith in subst P same now)
-raise_is_one P (Some l) serial before now =
-    elim (cases_lt l serial) [
-      | inl less ↦ (let same : serial ≡ max l serial = omega arith in subst P same now)
-      | inr not_less ↦ (let same : l ≡ max l serial = omega arith in subst P same (before l refl))
-    ]
-
 abbrev OwnSerials : map.FinMap nat_cmp Pair → Type 0
 OwnSerials pairs = (serial : ℕ) (pair : Pair) → map.get pairs serial ≡ Some pair → pair.serial ≡ serial
 
@@ -556,21 +537,3 @@ module _ (pairs : map.FinMap nat_cmp Pair) (own : OwnSerials pairs) (serial : �
               | inr some ↦ (let counted : f ≤ other = subst (λ (o : Option ℕ). NotBelow o other) is (counted_after other some.0 higher some.1) in absurd (omega (arith, its_own)))
             ];
       }
-
--- at the end of a walk for the pairs that carry a flow
-module _ (pairs : map.FinMap nat_cmp Pair) (flow : Flow) where
-  abbrev pub CarriesIt : Pair → Type 0
-  CarriesIt pair = (pair.state ≡ Live) × Covers pair.local pair.remote flow
-
-  pub outbound_some : (latest : Option ℕ) → Walk pairs [] CarriesIt (NotAbove latest) → ((l : ℕ) → latest ≡ Some l → Carries pairs flow l) → IfSome latest (IsOutbound pairs flow)
-  outbound_some None walk found = tt
-  outbound_some (Some l) walk found =
-      record {
-        carries = found l refl;
-        greatest = λ other above carries.
-            (let counted : other ≤ l = walk_ends pairs CarriesIt [] (NotAbove (Some l)) refl walk other carries.pair carries.there (carries.live, carries.covered) in omega arith);
-      }
-
-  pub outbound_none : (latest : Option ℕ) → Walk pairs [] CarriesIt (NotAbove latest) → IfNone latest ((serial : ℕ) → ¬ Carries pairs flow serial)
-  outbound_none None walk = λ serial carries. walk_ends pairs CarriesIt [] (NotAbove None) refl walk serial carries.pair carries.there (carries.live, carries.covered)
-  outbound_none (Some l) walk = tt

@@ -1,10 +1,10 @@
 -- What a table that is ready to give an SPI stays ready over.
-use Rattle.std.proofs.Common.{◌≡◌, ◌≤◌, ◌-◌, ◌+◌, ℕ, Some, refl, ap, ◌∙◌, arith, is_some, cond}
+use Rattle.std.proofs.Common.{◌≡◌, ◌≤◌, ◌-◌, ◌+◌, ℕ, ap, ◌∙◌, arith, is_some, cond}
 use Rattle.std.specs.Cmp.{nat_cmp_total}
 use Rattle.std.specs.FinMap as map
 use Rattle.std.specs.FinSet as set
 use Rattle.sadb.specs.declared.pair.Pair.{Pair}
-use Rattle.sadb.specs.Database.{Database, IsReady, ChangesAt, Releases, Removes, pair_at}
+use Rattle.sadb.specs.Database.{Database, IsReady, ChangesAt, Releases, Removes}
 use Rattle.sadb.proofs.GivenLemmas.{removed_len}
 
 ready_by : (old new : Database) → IsReady old → old.room ≤ new.room → new.given ≡ old.given → map.len new.pairs + set.len new.reserved ≤ map.len old.pairs + set.len old.reserved → IsReady new

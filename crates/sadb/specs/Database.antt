@@ -28,7 +28,8 @@ pub record Database : Type 0 where
   pub next : ℕ
   -- the pairs by their serials
   pub pairs : map.FinMap nat_cmp Pair
-  -- for how many more SPIs, with their pairs, there is room, so that reserving them takes no memory; no part of the content
+  -- for how many more SPIs, with their pairs, there is room, so that reserving them takes no memory; no part
+  -- of the content
   pub room : ℕ
 
 abbrev pub database_code : Coded Database
@@ -40,7 +41,8 @@ database_code =
     (λ c. record { start = c.0; given = c.1.0; reserved = c.1.1.0; next = c.1.1.1.0; pairs = c.1.1.1.1.0; room = c.1.1.1.1.1 })
     (λ _. refl)
 
--- where SPIs may begin: 0 to 255 are reserved (RFC 4303 section 2.1), and 65,536 of them from the start on fit 32 bits
+-- where SPIs may begin: 0 to 255 are reserved (RFC 4303 section 2.1), and 65,536 of them from the start on
+-- fit 32 bits
 pub record IsStart (start : ℕ) : Type 0 where
   pub least : 256 ≤ start
   pub most : start + 65536 ≤ 2 ^ 32
@@ -177,8 +179,8 @@ pub record RemovesAllOf (old : Database) (ike : ℕ) (new : Database) : Type 0 w
   pub content : new ≡ record old { pairs = new.pairs; room = new.room }
   pub room : old.room ≤ new.room
 
--- the pair with this serial carries the flow outward: it is Live, its local selectors hold the source and its remote ones
--- the target (RFC 4301 section 5.1)
+-- the pair with this serial carries the flow outward: it is Live, its local selectors hold the source and its
+-- remote ones the target (RFC 4301 section 5.1)
 pub record Carries (pairs : PairMap) (flow : Flow) (serial : ℕ) : Type 0 where
   pub pair : Pair
   pub there : pair_at pairs serial ≡ Some pair
@@ -190,7 +192,8 @@ pub record IsOutbound (pairs : PairMap) (flow : Flow) (serial : ℕ) : Type 0 wh
   pub carries : Carries pairs flow serial
   pub greatest : (other : ℕ) → serial < other → ¬ Carries pairs flow other
 
--- a pair stands under this serial, and the packet begins with the SPI under which that receives, or is shorter than one
+-- a pair stands under this serial, and the packet begins with the SPI under which that receives, or is
+-- shorter than one
 pub record IsForPair (pairs : PairMap) (serial : ℕ) (packet : List ℕ) : Type 0 where
   pub pair : Pair
   pub there : pair_at pairs serial ≡ Some pair

@@ -11,7 +11,8 @@ pub record IsLaterWindow (was is : Seen) : Type 0 where
   pub size : is.size ≡ was.size
   pub spent : (n : ℕ) → judgement was n ≢ Fresh → judgement is n ≢ Fresh
 
--- The same pair, whatever was opened and sealed by it since: it never comes back to life, and no number comes back.
+-- The same pair, whatever was opened and sealed by it since: it never comes back to life, and no number comes
+-- back.
 pub record IsSamePair (was is : Pair) : Type 0 where
   pub serial : is.serial ≡ was.serial
   pub ike : is.ike ≡ was.ike

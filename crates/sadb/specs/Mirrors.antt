@@ -2,8 +2,9 @@
 use Rattle.std.specs.Prelude.{◌≡◌}
 use Rattle.sadb.specs.declared.pair.Pair.{Pair}
 
--- Two pairs mirror each other: what one end sends by its pair the other receives by its own, under the
--- same SPI and key, with numbers of one length in both directions, and what is local to one is remote to the other.
+-- Two pairs mirror each other: what one end sends by its pair the other receives by its own, under the same
+-- SPI and key, with numbers of one length in both directions, and what is local to one is remote to the
+-- other.
 pub record Mirrors (a b : Pair) : Type 0 where
   pub inward : a.inbound.association ≡ b.outbound.association
   pub outward : a.outbound.association ≡ b.inbound.association

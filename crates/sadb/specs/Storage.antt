@@ -1,5 +1,5 @@
--- How a table keeps its content: what came of each SPI given, and the pairs in a slab with an index from serials to keys. No
--- public clause speaks of these.
+-- How a table keeps its content: what came of each SPI given, and the pairs in a slab with an index from
+-- serials to keys. No public clause speaks of these.
 use Rattle.std.specs.Prelude.{◌≡◌, ◌⊎◌, ◌+◌, ◌≤◌, ℕ, zero, suc, Bool, true, false, List, Option, Some, None, length, slice_index_or, refl}
 use Rattle.std.specs.Ordering.{nat_cmp}
 use Rattle.std.specs.Coded.{Coded, code_by, coded×, coded_ℕ}
@@ -19,7 +19,8 @@ use Rattle.sadb.specs.Database.{Database, BelongsTo, IsStart, PairMap, Removes, 
 use Rattle.sadb.specs.Numbered.{numbered, passing}
 use Rattle.sadb.specs.Views.{pair_code}
 
--- The pairs: the serial of the next one, each under its serial, and for how many more there is room without memory.
+-- The pairs: the serial of the next one, each under its serial, and for how many more there is room without
+-- memory.
 pub record PairsBySerial : Type 0 where
   pub next : ℕ
   pub pairs : map.FinMap nat_cmp Pair
@@ -60,8 +61,8 @@ pub record IsIndexed (keys : List (Option ℕ)) (slab : Slab Pair) : Type 0 wher
   pub counted : slab_len slab ≡ map.len (shown_pairs keys slab)
   pub windows : (key : ℕ) (pair : Pair) → get slab key ≡ Some pair → IsSoundWindow pair.inbound.window
 
--- The SPIs given: the first one, how many there are, those reserved, the serials of the pairs of others, and how many more fit
--- without memory.
+-- The SPIs given: the first one, how many there are, those reserved, the serials of the pairs of others, and
+-- how many more fit without memory.
 pub record GivenSpis : Type 0 where
   pub start : ℕ
   pub given : ℕ

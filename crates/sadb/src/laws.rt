@@ -1,5 +1,5 @@
-//! Facts about the definitions, each the contract of a function that does nothing: what becomes of a table over many calls, that
-//! answers are determined, and mirrored pairs.
+//! Facts about the definitions, each the contract of a function that does nothing: what becomes of a table
+//! over many calls, that answers are determined, and mirrored pairs.
 ghost use Rattle.std.specs.Prelude.{◌≡◌, ◌≢◌, ℕ, List};
 ghost use Rattle.esp.specs.declared.fault.EspFault.{EspFault};
 ghost use Rattle.policy.specs.declared.flow.Flow.{Flow};
@@ -11,9 +11,10 @@ ghost use Rattle.sadb.specs.Mirrors.{Mirrors, reflection};
 ghost use Rattle.sadb.specs.declared.fault.TableFault.{TableFault};
 ghost use Rattle.sadb.specs.declared.pair.Pair.{Pair};
 
-/// Each call leads from a table to one that follows it: a pair keeps its serial, SPIs, keys and selectors as long as it is there,
-/// never comes back to life, and no number of its comes back; and no SPI that was given up, or that a pair had, is reserved again
-/// or becomes another pair's. Following is transitive, so this holds of any number of calls.
+/// Each call leads from a table to one that follows it: a pair keeps its serial, SPIs, keys and selectors as
+/// long as it is there, never comes back to life, and no number of its comes back; and no SPI that was given
+/// up, or that a pair had, is reserved again or becomes another pair's. Following is transitive, so this
+/// holds of any number of calls.
 pub fn later_tables_follow()
     ensures transitive { (a b c : Database) → Follows a b → Follows b c → Follows a c }
     ensures preparing { (old new : Database) → IsSoundTable old → IsAsBefore old new → Follows old new }
@@ -38,8 +39,9 @@ pub fn later_tables_follow()
         → IsSoundTable old → SealsAt old serial next payload before number new after → Follows old new }
 {}
 
-/// Room that was made stays until an SPI is given for it: a table that is ready to give one without memory is so after a
-/// release, a removal, the end of a pair's traffic outward, an opening, whatever came of it, and a sealing.
+/// Room that was made stays until an SPI is given for it: a table that is ready to give one without memory is
+/// so after a release, a removal, the end of a pair's traffic outward, an opening, whatever came of it, and a
+/// sealing.
 pub fn room_stays()
     ensures releasing { (old new : Database) (spi : ℕ) → IsReady old → Releases old spi new → IsReady new }
     ensures removing { (old new : Database) (serial : ℕ) → IsReady old → Removes old serial new
@@ -66,8 +68,8 @@ pub fn an_spi_names_one_pair()
         → HasInbound a.pairs spi serial → HasInbound c.pairs spi later → later ≡ serial }
 {}
 
-/// What [`Table::inbound`](crate::Table::inbound), [`outbound`](crate::Table::outbound) and [`after`](crate::Table::after) answer
-/// is determined, and of the refusals of an SPI one applies at most.
+/// What [`Table::inbound`](crate::Table::inbound), [`outbound`](crate::Table::outbound) and
+/// [`after`](crate::Table::after) answer is determined, and of the refusals of an SPI one applies at most.
 pub fn answers_are_determined()
     ensures inbound { (pairs : PairMap) (spi : ℕ) (a b : Pair) → IsInbound pairs spi a → IsInbound pairs spi b
         → a ≡ b }
@@ -89,7 +91,8 @@ pub fn mirrors_exist()
         → Mirrors a (reflection a) }
 {}
 
-/// What a table holds after a call, and what the call gave, goes by what the table held before, whatever room there is.
+/// What a table holds after a call, and what the call gave, goes by what the table held before, whatever room
+/// there is.
 pub fn later_tables_are_determined()
     ensures prepared { (old new : Database) → IsAsBefore old new → table_content new ≡ table_content old }
     ensures reserved { (old other a b : Database) (spi mark : ℕ) → table_content old ≡ table_content other

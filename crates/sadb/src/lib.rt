@@ -1,12 +1,13 @@
-//! The security association database of a gateway (RFC 4301 section 4.4.2): pairs of associations, found by inbound SPI, by
-//! serial and by flow.
+//! The security association database of a gateway (RFC 4301 section 4.4.2): pairs of associations, found by
+//! inbound SPI, by serial and by flow.
 //!
-//! A [`Table`] gives inbound SPIs, holds the [`Pair`]s that come for them, and opens and seals packets by a pair. It holds up to
-//! 1024 pairs and reserved SPIs together, and gives up to 65,536 SPIs in its life, limits of this implementation; none is given
-//! twice. Making room for a pair may take memory, and so may sealing; nothing else does.
+//! A [`Table`] gives inbound SPIs, holds the [`Pair`]s that come for them, and opens and seals packets by a
+//! pair. It holds up to 1024 pairs and reserved SPIs together, and gives up to 65,536 SPIs in its life,
+//! limits of this implementation; none is given twice. Making room for a pair may take memory, and so may
+//! sealing; nothing else does.
 //!
-//! Contracts see a table as a finite map from serials to pairs, the set of reserved SPIs and how many were given
-//! (`specs/Database`); how it is kept (`specs/Storage`) is in no public clause.
+//! Contracts see a table as a finite map from serials to pairs, the set of reserved SPIs and how many were
+//! given (`specs/Database`); how it is kept (`specs/Storage`) is in no public clause.
 //!
 //! ```text
 //! let mut table = Table::new(alloc, 4096);

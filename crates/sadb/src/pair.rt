@@ -10,13 +10,13 @@ use replay::BlockWindow;
 pub enum State {
     /// It carries packets both ways.
     Live,
-    /// Its end was announced (RFC 7296 section 1.4.1): packets that come are still opened, and no flow is given to it any more
-    /// ([`Table::outbound`](crate::Table::outbound) passes it over).
+    /// Its end was announced (RFC 7296 section 1.4.1): packets that come are still opened, and no flow is
+    /// given to it any more ([`Table::outbound`](crate::Table::outbound) passes it over).
     Deleting,
 }
 
-/// Two one-way associations that were made by one exchange, one for each direction (RFC 4301 section 4.1), and the traffic
-/// that they carry.
+/// Two one-way associations that were made by one exchange, one for each direction (RFC 4301 section 4.1),
+/// and the traffic that they carry.
 #[derive(Drop)]
 pub struct Pair {
     /// The number that the table gave it, from 1 on; 0 before it has one.

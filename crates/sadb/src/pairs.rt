@@ -250,17 +250,29 @@ impl Pairs {
         None
     }
 
-    /// Of the pairs that carry a flow outward, the one of the greatest serial.
+    /// Of the pairs that carry a flow outward, the one of the greatest serial: the first that is met from the
+    /// greatest serial down.
     pub fn outbound(&self, flow: &Flow) -> Option<u32>
+        requires { self.now.next < 2 ^ 32 }
         ensures some { IfSome result (IsOutbound self.now.pairs flow.now) }
         ensures none { IfNone result ((serial : ℕ) → ¬ Carries self.now.pairs flow.now serial) }
     {
-        let mut latest: Option<u32> = None;
-        for (_, pair) in self.slab.iter() {
-            if carries(pair, flow) {
-                latest = Some(latest.unwrap_or(pair.serial).max(pair.serial));
+        self.invariants_hold();
+        for serial in (1..self.next()).rev() {
+            if self.carries_by(serial, flow) {
+                return Some(serial);
             }
         }
-        latest
+        None
+    }
+
+    // Whether the pair with a serial, if there is one, carries a flow outward.
+    fn carries_by(&self, serial: u32, flow: &Flow) -> bool
+        ensures { IsTrue result ↔ Carries self.now.pairs flow.now serial }
+    {
+        match self.get(serial) {
+            Some(pair) => carries(pair, flow),
+            None => false,
+        }
     }
 }

@@ -3,8 +3,9 @@ ghost use Rattle.std.specs.Prelude.{◌≡◌};
 
 use std::marker::Model;
 
-/// An inbound security parameters index that a table gave (RFC 4301 section 4.1), for one pair. It is given back to
-/// [`Table::install`](crate::Table::install) or [`Table::release`](crate::Table::release); one that is dropped stays reserved.
+/// An inbound security parameters index that a table gave (RFC 4301 section 4.1), for one pair. It is given
+/// back to [`Table::install`](crate::Table::install) or [`Table::release`](crate::Table::release); one that
+/// is dropped stays reserved.
 #[derive(Drop)]
 pub struct Spi {
     number: u32,

@@ -23,12 +23,13 @@ const HELD_LIMIT: usize = 1024;
 // The most SPIs that are ever given, a limit of this implementation.
 const GIVEN_LIMIT: usize = 65_536;
 
-/// The security association database of one end (RFC 4301 section 4.4.2): pairs by their serials, and the inbound SPIs that
-/// were given for them. No SPI is given twice.
+/// The security association database of one end (RFC 4301 section 4.4.2): pairs by their serials, and the
+/// inbound SPIs that were given for them. No SPI is given twice.
 ///
-/// A pair comes in two steps, so that nothing is lost where memory runs out: [`reserve`](Table::reserve) gives an SPI and
-/// makes room for its pair, and [`install`](Table::install) uses that room. Where other memory has to be asked for between the
-/// two, or no SPI may be given in vain, [`prepare`](Table::prepare) makes room first, and tells the SPI.
+/// A pair comes in two steps, so that nothing is lost where memory runs out: [`reserve`](Table::reserve)
+/// gives an SPI and makes room for its pair, and [`install`](Table::install) uses that room. Where other
+/// memory has to be asked for between the two, or no SPI may be given in vain, [`prepare`](Table::prepare)
+/// makes room first, and tells the SPI.
 ///
 /// Finding a pair by its inbound SPI, opening and sealing cost the same however many pairs there are.
 #[derive(Drop)]
@@ -79,11 +80,13 @@ impl Table {
         self.pairs.invariants_hold();
     }
 
-    /// Makes room for one more pair, and tells the SPI that the next [`reserve`](Table::reserve) gives. Nothing else is
-    /// changed. Where there is room already, as right after another `prepare`, it takes no memory.
+    /// Makes room for one more pair, and tells the SPI that the next [`reserve`](Table::reserve) gives.
+    /// Nothing else is changed. Where there is room already, as right after another `prepare`, it takes no
+    /// memory.
     ///
-    /// Refused, in this order: [`TableFault::Full`] where pairs and reserved SPIs together are 1024, [`TableFault::Spent`]
-    /// where 65,536 SPIs were given, [`TableFault::Memory`] where there was no memory for the room.
+    /// Refused, in this order: [`TableFault::Full`] where pairs and reserved SPIs together are 1024,
+    /// [`TableFault::Spent`] where 65,536 SPIs were given, [`TableFault::Memory`] where there was no memory
+    /// for the room.
     pub fn prepare(&mut self) -> Result<u32, TableFault>
         ensures content { IsAsBefore self.old self.new }
         ensures ok { IfOk result (λ spi. (spi ≡ self.old.start + self.old.given) × (1 ≤ self.new.room)
@@ -122,7 +125,8 @@ impl Table {
         Ok(Spi::new(self.places.reserve()))
     }
 
-    /// Gives a reserved SPI up; it is not given again. The caller asks only for an SPI that is reserved. Takes no memory.
+    /// Gives a reserved SPI up; it is not given again. The caller asks only for an SPI that is reserved.
+    /// Takes no memory.
     pub fn release(&mut self, spi: Spi)
         requires { IsReserved self.old spi }
         ensures { Releases self.old spi self.new }
@@ -130,8 +134,9 @@ impl Table {
         self.places.release(spi.number());
     }
 
-    /// Adds the pair for which an SPI was reserved, and answers the serial that it has from now on. The caller asks only for an
-    /// SPI that is reserved, with a pair of that inbound SPI. Takes no memory: room was made with the SPI.
+    /// Adds the pair for which an SPI was reserved, and answers the serial that it has from now on. The
+    /// caller asks only for an SPI that is reserved, with a pair of that inbound SPI. Takes no memory: room
+    /// was made with the SPI.
     pub fn install(&mut self, spi: Spi, pair: Pair) -> u32
         requires reserved { IsReserved self.old spi }
         requires its_own { pair.inbound.association.spi ≡ spi }
@@ -142,8 +147,8 @@ impl Table {
         serial
     }
 
-    /// Takes a pair out for good; its inbound SPI is not given again. The caller asks only for one that is there. Takes no
-    /// memory.
+    /// Takes a pair out for good; its inbound SPI is not given again. The caller asks only for one that is
+    /// there. Takes no memory.
     pub fn remove(&mut self, serial: u32)
         requires { IsThere self.old.pairs serial }
         ensures { Removes self.old serial self.new }
@@ -152,7 +157,8 @@ impl Table {
         self.places.retire(pair.inbound.spi());
     }
 
-    /// The pair with an inbound SPI, Live or Deleting. Takes no memory, and costs the same however many pairs there are.
+    /// The pair with an inbound SPI, Live or Deleting. Takes no memory, and costs the same however many pairs
+    /// there are.
     pub fn inbound(&self, spi: u32) -> Option<&Pair>
         ensures some { IfSome result (λ pair. IsInbound self.now.pairs spi pair.now) }
         ensures none { IfNone result ((serial : ℕ) → ¬ HasInbound self.now.pairs spi serial) }
@@ -160,8 +166,8 @@ impl Table {
         self.pairs.get(self.places.serial(spi)?)
     }
 
-    /// Ends a Live pair's traffic outward: it is Deleting from now on, so [`outbound`](Table::outbound) passes it over. The caller
-    /// asks only for one that is Live. Takes no memory.
+    /// Ends a Live pair's traffic outward: it is Deleting from now on, so [`outbound`](Table::outbound)
+    /// passes it over. The caller asks only for one that is Live. Takes no memory.
     pub fn mark(&mut self, serial: u32)
         requires { IsLive self.old.pairs serial }
         ensures { Marks self.old serial self.new }
@@ -169,8 +175,9 @@ impl Table {
         self.pairs.mark(serial);
     }
 
-    /// The serial of the pair that carries a flow outward: of the Live pairs whose local selectors hold its source and whose
-    /// remote ones hold its target, the one that was made last. Takes no memory.
+    /// The serial of the pair that carries a flow outward: of the Live pairs whose local selectors hold its
+    /// source and whose remote ones hold its target, the one that was made last. The walk goes from the last
+    /// serial given down, and ends at the first pair that fits. Takes no memory.
     pub fn outbound(&self, flow: &Flow) -> Option<u32>
         ensures some { IfSome result (IsOutbound self.now.pairs flow.now) }
         ensures none { IfNone result ((serial : ℕ) → ¬ Carries self.now.pairs flow.now serial) }
@@ -193,8 +200,9 @@ impl Table {
         self.pairs.after(serial)
     }
 
-    /// The serial of the next pair of an IKE association, Live or Deleting: the least above the given one. From 0 on, one after the
-    /// other, all are found, in one walk over the serials given so far. Takes no memory.
+    /// The serial of the next pair of an IKE association, Live or Deleting: the least above the given one.
+    /// From 0 on, one after the other, all are found, in one walk over the serials given so far. Takes no
+    /// memory.
     pub fn next_of(&self, ike: u32, serial: u32) -> Option<u32>
         ensures some { IfSome result (IsNextOf self.now.pairs ike serial) }
         ensures none { IfNone result ((other : ℕ) → serial < other → ¬ BelongsTo self.now.pairs ike other) }
@@ -202,7 +210,8 @@ impl Table {
         self.pairs.next_of(ike, serial)
     }
 
-    /// Takes all pairs of an IKE association out for good, in one walk over the serials given so far. Takes no memory.
+    /// Takes all pairs of an IKE association out for good, in one walk over the serials given so far. Takes
+    /// no memory.
     pub fn remove_all_of(&mut self, ike: u32)
         ensures { RemovesAllOf self.old ike self.new }
     {
@@ -221,9 +230,9 @@ impl Table {
         }
     }
 
-    /// Opens a packet by the inbound association of a pair, as [`esp::Inbound::open`] does, with its refusals but for want of
-    /// memory, which never comes. The caller asks only for a pair that is there, with a packet that begins with its inbound SPI
-    /// or is shorter than one. Takes no memory.
+    /// Opens a packet by the inbound association of a pair, as [`esp::Inbound::open`] does, with its refusals
+    /// but for want of memory, which never comes. The caller asks only for a pair that is there, with a
+    /// packet that begins with its inbound SPI or is shorter than one. Takes no memory.
     pub fn open<'a>(&mut self, serial: u32, packet: &'a [u8]) -> Result<Opened<'a>, EspFault>
         requires { IsForPair self.old.pairs serial packet.now }
         ensures up { IfOk result
@@ -234,8 +243,9 @@ impl Table {
         self.open_ahead(serial, packet, None)
     }
 
-    /// Opens a packet as [`open`](Table::open) does, with its check value where that was computed before: it is used where it was
-    /// computed with the pair's key and for the number that the packet has now ([`esp::Inbound::open_ahead`]).
+    /// Opens a packet as [`open`](Table::open) does, with its check value where that was computed before: it
+    /// is used where it was computed with the pair's key and for the number that the packet has now
+    /// ([`esp::Inbound::open_ahead`]).
     pub fn open_ahead<'a>(
         &mut self,
         serial: u32,
@@ -252,9 +262,10 @@ impl Table {
         self.pairs.open(serial, packet, ahead)
     }
 
-    /// Seals a payload by the outbound association of a pair, as [`esp::Outbound::seal`] does: the packet is appended to `out`,
-    /// which may take memory. Refused, with nothing changed, in this order: [`EspFault::Exhausted`],
-    /// [`EspFault::PayloadSize`], [`EspFault::Memory`]. The caller asks only for a pair that is there, Live or Deleting.
+    /// Seals a payload by the outbound association of a pair, as [`esp::Outbound::seal`] does: the packet is
+    /// appended to `out`, which may take memory. Refused, with nothing changed, in this order:
+    /// [`EspFault::Exhausted`], [`EspFault::PayloadSize`], [`EspFault::Memory`]. The caller asks only for a
+    /// pair that is there, Live or Deleting.
     pub fn seal(
         &mut self,
         serial: u32,

@@ -1,7 +1,7 @@
 //! Two gateways that hold an association and its first child, A's by its own order.
-use crate::{SampleFault, config, message, order, policy};
+use crate::{OwnedInput, SampleFault, config, message, order, policy};
 use caller_script::ScriptCaller;
-use gateway::{End, Gateway, Input, Output};
+use gateway::{End, Gateway, Output};
 use std::alloc::{AllocError, Global};
 
 /// A gateway that holds nothing, with numbers of 64 bits or of 32 in its children. Its first SPI of ESP is 4096 at A, 8192 at B.
@@ -21,8 +21,8 @@ pub fn gateway_with(
 }
 
 /// The octets that a step sends; none where it sends nothing.
-pub fn sent(gateway: &mut Gateway<ScriptCaller>, alloc: Global, input: &Input) -> Vec<u8> {
-    match gateway.step(alloc, input) {
+pub fn sent(gateway: &mut Gateway<ScriptCaller>, alloc: Global, input: &OwnedInput) -> Vec<u8> {
+    match gateway.step(alloc, &input.lend()) {
         Output::Reply { octets, .. }
         | Output::Repeat { octets }
         | Output::Request { octets, .. }

@@ -2,7 +2,7 @@
 ghost use Rattle.std.specs.Prelude.{IfOk};
 ghost use Rattle.auth.specs.Proofs.{IsIdentity};
 ghost use Rattle.auth.specs.Windows.{IsWindow};
-ghost use Rattle.initial.specs.Configs.{IsConfig};
+ghost use Rattle.setup.specs.Configs.{IsConfig};
 ghost use Rattle.gateway.specs.Worlds.{HoldsNothing};
 
 use crate::SampleFault;
@@ -10,8 +10,8 @@ use auth::Identity;
 use base::{Items, Range};
 use caller_script::ScriptCaller;
 use gateway::{End, Gateway};
-use initial::Config;
 use policy::{Action, Entry, Policy};
+use setup::Config;
 use std::alloc::{AllocError, Global};
 
 /// The name that an end goes by.
@@ -29,11 +29,11 @@ fn identity(alloc: Global, name: &[u8; 9]) -> Result<Identity, AllocError>
     Ok(Identity { kind: 2, data })
 }
 
-fn end_of(alloc: Global, end: End) -> Result<initial::EndConfig, AllocError>
+fn end_of(alloc: Global, end: End) -> Result<setup::EndConfig, AllocError>
     ensures { IfOk result (λ end. IsIdentity end.identity) }
 {
     let identity = identity(alloc, &own_name(end))?;
-    Ok(initial::EndConfig {
+    Ok(setup::EndConfig {
         identity,
         address: [192, 0, 2, 1],
     })

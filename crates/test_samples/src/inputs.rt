@@ -1,12 +1,12 @@
 //! What comes to a gateway.
+use crate::OwnedInput;
 use base::Items;
-use gateway::Input;
 use std::alloc::{AllocError, Global};
 use suite::Fresh;
 
 /// The order to begin an association, with fresh octets of this SPI.
-pub fn order(spi: u64) -> Input {
-    Input::Start {
+pub fn order(spi: u64) -> OwnedInput {
+    OwnedInput::Start {
         ike: None,
         entry: 0,
         fresh: fresh(spi),
@@ -14,8 +14,8 @@ pub fn order(spi: u64) -> Input {
 }
 
 /// The order for a further child of an association.
-pub fn further(ike: u32) -> Input {
-    Input::Start {
+pub fn further(ike: u32) -> OwnedInput {
+    OwnedInput::Start {
         ike: Some(ike),
         entry: 0,
         fresh: fresh(9),
@@ -23,8 +23,8 @@ pub fn further(ike: u32) -> Input {
 }
 
 /// A datagram of IKE, with fresh octets of this SPI.
-pub fn message(alloc: Global, octets: &[u8], spi: u64) -> Result<Input, AllocError> {
-    Ok(Input::Ike {
+pub fn message(alloc: Global, octets: &[u8], spi: u64) -> Result<OwnedInput, AllocError> {
+    Ok(OwnedInput::Ike {
         from: [192, 0, 2, 9],
         octets: Items::from_slice(alloc, octets)?,
         fresh: fresh(spi),
@@ -42,8 +42,8 @@ pub fn fresh(spi: u64) -> Fresh {
 }
 
 /// The order to ask whether the peer of an association is there.
-pub fn probe(ike: u32) -> Input {
-    Input::Probe {
+pub fn probe(ike: u32) -> OwnedInput {
+    OwnedInput::Probe {
         ike,
         fresh: fresh(9),
     }
@@ -58,7 +58,7 @@ pub fn inner(number: u64) -> [u8; 20] {
 }
 
 /// That packet on its way out.
-pub fn packet_out(alloc: Global, number: u64) -> Result<Input, AllocError> {
+pub fn packet_out(alloc: Global, number: u64) -> Result<OwnedInput, AllocError> {
     let packet = Items::from_slice(alloc, &inner(number))?;
-    Ok(Input::Outward { packet })
+    Ok(OwnedInput::Outward { packet })
 }

@@ -1,9 +1,11 @@
 //! Two gateways, the way that they go together, and what they sent on it.
 use base::Items;
 use caller_script::ScriptCaller;
-use gateway::{End, Gateway, Input, Output};
+use gateway::{End, Gateway, Output};
 use std::alloc::{AllocError, AllocFailed, Global};
-use test_samples::{SampleFault, fresh, further, gateway, message, order, packet_out, probe};
+use test_samples::{
+    OwnedInput, SampleFault, fresh, further, gateway, message, order, packet_out, probe,
+};
 
 /// Why the way ended before its end.
 #[derive(Clone, Copy, Debug, PartialEq, Eq)]
@@ -170,7 +172,7 @@ impl Link {
     }
 
     // The input, and a place for what will be sent: what was refused is asked for once more.
-    fn given(&mut self, alloc: Global, given: Given) -> Result<Input, AllocError> {
+    fn given(&mut self, alloc: Global, given: Given) -> Result<OwnedInput, AllocError> {
         if self.sent.reserve(1).is_err() {
             self.sent.reserve(1)?;
         }
@@ -180,20 +182,20 @@ impl Link {
         }
     }
 
-    fn input(&self, alloc: Global, given: Given) -> Result<Input, AllocError> {
+    fn input(&self, alloc: Global, given: Given) -> Result<OwnedInput, AllocError> {
         match given {
             Given::Start => Ok(order(1)),
             Given::Further => Ok(further(1)),
             Given::Probe => Ok(probe(1)),
-            Given::DeleteChild => Ok(Input::DeleteChild {
+            Given::DeleteChild => Ok(OwnedInput::DeleteChild {
                 child: 1,
                 fresh: fresh(9),
             }),
-            Given::Close => Ok(Input::DeleteIke {
+            Given::Close => Ok(OwnedInput::DeleteIke {
                 ike: 1,
                 fresh: fresh(9),
             }),
-            Given::Tick(moment) => Ok(Input::Tick { moment }),
+            Given::Tick(moment) => Ok(OwnedInput::Tick { moment }),
             Given::Packet => packet_out(alloc, 7),
             Given::Message => message(alloc, self.last(), 20),
             Given::Sealed => sealed(alloc, self.last()),
@@ -218,16 +220,16 @@ fn made(alloc: Global, end: End) -> Result<Gateway<ScriptCaller>, Trouble> {
 }
 
 // A datagram comes as a packet of ESP.
-fn sealed(alloc: Global, octets: &[u8]) -> Result<Input, AllocError> {
+fn sealed(alloc: Global, octets: &[u8]) -> Result<OwnedInput, AllocError> {
     let octets = Items::from_slice(alloc, octets)?;
-    Ok(Input::Esp { octets })
+    Ok(OwnedInput::Esp { octets })
 }
 
 // Gives a gateway an input, once more where it is refused for want of memory: what came of it, and whether it was.
 fn take_again(
     gateway: &mut Gateway<ScriptCaller>,
     alloc: Global,
-    input: &Input,
+    input: &OwnedInput,
 ) -> Result<(Taken, bool), Trouble> {
     let before = look_at(gateway);
     match take(gateway, alloc, input) {
@@ -253,8 +255,8 @@ fn look_at(gateway: &Gateway<ScriptCaller>) -> Seen {
 }
 
 // Gives a gateway an input.
-fn take(gateway: &mut Gateway<ScriptCaller>, alloc: Global, input: &Input) -> Taken {
-    match gateway.step(alloc, input) {
+fn take(gateway: &mut Gateway<ScriptCaller>, alloc: Global, input: &OwnedInput) -> Taken {
+    match gateway.step(alloc, &input.lend()) {
         Output::Reply { octets, .. }
         | Output::Repeat { octets }
         | Output::Request { octets, .. }

@@ -16,7 +16,7 @@
 
 mod receiver;
 
-use esp::{Answer, Outbound};
+use esp::{EspFault, Opened, Outbound};
 use receiver::{KEY, Receiver, SPI};
 use std::alloc::Global;
 use std::env;
@@ -173,17 +173,18 @@ fn best_opening(rt: &HostRuntime, lists: &[Vec<Vec<u8>>], side_by_side: bool) ->
     let mut best = u128::MAX;
     for list in lists {
         out.clear();
-        best = time_to_open(rt, &mut receiver, list, &mut out, side_by_side)?.min(best);
+        let packets = slices(rt.alloc(), list)?;
+        best = time_to_open(rt, &mut receiver, &packets, &mut out, side_by_side)?.min(best);
     }
     Some(best)
 }
 
 // The nanoseconds that it takes to open the packets.
-fn time_to_open(
+fn time_to_open<'a>(
     rt: &HostRuntime,
     receiver: &mut Receiver,
-    list: &[Vec<u8>],
-    out: &mut Vec<Answer>,
+    list: &[&'a [u8]],
+    out: &mut Vec<Result<Opened<'a>, EspFault>>,
     side_by_side: bool,
 ) -> Option<u128> {
     let start = Instant::now(rt).ok()?;
@@ -195,7 +196,7 @@ fn time_to_open(
     nanoseconds_since(rt, start)
 }
 
-fn open_each(receiver: &mut Receiver, list: &[Vec<u8>]) -> Option<()> {
+fn open_each(receiver: &mut Receiver, list: &[&[u8]]) -> Option<()> {
     for packet in list {
         receiver.open(packet)?;
     }
@@ -205,7 +206,8 @@ fn open_each(receiver: &mut Receiver, list: &[Vec<u8>]) -> Option<()> {
 // Packets that were opened already.
 fn old(rt: &HostRuntime, rounds: usize, parts: &[&[u8]], side_by_side: bool) -> Option<()> {
     let list = list(rt.alloc(), &mut Outbound::new(SPI, &KEY, true, 0), parts)?;
-    let best = best_refusal(rt, rounds, &list, side_by_side)?;
+    let packets = slices(rt.alloc(), &list)?;
+    let best = best_refusal(rt, rounds, &packets, side_by_side)?;
     report(rt, best, None)
 }
 
@@ -213,7 +215,7 @@ fn old(rt: &HostRuntime, rounds: usize, parts: &[&[u8]], side_by_side: bool) -> 
 fn best_refusal(
     rt: &HostRuntime,
     rounds: usize,
-    list: &[Vec<u8>],
+    list: &[&[u8]],
     side_by_side: bool,
 ) -> Option<u128> {
     let mut receiver = Receiver::new(rt.alloc())?;
@@ -228,11 +230,11 @@ fn best_refusal(
 }
 
 // The nanoseconds that it takes to refuse the packets.
-fn time_to_refuse(
+fn time_to_refuse<'a>(
     rt: &HostRuntime,
     receiver: &mut Receiver,
-    list: &[Vec<u8>],
-    out: &mut Vec<Answer>,
+    list: &[&'a [u8]],
+    out: &mut Vec<Result<Opened<'a>, EspFault>>,
     side_by_side: bool,
 ) -> Option<u128> {
     let start = Instant::now(rt).ok()?;
@@ -244,7 +246,7 @@ fn time_to_refuse(
     nanoseconds_since(rt, start)
 }
 
-fn refuse_each(receiver: &mut Receiver, list: &[Vec<u8>]) -> Option<()> {
+fn refuse_each(receiver: &mut Receiver, list: &[&[u8]]) -> Option<()> {
     for packet in list {
         if receiver.open(packet).is_some() {
             return None;

@@ -2,7 +2,7 @@
 ghost use Rattle.std.specs.Prelude.{◌≡◌, ◌≤◌, IsTrue, ◌↔◌, All, length, take};
 ghost use Rattle.byteorder.specs.Endian.{big_bytes};
 
-use esp::{Answer, Inbound};
+use esp::{EspFault, Inbound, Opened};
 use replay::BlockWindow;
 use std::alloc::Global;
 
@@ -37,7 +37,11 @@ impl Receiver {
     }
 
     /// Opens a list of packets; `None` where there is no room for an answer.
-    pub fn open_all(&mut self, packets: &[Vec<u8>], out: &mut Vec<Answer>) -> Option<()> {
+    pub fn open_all<'a>(
+        &mut self,
+        packets: &[&'a [u8]],
+        out: &mut Vec<Result<Opened<'a>, EspFault>>,
+    ) -> Option<()> {
         if !are_ours(packets) {
             return None;
         }
@@ -53,8 +57,8 @@ fn is_ours(packet: &[u8]) -> bool
 }
 
 // Whether each of the packets does.
-fn are_ours(packets: &[Vec<u8>]) -> bool
-    ensures { IsTrue result → All (λ p. 4 ≤ length p.items → take 4 p.items ≡ big_bytes 4 256) packets.now }
+fn are_ours(packets: &[&[u8]]) -> bool
+    ensures { IsTrue result → All (λ p. 4 ≤ length p.now → take 4 p.now ≡ big_bytes 4 256) packets.now }
 {
     packets.iter().all(|packet| is_ours(packet))
 }

@@ -5,7 +5,7 @@ use Rattle.byteorder.specs.Endian.{big_bytes}
 use Rattle.byteorder.specs.Numbers.{big_number-reads_back}
 use Rattle.base.specs.Addresses.{family_of}
 use Rattle.base.specs.Octets.{Octets}
-use Rattle.esp.specs.declared.association.Association.{Association}
+use Rattle.esp.specs.declared.sa.Sa.{Sa}
 use Rattle.esp.specs.Judging.{Judges}
 use Rattle.esp.specs.Packet.{check_value, head, IsContents, packet, trailer}
 use Rattle.esp.specs.Opening.{HandsUp, Refuses}
@@ -33,7 +33,7 @@ use Rattle.traffic.proofs.VerdictLemmas.{FlowFacts, one_verdict}
 
 -- ---- the SPI of a sealed packet
 
-spi_first : (a : Association) (n next : ℕ) (payload : Octets) (p : ℕ) → a.spi < 2 ^ 32 → spi_of (packet a n next payload p) ≡ a.spi
+spi_first : (a : Sa) (n next : ℕ) (payload : Octets) (p : ℕ) → a.spi < 2 ^ 32 → spi_of (packet a n next payload p) ≡ a.spi
 spi_first a n next payload p small =
     let low : Octets = big_bytes 4 (n % 2 ^ 32) in
     let check : Octets = check_value a n (head a n ++ payload ++ trailer p next) in

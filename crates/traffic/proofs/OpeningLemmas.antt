@@ -7,7 +7,7 @@ use Rattle.std.specs.FinSet as set
 use Rattle.std.specs.Option.{unwrap_or}
 use Rattle.base.specs.Octets.{Octets}
 use Rattle.replay.specs.Window.{Seen, Takes}
-use Rattle.esp.specs.declared.association.Association.{Association}
+use Rattle.esp.specs.declared.sa.Sa.{Sa}
 use Rattle.esp.specs.Judging.{IsNumber, Judges, low_half}
 use Rattle.esp.specs.Packet.{PassesIntegrity}
 use Rattle.esp.specs.Opening.{HandsUp, IsOpeningRefusal, Refuses, TakesNumber, WastesNumber}
@@ -59,7 +59,7 @@ one_opening r b n n' next next' payload payload' new new' first second =
     }
 
 -- a packet that is judged isn't refused before
-pub judged_anyway : (a : Association) (w : Seen) (b : Octets) (n : ℕ) (e : EspFault) → Judges a w b n → IsOpeningRefusal a w b e → ⊥
+pub judged_anyway : (a : Sa) (w : Seen) (b : Octets) (n : ℕ) (e : EspFault) → Judges a w b n → IsOpeningRefusal a w b e → ⊥
 judged_anyway a w b n BadLength j is = is j.whole
 judged_anyway a w b n BadNumber j is = is.1 n j.number
 judged_anyway a w b n Old j is =
@@ -77,7 +77,7 @@ judged_anyway a w b n BadPadding j is = is
 judged_anyway a w b n Memory j is = is
 
 -- a packet that isn't judged has one refusal
-module _ (a : Association) (w : Seen) (b : Octets) where
+module _ (a : Sa) (w : Seen) (b : Octets) where
   same_number : (n m : ℕ) → IsNumber a.extended w (low_half b) n → IsNumber a.extended w (low_half b) m → n ≡ m
   same_number n m first second = one_number_of a.extended w (low_half b) n m first second
 

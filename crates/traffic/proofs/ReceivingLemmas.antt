@@ -1,16 +1,17 @@
 -- Finding the pair of a packet, and finding it again once it was opened.
-use Rattle.std.proofs.Common.{◌≡◌, ◌≢◌, ℕ, ◌<◌, ◌≤◌, Bool, cond, length, take, get_or, Option, Some, Bor, Result, Ok, Err, IfErr, IsOk, IsErr, IsErrAnd, refl, sym, ap, ◌∙◌, subst, arith, inl, inr}
+use Rattle.std.proofs.Common.{◌≡◌, ◌≢◌, ℕ, ◌<◌, ◌≤◌, Bool, cond, length, take, get_or, Option, Some, Bor, Result, Ok, Err, IfErr, IsErr, IsErrAnd, IsSome, None, refl, sym, ap, ◌∙◌, subst, arith, inl, inr}
 use Rattle.std.proofs.lemmas.List.{get_or-take, get_or_past, length-take-le}
 use Rattle.std.proofs.lemmas.Nat.{be_bytes_4}
 use Rattle.std.proofs.lemmas.Bool.{cases_lt, eq-eqb}
 use Rattle.std.specs.Cmp.{nat_cmp_total, unsigned_tied}
 use Rattle.std.specs.FinMap as map
+use Rattle.std.specs.Option.{option_copied}
 use Rattle.byteorder.specs.Endian.{big_bytes}
 use Rattle.base.specs.Octets.{Octets}
 use Rattle.esp.specs.Views.{Receiving}
 use Rattle.sadb.specs.Database.{Database, HasInbound, IsForPair, IsInbound, OpensAt, PairMap, RefusesAt, pair_at}
 use Rattle.sadb.specs.declared.pair.Pair.{Pair}
-use Rattle.traffic.specs.Receiving.{HasAddressee, IsAddressedTo, IsAddressedToNone, IsNotOpened, IsOpened, IsVerdictAt, Receives, reception_of, spi_of}
+use Rattle.traffic.specs.Receiving.{HasAddressee, HasPair, IsAddressedTo, IsAddressedToNone, IsNotOpened, IsOpened, IsVerdictAt, Receives, reception_of, spi_of}
 use Rattle.traffic.specs.Verdicts.{IsVerdict, Verdict}
 use Rattle.traffic.proofs.OpeningLemmas.{same_pair}
 use Rattle.traffic.specs.Outcomes.{Dropped}
@@ -75,34 +76,21 @@ kept old pair packet number next payload new there opened =
       association = opened.opened.taken.association ∙ ap (λ (p : Pair). p.inbound.association) same;
     }
 
-still_inbound : (pairs : PairMap) (spi : ℕ) (pair : Pair) → pair.inbound.association.spi ≡ spi → IsKept pair pairs → HasInbound pairs spi pair.serial
-still_inbound pairs spi pair its_own is = record {
-  pair = record pair { inbound = is.inbound };
-  there = is.there;
-  its_own = ap (λ a. a.spi) is.association ∙ its_own;
-}
-
 -- the pair is there still
-pub addressed_still : (old : Database) (pair : Pair) (packet : Octets) (number next : ℕ) (payload : Octets) (new : Database)
-    → IsAddressedTo old packet pair → OpensAt old pair.serial packet number next payload new → HasAddressee new packet
-addressed_still old pair packet number next payload new addressed opened =
+pub pair_stays : (old : Database) (pair : Pair) (packet : Octets) (number next : ℕ) (payload : Octets) (new : Database)
+    → IsAddressedTo old packet pair → OpensAt old pair.serial packet number next payload new → HasPair new pair.serial
+pair_stays old pair packet number next payload new addressed opened =
     let is = kept old pair packet number next payload new addressed.inbound.there opened in
-    record {
-      has_spi = addressed.has_spi;
-      serial = pair.serial;
-      inbound = still_inbound new.pairs (spi_of packet) pair addressed.inbound.its_own is;
-    }
+    record { pair = record pair { inbound = is.inbound }; there = is.there }
 
 -- and the verdict by its selectors is the verdict by those that the pair had
 pub opened_so : (old : Database) (pair : Pair) (packet : Octets) (number next : ℕ) (payload : Octets) (new : Database) (verdict : Verdict)
-    → IsAddressedTo old packet pair → OpensAt old pair.serial packet number next payload new → IsVerdictAt new packet next payload verdict
+    → IsAddressedTo old packet pair → OpensAt old pair.serial packet number next payload new → IsVerdictAt new pair.serial next payload verdict
     → IsOpened old packet pair.serial number verdict new
 opened_so old pair packet number next payload new verdict addressed opened judged =
     let is = kept old pair packet number next payload new addressed.inbound.there opened in
-    let serial : pair.serial ≡ judged.pair.serial =
-    judged.addressed.inbound.only pair.serial (still_inbound new.pairs (spi_of packet) pair addressed.inbound.its_own is) in
     let again : judged.pair ≡ record pair { inbound = is.inbound } =
-    same_pair judged.pair (record pair { inbound = is.inbound }) (sym judged.addressed.inbound.there ∙ ap (map.get new.pairs) (sym serial) ∙ is.there) in
+    same_pair judged.pair (record pair { inbound = is.inbound }) (sym judged.there ∙ is.there) in
     record {
       pair = pair;
       addressed = addressed;
@@ -113,7 +101,7 @@ opened_so old pair packet number next payload new verdict addressed opened judge
       verdict_is = subst (λ (p : Pair). IsVerdict next payload p.remote p.local verdict) again judged.verdict_is;
     }
 
--- where there is one, no packet is addressed to none
+-- where a packet is addressed to a pair, it is not addressed to none
 pub addressed_anyway : (table : Database) (packet : Octets) (fault : PacketFault) → HasAddressee table packet → IsAddressedToNone table packet fault → ⊥
 addressed_anyway table packet (Esp BadLength) has is = let long = has.has_spi in absurd (omega arith)
 addressed_anyway table packet (Esp fault) has is = is
@@ -121,10 +109,9 @@ addressed_anyway table packet UnknownAssociation has is = is.1 has.serial has.in
 addressed_anyway table packet (Inner fault) has is = is
 addressed_anyway table packet OutsideSelectors has is = is
 
-pub addressee_is_found : (table : Database) (packet : Octets) (found : Result (Bor Pair) PacketFault) → HasAddressee table packet
-    → IfErr found (IsAddressedToNone table packet) → IsOk found
-addressee_is_found table packet (Ok pair) has none = refl
-addressee_is_found table packet (Err fault) has none = absurd (addressed_anyway table packet fault has none)
+pub is_there : (found : Option (Bor Pair)) (pair : Pair) → option_copied found ≡ Some pair → IsSome found
+is_there (Some lent) pair there = refl
+is_there None pair there = absurd cc
 
 -- what a refusal passed on by `?` says
 pub passed_on : (old : Database) (packet : Octets) (new : Database) (P : PacketFault → Type 0) (answer : Result Arrival PacketFault)

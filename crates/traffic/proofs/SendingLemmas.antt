@@ -6,7 +6,7 @@ use Rattle.std.specs.FinMap as map
 use Rattle.esp.specs.Sealing.{HasNumber, IsShortestPacket, Seals}
 use Rattle.esp.specs.Packet.{packet}
 use Rattle.esp.specs.Views.{Sending}
-use Rattle.esp.specs.declared.association.Association.{Association}
+use Rattle.esp.specs.declared.sa.Sa.{Sa}
 use Rattle.esp.specs.declared.fault.EspFault.TheVariants.{Exhausted}
 use Rattle.policy.specs.Decisions.{IsDecision}
 use Rattle.flows.specs.Treatments.{action_of}
@@ -43,7 +43,7 @@ OneCarrier = (pairs : PairMap) (flow : Flow) (a b : ℕ) → IsOutbound pairs fl
 
 -- ---- one packet is sealed in one way
 
-one_packet : (a : Association) (n next : ℕ) (payload b c : Octets) → IsShortestPacket a n next payload b → IsShortestPacket a n next payload c → b ≡ c
+one_packet : (a : Sa) (n next : ℕ) (payload b c : Octets) → IsShortestPacket a n next payload b → IsShortestPacket a n next payload c → b ≡ c
 one_packet a n next payload b c first second =
     let below = first.shortest second.p c second.packet in
     let above = second.shortest first.p b first.packet in

@@ -1,5 +1,5 @@
 -- What becomes of an ESP packet that came (RFC 4301 section 5.2, steps 3a and 4).
-use Rattle.std.specs.Prelude.{◌≡◌, ◌≢◌, ◌⊎◌, ◌<◌, ◌≤◌, ℕ, Result, Ok, Err, length}
+use Rattle.std.specs.Prelude.{◌≡◌, ◌≢◌, ◌⊎◌, ◌<◌, ◌≤◌, ℕ, Some, Result, Ok, Err, length}
 use Rattle.byteorder.specs.Endian.{big_number}
 use Rattle.base.specs.Octets.{Octets}
 use Rattle.esp.specs.Judging.{Judges}
@@ -7,7 +7,7 @@ use Rattle.esp.specs.Opening.{TakesNumber}
 use Rattle.esp.specs.Views.{Receiving}
 use Rattle.esp.specs.declared.fault.EspFault.{EspFault}
 use Rattle.esp.specs.declared.fault.EspFault.TheVariants.{BadLength, BadPadding}
-use Rattle.sadb.specs.Database.{ChangesAt, Database, HasInbound, IsInbound, OpensAt, RefusesAt}
+use Rattle.sadb.specs.Database.{ChangesAt, Database, HasInbound, IsInbound, OpensAt, RefusesAt, pair_at}
 use Rattle.sadb.specs.declared.pair.Pair.{Pair}
 use Rattle.traffic.specs.Outcomes.{Outcome, Up, Dummy, Sealed, Clear, Discarded, Dropped, outcome_of_arrival}
 use Rattle.traffic.specs.Verdicts.{IsVerdict, Verdict, Packet, Nothing, Refused}
@@ -30,10 +30,15 @@ pub record HasAddressee (table : Database) (packet : Octets) : Type 0 where
   pub serial : ℕ
   pub inbound : HasInbound table.pairs (spi_of packet) serial
 
--- the verdict on what the pair that a packet is addressed to opened
-pub record IsVerdictAt (table : Database) (packet : Octets) (next : ℕ) (payload : Octets) (verdict : Verdict) : Type 0 where
+-- there is a pair with this serial
+pub record HasPair (table : Database) (child : ℕ) : Type 0 where
   pub pair : Pair
-  pub addressed : IsAddressedTo table packet pair
+  pub there : pair_at table.pairs child ≡ Some pair
+
+-- the verdict on what it opened
+pub record IsVerdictAt (table : Database) (child next : ℕ) (payload : Octets) (verdict : Verdict) : Type 0 where
+  pub pair : Pair
+  pub there : pair_at table.pairs child ≡ Some pair
   pub verdict_is : IsVerdict next payload pair.remote pair.local verdict
 
 -- the packet reaches no pair: it ends before its SPI, or no pair has the SPI

@@ -1,6 +1,7 @@
 -- The verdict on what an association opened: by its next header, by what it is as a packet, and by the selectors of the association
 -- (RFC 4301 section 5.2, step 4).
-use Rattle.std.specs.Prelude.{◌≡◌, ◌≢◌, ◌⊎◌, ℕ, List, Result, Ok, Err, Some}
+use Rattle.std.specs.Prelude.{◌≡◌, ◌≢◌, ◌⊎◌, ℕ, List, Option, Result, Ok, Err, Some, None}
+use Rattle.std.specs.Borrow.{Bor}
 use Rattle.base.specs.Octets.{Octets}
 use Rattle.base.specs.declared.selector.Selector.{Selector}
 use Rattle.base.specs.declared.address.Family.{Family}
@@ -11,8 +12,6 @@ use Rattle.policy.specs.declared.flow.Flow.{Flow}
 use Rattle.traffic.specs.NextHeaders.{next_header_of, no_next_header}
 use Rattle.traffic.specs.declared.fault.PacketFault.{PacketFault}
 use Rattle.traffic.specs.declared.fault.PacketFault.TheVariants.{UnknownAssociation, Esp, Inner, OutsideSelectors}
-use Rattle.traffic.specs.declared.verdict.Carried.{Carried}
-use Rattle.traffic.specs.declared.verdict.Carried.TheVariants as carried
 
 -- what was carried, as plain data
 pub data Verdict : Type 0 where
@@ -62,7 +61,7 @@ IsVerdict next payload remote local Nothing = next ≡ no_next_header
 IsVerdict next payload remote local (Refused fault) = IsContentRefusal next payload remote local fault
 
 -- what the program's answer says
-abbrev pub verdict_of : Result Carried PacketFault → Verdict
-verdict_of (Ok (carried.Packet packet)) = Packet packet.now
-verdict_of (Ok carried.Nothing) = Nothing
+abbrev pub verdict_of : Result (Option (Bor Octets)) PacketFault → Verdict
+verdict_of (Ok (Some packet)) = Packet packet.now
+verdict_of (Ok None) = Nothing
 verdict_of (Err fault) = Refused fault

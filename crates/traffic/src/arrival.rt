@@ -3,11 +3,11 @@ ghost use Rattle.std.specs.Prelude.{IfErr, IfOk, IfSome};
 ghost use Rattle.esp.specs.Precomputed.{IsPrecomputed, IsQuestion};
 ghost use Rattle.sadb.specs.Database.{IsForPair};
 ghost use Rattle.traffic.specs.Outcomes.{outcome_of_arrival};
-ghost use Rattle.traffic.specs.Receiving.{HasAddressee, IsAddressedTo, IsAddressedToNone, IsVerdictAt, Receives, reception_of};
+ghost use Rattle.traffic.specs.Receiving.{HasPair, IsAddressedTo, IsAddressedToNone, IsVerdictAt, Receives, reception_of};
 ghost use Rattle.traffic.specs.Verdicts.{verdict_of};
 
 use crate::PacketFault;
-use crate::verdict::{Carried, judge};
+use crate::verdict::judge;
 use byteorder::{BigEndian, ByteOrder};
 use esp::{EspFault, Opened, Precomputed, Question};
 use sadb::{Pair, Table};
@@ -91,13 +91,13 @@ fn open<'a>(
     let child = addressee(table, packet)?.serial;
     let opened = table.open_ahead(child, packet, ahead)?;
     let number = opened.number;
-    match carried(table, packet, opened)? {
-        Carried::Packet(packet) => Ok(Arrival::Up {
+    match carried(table, child, opened)? {
+        Some(packet) => Ok(Arrival::Up {
             child,
             number,
             packet,
         }),
-        Carried::Nothing => Ok(Arrival::Dummy { child, number }),
+        None => Ok(Arrival::Dummy { child, number }),
     }
 }
 
@@ -116,11 +116,15 @@ fn addressee<'a>(table: &'a Table, packet: &[u8]) -> Result<&'a Pair, PacketFaul
     }
 }
 
-// Judges what was opened by the pair that the packet is addressed to, which is there still.
-fn carried<'a>(table: &Table, packet: &[u8], opened: Opened<'a>) -> Result<Carried<'a>, PacketFault>
-    requires { HasAddressee table.now packet.now }
-    ensures { IsVerdictAt table.now packet.now opened.entry.next opened.entry.payload.now
+// Judges what was opened by the pair with this serial, which is there still.
+fn carried<'a>(
+    table: &Table,
+    child: u32,
+    opened: Opened<'a>,
+) -> Result<Option<&'a [u8]>, PacketFault>
+    requires { HasPair table.now child }
+    ensures { IsVerdictAt table.now child opened.entry.next opened.entry.payload.now
         (verdict_of result) }
 {
-    judge(addressee(table, packet).unwrap(), opened)
+    judge(table.get(child).unwrap(), opened)
 }

@@ -8,25 +8,17 @@ use esp::Opened;
 use policy::{InnerFault, covers, family_of_packet, inner};
 use sadb::Pair;
 
-/// What was carried, and is no reason to drop the packet.
-#[derive(Clone, Copy, Debug, PartialEq, Eq)]
-pub enum Carried<'a> {
-    /// A packet of the association's traffic.
-    Packet(&'a [u8]),
-    /// Nothing: a dummy packet.
-    Nothing,
-}
-
 /// Judges what was opened by a pair: by its next header, by what it is as a packet, and by the pair's selectors.
+/// The packet is answered that it carried, or none where it is a dummy.
 ///
 /// Refused, in this order: [`InnerFault::BadInner`] (E21) for a next header that names no packet, or where the payload is not of
 /// the family that it names; the refusals of [`inner`]; [`PacketFault::OutsideSelectors`].
-pub fn judge<'a>(pair: &Pair, opened: Opened<'a>) -> Result<Carried<'a>, PacketFault>
+pub fn judge<'a>(pair: &Pair, opened: Opened<'a>) -> Result<Option<&'a [u8]>, PacketFault>
     ensures { IsVerdict opened.entry.next opened.entry.payload.now pair.now.remote pair.now.local
         (verdict_of result) }
 {
     if opened.next == NO_NEXT_HEADER {
-        return Ok(Carried::Nothing);
+        return Ok(None);
     }
     let family = family_under(opened.next).ok_or(InnerFault::BadInner)?;
     if family_of_packet(opened.payload) != Some(family) {
@@ -34,7 +26,7 @@ pub fn judge<'a>(pair: &Pair, opened: Opened<'a>) -> Result<Carried<'a>, PacketF
     }
     let flow = inner(opened.payload)?;
     if covers(pair.remote.as_slice(), pair.local.as_slice(), &flow) {
-        Ok(Carried::Packet(opened.payload))
+        Ok(Some(opened.payload))
     } else {
         Err(PacketFault::OutsideSelectors)
     }

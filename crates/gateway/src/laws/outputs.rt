@@ -1,5 +1,5 @@
 //! What goes out of a step, what it makes, and what its trace tells.
-ghost use Rattle.gateway.specs.LawsOfOutputs.{FewGoOutAgain, MadeChildrenAreStored, MadeKeysAreStored, SentMessagesAreStored, WhatGoesOutAgainIsStored, WhatIsMadeFits, WhatIsSentFits};
+ghost use Rattle.gateway.specs.LawsOfOutputs.{FewGoOutAgain, MadeChildrenAreStored, MadeKeysAreStored, SentMessagesAreStored, WhatGoesOutAgainIsStored, WhatGoesUpIsPartOfWhatCame, WhatIsMadeFits, WhatIsSentFits};
 
 use esp::laws::sealed_packets_open;
 use ike::laws::{children_have_few_selectors, traces_name_what_is_held, what_is_sent_is_short};
@@ -19,6 +19,12 @@ pub fn few_go_out_again<C>()
 {
     ike::laws::few_go_out_again();
 }
+
+/// What goes up is a part of the ESP packet that came, from its ninth octet on: it lies in what was lent, behind the SPI and the sequence
+/// number (RFC 4303, section 2).
+pub fn what_goes_up_is_part_of_what_came<C>()
+    ensures { WhatGoesUpIsPartOfWhatCame C }
+{}
 
 /// A child that a step makes has at most 16 selectors on either side (RFC 7296, section 3.13; a limit of this implementation).
 pub fn what_is_made_fits<C>()

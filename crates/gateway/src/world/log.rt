@@ -3,12 +3,13 @@ ghost use Rattle.std.specs.Prelude.{◌≡◌, ◌+◌, ◌++◌, ◌≤◌, ◌
 ghost use Rattle.std.specs.Option.{option_to_list};
 ghost use Rattle.std.specs.Vec.{vec_capacity};
 ghost use Rattle.wire.specs.Numbers.{MESSAGE_LIMIT, SELECTOR_LIMIT};
+ghost use Rattle.gateway.specs.Inputs.{input_view};
 ghost use Rattle.gateway.specs.Outputs.{output_view, DATAGRAM_LIMIT, FitsChild, FitsDatagram};
 ghost use Rattle.gateway.specs.Storing.{again_by, AreSpare, HasRoom, IsShortResent, IsSpare, IsSpareMessage, TakesAt};
 ghost use Rattle.gateway.specs.Worlds.{again_as, child_by, esp_mark, ike_mark, keyed_by, mark_again, nothing_stored, requests_in, sent_once, simplex_of, stored_by};
 ghost use Rattle.effects.specs.Taking.{meaning_of};
 
-use super::stored::{Child, Datagram, End, Keyed, Mark, Simplex};
+use super::stored::{Child, Datagram, End, Keyed, Protection, Simplex};
 use crate::laws::{few_go_out_again, what_is_made_fits, what_is_sent_fits};
 use crate::{Gateway, Input, Output, Traced};
 use base::{Items, Selector};
@@ -90,16 +91,16 @@ impl Log {
 pub fn take<'a, C: Sealer + Agreement + Proof>(
     alloc: Global,
     end: End,
-    input: &'a Input,
+    input: &Input<'a>,
     gateway: &mut Gateway<C>,
     log: &mut Log,
     spare: Spare,
 ) -> Output<'a>
-    requires room { HasRoom log.old (again_by input.now gateway.old.machine) }
-    requires spare { IsSpare spare (again_by input.now gateway.old.machine) }
+    requires room { HasRoom log.old (again_by (input_view input.now) gateway.old.machine) }
+    requires spare { IsSpare spare (again_by (input_view input.now) gateway.old.machine) }
     ensures { TakesAt
         (meaning_of C.Sealer C.Agreement C.Proof gateway.old.caller)
-        end input.now gateway.old (stored_by log.old) (output_view result) gateway.new (stored_by log.new) }
+        end (input_view input.now) gateway.old (stored_by log.old) (output_view result) gateway.new (stored_by log.new) }
 {
     gateway.invariants_hold();
     what_is_sent_fits::<C>();
@@ -126,8 +127,8 @@ pub fn take<'a, C: Sealer + Agreement + Proof>(
 }
 
 /// How many requests may go out again by an input.
-pub fn most_again<C>(input: &Input, gateway: &Gateway<C>) -> usize
-    ensures { result ≡ again_by input.now gateway.now.machine }
+pub fn most_again<C>(input: &Input<'_>, gateway: &Gateway<C>) -> usize
+    ensures { result ≡ again_by (input_view input.now) gateway.now.machine }
 {
     match input {
         Input::Tick { .. } => outstanding_count(gateway.associations()),
@@ -290,32 +291,32 @@ fn datagram<C>(
 }
 
 // What a message of IKE was sealed under.
-fn ike_mark<C>(gateway: &Gateway<C>, sent: Option<ike::Mark>) -> Mark
+fn ike_mark<C>(gateway: &Gateway<C>, sent: Option<ike::Mark>) -> Protection
     ensures { result ≡ ike_mark gateway.now.machine sent }
 {
     let Some(sent) = sent else {
-        return Mark::Plain;
+        return Protection::Plain;
     };
     match gateway.keys_of(sent.ike) {
-        Some(keys) => Mark::Ike {
+        Some(keys) => Protection::Ike {
             keys: copied(keys),
             response: sent.response,
             number: sent.number,
         },
-        None => Mark::Plain,
+        None => Protection::Plain,
     }
 }
 
 // What an ESP packet was sealed by.
-fn esp_mark(table: &Table, child: u32, number: u64) -> Mark
+fn esp_mark(table: &Table, child: u32, number: u64) -> Protection
     ensures { result ≡ esp_mark table.now child number }
 {
     match table.get(child) {
-        Some(pair) => Mark::Esp {
+        Some(pair) => Protection::Esp {
             by: outbound_of(pair),
             number,
         },
-        None => Mark::Plain,
+        None => Protection::Plain,
     }
 }
 

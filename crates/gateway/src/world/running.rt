@@ -1,6 +1,7 @@
 //! A list of events at two ends.
-ghost use Rattle.std.specs.Prelude.{OnOk, IfErr, length};
+ghost use Rattle.std.specs.Prelude.{OnOk, IfErr, length, map};
 ghost use Rattle.gateway.specs.BothEnds.{KeepsBothEnds};
+ghost use Rattle.gateway.specs.Inputs.{event_view};
 ghost use Rattle.gateway.specs.WorldRuns.{PlaysFirst, StopsPlaying};
 ghost use Rattle.effects.specs.Taking.{meaning_of};
 
@@ -37,18 +38,18 @@ use suite::{Agreement, Proof, Sealer};
 pub fn run_world<'a, C: Sealer + Agreement + Proof>(
     alloc: Global,
     world: &mut World<C>,
-    events: &'a [Event],
+    events: &[Event<'a>],
     outputs: &mut Vec<Output<'a>>,
 ) -> Result<(), RunFault>
     ensures all { OnOk result (PlaysFirst
         (meaning_of C.Sealer C.Agreement C.Proof)
-        (length events.now) events.now world.old outputs.old.items world.new outputs.new.items) }
+        (length events.now) (map event_view events.now) world.old outputs.old.items world.new outputs.new.items) }
     ensures stopped { IfErr result (λ fault. StopsPlaying
         (meaning_of C.Sealer C.Agreement C.Proof)
-        events.now world.old outputs.old.items fault world.new outputs.new.items) }
+        (map event_view events.now) world.old outputs.old.items fault world.new outputs.new.items) }
     ensures both { KeepsBothEnds C.body_of C.plain_of
         (meaning_of C.Sealer C.Agreement C.Proof)
-        events.now world.old outputs.old.items world.new outputs.new.items }
+        (map event_view events.now) world.old outputs.old.items world.new outputs.new.items }
 {
     both_ends_keep_their_promises::<C>();
     every_run_keeps_its_promises::<C>();

@@ -26,10 +26,10 @@ impl End {
 }
 
 /// What is given to an end. It may be any input at any time: datagrams that were sent, or not.
-#[derive(Drop)]
-pub struct Event {
+#[derive(Clone, Copy, Drop)]
+pub struct Event<'a> {
     pub end: End,
-    pub input: Input,
+    pub input: Input<'a>,
 }
 
 /// One direction of a child: the association that its packets name (RFC 4301, section 4.1).
@@ -44,7 +44,7 @@ pub struct Simplex {
 
 /// What a datagram was protected by.
 #[derive(Drop)]
-pub enum Mark {
+pub enum Protection {
     /// Nothing: it is a message of IKE_SA_INIT.
     Plain,
     /// The keys of an IKE association.
@@ -67,7 +67,7 @@ pub enum Mark {
 pub struct Datagram {
     /// The end that sent it.
     pub end: End,
-    pub mark: Mark,
+    pub mark: Protection,
     pub octets: Items<u8>,
 }
 

@@ -4,7 +4,7 @@ ghost use Rattle.std.specs.Prelude.{◌≡◌};
 use super::directive::Terms;
 use super::report::Report;
 use crate::LineFault;
-use esp::{Answer, Inbound, Outbound};
+use esp::{Inbound, Outbound};
 use replay::{BlockWindow, is_block_count};
 use std::alloc::{AllocError, Global};
 
@@ -95,23 +95,18 @@ impl Ends {
         if !packet.starts_with(&self.terms.spi.to_be_bytes()) {
             return Ok(Report::UnknownAssociation);
         }
-        let packets = [packet];
+        let packets = [packet.as_slice()];
         let mut answers = Vec::with_capacity(self.alloc, 1)?;
         if self.receiver.open_all(&packets, &mut answers).is_err() {
             return Err(LineFault::Memory);
         }
         match answers[0] {
-            Answer::Up {
-                number,
-                next,
-                start,
-                length,
-            } => Ok(Report::Up {
-                number,
-                next,
-                payload: packets[0][start..start + length].to_vec(self.alloc)?,
+            Ok(opened) => Ok(Report::Up {
+                number: opened.number,
+                next: opened.next,
+                payload: opened.payload.to_vec(self.alloc)?,
             }),
-            Answer::Refused(fault) => Ok(Report::Refused(fault)),
+            Err(fault) => Ok(Report::Refused(fault)),
         }
     }
 }

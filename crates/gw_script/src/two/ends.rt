@@ -7,7 +7,7 @@ use super::side::{Side, address};
 use crate::LineFault;
 use base::Items;
 use caller_script::ScriptCaller;
-use gateway::{Datagram, Event, Input, Mark, World, run_world};
+use gateway::{Datagram, Event, Input, Protection, World, run_world};
 use std::alloc::Global;
 
 /// The two gateways, and all datagrams that they sent.
@@ -40,15 +40,21 @@ impl Ends {
             Act::Delete { side, child } => self.delete(side, child),
             Act::Close { side, ike } => self.close(side, ike),
             Act::Tick { side, moment } => self.give(side, Input::Tick { moment }),
-            Act::Secret { side, secret } => self.give(side, Input::Secret { secret }),
+            Act::Secret { side, secret } => self.give(side, Input::Secret { secret: &secret }),
             Act::Deliver(delivery) => self.deliver(delivery),
             Act::Raw {
                 side,
                 protocol,
                 octets,
-            } => self.bring(side, protocol, octets),
-            Act::Out { side, packet } => self.give(side, Input::Outward { packet }),
-            Act::In { side, packet } => self.give(side, Input::Inward { packet }),
+            } => self.bring(side, protocol, octets.as_slice()),
+            Act::Out { side, packet } => {
+                let packet = packet.as_slice();
+                self.give(side, Input::Outward { packet })
+            }
+            Act::In { side, packet } => {
+                let packet = packet.as_slice();
+                self.give(side, Input::Inward { packet })
+            }
             Act::Table { side } => self.table(side),
             Act::Same { one, other } => self.compare(one, other),
         }
@@ -56,22 +62,22 @@ impl Ends {
 
     // Asks for a child with a new IKE association, or for a further one of the association with this serial.
     fn start(&mut self, side: Side, ike: Option<u32>, entry: u32) -> Result<String, LineFault> {
-        let fresh = fresh(self.alloc, self.input)?;
+        let fresh = &fresh(self.alloc, self.input)?;
         self.give(side, Input::Start { ike, entry, fresh })
     }
 
     fn probe(&mut self, side: Side, ike: u32) -> Result<String, LineFault> {
-        let fresh = fresh(self.alloc, self.input)?;
+        let fresh = &fresh(self.alloc, self.input)?;
         self.give(side, Input::Probe { ike, fresh })
     }
 
     fn delete(&mut self, side: Side, child: u32) -> Result<String, LineFault> {
-        let fresh = fresh(self.alloc, self.input)?;
+        let fresh = &fresh(self.alloc, self.input)?;
         self.give(side, Input::DeleteChild { child, fresh })
     }
 
     fn close(&mut self, side: Side, ike: u32) -> Result<String, LineFault> {
-        let fresh = fresh(self.alloc, self.input)?;
+        let fresh = &fresh(self.alloc, self.input)?;
         self.give(side, Input::DeleteIke { ike, fresh })
     }
 
@@ -83,7 +89,7 @@ impl Ends {
         };
         let protocol = protocol_of(&datagram.mark);
         let octets = travelled(self.alloc, datagram.octets.as_slice(), delivery.way)?;
-        self.bring(receiver, protocol, octets)
+        self.bring(receiver, protocol, octets.as_slice())
     }
 
     // Octets come to an end, from the other's address.
@@ -91,13 +97,13 @@ impl Ends {
         &mut self,
         side: Side,
         protocol: Protocol,
-        octets: Items<u8>,
+        octets: &[u8],
     ) -> Result<String, LineFault> {
         match protocol {
             Protocol::Esp => self.give(side, Input::Esp { octets }),
             Protocol::Ike => {
                 let from = address(side.other());
-                let fresh = fresh(self.alloc, self.input)?;
+                let fresh = &fresh(self.alloc, self.input)?;
                 let input = Input::Ike {
                     from,
                     octets,
@@ -109,7 +115,7 @@ impl Ends {
     }
 
     // Gives an end an input.
-    fn give(&mut self, side: Side, input: Input) -> Result<String, LineFault> {
+    fn give(&mut self, side: Side, input: Input<'_>) -> Result<String, LineFault> {
         self.input = self.input.saturating_add(1);
         let alloc = self.alloc;
         let place = self.world.datagrams().len() + 1;
@@ -144,10 +150,10 @@ impl Ends {
 }
 
 // What a datagram that was sent belongs to.
-fn protocol_of(mark: &Mark) -> Protocol {
+fn protocol_of(mark: &Protection) -> Protocol {
     match mark {
-        Mark::Esp { .. } => Protocol::Esp,
-        Mark::Plain | Mark::Ike { .. } => Protocol::Ike,
+        Protection::Esp { .. } => Protocol::Esp,
+        Protection::Plain | Protection::Ike { .. } => Protocol::Ike,
     }
 }
 

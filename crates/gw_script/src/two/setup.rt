@@ -2,7 +2,7 @@
 ghost use Rattle.std.specs.Prelude.{◌≡◌, IfOk};
 ghost use Rattle.auth.specs.Proofs.{IsIdentity};
 ghost use Rattle.auth.specs.Windows.{IsWindow};
-ghost use Rattle.initial.specs.Configs.{IsConfig};
+ghost use Rattle.setup.specs.Configs.{IsConfig};
 ghost use Rattle.gateway.specs.Worlds.{HoldsNothing};
 
 use super::directive::Term;
@@ -12,8 +12,8 @@ use auth::Identity;
 use base::Items;
 use caller_script::ScriptCaller;
 use gateway::Gateway;
-use initial::{Config, EndConfig};
 use policy::{Entry, Policy};
+use setup::{Config, EndConfig};
 use std::alloc::{AllocError, Global};
 
 // The blocks of the replay windows of children.

@@ -1,15 +1,15 @@
 //! Many requests of IKE_SA_INIT from senders that were made up (RFC 7296, section 2.6), and SPIs that can't be used.
 use super::asserts::same;
 use caller_script::ScriptCaller;
-use gateway::{End, Gateway, Input, Output};
+use gateway::{End, Gateway, Output};
 use sa_init::request;
 use std::alloc::Global;
 use std::panic::Expect;
 use std::process::Abort;
-use test_samples::{gateway, message, order};
+use test_samples::{OwnedInput, gateway, message, order};
 
 /// A request of an initiator of this SPI, with fresh octets of another one for the answer.
-fn asking(rt: &impl Abort, alloc: Global, spi_i: u64, fresh: u64) -> Input {
+fn asking(rt: &impl Abort, alloc: Global, spi_i: u64, fresh: u64) -> OwnedInput {
     let request = request(alloc, &ScriptCaller, spi_i, None, &[7; 32], &[8; 32]).expect(
         rt, "memory",
     );
@@ -17,8 +17,8 @@ fn asking(rt: &impl Abort, alloc: Global, spi_i: u64, fresh: u64) -> Input {
 }
 
 /// The octets of a reply; 0 where there is none.
-fn reply_length(gateway: &mut Gateway<ScriptCaller>, alloc: Global, input: &Input) -> usize {
-    match gateway.step(alloc, input) {
+fn reply_length(gateway: &mut Gateway<ScriptCaller>, alloc: Global, input: &OwnedInput) -> usize {
+    match gateway.step(alloc, &input.lend()) {
         Output::Reply { octets, .. } => octets.len(),
         _ => 0,
     }
@@ -55,8 +55,8 @@ fn ten_thousand_requests(rt: HostRuntime) {
 }
 
 /// The number of a refusal; 0 where there is none.
-fn refusal(gateway: &mut Gateway<ScriptCaller>, alloc: Global, input: Input) -> u8 {
-    match gateway.step(alloc, &input) {
+fn refusal(gateway: &mut Gateway<ScriptCaller>, alloc: Global, input: OwnedInput) -> u8 {
+    match gateway.step(alloc, &input.lend()) {
         Output::Refused { reason } => reason.code(),
         _ => 0,
     }

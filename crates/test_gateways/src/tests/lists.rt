@@ -1,11 +1,11 @@
 //! A list of events at two gateways, by one call.
 use super::asserts::same;
 use caller_script::ScriptCaller;
-use gateway::{Child, Datagram, End, Event, Mark, World, run_world};
+use gateway::{Child, Datagram, End, Protection, World, run_world};
 use std::alloc::Global;
 use std::panic::Expect;
 use std::process::Abort;
-use test_samples::{SampleFault, gateway, message, order};
+use test_samples::{OwnedEvent, SampleFault, gateway, lend_events, message, order};
 
 /// Two gateways to which nothing happened.
 fn world(rt: &impl Abort, alloc: Global) -> World<ScriptCaller> {
@@ -19,11 +19,11 @@ fn new_world(alloc: Global) -> Result<World<ScriptCaller>, SampleFault> {
 }
 
 /// Datagram `place` of a world comes to the other end.
-fn delivery(rt: &impl Abort, alloc: Global, world: &World<ScriptCaller>, place: u64) -> Event {
+fn delivery(rt: &impl Abort, alloc: Global, world: &World<ScriptCaller>, place: u64) -> OwnedEvent {
     let octets = world.datagram(place).unwrap_or(&[]);
     let end = if place % 2 == 1 { End::B } else { End::A };
     let input = message(alloc, octets, place.saturating_add(10)).expect(rt, "memory");
-    Event { end, input }
+    OwnedEvent { end, input }
 }
 
 /// What happens where an association is made: A's order, and so many deliveries of what was sent before.
@@ -32,11 +32,11 @@ fn events(
     alloc: Global,
     before: &World<ScriptCaller>,
     deliveries: u64,
-) -> Vec<Event> {
+) -> Vec<OwnedEvent> {
     let mut events = Vec::new(alloc);
     let input = order(1);
     events
-        .push(Event { end: End::A, input })
+        .push(OwnedEvent { end: End::A, input })
         .expect(rt, "memory");
     for place in 1..=deliveries {
         let event = delivery(rt, alloc, before, place);
@@ -50,22 +50,23 @@ fn happens(
     rt: &impl Abort,
     alloc: Global,
     world: &mut World<ScriptCaller>,
-    events: &[Event],
+    events: &[OwnedEvent],
 ) -> usize {
     let mut outputs = Vec::new(alloc);
-    run_world(alloc, world, events, &mut outputs).expect(rt, "room");
+    let lent = lend_events(alloc, events).expect(rt, "memory");
+    run_world(alloc, world, &lent, &mut outputs).expect(rt, "room");
     outputs.len()
 }
 
 /// Whether it is a response, and the number of the request, where keys of IKE protect a datagram.
 fn mark(datagram: &Datagram) -> Option<(bool, u32)> {
     match &datagram.mark {
-        Mark::Ike {
+        Protection::Ike {
             response,
             number,
             ..
         } => Some((*response, *number)),
-        Mark::Plain | Mark::Esp { .. } => None,
+        Protection::Plain | Protection::Esp { .. } => None,
     }
 }
 

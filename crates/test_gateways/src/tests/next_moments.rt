@@ -11,7 +11,7 @@ use test_samples::{gateway, order};
 fn asking(rt: &impl Abort, alloc: Global, moment: u64) -> Gateway<ScriptCaller> {
     let mut gateway = gateway(alloc, End::A).expect(rt, "a gateway");
     gateway.step(alloc, &Input::Tick { moment });
-    gateway.step(alloc, &order(1));
+    gateway.step(alloc, &order(1).lend());
     gateway
 }
 

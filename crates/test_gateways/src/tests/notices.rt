@@ -31,7 +31,7 @@ fn half_open(rt: &impl Abort, alloc: Global) -> Gateway<ScriptCaller> {
     let mut gateway = gateway(alloc, End::B).expect(rt, "a gateway");
     let request = request(alloc, &ScriptCaller, 1, None, &[5; 32], &[6; 32]).expect(rt, "memory");
     let first = message(alloc, request.as_slice(), 2).expect(rt, "memory");
-    gateway.step(alloc, &first);
+    gateway.step(alloc, &first.lend());
     gateway
 }
 
@@ -45,7 +45,7 @@ fn closing(rt: &impl Abort, alloc: Global, digits: &str) -> Vec<u8> {
     let mut gateway = half_open(rt, alloc);
     let octets = sealed(rt, alloc, digits, &key(rt, &gateway));
     let second = message(alloc, &octets, 3).expect(rt, "memory");
-    match gateway.step(alloc, &second) {
+    match gateway.step(alloc, &second.lend()) {
         Output::Reply {
             octets,
             closed: Some(1),

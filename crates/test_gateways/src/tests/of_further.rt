@@ -1,19 +1,19 @@
 //! What is sent, and the order of what is refused (RFC 7296, sections 1.3.1, 2.5, 2.21.3 and 3.10.1).
 ghost use Rattle.auth.specs.Proofs.{IsIdentity};
-ghost use Rattle.initial.specs.Configs.{IsConfig};
+ghost use Rattle.setup.specs.Configs.{IsConfig};
 ghost use Rattle.policy.specs.Narrowing.{IsSendableSelector};
 ghost use Rattle.further.specs.Deciding.{FitsFurtherDecision};
 
-use auth::{ChildAnswer, Identity};
+use auth::Identity;
 use base::{Items, Range, Selector};
 use children::{Asked, MemoryFault};
-use exchange::{Notice, Plain, Role, sent_header};
+use exchange::{ChildAnswer, Notice, Plain, Role, sent_header};
 use further::{
     Conclusion, Decision, Judgement, answer_payloads, ask, conclude_response, decide, judge,
 };
-use initial::{Config, EndConfig, Setup};
 use policy::{Action, Entry, Policy};
 use sadb::{Pair, Table};
+use setup::{Config, EndConfig, Setup};
 use std::alloc::Global;
 use std::panic::Expect;
 use std::process::Abort;

@@ -8,7 +8,7 @@ use association::MessageFault;
 use base::Items;
 use caller_script::ScriptCaller;
 use gateway::End;
-use ike::{Demand, Ike, IkeFault, IkeInput, IkeOutput};
+use ike::{Ike, IkeFault, IkeInput, IkeOutput};
 use mac::icv;
 use policy::Policy;
 use sadb::Table;
@@ -218,9 +218,8 @@ fn with_foreign_spis(rt: &impl Abort, alloc: Global, octets: &[u8]) -> Vec<u8> {
 /// A's probe under its second association.
 fn probe(rt: &impl Abort, alloc: Global, a: &mut Side) -> Items<u8> {
     let fresh = fresh(30);
-    let what = Demand::Probe { ike: 2 };
-    let probe = IkeInput::Order {
-        what,
+    let probe = IkeInput::Probe {
+        ike: 2,
         fresh: &fresh,
     };
     sent(rt, a.step(rt, alloc, &probe))

@@ -5,11 +5,11 @@ ghost use Rattle.gateway.specs.Worlds.{HoldsNothing};
 use super::asserts::{add, holds, same};
 use base::Items;
 use caller_peer::{Peer, PeerCaller};
-use gateway::{Datagram, End, Event, Gateway, Input, Output, World, run_world};
+use gateway::{Datagram, End, Event, Gateway, Output, World, run_world};
 use std::alloc::Global;
 use std::panic::Expect;
 use std::process::Abort;
-use test_samples::{SampleFault, gateway_of, message, order, own_name};
+use test_samples::{OwnedInput, SampleFault, gateway_of, message, order, own_name};
 
 fn items(rt: &impl Abort, alloc: Global, octets: &[u8]) -> Items<u8> {
     Items::from_slice(alloc, octets).expect(rt, "memory")
@@ -68,12 +68,14 @@ fn happens(
     alloc: Global,
     world: &mut World<PeerCaller>,
     end: End,
-    input: Input,
+    input: OwnedInput,
 ) -> bool {
-    let mut events = Vec::new(alloc);
-    events.push(Event { end, input }).expect(rt, "memory");
+    let event = Event {
+        end,
+        input: input.lend(),
+    };
     let mut outputs = Vec::new(alloc);
-    run_world(alloc, world, &events, &mut outputs).expect(rt, "room");
+    run_world(alloc, world, &[event], &mut outputs).expect(rt, "room");
     outputs.iter().any(is_refusal)
 }
 
@@ -82,7 +84,7 @@ fn is_refusal(output: &Output<'_>) -> bool {
 }
 
 /// Datagram `place` of a world, as a message of IKE.
-fn delivery(rt: &impl Abort, alloc: Global, world: &World<PeerCaller>, place: u64) -> Input {
+fn delivery(rt: &impl Abort, alloc: Global, world: &World<PeerCaller>, place: u64) -> OwnedInput {
     let octets = world.datagram(place).unwrap_or(&[]);
     message(alloc, octets, place.saturating_add(10)).expect(rt, "memory")
 }
@@ -117,7 +119,7 @@ fn is_agreed(rt: &impl Abort, world: &World<PeerCaller>) {
 }
 
 /// A packet of IPv4 from A's protected network to B's, or back.
-fn packet(rt: &impl Abort, alloc: Global, end: End) -> Input {
+fn packet(rt: &impl Abort, alloc: Global, end: End) -> OwnedInput {
     let [a, b] = [0, 1];
     let (source, destination) = match end {
         End::A => (a, b),
@@ -130,7 +132,7 @@ fn packet(rt: &impl Abort, alloc: Global, end: End) -> Input {
         &[0x45, 0, 0, 20, 0, 0, 0, 0, 0x40, 1, 0, 0],
     );
     add(rt, &mut octets, &[10, source, 0, 1, 10, destination, 0, 1]);
-    Input::Outward {
+    OwnedInput::Outward {
         packet: Items::from_vec(octets),
     }
 }
@@ -144,7 +146,7 @@ fn arrives(
     place: u64,
 ) -> bool {
     let octets = items(rt, alloc, world.datagram(place).unwrap_or(&[]));
-    happens(rt, alloc, world, end, Input::Esp { octets })
+    happens(rt, alloc, world, end, OwnedInput::Esp { octets })
 }
 
 /// A packet goes from an end, and comes to the other once.

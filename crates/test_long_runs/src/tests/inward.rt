@@ -5,14 +5,14 @@ mod plain_rule;
 mod played;
 mod repeats;
 
-use gateway::{End, Input, Output, run};
+use gateway::{End, Output, run};
 use groups::compare_lists;
 use plain_rule::Wanted;
 use played::{Played, play_lists, step_packets};
 use repeats::{Asked, Later};
 use std::alloc::Global;
 use std::process::Abort;
-use test_samples::{Both, gateway_with, message, order, packet_out};
+use test_samples::{Both, OwnedInput, gateway_with, lend_inputs, message, order, packet_out};
 
 /// Finds that no output was another than was wanted, and that each kind came often enough.
 fn are_wanted(rt: &impl Abort, played: &Played, each: &[Wanted]) {
@@ -58,7 +58,7 @@ fn a_hundred_thousand_inputs_of_short_numbers(rt: HostRuntime) {
 }
 
 /// What A is given where an association, its first child and a packet are made: its order, both answers of B, and the packet.
-fn inputs_of_a(rt: &impl Abort, alloc: Global, both: &Both) -> Vec<Input> {
+fn inputs_of_a(rt: &impl Abort, alloc: Global, both: &Both) -> Vec<OwnedInput> {
     let mut inputs = Vec::new(alloc);
     inputs.push(order(1)).expect(rt, "memory");
     for (place, spi) in [(2, 12), (4, 14)] {
@@ -125,10 +125,11 @@ fn are_outputs_of_a(rt: &impl Abort, both: &Both, outputs: &[Output<'_>]) {
 }
 
 /// Gives these inputs to a new gateway, and finds what comes of them.
-fn run_as_a(rt: &impl Abort, alloc: Global, both: &Both, inputs: &[Input]) {
+fn run_as_a(rt: &impl Abort, alloc: Global, both: &Both, inputs: &[OwnedInput]) {
     let mut gateway = gateway_with(alloc, End::A, true).expect(rt, "a gateway");
     let mut outputs = Vec::new(alloc);
-    run(alloc, &mut gateway, inputs, &mut outputs).expect(rt, "room for the outputs");
+    let lent = lend_inputs(alloc, inputs).expect(rt, "memory");
+    run(alloc, &mut gateway, &lent, &mut outputs).expect(rt, "room for the outputs");
     are_outputs_of_a(rt, both, &outputs);
 }
 

@@ -1,7 +1,7 @@
 //! The number and the text of each fault that a call answers.
 use crate::tests::asserts::named;
 use children::MemoryFault;
-use esp::{EspFault, ListFault, SealStop};
+use esp::{EspFault, ListFault, ListStop};
 use mac::MacFault;
 use policy::InnerFault;
 use replay::ReplayFault;
@@ -84,28 +84,23 @@ fn names_of_esp(rt: &impl Abort, alloc: Global) {
     ] {
         named(rt, alloc, fault.code(), number, fault, text);
     }
-    let fault = ListFault::NoRoom(3);
+    let fault = ListFault::NoRoom;
     named(
         rt,
         alloc,
         fault.code(),
         38,
         fault,
-        "E38: no room for an answer after 3 packets",
+        "E38: no room for an answer",
     );
-    // It has the number of what stopped it.
-    let stop = SealStop {
-        sealed: 3,
-        fault: EspFault::PayloadSize,
-    };
-    named(
-        rt,
-        alloc,
-        stop.code(),
-        13,
-        stop,
-        "E13: the payload has more than 16384 octets, after 3 packets",
-    );
+    // The text of what stopped a list tells how far that came.
+    let stop = ListStop { done: 3, fault };
+    let text = "E38: no room for an answer, after 3 packets";
+    named(rt, alloc, stop.fault.code(), 38, stop, text);
+    let fault = EspFault::PayloadSize;
+    let stop = ListStop { done: 3, fault };
+    let text = "E13: the payload has more than 16384 octets, after 3 packets";
+    named(rt, alloc, stop.fault.code(), 13, stop, text);
 }
 
 fn names_of_sadb(rt: &impl Abort, alloc: Global) {

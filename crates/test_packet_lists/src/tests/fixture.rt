@@ -2,7 +2,7 @@
 ghost use Rattle.std.specs.Prelude.{◌≡◌, ◌≤◌, IsTrue, ◌↔◌, All, length, take};
 ghost use Rattle.byteorder.specs.Endian.{big_bytes};
 
-use esp::{Answer, EspFault, Inbound, ListFault, Opened, Outbound};
+use esp::{EspFault, Inbound, ListFault, ListStop, Opened, Outbound};
 use replay::BlockWindow;
 use std::alloc::{AllocError, Global};
 use std::test::Fail;
@@ -97,7 +97,7 @@ pub fn one_by_one(alloc: Global, mut sender: Outbound, payloads: &[&[u8]]) -> Se
 pub fn at_once(alloc: Global, mut sender: Outbound, payloads: &[&[u8]]) -> Sealed {
     let mut octets = Vec::new(alloc);
     let outcome = sender.seal_all(IPV4, payloads, &mut octets);
-    let stop = outcome.err().map(|stop| (stop.sealed, stop.fault));
+    let stop = outcome.err().map(|stop| (stop.done, stop.fault));
     let next = sender.seal(IPV4, b"", &mut octets).ok();
     Sealed { octets, stop, next }
 }
@@ -157,19 +157,19 @@ impl Receiver {
     }
 
     /// What is answered of one packet; `None` of one that the receiver may not be handed.
-    fn answer(&mut self, packet: &[u8]) -> Option<Answer> {
+    fn answer<'a>(&mut self, packet: &'a [u8]) -> Option<Result<Opened<'a>, EspFault>> {
         if !is_ours(packet) {
             return None;
         }
-        Some(answer_of(self.inbound.open(packet)))
+        Some(self.inbound.open(packet))
     }
 
     /// Opens packets by one call; `None` where one of them may not be handed to the receiver.
-    fn open_all(
+    fn open_all<'a>(
         &mut self,
-        packets: &[Vec<u8>],
-        out: &mut Vec<Answer>,
-    ) -> Option<Result<(), ListFault>> {
+        packets: &[&'a [u8]],
+        out: &mut Vec<Result<Opened<'a>, EspFault>>,
+    ) -> Option<Result<(), ListStop<ListFault>>> {
         if !are_ours(packets) {
             return None;
         }
@@ -177,9 +177,14 @@ impl Receiver {
     }
 
     /// What is answered of packets that are opened by one call.
-    fn answers(&mut self, alloc: Global, packets: &[Vec<u8>]) -> Result<Vec<Answer>, Fail> {
+    fn answers<'a>(
+        &mut self,
+        alloc: Global,
+        packets: &'a [Vec<u8>],
+    ) -> Result<Vec<Result<Opened<'a>, EspFault>>, Fail> {
+        let packets = slices(alloc, packets)?;
         let mut answers = Vec::new(alloc);
-        self.open_all(packets, &mut answers).ok_or("another SPI")??;
+        self.open_all(&packets, &mut answers).ok_or("another SPI")??;
         Ok(answers)
     }
 
@@ -189,17 +194,13 @@ impl Receiver {
     }
 }
 
-/// What a list says of a packet of which the call for one packet says this.
-fn answer_of(opened: Result<Opened<'_>, EspFault>) -> Answer {
-    match opened {
-        Ok(opened) => Answer::Up {
-            number: opened.number,
-            next: opened.next,
-            start: 8,
-            length: opened.payload.len(),
-        },
-        Err(fault) => Answer::Refused(fault),
+/// The octets of each packet.
+fn slices(alloc: Global, packets: &[Vec<u8>]) -> Result<Vec<&[u8]>, AllocError> {
+    let mut slices = Vec::new(alloc);
+    for packet in packets {
+        slices.push(packet.as_slice())?;
     }
+    Ok(slices)
 }
 
 /// Whether the packet begins with the SPI, if it has room for one.
@@ -210,8 +211,8 @@ fn is_ours(packet: &[u8]) -> bool
 }
 
 /// Whether each of the packets does.
-fn are_ours(packets: &[Vec<u8>]) -> bool
-    ensures { IsTrue result → All (λ p. 4 ≤ length p.items → take 4 p.items ≡ big_bytes 4 256) packets.now }
+fn are_ours(packets: &[&[u8]]) -> bool
+    ensures { IsTrue result → All (λ p. 4 ≤ length p.now → take 4 p.now ≡ big_bytes 4 256) packets.now }
 {
     packets.iter().all(|packet| is_ours(packet))
 }
@@ -247,7 +248,11 @@ impl Pair {
     }
 
     /// Hands the packets to the other receiver, and compares what it answers.
-    fn compare(&mut self, packets: &[Vec<u8>], answers: &[Answer]) -> Outcome {
+    fn compare(
+        &mut self,
+        packets: &[Vec<u8>],
+        answers: &[Result<Opened<'_>, EspFault>],
+    ) -> Outcome {
         if answers.len() != packets.len() {
             return Outcome::Differs {
                 place: answers.len(),
@@ -262,7 +267,11 @@ impl Pair {
     }
 
     /// The place of the first packet of which the call for one packet says something else.
-    fn first_difference(&mut self, packets: &[Vec<u8>], answers: &[Answer]) -> Option<usize> {
+    fn first_difference(
+        &mut self,
+        packets: &[Vec<u8>],
+        answers: &[Result<Opened<'_>, EspFault>],
+    ) -> Option<usize> {
         let mut found = None;
         for (place, (packet, answer)) in packets.iter().zip(answers).enumerate() {
             if self.one.answer(packet) != Some(*answer) && found.is_none() {
@@ -274,9 +283,6 @@ impl Pair {
 }
 
 /// How many packets were handed up.
-fn count_up(answers: &[Answer]) -> usize {
-    answers
-        .iter()
-        .filter(|answer| matches!(answer, Answer::Up { .. }))
-        .count()
+fn count_up(answers: &[Result<Opened<'_>, EspFault>]) -> usize {
+    answers.iter().filter(|answer| answer.is_ok()).count()
 }

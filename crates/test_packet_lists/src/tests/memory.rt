@@ -1,17 +1,17 @@
 //! A list that is sealed while memory is refused in its midst, at whichever allocation.
 use super::asserts::{holds, same};
 use super::fixture::{IPV4, Numbers, sender};
-use esp::{EspFault, Outbound, SealStop};
+use esp::{EspFault, ListStop, Outbound};
 use std::alloc::Global;
 use std::process::Abort;
 
 const PAYLOAD: &[u8] = &[7; 40];
 
 /// How many were sealed of so many, if they were all or memory was wanted for the next one.
-fn sealed(outcome: Result<(), SealStop>, count: usize) -> Option<usize> {
+fn sealed(outcome: Result<(), ListStop<EspFault>>, count: usize) -> Option<usize> {
     match outcome {
         Ok(()) => Some(count),
-        Err(stop) if stop.fault == EspFault::Memory => Some(stop.sealed),
+        Err(stop) if stop.fault == EspFault::Memory => Some(stop.done),
         Err(_) => None,
     }
 }

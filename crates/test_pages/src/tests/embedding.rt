@@ -25,13 +25,9 @@ fn the_page_of_caller_peer(rt: HostRuntime) -> Result<(), Fail> {
 
 #[test]
 fn the_page_of_gateway(rt: HostRuntime) -> Result<(), Fail> {
-    use auth::Identity;
-    use base::{Items, Range};
     use caller_script::ScriptCaller; // hides nothing: for real peers it is caller_peer::PeerCaller
-    use gateway::{Gateway, Input, Output};
-    use initial::{Config, EndConfig};
-    use policy::{Action, Entry, Policy};
-    use suite::Fresh;
+    use gateway::{Address, Config, EndConfig, Entry, Fresh, Gateway, Identity, Input};
+    use gateway::{Items, Policy, Range, Transmit};
 
     let identity = Identity {
         kind: 2,
@@ -49,22 +45,10 @@ fn the_page_of_gateway(rt: HostRuntime) -> Result<(), Fail> {
         identity,
         address: [192, 0, 2, 2],
     };
-    let config = Config {
-        own,
-        peer,
-        extended: true,
-        blocks: 2,
-        cookie_secret: [0; 32],
-        window: 1,
-    };
-    let entry = Entry {
-        protocol: 0,
-        local: Range::V4(0x0a00_0000, 0x0a00_00ff),
-        remote: Range::V4(0x0a01_0000, 0x0a01_00ff),
-        local_ports: (0, 65535),
-        remote_ports: (0, 65535),
-        action: Action::Protect,
-    };
+    let config = Config::new(own, peer, &[0; 32]).checked()?;
+    let local = Range::prefix(Address::v4([10, 0, 0, 0]), 24)?;
+    let remote = Range::prefix(Address::v4([10, 1, 0, 0]), 24)?;
+    let entry = Entry::protect(local, remote);
     let policy = Policy::new(Items::from_slice(rt.alloc(), &[entry])?)?;
     let mut gateway = Gateway::new(rt.alloc(), config, policy, 4096, ScriptCaller);
 
@@ -76,16 +60,18 @@ fn the_page_of_gateway(rt: HostRuntime) -> Result<(), Fail> {
         secret: [7; 32],
         seal: [0; 16],
     };
-    match gateway.step(
-        rt.alloc(),
-        &Input::Start {
-            ike: None,
-            entry: 0,
-            fresh,
-        },
-    ) {
-        Output::Request { octets, .. } => assert_eq!(rt; octets.len(), 148), // to be sent to the peer, by IKE
-        _ => return Err(Fail::new("refused")),
+    let start = Input::Start {
+        ike: None,
+        entry: 0,
+        fresh: &fresh,
+    };
+    let output = gateway.step(rt.alloc(), &start);
+    for datagram in output.datagrams() {
+        match datagram {
+            Transmit::Ike(octets) => assert_eq!(rt; octets.len(), 148), // by UDP, to port 500
+            Transmit::Esp(_) => return Err(Fail::new("no packet was given")), // by IP, as protocol 50
+        }
     }
+    assert_eq!(rt; gateway.next_moment(), Some(1000)); // until then a host may sleep
     Ok(())
 }

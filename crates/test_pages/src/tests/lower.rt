@@ -5,8 +5,8 @@ use std::test::Fail;
 fn the_page_of_base(rt: HostRuntime) -> Result<(), Fail> {
     use base::{Address, Range};
 
-    let local = Range::V4(0x0a00_0000, 0x0a00_00ff); // 10.0.0.0 to 10.0.0.255
-    assert!(rt; local.holds(Address::V4(0x0a00_0001)));
+    let local = Range::prefix(Address::v4([10, 0, 0, 0]), 24)?; // 10.0.0.0/24
+    assert!(rt; local.holds(Address::v4([10, 0, 0, 1])));
     assert!(rt; !local.holds(Address::V6(0x0a00_0001))); // another family
     Ok(())
 }
@@ -60,17 +60,12 @@ fn the_page_of_wire(rt: HostRuntime) -> Result<(), Fail> {
 
 #[test]
 fn the_page_of_policy(rt: HostRuntime) -> Result<(), Fail> {
-    use base::{Items, Range};
-    use policy::{Action, Decision, Direction, Entry, Policy, inner};
+    use base::{Address, Items, Range};
+    use policy::{Decision, Direction, Entry, Policy, inner};
 
-    let entry = Entry {
-        protocol: 0,
-        local: Range::V4(0x0a00_0000, 0x0a00_00ff),
-        remote: Range::V4(0x0a01_0000, 0x0a01_00ff),
-        local_ports: (0, 65535),
-        remote_ports: (0, 65535),
-        action: Action::Protect,
-    };
+    let local = Range::prefix(Address::v4([10, 0, 0, 0]), 24)?;
+    let remote = Range::prefix(Address::v4([10, 1, 0, 0]), 24)?;
+    let entry = Entry::protect(local, remote);
     let policy = Policy::new(Items::from_slice(rt.alloc(), &[entry])?)?;
     // A header of IPv4 alone, from 10.0.0.1 to 10.1.0.1.
     let packet = [

@@ -1,13 +1,11 @@
 //! What faults print, each of them once. The texts are those of the crates' documentation.
 use super::asserts::same;
-use association::MessageFault;
+use association::{MessageFault, OrderFault};
 use children::MemoryFault;
-use create_child::AskFault;
 use gateway::{Reason, RunFault};
 use gw_console::HexFault;
 use gw_engine::Stop;
 use ike::IkeFault;
-use informational::InformationalFault;
 use replay::ReplayFault;
 use std::alloc::Global;
 use std::fmt::Display;
@@ -209,44 +207,20 @@ fn faults_for_want_of_memory(rt: HostRuntime) {
 fn faults_of_orders(rt: HostRuntime) {
     for (fault, number, text) in [
         (
-            InformationalFault::WrongPhase,
+            OrderFault::WrongPhase,
             32,
             "E32: the association is in another phase",
         ),
         (
-            InformationalFault::Busy,
+            OrderFault::Busy,
             35,
             "E35: the peer's window is full, or the association is being deleted",
         ),
-        (
-            InformationalFault::NumbersSpent,
-            36,
-            "E36: the numbers are spent",
-        ),
-        (InformationalFault::Memory, 10, "E10: no memory"),
-    ] {
-        tells(&rt, rt.alloc(), fault.code(), number, fault, text);
-    }
-}
-
-#[test]
-fn faults_of_orders_for_a_child(rt: HostRuntime) {
-    for (fault, number, text) in [
-        (
-            AskFault::WrongPhase,
-            32,
-            "E32: the association is in another phase",
-        ),
-        (
-            AskFault::Busy,
-            35,
-            "E35: the peer's window is full, or the association is being deleted",
-        ),
-        (AskFault::NumbersSpent, 36, "E36: the numbers are spent"),
-        (AskFault::TableFull, 25, "E25: the table is full"),
-        (AskFault::SpisSpent, 26, "E26: the SPIs are spent"),
-        (AskFault::TableMemory, 27, "E27: no memory for the table"),
-        (AskFault::Memory, 10, "E10: no memory"),
+        (OrderFault::NumbersSpent, 36, "E36: the numbers are spent"),
+        (OrderFault::TableFull, 25, "E25: the table is full"),
+        (OrderFault::SpisSpent, 26, "E26: the SPIs are spent"),
+        (OrderFault::TableMemory, 27, "E27: no memory for the table"),
+        (OrderFault::Memory, 10, "E10: no memory"),
     ] {
         tells(&rt, rt.alloc(), fault.code(), number, fault, text);
     }

@@ -1,6 +1,5 @@
-use Rattle.exchange.specs.Children.{child_payloads}
+use Rattle.exchange.specs.Children.{child_payloads, answering_payloads}
 use Rattle.exchange.specs.declared.headers.Role.TheVariants.{Initiator, Responder}
-use Rattle.auth.specs.Answers.{answering_payloads}
 use Rattle.auth.proofs.LawLemmas.{message_fits}
 use Rattle.auth.proofs.laws.what_is_sent_fits.Goals as goal
 

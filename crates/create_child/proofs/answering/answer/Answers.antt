@@ -6,9 +6,9 @@ use Rattle.exchange.specs.Sealed.{IsSealed}
 use Rattle.requests.specs.Incoming.{IsFreshRequest, PeerRequests, TakesRequest}
 use Rattle.sadb.specs.declared.pair.Pair.{Pair}
 use Rattle.association.specs.declared.phase.Association.{Association}
-use Rattle.auth.specs.declared.child.ChildAnswer.{ChildAnswer}
-use Rattle.initial.specs.Answering.{reply_message}
-use Rattle.initial.specs.Concluding.{with_incoming}
+use Rattle.exchange.specs.declared.child.ChildAnswer.{ChildAnswer}
+use Rattle.association.specs.Sending.{reply_message}
+use Rattle.association.specs.Issuing.{with_incoming}
 use Rattle.further.specs.Answering.{further_answer, further_pair}
 use Rattle.create_child.specs.Answering.{ConcludesFurther}
 use Rattle.create_child.proofs.answering.answer.Goals as goal

@@ -8,9 +8,9 @@ use Rattle.sadb.specs.Database.{Database}
 use Rattle.association.specs.declared.phase.Association.{Association}
 use Rattle.association.specs.declared.purpose.Purpose.TheVariants.{CreateChild}
 use Rattle.children.specs.Asking.{child_request}
-use Rattle.initial.specs.Configs.{setup_of, Setup}
-use Rattle.initial.specs.Issuing.{new_request, IssuesNext}
-use Rattle.informational.specs.Asking.{request_message}
+use Rattle.setup.specs.Configs.{setup_of, Setup}
+use Rattle.association.specs.Issuing.{new_request, IssuesNext}
+use Rattle.association.specs.Sending.{request_message}
 use Rattle.further.specs.Payloads.{further_payloads}
 use Rattle.create_child.specs.Asking.{wanted}
 use Rattle.create_child.proofs.asking.ask.Goals as goal

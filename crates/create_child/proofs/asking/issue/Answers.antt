@@ -3,7 +3,7 @@ use Rattle.requests.specs.Outgoing.{IssuesRequest, OwnRequests}
 use Rattle.association.specs.declared.phase.Request.{Request}
 use Rattle.association.specs.declared.purpose.FurtherChild.{FurtherChild}
 use Rattle.association.specs.declared.purpose.Purpose.TheVariants.{CreateChild}
-use Rattle.initial.specs.Issuing.{new_request}
+use Rattle.association.specs.Issuing.{new_request}
 use Rattle.create_child.proofs.asking.issue.Goals as goal
 
 -- Making room changes no number.

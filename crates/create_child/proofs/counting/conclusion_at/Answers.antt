@@ -1,6 +1,6 @@
 use Rattle.std.proofs.Common.{ap, sym, ◌∙◌}
 use Rattle.std.specs.Option.{option_copied}
-use Rattle.initial.specs.Configs.{setup_of}
+use Rattle.setup.specs.Configs.{setup_of}
 use Rattle.create_child.proofs.CountingLemmas.{concluded_at}
 use Rattle.create_child.proofs.counting.conclusion_at.Goals as goal
 

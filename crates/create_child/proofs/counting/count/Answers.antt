@@ -3,7 +3,7 @@ use Rattle.association.specs.Purposes.{spi_asked}
 use Rattle.association.specs.declared.phase.Association.{Association}
 use Rattle.association.specs.declared.phase.Request.{Request}
 use Rattle.association.specs.declared.purpose.Purpose.TheVariants.{CreateChild}
-use Rattle.initial.specs.Concluding.{with_outgoing}
+use Rattle.association.specs.Issuing.{with_outgoing}
 use Rattle.create_child.specs.Counting.{EndsFurther}
 use Rattle.create_child.proofs.CountingLemmas.{given_back, same_request, same_spi}
 use Rattle.create_child.proofs.counting.count.Goals as goal

@@ -1,28 +1,28 @@
-use Rattle.std.proofs.Common.{rules, ◌≡◌, ◌<◌, ◌∙◌, List, length, refl, sym, ap, subst, arith}
+use Rattle.std.proofs.Common.{rules, ◌<◌, ◌∙◌, length, map, refl, sym, ap, subst, arith}
 use Rattle.std.specs.Prelude.{IfSome}
 use Rattle.base.specs.Octets.{Octets}
-use Rattle.esp.specs.declared.precomputed.Question.{Question}
 use Rattle.esp.specs.Precomputed.{AreQuestions, IsQuestion}
 use Rattle.gateway.specs.Groups.{packet_in, packets_in}
-use Rattle.gateway.proofs.GroupLemmas.{asked_more, none_asked, packet_at}
+use Rattle.gateway.specs.Inputs.{input_view}
+use Rattle.gateway.specs.declared.input.Input as lent
+use Rattle.gateway.proofs.GroupLemmas.{asked_more, none_asked, packet_at_place}
 use Rattle.gateway.proofs.ahead.questions_of.Goals as goal
 use Rattle.gateway.proofs.ahead.questions_of.Goals.{in-Esp, in_default}
 
 pub loop-place-init : goal.loop-place-init
-loop-place-init c = record { questions = none_asked (packets_in c.args.inputs.now) 64; long = refl }
+loop-place-init c = record { questions = none_asked (packets_in (map input_view c.args.inputs.now)) 64; long = refl }
 
 pub loop-place-preserved : goal.loop-place-preserved
 loop-place-preserved c =
     let i = c.loop-place.invariant in
     let h = c.loop-place-test.true in
-    let inputs = c.args.inputs.now in
+    let inputs = map input_view c.args.inputs.now in
     let place = c.loop-place.place in
-    let found = packet_at inputs place c.index-inputs-place.result h c.index-inputs-place.is in
     elim c.match-input.branch [
       | in-Esp w ↦
-          let same : w.as_slice.result.now ≡ packets_in inputs place = w.as_slice.ensures ∙ sym (ap packet_in w.in-Esp.is) ∙ sym found in
+          let found = packet_at_place c.args.inputs.now place _ h ∙ ap (λ (i : lent.Input). packet_in (input_view i)) w.in-Esp.is in
           let right : IfSome w.question.result (IsQuestion (packets_in inputs place)) =
-          subst (λ (b : Octets). IfSome w.question.result (IsQuestion b)) same w.question.ensures
+          subst (λ (b : Octets). IfSome w.question.result (IsQuestion b)) (sym found) w.question.ensures
           in
           let within : place < length c.loop-place.questions = omega arith in
           let more = asked_more (packets_in inputs) c.loop-place.questions place w.question.result within i.questions right in

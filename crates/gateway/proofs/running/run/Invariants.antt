@@ -1,7 +1,8 @@
-use Rattle.std.proofs.Common.{◌≡◌, ◌+◌, ◌*◌, ◌≤◌, length, min}
+use Rattle.std.proofs.Common.{◌≡◌, ◌+◌, ◌*◌, ◌≤◌, length, map, min}
 use Rattle.std.specs.Prelude.{vec_len}
 use Rattle.std.specs.Vec.{vec_capacity}
 use Rattle.gateway.specs.Groups.{TakesFirst}
+use Rattle.gateway.specs.Inputs.{input_view}
 use Rattle.gateway.proofs.running.run.Given as goal
 
 -- the groups so far were taken, and their outputs appended
@@ -19,7 +20,7 @@ invariant-loop-group g l = record {
         proof_of = g.C.Proof.proof_of caller;
         accepts = g.C.Proof.accepts caller;
       })
-      (min (64 * l.group) (length l.inputs)) l.inputs l.fn.gateway l.fn.outputs.items l.gateway l.outputs.items;
+      (min (64 * l.group) (length l.inputs)) (map input_view l.inputs) l.fn.gateway l.fn.outputs.items l.gateway l.outputs.items;
   length_now : vec_len l.outputs ≡ vec_len l.fn.outputs + min (64 * l.group) (length l.inputs);
   capacity : vec_capacity l.fn.outputs ≤ vec_capacity l.outputs;
 }

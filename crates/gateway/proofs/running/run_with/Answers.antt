@@ -1,17 +1,18 @@
-use Rattle.std.proofs.Common.{◌≡◌, ℕ, List, [], ◌∷◌, ◌++◌, length, sym, ◌∙◌, subst, arith}
+use Rattle.std.proofs.Common.{◌≡◌, ℕ, List, [], ◌∷◌, ◌++◌, length, map, sym, ◌∙◌, subst, arith}
+use Rattle.std.proofs.lemmas.List.{length-map}
 use Rattle.effects.specs.Taking.{Meaning}
 use Rattle.gateway.specs.Groups.{TakesFirst}
+use Rattle.gateway.specs.Inputs.{Input, input_view}
 use Rattle.gateway.specs.Runs.{Runs, StepsAs}
-use Rattle.gateway.specs.declared.input.Input.{Input}
 use Rattle.gateway.proofs.GroupLemmas.{value_for}
-use Rattle.gateway.proofs.RunLemmas.{pushed_after, run_more, take_next}
+use Rattle.gateway.proofs.RunLemmas.{next_in_image, pushed_after, run_more, take_next_image, within_image}
 use Rattle.gateway.proofs.running.run_with.Goals as goal
 
 pub returns-then-is_err-clause-first : goal.returns-then-is_err-clause-first
 returns-then-is_err-clause-first g c =
     let i = c.loop-done.invariant in
     record {
-      within = omega arith;
+      within = omega (arith, length-map c.args.inputs.now input_view);
       outputs = i.answers;
       appended = c.reserve.ensures.items ∙ i.appended;
       runs = i.runs;
@@ -19,7 +20,9 @@ returns-then-is_err-clause-first g c =
 
 pub step_ahead-output-requires : goal.step_ahead-output-requires
 step_ahead-output-requires g c =
-    value_for c.args.inputs.now c.args.ahead.now c.loop-done.done c.index-inputs-done.result c.value_at-value.result c.requires c.loop-done-test.true c.index-inputs-done.is c.value_at-value.ensures
+    let inputs = c.args.inputs.now in
+    value_for (map input_view inputs) c.args.ahead.now c.loop-done.done _ c.value_at-value.result c.requires (within_image input_view inputs c.loop-done.done c.loop-done-test.true)
+    (next_in_image input_view inputs c.loop-done.done _ c.loop-done-test.true) c.value_at-value.ensures
 
 pub loop-done-preserved : goal.loop-done-preserved
 loop-done-preserved g c =
@@ -36,13 +39,11 @@ loop-done-preserved g c =
       accepts = g.C.Proof.accepts caller;
     } in
     let o = c.step_ahead-output.result in
-    let input = c.index-inputs-done.result in
-    let more = take_next c.args.inputs.now c.loop-done.done input c.loop-done-test.true c.index-inputs-done.is in
     record {
       answers = i.answers ++ o ∷ [];
       appended = pushed_after c.args.outputs.now.items i.answers c.reserve.new.self.items c.push_reserved.new.self.items o c.push_reserved.ensures.items (c.reserve.ensures.items ∙ i.appended);
-      runs = subst (λ (is : List Input). Runs (StepsAs meaning_of) is (i.answers ++ o ∷ []) c.args.gateway.now c.step_ahead-output.new.self) (sym more)
-          (run_more (StepsAs meaning_of) c.args.gateway.now _ i.answers c.loop-done.gateway input o c.step_ahead-output.new.self i.runs (record { sound = record { machine = c.invariants_hold.ensures.machine; table = c.invariants_hold.ensures.table; timely = c.invariants_hold.ensures.timely; reservations = c.invariants_hold.ensures.reservations }; steps = c.step_ahead-output.ensures }));
+      runs = subst (λ (is : List Input). Runs (StepsAs meaning_of) is (i.answers ++ o ∷ []) c.args.gateway.now c.step_ahead-output.new.self) (sym (take_next_image input_view c.args.inputs.now c.loop-done.done _ c.loop-done-test.true))
+          (run_more (StepsAs meaning_of) c.args.gateway.now _ i.answers c.loop-done.gateway _ o c.step_ahead-output.new.self i.runs (record { sound = record { machine = c.invariants_hold.ensures.machine; table = c.invariants_hold.ensures.table; timely = c.invariants_hold.ensures.timely; reservations = c.invariants_hold.ensures.reservations }; steps = c.step_ahead-output.ensures }));
       length_now = omega (arith, c.push_reserved.ensures.len, c.reserve.ensures.len, i.length_now);
       capacity = omega (arith, i.capacity, c.reserve.ensures.capacity, c.push_reserved.ensures.capacity);
     }
@@ -64,9 +65,9 @@ returns-clause-first g c =
       accepts = g.C.Proof.accepts caller;
     } in
     let all : c.loop-done.done ≡ length c.args.inputs.now = omega arith in
-    subst (λ (k : ℕ). TakesFirst meaning_of k c.args.inputs.now c.args.gateway.now c.args.outputs.now.items c.loop-done.gateway c.loop-done.outputs.items) all
+    subst (λ (k : ℕ). TakesFirst meaning_of k (map input_view c.args.inputs.now) c.args.gateway.now c.args.outputs.now.items c.loop-done.gateway c.loop-done.outputs.items) all
     (record {
-      within = omega arith;
+      within = omega (arith, length-map c.args.inputs.now input_view);
       outputs = i.answers;
       appended = i.appended;
       runs = i.runs;

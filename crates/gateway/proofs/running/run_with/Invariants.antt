@@ -1,6 +1,7 @@
-use Rattle.std.proofs.Common.{◌≡◌, ◌++◌, ◌+◌, ◌≤◌, List, take}
+use Rattle.std.proofs.Common.{◌≡◌, ◌++◌, ◌+◌, ◌≤◌, List, map, take}
 use Rattle.std.specs.Prelude.{vec_len}
 use Rattle.std.specs.Vec.{vec_capacity}
+use Rattle.gateway.specs.Inputs.{input_view}
 use Rattle.gateway.specs.Runs.{Runs, StepsAs}
 use Rattle.gateway.specs.declared.output.Output.{Output}
 use Rattle.gateway.proofs.running.run_with.Given as goal
@@ -22,7 +23,7 @@ invariant-loop-done g l = record {
         proof_of = g.C.Proof.proof_of caller;
         accepts = g.C.Proof.accepts caller;
       }))
-      (take l.done l.inputs) answers l.fn.gateway l.gateway;
+      (take l.done (map input_view l.inputs)) answers l.fn.gateway l.gateway;
   length_now : vec_len l.outputs ≡ vec_len l.fn.outputs + l.done;
   capacity : vec_capacity l.fn.outputs ≤ vec_capacity l.outputs;
 }

@@ -1,7 +1,7 @@
 use Rattle.std.proofs.Common.{◌<◌, List, ap, length, refl, subst, sym, slice_set, ◌∙◌}
 use Rattle.std.proofs.lemmas.Option.{slice_get_read}
 use Rattle.association.specs.declared.phase.Association.{Association}
-use Rattle.informational.specs.Orders.{RefusesOrder}
+use Rattle.association.specs.Ordering.{RefusesOrder}
 use Rattle.ike.specs.Machines.{Held}
 use Rattle.ike.proofs.AskingLemmas.{err_and}
 use Rattle.ike.proofs.QuietLemmas.{put_back}

@@ -5,8 +5,8 @@ use Rattle.exchange.specs.Sealed.{IsSealed}
 use Rattle.requests.specs.Incoming.{TakesRequest}
 use Rattle.sadb.specs.Database.{Database}
 use Rattle.association.specs.declared.phase.Association.{Association}
-use Rattle.initial.specs.Answering.{reply_message}
-use Rattle.initial.specs.Concluding.{with_incoming}
+use Rattle.association.specs.Sending.{reply_message}
+use Rattle.association.specs.Issuing.{with_incoming}
 use Rattle.deletions.specs.Answering.{payloads_of_verdict}
 use Rattle.deletions.specs.Deciding.{is_closing_verdict}
 use Rattle.deletions.specs.declared.deciding.Verdict.{Verdict}

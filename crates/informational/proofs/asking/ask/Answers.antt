@@ -6,8 +6,8 @@ use Rattle.exchange.specs.Headers.{keys_of}
 use Rattle.exchange.specs.Sealed.{IsSealed}
 use Rattle.association.specs.declared.phase.Association.{Association}
 use Rattle.association.specs.declared.purpose.Purpose.{Purpose}
-use Rattle.initial.specs.Issuing.{new_request, IssuesNext}
-use Rattle.informational.specs.Asking.{request_message}
+use Rattle.association.specs.Issuing.{new_request, IssuesNext}
+use Rattle.association.specs.Sending.{request_message}
 use Rattle.informational.specs.Ordering.{payloads_of_order, purpose_of}
 use Rattle.informational.proofs.asking.ask.Goals as goal
 

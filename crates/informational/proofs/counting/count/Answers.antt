@@ -1,6 +1,6 @@
 use Rattle.std.proofs.Common.{◌≡◌, ◌||◌, ap, refl, subst, sym, ◌∙◌}
 use Rattle.association.specs.Purposes.{asks_to_end}
-use Rattle.initial.specs.Concluding.{with_outgoing}
+use Rattle.association.specs.Issuing.{with_outgoing}
 use Rattle.informational.specs.Counting.{gone_with, is_ended}
 use Rattle.informational.specs.Orders.{ClosesIf}
 use Rattle.informational.proofs.counting.count.Goals.{then-rejected, else-rejected}

@@ -1,7 +1,8 @@
 use Rattle.std.proofs.Common.{subst, ap, ◌∙◌}
 use Rattle.requests.specs.Incoming.{TakesRequest}
-use Rattle.initial.specs.Concluding.{is_closing, with_incoming, ConcludesBy}
-use Rattle.initial.specs.Configs.{setup_of}
+use Rattle.initial.specs.Concluding.{is_closing, ConcludesBy}
+use Rattle.association.specs.Issuing.{with_incoming}
+use Rattle.setup.specs.Configs.{setup_of}
 use Rattle.initial.proofs.answering.answer_auth.Goals as goal
 
 pub returns-clause-answered : goal.returns-clause-answered

@@ -1,5 +1,5 @@
 use Rattle.association.specs.declared.phase.Association.{Association}
-use Rattle.initial.specs.Concluding.{with_outgoing}
+use Rattle.association.specs.Issuing.{with_outgoing}
 use Rattle.initial.proofs.ConcludingLemmas.{can_end}
 use Rattle.initial.proofs.ending.end_auth.Goals as goal
 

@@ -2,7 +2,7 @@ use Rattle.std.proofs.Common.{ap, sym, ◌∙◌}
 use Rattle.exchange.specs.declared.headers.Role.TheVariants.{Responder}
 use Rattle.auth.specs.Answers.{is_accepted}
 use Rattle.auth.specs.Proofs.{proving_of}
-use Rattle.initial.specs.Configs.{setup_of}
+use Rattle.setup.specs.Configs.{setup_of}
 use Rattle.initial.proofs.ChildLemmas.{first_child}
 use Rattle.initial.proofs.ending.judge_payloads.Goals as goal
 

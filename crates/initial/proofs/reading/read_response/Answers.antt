@@ -7,11 +7,11 @@ use Rattle.exchange.specs.Sealed.{IsSealed}
 use Rattle.requests.specs.Outgoing.{number_0_answered}
 use Rattle.association.specs.declared.phase.Association.{Association}
 use Rattle.association.specs.declared.phase.Phase.TheVariants as phase
-use Rattle.initial.specs.Configs.{setup_of}
+use Rattle.setup.specs.Configs.{setup_of}
 use Rattle.sa_init.specs.Reading.{IsResponse}
 use Rattle.sa_init.specs.declared.response.Response.TheVariants as response
 use Rattle.association.specs.declared.purpose.Purpose.TheVariants.{Identify}
-use Rattle.initial.specs.Issuing.{new_request, IssuesNext}
+use Rattle.association.specs.Issuing.{new_request, IssuesNext}
 use Rattle.initial.specs.Reading.{identity_message, telling, waiting_of}
 use Rattle.initial.proofs.reading.read_response.Goals as goal
 

@@ -4,7 +4,7 @@ use super::{Side, agreed_twice, established, sent};
 use crate::tests::asserts::{add, holds, same};
 use base::Items;
 use gateway::End;
-use ike::{Demand, IkeInput};
+use ike::IkeInput;
 use std::alloc::Global;
 use std::panic::Expect;
 use std::process::Abort;
@@ -105,13 +105,8 @@ fn of_another_association(rt: HostRuntime) {
 }
 
 /// B asks something, which goes out as its first request.
-fn ask(rt: &impl Abort, alloc: Global, b: &mut Side, what: Demand) -> Items<u8> {
-    let fresh = fresh(41);
-    let order = IkeInput::Order {
-        what,
-        fresh: &fresh,
-    };
-    sent(rt, b.step(rt, alloc, &order))
+fn ask(rt: &impl Abort, alloc: Global, b: &mut Side, order: &IkeInput<'_>) -> Items<u8> {
+    sent(rt, b.step(rt, alloc, order))
 }
 
 /// INVALID_SYNTAX in an answer closes, whatever was asked.
@@ -119,7 +114,12 @@ fn ask(rt: &impl Abort, alloc: Global, b: &mut Side, what: Demand) -> Items<u8> 
 fn told_bad_syntax(rt: HostRuntime) {
     let alloc = rt.alloc();
     let mut b = established(&rt, alloc);
-    ask(&rt, alloc, &mut b, Demand::Probe { ike: 1 });
+    let fresh = fresh(41);
+    let order = IkeInput::Probe {
+        ike: 1,
+        fresh: &fresh,
+    };
+    ask(&rt, alloc, &mut b, &order);
     let notice = Sent {
         exchange: INFORMATIONAL,
         number: 0,
@@ -135,7 +135,12 @@ fn told_bad_syntax(rt: HostRuntime) {
 fn answered_out_of_the_grammar(rt: HostRuntime) {
     let alloc = rt.alloc();
     let mut b = established(&rt, alloc);
-    ask(&rt, alloc, &mut b, Demand::DeleteChild { child: 1 });
+    let fresh = fresh(41);
+    let order = IkeInput::DeleteChild {
+        child: 1,
+        fresh: &fresh,
+    };
+    ask(&rt, alloc, &mut b, &order);
     holds(&rt, b.table.after(0).is_some());
     let said = counted(&rt, alloc, &mut b, delete(0), &[0, 0, 0]);
     same(&rt, said, Some((None, false)));

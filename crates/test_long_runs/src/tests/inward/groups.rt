@@ -4,10 +4,10 @@ use super::arrivals::Sender;
 use crate::tests::random::Random;
 use base::Items;
 use caller_script::ScriptCaller;
-use gateway::{Gateway, Input, Output, run};
+use gateway::{Gateway, Output, run};
 use std::alloc::Global;
 use std::process::Abort;
-use test_samples::{Both, further, message, sent};
+use test_samples::{Both, OwnedInput, further, lend_inputs, message, sent};
 
 /// The longest list.
 const LONGEST: u64 = 70;
@@ -53,22 +53,23 @@ impl Twins {
         let reply = sent(&mut self.listed, alloc, &asked);
         sent(&mut self.stepped, alloc, &asked);
         let answered = message(alloc, &reply, 20).expect(rt, "memory");
-        self.sender.gateway().step(alloc, &answered);
+        self.sender.gateway().step(alloc, &answered.lend());
     }
 
-    fn inputs(&mut self, rt: &impl Abort, alloc: Global, count: u64) -> Vec<Input> {
+    fn inputs(&mut self, rt: &impl Abort, alloc: Global, count: u64) -> Vec<OwnedInput> {
         let mut inputs = Vec::new(alloc);
         for _ in 0..count {
             let arrival = self.sender.next(rt, alloc, &mut self.random);
             let octets = Items::from_vec(arrival.octets);
-            inputs.push(Input::Esp { octets }).expect(rt, "memory");
+            inputs.push(OwnedInput::Esp { octets }).expect(rt, "memory");
         }
         inputs
     }
 
     /// Gives the next list to both.
     fn compare(&mut self, rt: &impl Abort, alloc: Global, count: u64, compared: &mut Compared) {
-        let inputs = self.inputs(rt, alloc, count);
+        let owned = self.inputs(rt, alloc, count);
+        let inputs = lend_inputs(alloc, &owned).expect(rt, "memory");
         let mut outputs = Vec::new(alloc);
         run(alloc, &mut self.listed, &inputs, &mut outputs).expect(rt, "room for the outputs");
         let mut before = None;

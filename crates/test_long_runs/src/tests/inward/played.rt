@@ -4,10 +4,10 @@ use super::plain_rule::{Judged, Wanted};
 use crate::tests::random::Random;
 use base::Items;
 use caller_script::ScriptCaller;
-use gateway::{Gateway, Input, Output, run};
+use gateway::{Gateway, Output, run};
 use std::alloc::Global;
 use std::process::Abort;
-use test_samples::{Both, inner, message, probe, sent};
+use test_samples::{Both, OwnedInput, inner, lend_inputs, message, probe, sent};
 
 /// How many lists there are, and how many inputs each has.
 const LISTS: u64 = 400;
@@ -82,7 +82,7 @@ struct Ends {
 /// A list of inputs to B, and what is wanted of each.
 #[derive(Drop)]
 struct Given {
-    inputs: Vec<Input>,
+    inputs: Vec<OwnedInput>,
     wanted: Vec<Wanted>,
 }
 
@@ -94,7 +94,7 @@ impl Given {
         }
     }
 
-    fn add(&mut self, rt: &impl Abort, input: Input, wanted: Wanted) {
+    fn add(&mut self, rt: &impl Abort, input: OwnedInput, wanted: Wanted) {
         self.inputs.push(input).expect(rt, "memory");
         self.wanted.push(wanted).expect(rt, "memory");
     }
@@ -144,7 +144,7 @@ impl Ends {
         let asked = message(alloc, &request, 20).expect(rt, "memory");
         let reply = sent(&mut self.b, alloc, &asked);
         let answered = message(alloc, &reply, 20).expect(rt, "memory");
-        self.sender.gateway().step(alloc, &answered);
+        self.sender.gateway().step(alloc, &answered.lend());
         self.exchanges
             .push(Exchange { request, reply })
             .expect(rt, "memory");
@@ -185,7 +185,7 @@ impl Ends {
         let arrival = self.sender.next(rt, alloc, &mut self.random);
         let wanted = self.judged.answer(rt, &arrival.octets, arrival.sent);
         let octets = Items::from_vec(arrival.octets);
-        given.add(rt, Input::Esp { octets }, wanted);
+        given.add(rt, OwnedInput::Esp { octets }, wanted);
     }
 
     /// The next list.
@@ -209,7 +209,7 @@ impl Ends {
     /// Gives B one input after the other. The place of the first output that is another than is wanted.
     fn first_wrong_step(&mut self, alloc: Global, given: &Given) -> Option<usize> {
         for (place, (input, wanted)) in given.inputs.iter().zip(&given.wanted).enumerate() {
-            if !is_wanted(&self.b.step(alloc, input), *wanted, &[]) {
+            if !is_wanted(&self.b.step(alloc, &input.lend()), *wanted, &[]) {
                 return Some(place);
             }
         }
@@ -218,8 +218,9 @@ impl Ends {
 
     /// Gives B a list. The place of the first output that is another than is wanted.
     fn run(&mut self, rt: &impl Abort, alloc: Global, given: &Given) -> Option<usize> {
+        let lent = lend_inputs(alloc, &given.inputs).expect(rt, "memory");
         let mut outputs = Vec::new(alloc);
-        run(alloc, &mut self.b, &given.inputs, &mut outputs).expect(rt, "room for the outputs");
+        run(alloc, &mut self.b, &lent, &mut outputs).expect(rt, "room for the outputs");
         first_wrong(&outputs, &given.wanted, self.last_reply())
     }
 

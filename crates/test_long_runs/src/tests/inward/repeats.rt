@@ -1,9 +1,9 @@
 //! A request of A that comes to B again and again.
 use base::Items;
-use gateway::{Input, Output, run};
+use gateway::{Output, run};
 use std::alloc::Global;
 use std::process::Abort;
-use test_samples::{Both, message, probe, sent};
+use test_samples::{Both, OwnedInput, lend_inputs, message, probe, sent};
 
 /// Both ends after A asked B whether it is there; the request, and its answer.
 #[derive(Drop)]
@@ -47,14 +47,15 @@ impl Asked {
 
     /// The request comes so many times more by one list. How many outputs are its answer again.
     pub fn repeat(&mut self, rt: &impl Abort, alloc: Global, times: u64) -> usize {
-        let inputs = self.repeated(rt, alloc, times);
+        let owned = self.repeated(rt, alloc, times);
+        let inputs = lend_inputs(alloc, &owned).expect(rt, "memory");
         let mut outputs = Vec::new(alloc);
         run(alloc, &mut self.both.b, &inputs, &mut outputs).expect(rt, "room for the outputs");
         repeats(&outputs, &self.reply)
     }
 
     /// The request, so many times.
-    fn repeated(&self, rt: &impl Abort, alloc: Global, times: u64) -> Vec<Input> {
+    fn repeated(&self, rt: &impl Abort, alloc: Global, times: u64) -> Vec<OwnedInput> {
         let mut inputs = Vec::new(alloc);
         for _ in 0..times {
             let again = message(alloc, &self.request, 20).expect(rt, "memory");
@@ -78,9 +79,9 @@ impl Asked {
     }
 
     /// A's next request, once its last one is answered.
-    fn next_request(&mut self, rt: &impl Abort, alloc: Global) -> Input {
+    fn next_request(&mut self, rt: &impl Abort, alloc: Global) -> OwnedInput {
         let answered = message(alloc, &self.reply, 20).expect(rt, "memory");
-        self.both.a.step(alloc, &answered);
+        self.both.a.step(alloc, &answered.lend());
         let request = sent(&mut self.both.a, alloc, &probe(1));
         message(alloc, &request, 20).expect(rt, "memory")
     }
@@ -100,11 +101,11 @@ fn repeats(outputs: &[Output<'_>], reply: &[u8]) -> usize {
 }
 
 /// A packet from 10.1.0.1 to 10.0.0.1 on its way out at B.
-fn packet_back(rt: &impl Abort, alloc: Global) -> Input {
+fn packet_back(rt: &impl Abort, alloc: Global) -> OwnedInput {
     let packet = [
         0x45, 0, 0, 20, 0, 0, 0, 0, 0x40, 1, 0, 0, 10, 1, 0, 1, 10, 0, 0, 1,
     ];
-    Input::Outward {
+    OwnedInput::Outward {
         packet: Items::from_slice(alloc, &packet).expect(rt, "memory"),
     }
 }

@@ -76,7 +76,7 @@ fn gateway(alloc: Global, end: End) -> Result<Gateway<ScriptCaller>, Fail> {
 }
 
 /// The octets that a step sends; none where it sends nothing.
-fn sent(gateway: &mut Gateway<ScriptCaller>, alloc: Global, input: &Input) -> Vec<u8> {
+fn sent(gateway: &mut Gateway<ScriptCaller>, alloc: Global, input: &Input<'_>) -> Vec<u8> {
     match gateway.step(alloc, input) {
         Output::Reply { octets, .. } | Output::Repeat { octets } | Output::Request { octets, .. } =>
             octets.into_vec(),
@@ -109,7 +109,7 @@ impl Ends {
     }
 
     /// An end takes an order, and its octets are sent; none where it refuses.
-    pub fn order(&mut self, alloc: Global, end: End, order: &Input) -> Vec<u8> {
+    pub fn order(&mut self, alloc: Global, end: End, order: &Input<'_>) -> Vec<u8> {
         match end {
             End::A => sent(&mut self.a, alloc, order),
             End::B => sent(&mut self.b, alloc, order),
@@ -126,8 +126,8 @@ impl Ends {
             }
             let message = Input::Ike {
                 from: [192, 0, 2, 9],
-                octets: Items::from_slice(alloc, &next)?,
-                fresh: self.fresh(),
+                octets: &next,
+                fresh: &self.fresh(),
             };
             next = self.order(alloc, to, &message);
             to = to.other();

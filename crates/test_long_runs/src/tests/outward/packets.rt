@@ -1,14 +1,10 @@
 //! Packets on their way out from A, of mixed flows.
 use crate::tests::random::Random;
-use base::Items;
-use gateway::Input;
-use std::alloc::{AllocError, Global};
 
 /// The next packet: of a few flows that come often, or of any of some hundred thousand.
-pub fn next_packet(alloc: Global, random: &mut Random) -> Result<Input, AllocError> {
+pub fn next_packet(random: &mut Random) -> [u8; 28] {
     let few = random.below(2) == 0;
-    let packet = Items::from_slice(alloc, &octets(few, random))?;
-    Ok(Input::Outward { packet })
+    octets(few, random)
 }
 
 /// An IPv4 packet of eight octets behind its header. It goes to a network that is protected, to one that is bypassed, or to neither.

@@ -3,7 +3,6 @@ use super::ends::{Ends, PROTECTING, policy};
 use super::packets::next_packet;
 use super::wanted::{Wanted, wanted_of};
 use crate::tests::random::Random;
-use base::Items;
 use flows::{Treatment, look_up};
 use gateway::{End, Input, Output};
 use policy::{Policy, inner};
@@ -93,7 +92,7 @@ impl Game {
         let order = Input::Start {
             ike: None,
             entry: 3,
-            fresh: self.ends.fresh(),
+            fresh: &self.ends.fresh(),
         };
         let octets = self.ends.order(alloc, End::A, &order);
         self.ends.deliver(alloc, &octets, End::B)
@@ -101,12 +100,10 @@ impl Game {
 
     /// A packet goes out, and what comes of it is what a gateway gives that looks each flow up.
     fn send(&mut self, alloc: Global, place: usize) -> Result<(), AllocError> {
-        let input = next_packet(alloc, &mut self.random)?;
-        let Input::Outward { packet } = &input else {
-            return Ok(());
-        };
-        let wanted = self.wanted(alloc, packet.as_slice())?;
-        let is_wanted = wanted.is(&self.ends.a.step(alloc, &input), packet.as_slice());
+        let packet = next_packet(&mut self.random);
+        let wanted = self.wanted(alloc, &packet)?;
+        let input = Input::Outward { packet: &packet };
+        let is_wanted = wanted.is(&self.ends.a.step(alloc, &input), &packet);
         if !is_wanted && self.played.first_wrong.is_none() {
             self.played.first_wrong = Some(place);
         }
@@ -167,7 +164,7 @@ impl Game {
         let order = Input::Start {
             ike: self.ends.association(end),
             entry: self.random.small(PROTECTING),
-            fresh: self.ends.fresh(),
+            fresh: &self.ends.fresh(),
         };
         let octets = self.ends.order(alloc, end, &order);
         self.played.made = self.played.made.saturating_add(1);
@@ -192,7 +189,7 @@ impl Game {
         self.answer(alloc)?;
         let order = Input::DeleteChild {
             child: self.some_child(End::A),
-            fresh: self.ends.fresh(),
+            fresh: &self.ends.fresh(),
         };
         let octets = self.ends.order(alloc, End::A, &order);
         if !octets.is_empty() {
@@ -213,7 +210,7 @@ impl Game {
     fn remove(&mut self, alloc: Global) -> Result<(), AllocError> {
         let order = Input::DeleteChild {
             child: self.some_child(End::B),
-            fresh: self.ends.fresh(),
+            fresh: &self.ends.fresh(),
         };
         let octets = self.ends.order(alloc, End::B, &order);
         self.played.removed = self.played.removed.saturating_add(1);
@@ -228,8 +225,8 @@ impl Game {
         self.ends.a.step(alloc, &tick);
         let noise = Input::Ike {
             from: [192, 0, 2, 7],
-            octets: Items::from_slice(alloc, &[self.random.octet(); 40])?,
-            fresh: self.ends.fresh(),
+            octets: &[self.random.octet(); 40],
+            fresh: &self.ends.fresh(),
         };
         self.ends.a.step(alloc, &noise);
         Ok(())

@@ -1,6 +1,6 @@
 //! What a plain program writes down of a world: which packet was sealed under which number, which went up, and how many requests were
 //! issued under which keys.
-use gateway::{Child, Datagram, End, Mark, Simplex};
+use gateway::{Child, Datagram, End, Protection, Simplex};
 use std::alloc::{AllocError, Global};
 use std::collections::{BTreeMap, BTreeSet};
 use suite::KeyRecord;
@@ -68,7 +68,7 @@ impl Book {
     /// A datagram was sent.
     pub fn send(&mut self, datagram: &Datagram) -> Result<(), AllocError> {
         match &datagram.mark {
-            Mark::Ike {
+            Protection::Ike {
                 keys,
                 response: false,
                 number,

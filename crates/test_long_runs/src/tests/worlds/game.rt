@@ -9,10 +9,10 @@ use crate::tests::random::Random;
 use association::Phase;
 use base::Items;
 use caller_script::ScriptCaller;
-use gateway::{End, Event, Gateway, Input, Mark, Output, World, run_world};
+use gateway::{End, Gateway, Output, Protection, World, run_world};
 use std::alloc::{AllocError, Global};
 use std::test::Fail;
-use test_samples::{SampleFault, config, fresh, order, policy};
+use test_samples::{OwnedEvent, OwnedInput, SampleFault, config, fresh, order, policy};
 
 /// What is wrong after an event.
 #[derive(Clone, Copy, Debug, PartialEq, Eq)]
@@ -137,10 +137,10 @@ impl Game {
 
     /// One event, and what is to be found after it.
     fn turn(&mut self, alloc: Global, place: usize) -> Result<(), Fail> {
-        let event = [self.event(alloc)?];
+        let event = self.event(alloc)?;
         let mut outputs = Vec::new(alloc);
-        run_world(alloc, &mut self.world, &event, &mut outputs)?;
-        for (output, event) in outputs.iter().zip(&event) {
+        run_world(alloc, &mut self.world, &[event.lend()], &mut outputs)?;
+        for output in &outputs {
             self.note(output, event.end, place)?;
         }
         self.look(place)?;
@@ -230,7 +230,7 @@ impl Game {
     }
 
     /// The next event.
-    fn event(&mut self, alloc: Global) -> Result<Event, AllocError> {
+    fn event(&mut self, alloc: Global) -> Result<OwnedEvent, AllocError> {
         let end = if self.random.below(2) == 0 {
             End::A
         } else {
@@ -251,7 +251,7 @@ impl Game {
     }
 
     /// The next datagram that was sent comes to the other end; where there is none, a packet goes out.
-    fn deliver_next(&mut self, alloc: Global) -> Result<Event, AllocError> {
+    fn deliver_next(&mut self, alloc: Global) -> Result<OwnedEvent, AllocError> {
         let place = self.next;
         if place >= self.world.datagrams().len() {
             return self.send_packet(alloc, End::A);
@@ -262,7 +262,7 @@ impl Game {
     }
 
     /// One of the last forty comes, for the first time or again, one in four damaged, and one in eight to its own sender.
-    fn deliver_late(&mut self, alloc: Global) -> Result<Event, AllocError> {
+    fn deliver_late(&mut self, alloc: Global) -> Result<OwnedEvent, AllocError> {
         let back = self.random.below(40) as usize;
         let last = self.world.datagrams().len().saturating_sub(1);
         let place = last.saturating_sub(back);
@@ -292,7 +292,7 @@ impl Game {
     }
 
     /// These octets come as the datagram of this place does.
-    fn delivery(&mut self, place: usize, octets: Vec<u8>, is_reflected: bool) -> Event {
+    fn delivery(&mut self, place: usize, octets: Vec<u8>, is_reflected: bool) -> OwnedEvent {
         let octets = Items::from_vec(octets);
         let fresh = fresh(self.next_spi());
         match self.world.datagrams().get(place) {
@@ -303,36 +303,36 @@ impl Game {
                     datagram.end.other()
                 };
                 let input = match &datagram.mark {
-                    Mark::Esp { .. } => Input::Esp { octets },
-                    _ => Input::Ike {
+                    Protection::Esp { .. } => OwnedInput::Esp { octets },
+                    _ => OwnedInput::Ike {
                         from: [192, 0, 2, 9],
                         octets,
                         fresh,
                     },
                 };
-                Event { end, input }
+                OwnedEvent { end, input }
             }
-            None => Event {
+            None => OwnedEvent {
                 end: End::A,
-                input: Input::Esp { octets },
+                input: OwnedInput::Esp { octets },
             },
         }
     }
 
-    fn send_packet(&mut self, alloc: Global, end: End) -> Result<Event, AllocError> {
+    fn send_packet(&mut self, alloc: Global, end: End) -> Result<OwnedEvent, AllocError> {
         self.packets = self.packets.saturating_add(1);
         let packet = Items::from_slice(alloc, &carried(end, self.packets))?;
-        Ok(Event {
+        Ok(OwnedEvent {
             end,
-            input: Input::Outward { packet },
+            input: OwnedInput::Outward { packet },
         })
     }
 
-    fn tick(&mut self, end: End) -> Event {
+    fn tick(&mut self, end: End) -> OwnedEvent {
         self.moment = self.moment.saturating_add(self.random.below(400));
-        Event {
+        OwnedEvent {
             end,
-            input: Input::Tick {
+            input: OwnedInput::Tick {
                 moment: self.moment,
             },
         }
@@ -344,28 +344,28 @@ impl Game {
     }
 
     /// An order: for an association where none stands, and now and then beside one; else mostly to ask whether the other end is there.
-    fn order(&mut self, end: End) -> Event {
+    fn order(&mut self, end: End) -> OwnedEvent {
         let spi = self.next_spi();
         if !self.is_connected(end) || self.random.below(300) == 0 {
             let input = order(spi);
-            return Event { end, input };
+            return OwnedEvent { end, input };
         }
         let ike = self.some_association(end);
         let fresh = fresh(spi);
         let input = match self.random.below(100) {
-            0..=9 => Input::Start {
+            0..=9 => OwnedInput::Start {
                 ike: Some(ike),
                 entry: 0,
                 fresh,
             },
-            10..=15 => Input::DeleteChild {
+            10..=15 => OwnedInput::DeleteChild {
                 child: self.some_child(end),
                 fresh,
             },
-            16 => Input::DeleteIke { ike, fresh },
-            _ => Input::Probe { ike, fresh },
+            16 => OwnedInput::DeleteIke { ike, fresh },
+            _ => OwnedInput::Probe { ike, fresh },
         };
-        Event { end, input }
+        OwnedEvent { end, input }
     }
 
     /// Whether an end has an association that is established.

@@ -2,9 +2,9 @@ ghost use Rattle.auth.specs.Windows.{IsWindow};
 
 use super::parts::{are_of_types, auth, child, critical, has_proof, identity};
 use crate::tests::asserts::{granted, same};
-use auth::{ChildAnswer, Proving, answer, is_accepted};
+use auth::{Proving, answer, is_accepted};
 use caller_script::ScriptCaller;
-use exchange::Notice;
+use exchange::{ChildAnswer, Notice};
 use std::alloc::Global;
 use std::process::Abort;
 use wire::Payload;

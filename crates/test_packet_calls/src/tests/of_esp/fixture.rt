@@ -3,7 +3,7 @@ ghost use Rattle.std.specs.Prelude.{◌≡◌, ◌≤◌, IsTrue, ◌↔◌, All
 ghost use Rattle.byteorder.specs.Endian.{big_bytes};
 
 use crate::tests::asserts::same;
-use esp::{Answer, EspFault, Inbound, ListFault, Opened, Outbound};
+use esp::{EspFault, Inbound, ListFault, ListStop, Opened, Outbound};
 use replay::PlainWindow;
 use std::alloc::{AllocError, Global};
 use std::process::Abort;
@@ -89,12 +89,12 @@ impl Receiver {
         self.opens(rt, packet, number, IPV4, &inner());
     }
 
-    pub fn open_all(
+    pub fn open_all<'a>(
         &mut self,
         rt: &impl Abort,
-        packets: &[Vec<u8>],
-        out: &mut Vec<Answer>,
-    ) -> Result<(), ListFault> {
+        packets: &[&'a [u8]],
+        out: &mut Vec<Result<Opened<'a>, EspFault>>,
+    ) -> Result<(), ListStop<ListFault>> {
         assert!(rt; are_ours(packets));
         self.inbound.open_all(packets, out)
     }
@@ -108,10 +108,19 @@ fn is_ours(packet: &[u8]) -> bool
 }
 
 /// Whether each of the packets does.
-fn are_ours(packets: &[Vec<u8>]) -> bool
-    ensures { IsTrue result → All (λ p. 4 ≤ length p.items → take 4 p.items ≡ big_bytes 4 256) packets.now }
+fn are_ours(packets: &[&[u8]]) -> bool
+    ensures { IsTrue result → All (λ p. 4 ≤ length p.now → take 4 p.now ≡ big_bytes 4 256) packets.now }
 {
     packets.iter().all(|packet| is_ours(packet))
+}
+
+/// The octets of each packet.
+pub fn slices(alloc: Global, packets: &[Vec<u8>]) -> Result<Vec<&[u8]>, AllocError> {
+    let mut slices = Vec::with_capacity(alloc, packets.len())?;
+    for packet in packets {
+        slices.push(packet.as_slice())?;
+    }
+    Ok(slices)
 }
 
 /// A packet of the SPI with this low half and these octets up to the next header. Its check value is right over them and

@@ -1,6 +1,6 @@
-use super::fixture::{Receiver, damaged, packet, sealed, sender};
+use super::fixture::{Receiver, damaged, inner, packet, sealed, sender, slices};
 use crate::tests::asserts::{granted, holds, same};
-use esp::{Answer, EspFault};
+use esp::{EspFault, Opened};
 use std::alloc::Global;
 use std::process::Abort;
 
@@ -43,14 +43,13 @@ fn packets(rt: &impl Abort, alloc: Global) -> Vec<Vec<u8>> {
     packets
 }
 
-/// The answer to a packet whose payload begins behind its SPI and its number.
-fn up(number: u64, next: u8, length: usize) -> Answer {
-    Answer::Up {
+/// The answer to a packet that carries a payload.
+fn up(number: u64, next: u8, payload: &[u8]) -> Result<Opened<'_>, EspFault> {
+    Ok(Opened {
         number,
         next,
-        start: 8,
-        length,
-    }
+        payload,
+    })
 }
 
 #[test]
@@ -58,24 +57,25 @@ fn answers_each_packet_in_order(rt: HostRuntime) {
     let alloc = rt.alloc();
     let mut receiver = Receiver::new(alloc, false);
     let packets = packets(&rt, alloc);
-    let mut out = granted(&rt, vec![in alloc; Answer::Refused(EspFault::Memory)]);
+    let slices = granted(&rt, slices(alloc, &packets));
+    let mut out = granted(&rt, vec![in alloc; Err(EspFault::Memory)]);
     receiver
-        .open_all(&rt, &packets, &mut out)
+        .open_all(&rt, &slices, &mut out)
         .expect(&rt, "answers");
     same(
         &rt,
         out.as_slice(),
         [
-            Answer::Refused(EspFault::Memory),
-            up(7, 4, 20),
-            Answer::Refused(EspFault::Replayed),
-            Answer::Refused(EspFault::BadIcv),
-            up(100, 59, 0),
-            Answer::Refused(EspFault::BadPadding),
-            Answer::Refused(EspFault::BadNumber),
-            Answer::Refused(EspFault::Old),
-            Answer::Refused(EspFault::BadLength),
-            up(38, 41, 6),
+            Err(EspFault::Memory),
+            up(7, 4, &inner()),
+            Err(EspFault::Replayed),
+            Err(EspFault::BadIcv),
+            up(100, 59, b""),
+            Err(EspFault::BadPadding),
+            Err(EspFault::BadNumber),
+            Err(EspFault::Old),
+            Err(EspFault::BadLength),
+            up(38, 41, b"abcdef"),
         ]
         .as_slice(),
     );
@@ -94,7 +94,8 @@ fn answers_no_packet(rt: HostRuntime) {
 fn goes_on_with_the_next_list(rt: HostRuntime) {
     let alloc = rt.alloc();
     let mut receiver = Receiver::new(alloc, false);
-    let packets = [sealed(&rt, alloc, sender(6), 7)];
+    let packet = sealed(&rt, alloc, sender(6), 7);
+    let packets = [packet.as_slice()];
     let mut out = Vec::new(alloc);
     receiver
         .open_all(&rt, &packets, &mut out)
@@ -105,6 +106,6 @@ fn goes_on_with_the_next_list(rt: HostRuntime) {
     same(
         &rt,
         out.as_slice(),
-        [up(7, 4, 20), Answer::Refused(EspFault::Replayed)].as_slice(),
+        [up(7, 4, &inner()), Err(EspFault::Replayed)].as_slice(),
     );
 }

@@ -1,8 +1,8 @@
 //! Runs that pass whether an allocation fails or not: what was refused for want of memory left everything as it was. Each is
 //! to be run with every allocation failing in turn.
-use super::fixture::{IPV4, Receiver, damaged, first, inner, packet, sender};
+use super::fixture::{IPV4, Receiver, damaged, first, inner, packet, sender, slices};
 use crate::tests::asserts::{holds, same};
-use esp::{Answer, EspFault, ListFault};
+use esp::{EspFault, Opened};
 use std::alloc::{AllocError, Global};
 
 #[test]
@@ -80,26 +80,29 @@ fn a_list_without_memory(rt: HostRuntime) {
     let Ok(packets) = packets(rt.alloc()) else {
         return;
     };
+    let Ok(slices) = slices(rt.alloc(), &packets) else {
+        return;
+    };
     let mut receiver = Receiver::new(rt.alloc(), false);
     let mut out = Vec::new(rt.alloc());
-    if let Err(ListFault::NoRoom(done)) = receiver.open_all(&rt, &packets, &mut out) {
-        same(&rt, out.len(), done);
-        assert!(rt; done < 5);
-        assert!(rt; done <= packets.len());
-        let rest = receiver.open_all(&rt, &packets[done..], &mut out);
+    if let Err(stop) = receiver.open_all(&rt, &slices, &mut out) {
+        same(&rt, out.len(), stop.done);
+        assert!(rt; stop.done < 5);
+        assert!(rt; stop.done <= slices.len());
+        let rest = receiver.open_all(&rt, &slices[stop.done..], &mut out);
         same(&rt, rest, Ok(()));
     }
     assert!(rt; out.len() == 5);
     let mut wanted = [
         up(1),
-        Answer::Refused(EspFault::BadIcv),
-        Answer::Refused(EspFault::Replayed),
-        Answer::Refused(EspFault::BadPadding),
+        Err(EspFault::BadIcv),
+        Err(EspFault::Replayed),
+        Err(EspFault::BadPadding),
         up(2),
     ];
     // Of the first packet's two deliveries the second is then the first that counts.
-    if out[0] == Answer::Refused(EspFault::Memory) {
-        wanted[0] = out[0];
+    if out[0] == Err(EspFault::Memory) {
+        wanted[0] = Err(EspFault::Memory);
         wanted[2] = up(1);
     }
     same(&rt, out.as_slice(), wanted.as_slice());
@@ -113,11 +116,10 @@ fn a_list_without_memory(rt: HostRuntime) {
 }
 
 /// The answer to a packet with this number that carries no octet.
-fn up(number: u64) -> Answer {
-    Answer::Up {
+fn up(number: u64) -> Result<Opened<'static>, EspFault> {
+    Ok(Opened {
         number,
         next: IPV4,
-        start: 8,
-        length: 0,
-    }
+        payload: b"",
+    })
 }

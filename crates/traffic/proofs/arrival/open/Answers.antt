@@ -1,7 +1,7 @@
 use Rattle.std.proofs.Common.{◌∙◌, ap, sym, subst, inr, inl, Ok}
 use Rattle.traffic.specs.Receiving.{IsRejected, IsUnopened, IsVerdictAt}
 use Rattle.traffic.specs.Verdicts.{verdict_of}
-use Rattle.traffic.proofs.ReceivingLemmas.{addressed_still, not_opened, opened_so, passed_on}
+use Rattle.traffic.proofs.ReceivingLemmas.{pair_stays, not_opened, opened_so, passed_on}
 use Rattle.traffic.proofs.arrival.open.Goals as goal
 
 pub returns-in_err-opened : goal.returns-in_err-opened
@@ -14,7 +14,7 @@ returns-in_err-opened c =
 
 pub carried-requires : goal.carried-requires
 carried-requires c =
-    addressed_still c.args.table.now c.in_ok-child.field-0.now c.args.packet.now _ _ _ c.open_ahead.new.self c.in_ok-child.ensures.found c.in_ok-opened.ensures.up
+    pair_stays c.args.table.now c.in_ok-child.field-0.now c.args.packet.now _ _ _ c.open_ahead.new.self c.in_ok-child.ensures.found c.in_ok-opened.ensures.up
 
 pub returns-in_err-packet : goal.returns-in_err-packet
 returns-in_err-packet c =
@@ -25,20 +25,20 @@ returns-in_err-packet c =
       number = c.in_ok-opened.opened.number;
       opened = opened_so c.args.table.now c.in_ok-child.field-0.now c.args.packet.now _ c.in_ok-opened.opened.next c.in_ok-opened.opened.payload.now c.open_ahead.new.self _
           c.in_ok-child.ensures.found c.in_ok-opened.ensures.up
-          (subst (λ r. IsVerdictAt c.open_ahead.new.self c.args.packet.now c.in_ok-opened.opened.next c.in_ok-opened.opened.payload.now (verdict_of r))
+          (subst (λ r. IsVerdictAt c.open_ahead.new.self c.in_ok-child.field-0.now.serial c.in_ok-opened.opened.next c.in_ok-opened.opened.payload.now (verdict_of r))
           c.in_err-packet.was c.carried.ensures);
     }))))
 
-pub returns-in-Packet : goal.returns-in-Packet
-returns-in-Packet c =
+pub returns-in-Some : goal.returns-in-Some
+returns-in-Some c =
     opened_so c.args.table.now c.in_ok-child.field-0.now c.args.packet.now _ c.in_ok-opened.opened.next c.in_ok-opened.opened.payload.now c.open_ahead.new.self _
     c.in_ok-child.ensures.found c.in_ok-opened.ensures.up
-    (subst (λ r. IsVerdictAt c.open_ahead.new.self c.args.packet.now c.in_ok-opened.opened.next c.in_ok-opened.opened.payload.now (verdict_of r))
-    (c.in_ok-packet.was ∙ ap Ok c.in-Packet.is) c.carried.ensures)
+    (subst (λ r. IsVerdictAt c.open_ahead.new.self c.in_ok-child.field-0.now.serial c.in_ok-opened.opened.next c.in_ok-opened.opened.payload.now (verdict_of r))
+    (c.in_ok-packet.was ∙ ap Ok c.in-Some.is) c.carried.ensures)
 
-pub returns-in-Nothing : goal.returns-in-Nothing
-returns-in-Nothing c =
+pub returns-in-None : goal.returns-in-None
+returns-in-None c =
     opened_so c.args.table.now c.in_ok-child.field-0.now c.args.packet.now _ c.in_ok-opened.opened.next c.in_ok-opened.opened.payload.now c.open_ahead.new.self _
     c.in_ok-child.ensures.found c.in_ok-opened.ensures.up
-    (subst (λ r. IsVerdictAt c.open_ahead.new.self c.args.packet.now c.in_ok-opened.opened.next c.in_ok-opened.opened.payload.now (verdict_of r))
-    (c.in_ok-packet.was ∙ ap Ok c.in-Nothing.is) c.carried.ensures)
+    (subst (λ r. IsVerdictAt c.open_ahead.new.self c.in_ok-child.field-0.now.serial c.in_ok-opened.opened.next c.in_ok-opened.opened.payload.now (verdict_of r))
+    (c.in_ok-packet.was ∙ ap Ok c.in-None.is) c.carried.ensures)

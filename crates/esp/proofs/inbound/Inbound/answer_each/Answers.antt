@@ -1,7 +1,7 @@
 use Rattle.std.proofs.Common.{◌≡◌, ℕ, ◌+◌, ◌-◌, ◌*◌, List, length, take, drop, min, sym, subst, arith, length-drop}
 use Rattle.std.proofs.lemmas.List.{length-map, length-take-le}
 use Rattle.replay.specs.Window.{IsSoundWindow}
-use Rattle.esp.specs.declared.association.Association.{Association}
+use Rattle.esp.specs.declared.sa.Sa.{Sa}
 use Rattle.esp.specs.Packet.{BeginsWithItsSpi}
 use Rattle.esp.specs.Views.{Receiving}
 use Rattle.esp.specs.Ahead.{RunsFirst}
@@ -17,7 +17,7 @@ answer_group-answered-requires-clause-mine g c =
     let first = i.first in
     let same = run_keeps _ _ _ _ _ first.run in
     let mine : All (BeginsWithItsSpi c.loop-group.self.association) (octets_of c.args.packets.now) =
-    subst (λ (a : Association). All (BeginsWithItsSpi a) (octets_of c.args.packets.now)) (sym same) c.requires
+    subst (λ (a : Sa). All (BeginsWithItsSpi a) (octets_of c.args.packets.now)) (sym same) c.requires
     in
     group_of (BeginsWithItsSpi c.loop-group.self.association) c.args.packets.now (64 * c.loop-group.group) (64 * c.loop-group.group + c.min-count.result - 64 * c.loop-group.group) mine
 
@@ -31,7 +31,7 @@ returns-then-answered-count-clause-stopped g c =
     let size = at + c.min-count.result - at in
     let k = c.answer_group-answered.result in
     let done : min at (length packets) ≡ at = omega arith in
-    let all : length ps ≡ length packets = length-map packets (λ p. p.items) in
+    let all : length ps ≡ length packets = length-map packets (λ p. p.now) in
     let first : RunsFirst g.W.Window.may_want at c.args.self.now ps c.args.out.now.items c.loop-group.self c.loop-group.out.items =
     subst (λ (n : ℕ). RunsFirst g.W.Window.may_want n c.args.self.now ps c.args.out.now.items c.loop-group.self c.loop-group.out.items) done i.first
     in
@@ -39,7 +39,10 @@ returns-then-answered-count-clause-stopped g c =
     subst (λ (qs : List (List ℕ)). RunsFirst g.W.Window.may_want k c.loop-group.self qs c.loop-group.out.items c.answer_group-answered.new.self c.answer_group-answered.new.out.items) (group_part packets at size) c.answer_group-answered.ensures.first
     in
     let both = runs_more _ at size k c.args.self.now c.loop-group.self c.answer_group-answered.new.self ps c.args.out.now.items c.loop-group.out.items c.answer_group-answered.new.out.items first (omega arith) second in
-    (omega arith, answers_first _ (at + k) c.args.self.now ps c.args.out.now.items c.answer_group-answered.new.self c.answer_group-answered.new.out.items both.answers sound both.appended both.count both.run)
+    record {
+      some_left = omega arith;
+      first = answers_first _ (at + k) c.args.self.now ps c.args.out.now.items c.answer_group-answered.new.self c.answer_group-answered.new.out.items both.answers sound both.appended both.count both.run;
+    }
 
 pub loop-group-preserved : goal.loop-group-preserved
 loop-group-preserved g c =
@@ -50,7 +53,7 @@ loop-group-preserved g c =
     let size = at + c.min-count.result - at in
     let k = c.answer_group-answered.result in
     let done : min at (length packets) ≡ at = omega arith in
-    let all : length ps ≡ length packets = length-map packets (λ p. p.items) in
+    let all : length ps ≡ length packets = length-map packets (λ p. p.now) in
     let first : RunsFirst g.W.Window.may_want at c.args.self.now ps c.args.out.now.items c.loop-group.self c.loop-group.out.items =
     subst (λ (n : ℕ). RunsFirst g.W.Window.may_want n c.args.self.now ps c.args.out.now.items c.loop-group.self c.loop-group.out.items) done i.first
     in

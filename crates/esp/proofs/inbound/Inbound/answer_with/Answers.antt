@@ -1,14 +1,19 @@
 use Rattle.std.proofs.Common.{◌≡◌, ℕ, ◌+◌, List, [], ◌∷◌, ◌++◌, length, get_or, take, sym, ap, ◌∙◌, subst, arith}
 use Rattle.std.proofs.lemmas.List.{length_push, length-map, get_or-map}
-use Rattle.std.specs.Global.{Vec}
-use Rattle.esp.specs.declared.association.Association.{Association}
+use Rattle.std.specs.Borrow.{Bor}
+use Rattle.esp.specs.declared.sa.Sa.{Sa}
 use Rattle.esp.specs.Packet.{BeginsWithItsSpi}
 use Rattle.esp.specs.Opening.{Step, Run}
 use Rattle.esp.specs.Ahead.{IsAhead}
 use Rattle.esp.specs.Delivery.{octets_of}
 use Rattle.esp.proofs.AheadLemmas.{if_ahead}
+use Rattle.esp.proofs.OpeningLemmas.{step_of}
 use Rattle.esp.proofs.Runs.{run_more, step_keeps, take-map_more, pushed, length_pushed}
 use Rattle.esp.proofs.inbound.Inbound.answer_with.Goals as goal
+
+-- what stands for a packet behind the last
+abbrev none : Bor (List ℕ)
+none = record { ref_ptr = (0, 0); now = [] }
 
 pub returns-then-is_err-clause-first : goal.returns-then-is_err-clause-first
 returns-then-is_err-clause-first g c =
@@ -21,50 +26,51 @@ returns-then-is_err-clause-first g c =
       run = i.run;
     }
 
-pub answer-answer-requires-clause-mine : goal.answer-answer-requires-clause-mine
-answer-answer-requires-clause-mine g c =
+pub open_with-answer-requires-clause-mine : goal.open_with-answer-requires-clause-mine
+open_with-answer-requires-clause-mine g c =
     let i = c.loop-done.invariant in
     let packets = c.args.packets.now in
     let k = c.loop-done.done in
-    let packet = c.index-packets-done.result in
+    let packet = get_or c.args.packets.now c.loop-done.done none in
     let h = c.loop-done-test.true in
-    let here : get_or (octets_of packets) k packet.items ≡ packet.items =
-    get_or-map (λ p. p.items) packets k packet packet.items h ∙ ap (λ (p : Vec ℕ). p.items) (sym c.index-packets-done.is)
+    let here : get_or (octets_of packets) k packet.now ≡ packet.now =
+    get_or-map (λ p. p.now) packets k none packet.now h
     in
-    let asked : BeginsWithItsSpi c.args.self.now.association packet.items =
-    subst (BeginsWithItsSpi c.args.self.now.association) here (c.requires.mine k packet.items (simp length-map h))
+    let asked : BeginsWithItsSpi c.args.self.now.association packet.now =
+    subst (BeginsWithItsSpi c.args.self.now.association) here (c.requires.mine k packet.now (simp length-map h))
     in
-    let still : BeginsWithItsSpi c.loop-done.self.association packet.items = subst (λ (a : Association). BeginsWithItsSpi a packet.items) (sym i.association) asked in
-    subst (BeginsWithItsSpi c.loop-done.self.association) (sym c.deref.ensures.value) still
+    subst (λ (a : Sa). BeginsWithItsSpi a packet.now) (sym i.association) asked
 
-pub answer-answer-requires-clause-ahead : goal.answer-answer-requires-clause-ahead
-answer-answer-requires-clause-ahead g c =
+pub open_with-answer-requires-clause-ahead : goal.open_with-answer-requires-clause-ahead
+open_with-answer-requires-clause-ahead g c =
     let i = c.loop-done.invariant in
     let packets = c.args.packets.now in
     let k = c.loop-done.done in
-    let packet = c.index-packets-done.result in
+    let packet = get_or c.args.packets.now c.loop-done.done none in
     let h = c.loop-done-test.true in
-    let here : get_or (octets_of packets) k [] ≡ c.deref.result.now =
-    get_or-map (λ p. p.items) packets k packet [] h ∙ ap (λ (p : Vec ℕ). p.items) (sym c.index-packets-done.is) ∙ sym c.deref.ensures.value
+    let here : get_or (octets_of packets) k [] ≡ packet.now =
+    get_or-map (λ p. p.now) packets k none [] h
     in
-    if_ahead (IsAhead c.loop-done.self.association c.deref.result.now) c.ahead_at.result
+    if_ahead (IsAhead c.loop-done.self.association packet.now) c.ahead_at.result
     (λ found there.
-    subst (λ (a : Association). IsAhead a c.deref.result.now found) (sym i.association)
+    subst (λ (a : Sa). IsAhead a packet.now found) (sym i.association)
     (subst (λ (b : List ℕ). IsAhead c.args.self.now.association b found) here (c.requires.ahead.each k found (sym c.ahead_at.ensures ∙ there))))
 
 pub loop-done-preserved : goal.loop-done-preserved
 loop-done-preserved g c =
     let i = c.loop-done.invariant in
-    let more = take-map_more (λ p. p.items) c.args.packets.now c.loop-done.done c.index-packets-done.result c.loop-done-test.true c.index-packets-done.is in
-    let step : Step g.W.Window.may_want c.loop-done.self c.index-packets-done.result.items c.answer-answer.result c.answer-answer.new.self =
-    subst (λ (b : List ℕ). Step g.W.Window.may_want c.loop-done.self b c.answer-answer.result c.answer-answer.new.self) c.deref.ensures.value c.answer-answer.ensures
+    let packet = get_or c.args.packets.now c.loop-done.done none in
+    let answer = c.open_with-answer.result in
+    let more = take-map_more (λ p. p.now) c.args.packets.now c.loop-done.done none c.loop-done-test.true in
+    let step : Step g.W.Window.may_want c.loop-done.self packet.now answer c.open_with-answer.new.self =
+    step_of _ c.loop-done.self packet.now answer c.open_with-answer.new.self c.open_with-answer.ensures.up c.open_with-answer.ensures.refused
     in
     record {
-      answers = i.answers ++ c.answer-answer.result ∷ [];
-      appended = pushed c.push.result _ c.args.out.now.items i.answers c.reserve.new.self.items c.push.new.self.items c.answer-answer.result c.unwrap.ensures c.push.ensures.items (c.reserve.ensures.items ∙ i.appended);
-      count = length_push i.answers c.answer-answer.result ∙ ap (λ (n : ℕ). n + 1) i.count;
-      run = subst (λ (bs : List (List ℕ)). Run g.W.Window.may_want c.args.self.now bs (i.answers ++ c.answer-answer.result ∷ []) c.answer-answer.new.self) (sym more)
-          (run_more _ c.args.self.now _ i.answers c.loop-done.self c.index-packets-done.result.items c.answer-answer.result c.answer-answer.new.self i.run step);
+      answers = i.answers ++ answer ∷ [];
+      appended = pushed c.push.result _ c.args.out.now.items i.answers c.reserve.new.self.items c.push.new.self.items answer c.unwrap.ensures c.push.ensures.items (c.reserve.ensures.items ∙ i.appended);
+      count = length_push i.answers answer ∙ ap (λ (n : ℕ). n + 1) i.count;
+      run = subst (λ (bs : List (List ℕ)). Run g.W.Window.may_want c.args.self.now bs (i.answers ++ answer ∷ []) c.open_with-answer.new.self) (sym more)
+          (run_more _ c.args.self.now _ i.answers c.loop-done.self packet.now answer c.open_with-answer.new.self i.run step);
       length_now = omega (arith, length_pushed c.push.result _ _ _ c.unwrap.ensures c.push.ensures.len, c.reserve.ensures.len, i.length_now);
       capacity = omega (arith, i.capacity, c.reserve.ensures.capacity, c.push.ensures.capacity);
       association = step_keeps _ _ _ _ _ step ∙ i.association;

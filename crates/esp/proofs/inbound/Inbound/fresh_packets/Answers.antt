@@ -1,6 +1,5 @@
 use Rattle.std.proofs.Common.{rules, ◌≡◌, ℕ, ◌≤◌, List, [], length, get_or, sym, ap, ◌∙◌, subst, arith}
 use Rattle.std.proofs.lemmas.List.{get_or-map, length-map, length-set}
-use Rattle.std.specs.Global.{Vec}
 use Rattle.esp.specs.declared.ahead.Asked.{Asked}
 use Rattle.esp.specs.Ahead.{HasFreshNumber, IsAsked}
 use Rattle.esp.specs.Opening.{IsFreshNumber}
@@ -16,15 +15,14 @@ loop-place-preserved g c =
     let place = c.loop-place.place in
     elim c.match-fresh_number.branch [
       | in-Ok w ↦
-          let here : get_or (octets_of packets) place [] ≡ c.deref.result.now =
-          get_or-map (λ p. p.items) packets place c.index-packets-place.result [] c.loop-place-test.true
-          ∙ ap (λ (p : Vec ℕ). p.items) (sym c.index-packets-place.is)
-          ∙ sym c.deref.ensures.value
+          let packet = get_or packets place (record { ref_ptr = (0, 0); now = [] }) in
+          let here : get_or (octets_of packets) place [] ≡ packet.now =
+          get_or-map (λ p. p.now) packets place (record { ref_ptr = (0, 0); now = [] }) [] c.loop-place-test.true
           in
-          let long : 16 ≤ length c.deref.result.now = let whole = w.in-Ok.ensures.fresh.whole.least in omega arith in
+          let long : 16 ≤ length packet.now = let whole = w.in-Ok.ensures.fresh.whole.least in omega arith in
           let one : Asked = record { place = place; number = w.in-Ok.number; half = w.high_half.result } in
           let asked : IsAsked (octets_of packets) one = record {
-            within = omega (arith, c.loop-place-test.true, length-map packets (λ p. p.items));
+            within = omega (arith, c.loop-place-test.true, length-map packets (λ p. p.now));
             long = subst (λ (b : List ℕ). 16 ≤ length b) (sym here) long;
             half = w.high_half.ensures;
           } in

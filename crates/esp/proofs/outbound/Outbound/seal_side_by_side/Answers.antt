@@ -2,7 +2,7 @@ use Rattle.std.proofs.Common.{rules, ◌≡◌, ◌∙◌, ◌++◌, sym, ap, �
 use Rattle.std.proofs.lemmas.List.{take_rest}
 use Rattle.esp.specs.Views.{Sending}
 use Rattle.esp.proofs.LayingLemmas.{group_fit, group_numbers, group_size, group_sealed, group_whole}
-use Rattle.esp.specs.declared.association.Association.{Association}
+use Rattle.esp.specs.declared.sa.Sa.{Sa}
 use Rattle.esp.specs.Laying.{covered_sizes, values_in, with_values}
 use Rattle.esp.proofs.outbound.Outbound.seal_side_by_side.Goals as goal
 
@@ -37,5 +37,5 @@ returns-clause-first c =
     group_sealed _ _ _ _ _ _ _ first _ (
     group_whole c.len-start.result c.lay_all-progress.new.out.len before middle c.deref_mut.result.now c.write_check_values.new.packets _ ss c.self-2.inside.association c.self.inside.last
     start c.deref_mut.ensures.value len first.appended c.write_check_values.auto.packets c.write_check_values.ensures
-    ∙ ap (λ (a : Association). before ++ with_values ss (values_in a c.self.inside.last ss rest) rest) ends
+    ∙ ap (λ (a : Sa). before ++ with_values ss (values_in a c.self.inside.last ss rest) rest) ends
     ∙ ap (λ (n : ℕ). before ++ with_values ss (values_in c.lay_all-progress.new.self.association n ss rest) rest) last)

@@ -1,7 +1,7 @@
 use Rattle.std.specs.Prelude.{List, flat_map}
+use Rattle.gateway.specs.Inputs.{Input}
 use Rattle.gateway.proofs.RunLemmas.{calls_joined, histories_joined, runs_joined}
 use Rattle.gateway.specs.Runs.{StepsAs}
-use Rattle.gateway.specs.declared.input.Input.{Input}
 use Rattle.gateway.specs.declared.output.Output.{Output}
 use Rattle.gateway.proofs.laws.runs.runs_in_a_row_are_one_run.Goals as goal
 

@@ -1,9 +1,9 @@
 use Rattle.std.specs.Prelude.{List, flat_map}
+use Rattle.gateway.specs.Inputs.{Event}
 use Rattle.gateway.specs.WorldParties.{parties_of}
 use Rattle.gateway.specs.Worlds.{new_world}
 use Rattle.gateway.specs.declared.output.Output.{Output}
 use Rattle.gateway.specs.declared.world.stored.End.TheVariants.{A, B}
-use Rattle.gateway.specs.declared.world.stored.Event.{Event}
 use Rattle.gateway.proofs.MoveLemmas.{TurnLaws}
 use Rattle.gateway.proofs.SoundWorldLemmas.{by_then_unforged, new_party, not_twice_before, still_sent, trail_sound, world_calls_joined, world_promises, PartyLaws, StepLaws}
 use Rattle.gateway.proofs.laws.worlds.every_world_stays_sound.Goals as goal

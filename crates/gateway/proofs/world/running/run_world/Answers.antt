@@ -1,10 +1,10 @@
-use Rattle.std.proofs.Common.{◌≡◌, ℕ, List, [], ◌∷◌, ◌++◌, length, sym, ◌∙◌, subst, arith}
+use Rattle.std.proofs.Common.{◌≡◌, ℕ, List, [], ◌∷◌, ◌++◌, length, map, sym, ◌∙◌, subst, arith}
 use Rattle.effects.specs.Taking.{Meaning}
+use Rattle.gateway.specs.Inputs.{Event, event_view}
 use Rattle.gateway.specs.Runs.{Runs}
 use Rattle.gateway.specs.BothEnds.{KeepsBothEnds}
 use Rattle.gateway.specs.WorldRuns.{HappensAs, PlaysFirst}
-use Rattle.gateway.specs.declared.world.stored.Event.{Event}
-use Rattle.gateway.proofs.RunLemmas.{pushed_after, run_more, take_next}
+use Rattle.gateway.proofs.RunLemmas.{pushed_after, run_more, take_next_image, within_image}
 use Rattle.gateway.proofs.CarryLemmas.{keeps_both_ends}
 use Rattle.gateway.proofs.WorldLemmas.{plays}
 use Rattle.gateway.proofs.world.running.run_world.Goals as goal
@@ -23,7 +23,7 @@ returns-then-is_err-clause-stopped g c =
       proof_of = g.C.Proof.proof_of caller;
       accepts = g.C.Proof.accepts caller;
     } in
-    (c.loop-done-test.true, plays c.every_run_keeps_its_promises.ensures c.every_world_stays_sound.ensures.run meaning_of c.loop-done.done c.args.events.now c.args.world.now c.args.outputs.now.items i.answers c.loop-done.world c.reserve.new.self.items (c.reserve.ensures.items ∙ i.appended) i.runs)
+    (within_image event_view c.args.events.now c.loop-done.done c.loop-done-test.true, plays c.every_run_keeps_its_promises.ensures c.every_world_stays_sound.ensures.run meaning_of c.loop-done.done (map event_view c.args.events.now) c.args.world.now c.args.outputs.now.items i.answers c.loop-done.world c.reserve.new.self.items (c.reserve.ensures.items ∙ i.appended) i.runs)
 
 pub returns-in_default-clause-stopped : goal.returns-in_default-clause-stopped
 returns-in_default-clause-stopped g c =
@@ -39,8 +39,8 @@ returns-in_default-clause-stopped g c =
       proof_of = g.C.Proof.proof_of caller;
       accepts = g.C.Proof.accepts caller;
     } in
-    let played = plays c.every_run_keeps_its_promises.ensures c.every_world_stays_sound.ensures.run meaning_of c.loop-done.done c.args.events.now c.args.world.now c.args.outputs.now.items i.answers c.loop-done.world c.reserve.new.self.items (c.reserve.ensures.items ∙ i.appended) i.runs in
-    (c.loop-done-test.true, subst (λ w. PlaysFirst meaning_of c.loop-done.done c.args.events.now c.args.world.now c.args.outputs.now.items w c.reserve.new.self.items) (sym c.in_default.ensures.refused) played)
+    let played = plays c.every_run_keeps_its_promises.ensures c.every_world_stays_sound.ensures.run meaning_of c.loop-done.done (map event_view c.args.events.now) c.args.world.now c.args.outputs.now.items i.answers c.loop-done.world c.reserve.new.self.items (c.reserve.ensures.items ∙ i.appended) i.runs in
+    (within_image event_view c.args.events.now c.loop-done.done c.loop-done-test.true, subst (λ w. PlaysFirst meaning_of c.loop-done.done (map event_view c.args.events.now) c.args.world.now c.args.outputs.now.items w c.reserve.new.self.items) (sym c.in_default.ensures.refused) played)
 
 pub loop-done-preserved : goal.loop-done-preserved
 loop-done-preserved g c =
@@ -57,13 +57,11 @@ loop-done-preserved g c =
       accepts = g.C.Proof.accepts caller;
     } in
     let o = c.in-Ok.output in
-    let input = c.index-events-done.result in
-    let more = take_next c.args.events.now c.loop-done.done input c.loop-done-test.true c.index-events-done.is in
     record {
       answers = i.answers ++ o ∷ [];
       appended = pushed_after c.args.outputs.now.items i.answers c.reserve.new.self.items c.push_reserved.new.self.items o c.push_reserved.ensures.items (c.reserve.ensures.items ∙ i.appended);
-      runs = subst (λ (is : List Event). Runs (HappensAs meaning_of) is (i.answers ++ o ∷ []) c.args.world.now c.happen.new.self) (sym more)
-          (run_more (HappensAs meaning_of) c.args.world.now _ i.answers c.loop-done.world input o c.happen.new.self i.runs c.in-Ok.ensures.happened);
+      runs = subst (λ (is : List Event). Runs (HappensAs meaning_of) is (i.answers ++ o ∷ []) c.args.world.now c.happen.new.self) (sym (take_next_image event_view c.args.events.now c.loop-done.done _ c.loop-done-test.true))
+          (run_more (HappensAs meaning_of) c.args.world.now _ i.answers c.loop-done.world _ o c.happen.new.self i.runs c.in-Ok.ensures.happened);
     }
 
 pub returns-clause-all : goal.returns-clause-all
@@ -83,8 +81,8 @@ returns-clause-all g c =
       accepts = g.C.Proof.accepts caller;
     } in
     let all : c.loop-done.done ≡ length c.args.events.now = omega arith in
-    subst (λ (k : ℕ). PlaysFirst meaning_of k c.args.events.now c.args.world.now c.args.outputs.now.items c.loop-done.world c.loop-done.outputs.items) all
-    (plays c.every_run_keeps_its_promises.ensures c.every_world_stays_sound.ensures.run meaning_of c.loop-done.done c.args.events.now c.args.world.now c.args.outputs.now.items i.answers c.loop-done.world c.loop-done.outputs.items i.appended i.runs)
+    subst (λ (k : ℕ). PlaysFirst meaning_of k (map event_view c.args.events.now) c.args.world.now c.args.outputs.now.items c.loop-done.world c.loop-done.outputs.items) all
+    (plays c.every_run_keeps_its_promises.ensures c.every_world_stays_sound.ensures.run meaning_of c.loop-done.done (map event_view c.args.events.now) c.args.world.now c.args.outputs.now.items i.answers c.loop-done.world c.loop-done.outputs.items i.appended i.runs)
 
 pub returns-then-is_err-clause-both : goal.returns-then-is_err-clause-both
 returns-then-is_err-clause-both g c =
@@ -100,7 +98,7 @@ returns-then-is_err-clause-both g c =
       proof_of = g.C.Proof.proof_of caller;
       accepts = g.C.Proof.accepts caller;
     } in
-    keeps_both_ends meaning_of g.C.Sealer.body_of g.C.Sealer.plain_of c.both_ends_keep_their_promises.ensures c.loop-done.done c.args.events.now c.args.world.now c.args.outputs.now.items i.answers c.loop-done.world c.reserve.new.self.items
+    keeps_both_ends meaning_of g.C.Sealer.body_of g.C.Sealer.plain_of c.both_ends_keep_their_promises.ensures c.loop-done.done (map event_view c.args.events.now) c.args.world.now c.args.outputs.now.items i.answers c.loop-done.world c.reserve.new.self.items
     (c.reserve.ensures.items ∙ i.appended) i.runs
 
 pub returns-in_default-clause-both : goal.returns-in_default-clause-both
@@ -117,8 +115,8 @@ returns-in_default-clause-both g c =
       proof_of = g.C.Proof.proof_of caller;
       accepts = g.C.Proof.accepts caller;
     } in
-    subst (λ w. KeepsBothEnds g.C.Sealer.body_of g.C.Sealer.plain_of meaning_of c.args.events.now c.args.world.now c.args.outputs.now.items w c.reserve.new.self.items) (sym c.in_default.ensures.refused)
-    (keeps_both_ends meaning_of g.C.Sealer.body_of g.C.Sealer.plain_of c.both_ends_keep_their_promises.ensures c.loop-done.done c.args.events.now c.args.world.now c.args.outputs.now.items i.answers c.loop-done.world c.reserve.new.self.items
+    subst (λ w. KeepsBothEnds g.C.Sealer.body_of g.C.Sealer.plain_of meaning_of (map event_view c.args.events.now) c.args.world.now c.args.outputs.now.items w c.reserve.new.self.items) (sym c.in_default.ensures.refused)
+    (keeps_both_ends meaning_of g.C.Sealer.body_of g.C.Sealer.plain_of c.both_ends_keep_their_promises.ensures c.loop-done.done (map event_view c.args.events.now) c.args.world.now c.args.outputs.now.items i.answers c.loop-done.world c.reserve.new.self.items
     (c.reserve.ensures.items ∙ i.appended) i.runs)
 
 pub returns-clause-both : goal.returns-clause-both
@@ -135,4 +133,4 @@ returns-clause-both g c =
       proof_of = g.C.Proof.proof_of caller;
       accepts = g.C.Proof.accepts caller;
     } in
-    keeps_both_ends meaning_of g.C.Sealer.body_of g.C.Sealer.plain_of c.both_ends_keep_their_promises.ensures c.loop-done.done c.args.events.now c.args.world.now c.args.outputs.now.items i.answers c.loop-done.world c.loop-done.outputs.items i.appended i.runs
+    keeps_both_ends meaning_of g.C.Sealer.body_of g.C.Sealer.plain_of c.both_ends_keep_their_promises.ensures c.loop-done.done (map event_view c.args.events.now) c.args.world.now c.args.outputs.now.items i.answers c.loop-done.world c.loop-done.outputs.items i.appended i.runs

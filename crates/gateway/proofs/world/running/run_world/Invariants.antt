@@ -1,4 +1,5 @@
-use Rattle.std.proofs.Common.{◌≡◌, ◌++◌, List, take}
+use Rattle.std.proofs.Common.{◌≡◌, ◌++◌, List, map, take}
+use Rattle.gateway.specs.Inputs.{event_view}
 use Rattle.gateway.specs.Runs.{Runs}
 use Rattle.gateway.specs.WorldRuns.{HappensAs}
 use Rattle.gateway.specs.declared.output.Output.{Output}
@@ -21,5 +22,5 @@ invariant-loop-done g l = record {
         proof_of = g.C.Proof.proof_of caller;
         accepts = g.C.Proof.accepts caller;
       }))
-      (take l.done l.events) answers l.fn.world l.world;
+      (take l.done (map event_view l.events)) answers l.fn.world l.world;
 }

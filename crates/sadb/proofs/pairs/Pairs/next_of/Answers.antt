@@ -1,4 +1,4 @@
-use Rattle.std.proofs.Common.{◌<◌, ℕ, arith}
+use Rattle.std.proofs.Common.{◌<◌, arith}
 use Rattle.sadb.proofs.pairs.Pairs.next_of.Goals as goal
 
 pub returns-then-belongs_to-clause-some : goal.returns-then-belongs_to-clause-some

@@ -1,4 +1,4 @@
-use Rattle.std.proofs.Common.{◌≡◌, ◌≤◌, sym, ap, ◌∙◌, arith}
+use Rattle.std.proofs.Common.{◌≡◌, ◌≤◌, ap, arith}
 use Rattle.sadb.proofs.AssociationLemmas.{one_more, all_removed}
 use Rattle.sadb.proofs.table.Table.remove_all_of.Goals as goal
 

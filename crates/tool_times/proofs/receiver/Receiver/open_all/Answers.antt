@@ -8,6 +8,6 @@ use Rattle.tool_times.proofs.receiver.Receiver.open_all.Goals as goal
 
 pub open_all-requires : goal.open_all-requires
 open_all-requires c =
-    let ours : All (λ p. 4 ≤ length p.items → take 4 p.items ≡ big_bytes 4 256) c.args.packets.now = c.are_ours.ensures (search rules) in
-    All-map (BeginsWithItsSpi c.args.self.now.inbound.association) (λ p. p.items) c.args.packets.now
-    (subst (λ (s : ℕ). All (λ p. 4 ≤ length p.items → take 4 p.items ≡ big_bytes 4 s) c.args.packets.now) (sym c.args.self.now.spi) ours)
+    let ours : All (λ p. 4 ≤ length p.now → take 4 p.now ≡ big_bytes 4 256) c.args.packets.now = c.are_ours.ensures (search rules) in
+    All-map (BeginsWithItsSpi c.args.self.now.inbound.association) (λ p. p.now) c.args.packets.now
+    (subst (λ (s : ℕ). All (λ p. 4 ≤ length p.now → take 4 p.now ≡ big_bytes 4 s) c.args.packets.now) (sym c.args.self.now.spi) ours)

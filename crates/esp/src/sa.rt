@@ -1,0 +1,58 @@
+//! What the two ends of a one-way association agree on.
+ghost use Rattle.std.specs.Prelude.{◌≡◌, ◌+◌, ◌<◌, ◌++◌, [], if◌then◌else◌, IfSome, IfNone};
+ghost use Rattle.lanes.specs.Task.{icv_of};
+ghost use Rattle.mac.specs.Hmac.{icv_sha256};
+ghost use Rattle.esp.specs.Packet.{check_value, number_limit};
+
+use crate::key::IntegrityKey;
+use crate::packet::{CHECK, high_half, unsent_of};
+use lanes::Task;
+
+/// What the two ends of a one-way association agree on (RFC 4301 section 4.1).
+#[derive(Drop)]
+pub struct Sa {
+    /// The security parameters index, which each of its packets begins with.
+    pub spi: u32,
+    /// The integrity key of 32 octets, prepared once.
+    pub key: IntegrityKey,
+    /// Whether sequence numbers have 64 bits, of which 32 are sent (RFC 4303 section 2.2.1), or 32.
+    pub extended: bool,
+}
+
+impl Sa {
+    /// The number after `last`, if there is one.
+    pub fn number_after(&self, last: u64) -> Option<u64>
+        ensures some { IfSome result (λ n. (n ≡ last + 1) × (n < number_limit self.now.extended)) }
+        ensures none { IfNone result (¬ (last + 1 < number_limit self.now.extended)) }
+    {
+        let most = if self.extended {
+            u64::MAX
+        } else {
+            u64::from(u32::MAX)
+        };
+        (last < most).then(|| last + 1)
+    }
+
+    /// The check value of the packet with this number over its octets from SPI to next header, and over the
+    /// high half of the number where numbers are extended (RFC 4303 sections 2.2.1 and 2.8).
+    ///
+    /// Over n octets in all it costs ceil((n + 9) / 64) + 1 compressions of SHA-256.
+    pub fn check_value(&self, number: u64, covered: &[u8]) -> [u8; CHECK]
+        ensures { result ≡ check_value self.now number covered.now }
+    {
+        self.task(covered, &high_half(number)).icv()
+    }
+
+    /// What its check value is computed from: the octets of a packet from SPI to next header, and the high
+    /// half of its number where numbers are extended.
+    pub fn task<'a>(&'a self, covered: &'a [u8], half: &'a [u8; 4]) -> Task<'a>
+        ensures { icv_of result ≡ icv_sha256 self.now.key
+            (covered.now ++ (if self.now.extended then half.now else [])) }
+    {
+        Task {
+            key: self.key.prepared(),
+            octets: covered,
+            more: unsent_of(self.extended, half),
+        }
+    }
+}
