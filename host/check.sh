@@ -1,5 +1,5 @@
 #!/bin/sh
-# The part of the host's tests that takes a second once it is built, for .ci/run: layout, faults of configurations, timers.
+# The part of the host's tests that takes a second once it is built, for .ci/run: layout, faults of configurations, timers, the path of packets.
 # It installs nothing: where cargo or Debian's crates are missing it says so. `sh host/cargo.sh test` installs them and runs all.
 cd "$(dirname "$0")" || exit 2
 for name in clap clap-derive serde serde-derive thiserror toml zeroize; do
@@ -14,5 +14,7 @@ fi
 CARGO_TARGET_DIR=${CARGO_TARGET_DIR:-${TMPDIR:-/tmp}/sukperind-$(id -u)}
 export CARGO_TARGET_DIR
 sh cargo.sh fmt --check || exit
-sh cargo.sh test --quiet --offline --test check --test faults --test timers || exit
+# The crate itself is built anew: cargo takes what another checkout of it left there for its own.
+sh cargo.sh clean --quiet --offline --package sukperind || exit
+sh cargo.sh test --quiet --offline --test check --test faults --test offload --test outer --test timers || exit
 echo "the host's quick tests passed"
