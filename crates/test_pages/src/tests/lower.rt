@@ -77,3 +77,24 @@ fn the_page_of_policy(rt: HostRuntime) -> Result<(), Fail> {
     );
     Ok(())
 }
+
+#[test]
+fn the_page_of_sites(rt: HostRuntime) -> Result<(), Fail> {
+    use sites::{Site, Sites};
+
+    let mut sites = Sites::new(rt.alloc());
+    sites.add(Site {
+        key: 7,
+        peer: [192, 0, 2, 1],
+        start: 0x0001_0000,
+    })?;
+    sites.add(Site {
+        key: 8,
+        peer: [192, 0, 2, 1],
+        start: 0x0002_0000,
+    })?;
+    assert_eq!(rt; sites.of_esp(&[0, 1, 0, 5, 0, 0, 0, 1]), Some(7));
+    // A message that begins an association is for the newest gateway of that peer.
+    assert_eq!(rt; sites.of_ike([192, 0, 2, 1], &[], &[]), Some(8));
+    Ok(())
+}
