@@ -1,411 +1,629 @@
-//! Cutting and joining, over packets at random of both families and protocols.
+//! Cutting and joining at the TUN device.
 
-#[allow(dead_code)]
-#[path = "simulation/random.rs"]
-mod random;
+mod packets;
 
-use random::Random;
-use sukperind::path::offload::{Cut, Joiner, OffloadFault, Offloads, Packets};
-use sukperind::path::offload::{Segmentation, VirtioHeader};
+use packets::{pseudo, right, transport, Chance, Flow};
+use sukperind::path::offload::{cut, Joiner, Malformed, Offloads, Packets, VirtioHeader};
 
-/// What the packets of a flow have in common.
-#[derive(Clone)]
-struct Flow {
-    v6: bool,
-    tcp: bool,
-    class: u8,
-    hops: u8,
-    /// IPv4 options or IPv6 extension headers (a destination header).
-    options: Vec<u8>,
-    tcp_options: Vec<u8>,
-    ports: [u8; 4],
-    identification: u16,
-    sequence: u32,
+const PSH: u8 = 0x08;
+const ACK: u8 = 0x10;
+
+/// A superpacket as the kernel gives it: virtio header, sum of the pseudo header.
+fn superpacket(mut packet: Vec<u8>, gso_type: u8, gso_size: u16) -> Vec<u8> {
+    let (at, protocol) = transport(&packet);
+    let offset = if protocol == 6 { 16 } else { 6 };
+    let begin = pseudo(&packet).to_be_bytes();
+    packet[at + offset..at + offset + 2].copy_from_slice(&begin);
+    let header = VirtioHeader {
+        flags: VirtioHeader::NEEDS_CSUM,
+        gso_type,
+        hdr_len: at as u16,
+        gso_size,
+        csum_start: at as u16,
+        csum_offset: offset as u16,
+    };
+    [&header.octets()[..], &packet].concat()
 }
 
-/// The checksum by its definition, word by word.
-fn checksum(octets: &[u8]) -> u16 {
-    let mut sum = 0u32;
-    for pair in octets.chunks(2) {
-        sum += u32::from(pair[0]) << 8 | u32::from(*pair.get(1).unwrap_or(&0));
-        sum = (sum & 0xffff) + (sum >> 16);
+fn gso_type(flow: &Flow) -> u8 {
+    match (flow.tcp, flow.v6) {
+        (true, false) => VirtioHeader::GSO_TCPV4,
+        (true, true) => VirtioHeader::GSO_TCPV6,
+        _ => VirtioHeader::GSO_UDP_L4,
     }
-    !(sum as u16)
 }
 
-impl Flow {
-    fn random(random: &mut Random) -> Flow {
-        let v6 = random.happens(500);
-        let mut options = vec![1; random.pick(&[0, 0, 4, 8, 40])];
-        if v6 && !options.is_empty() {
-            // Another protocol, and one option of padding (RFC 8200 section 4.2).
-            options = vec![0, 0, 1, 4, 0, 0, 0, 0];
-        }
-        Flow {
-            v6,
-            tcp: random.happens(500),
-            class: random.between(0, 255) as u8,
-            hops: random.between(1, 255) as u8,
-            options,
-            tcp_options: vec![1; random.pick(&[0, 12, 40])],
-            ports: (random.next() as u32).to_be_bytes(),
-            identification: random.next() as u16,
-            sequence: random.next() as u32,
-        }
-    }
+fn cut_all(read: &[u8]) -> Vec<Vec<u8>> {
+    let mut out = Packets::new();
+    let count = cut(read, 65_536, &mut out).expect("a right superpacket");
+    assert_eq!(count, out.len());
+    out.iter().map(<[u8]>::to_vec).collect()
+}
 
-    /// A packet with right checksums.
-    fn packet(&self, data: &[u8], flags: u8) -> Vec<u8> {
-        let mut inner = self.ports.to_vec();
-        let place = if self.tcp {
-            inner.extend(self.sequence.to_be_bytes());
-            inner.extend([0, 0, 0, 9]);
-            inner.push(((20 + self.tcp_options.len()) / 4 * 16) as u8);
-            inner.extend([flags, 1, 0, 0, 0, 0, 0]);
-            inner.extend(&self.tcp_options);
-            16
+fn join_all(offloads: Offloads, packets: &[Vec<u8>]) -> Vec<Vec<u8>> {
+    let list: Vec<&[u8]> = packets.iter().map(Vec::as_slice).collect();
+    let mut out = Packets::new();
+    Joiner::new(offloads).join(&list, &mut out);
+    out.iter().map(<[u8]>::to_vec).collect()
+}
+
+/// How many writes a list makes.
+fn writes(packets: &[Vec<u8>]) -> usize {
+    join_all(Offloads::ALL, packets).len()
+}
+
+/// Each piece is the packet that a sender without offloads would have sent.
+#[test]
+fn pieces_are_as_sent_one_by_one() {
+    let mut chance = Chance(1);
+    for round in 0..400 {
+        let flow = Flow::any(&mut chance, 4000);
+        let size = 1 + chance.below(1400);
+        let length = 1 + chance.below(size * 40);
+        let payload = chance.octets(length);
+        let (id, sequence) = (chance.next() as u16, chance.next() as u32);
+        // FIN, PSH, ACK, ECE, CWR as it comes.
+        let flags = ACK | (chance.next() as u8 & 0xc9);
+        let ecn = if flow.tcp && flags & 0x80 != 0 {
+            0x80
         } else {
-            inner.extend(((8 + data.len()) as u16).to_be_bytes());
-            inner.extend([0, 0]);
-            6
+            0
         };
-        inner.extend(data);
-        let protocol = if self.tcp { 6 } else { 17 };
-        let addresses: Vec<u8> = (0..if self.v6 { 32 } else { 8 }).map(|n| n + 32).collect();
-        let mut pseudo = addresses.clone();
-        pseudo.extend((inner.len() as u32).to_be_bytes());
-        pseudo.extend([0, 0, 0, protocol]);
-        pseudo.extend(&inner);
-        let mut sum = checksum(&pseudo);
-        if sum == 0 && !self.tcp {
-            sum = 0xffff;
-        }
-        inner[place..place + 2].copy_from_slice(&sum.to_be_bytes());
-
-        let mut options = self.options.clone();
-        let mut packet = Vec::new();
-        if self.v6 {
-            packet.extend([0x60 | self.class >> 4, self.class << 4, 0, 7]);
-            packet.extend(((options.len() + inner.len()) as u16).to_be_bytes());
-            packet.extend([if options.is_empty() { protocol } else { 60 }, self.hops]);
-            packet.extend(&addresses);
-            if let Some(first) = options.first_mut() {
-                *first = protocol;
+        let whole = flow.packet(id, sequence, flags, &payload);
+        let pieces = cut_all(&superpacket(whole, gso_type(&flow) | ecn, size as u16));
+        let count = length.div_ceil(size);
+        assert_eq!(pieces.len(), count, "round {round}");
+        for (number, (piece, payload)) in pieces.iter().zip(payload.chunks(size)).enumerate() {
+            let mut own = flags;
+            if number > 0 {
+                own &= !0x80;
             }
-            packet.extend(&options);
-        } else {
-            packet.extend([0x45 + (options.len() / 4) as u8, self.class]);
-            packet.extend(((20 + options.len() + inner.len()) as u16).to_be_bytes());
-            packet.extend(self.identification.to_be_bytes());
-            packet.extend([0x40, 0, self.hops, protocol, 0, 0]);
-            packet.extend(&addresses);
-            packet.extend(&options);
-            let sum = checksum(&packet);
-            packet[10..12].copy_from_slice(&sum.to_be_bytes());
+            if number + 1 < count {
+                own &= !0x09;
+            }
+            let id = id.wrapping_add(number as u16);
+            let sequence = sequence.wrapping_add((number * size) as u32);
+            assert_eq!(
+                piece,
+                &flow.packet(id, sequence, own, payload),
+                "round {round}"
+            );
         }
-        packet.extend(&inner);
-        packet
     }
+}
 
-    /// So many packets in order, of one size but the last.
-    fn packets(&mut self, random: &mut Random, count: usize, size: usize) -> Vec<Vec<u8>> {
-        let ends = random.happens(500);
-        (1..=count)
+#[test]
+fn one_packet_gets_its_checksum_alone() {
+    for (v6, tcp) in [(false, false), (false, true), (true, false), (true, true)] {
+        for length in [0, 1, 2, 1399] {
+            let flow = Flow::plain(v6, tcp);
+            let packet = flow.packet(7, 8, ACK, &Chance(5).octets(length));
+            assert_eq!(cut_all(&superpacket(packet.clone(), 0, 0)), [packet]);
+        }
+    }
+    // Without the flag nothing is touched, whatever it is.
+    let read = [&[0; 10][..], b"\x45 no packet"].concat();
+    assert_eq!(cut_all(&read), [b"\x45 no packet".to_vec()]);
+}
+
+/// Over IPv4 UDP may go without a checksum (RFC 768): then it does in each piece.
+#[test]
+fn no_checksum_stays_none() {
+    let mut packet = Flow::plain(false, false).packet(1, 0, 0, &[3; 25]);
+    packet[26..28].fill(0);
+    let mut read = superpacket(packet.clone(), VirtioHeader::GSO_UDP_L4, 10);
+    read[0] = 0;
+    read[10..].copy_from_slice(&packet);
+    let pieces = cut_all(&read);
+    assert_eq!(pieces.len(), 3);
+    assert!(pieces.iter().all(|piece| piece[26..28] == [0, 0]));
+}
+
+/// A fault: what it is, its text, and the place and value of the octet that makes it.
+#[test]
+fn what_is_malformed_has_a_name() {
+    let flow = Flow::plain(false, true);
+    let good = superpacket(
+        flow.packet(1, 2, ACK, &[9; 300]),
+        VirtioHeader::GSO_TCPV4,
+        100,
+    );
+    let number = |at: usize, value: u16| {
+        let mut read = good.clone();
+        read[at..at + 2].copy_from_slice(&value.to_ne_bytes());
+        read
+    };
+    let octet = |at: usize, value: u8| {
+        let mut read = good.clone();
+        read[at] = value;
+        read
+    };
+    let v6 = Flow {
+        extra: vec![0, 0, 0, 1, 0, 0, 0, 0],
+        ..Flow::plain(true, true)
+    };
+    let mut routed = superpacket(
+        v6.packet(1, 2, ACK, &[9; 300]),
+        VirtioHeader::GSO_TCPV6,
+        100,
+    );
+    routed[16] = 43;
+    let cases = [
+        (
+            good[..10].to_vec(),
+            "10 octets are too few for a virtio header and a packet",
+        ),
+        (octet(1, 3), "gso_type 0x03 is unknown"),
+        (octet(1, 0x85), "gso_type 0x85 is unknown"),
+        (octet(1, 0x80), "gso_type 0x80 is unknown"),
+        (number(4, 0), "gso_size is 0 in a superpacket"),
+        (
+            octet(10, 0x4f),
+            "the transport header at 60 doesn't fit into 340 octets",
+        ),
+        (
+            octet(10, 0x44),
+            "the headers of IP don't fit into 340 octets",
+        ),
+        (
+            octet(10, 0x55),
+            "the headers of IP don't fit into 340 octets",
+        ),
+        (
+            good[..20].to_vec(),
+            "the headers of IP don't fit into 10 octets",
+        ),
+        (
+            good[..349].to_vec(),
+            "the packet tells 340 octets, 339 were read",
+        ),
+        (octet(16, 0x20), "a superpacket is a fragment"),
+        (
+            routed,
+            "a superpacket has a routing header with segments left",
+        ),
+        (
+            octet(19, 17),
+            "gso_type 0x01 doesn't go with IP version 4, protocol 17",
+        ),
+        (
+            octet(1, 4),
+            "gso_type 0x04 doesn't go with IP version 4, protocol 6",
+        ),
+        (
+            octet(42, 0x40),
+            "the transport header at 20 doesn't fit into 340 octets",
+        ),
+        (
+            number(6, 24),
+            "csum_start 24 and csum_offset 16 don't fit the packet",
+        ),
+        (
+            number(8, 6),
+            "csum_start 20 and csum_offset 6 don't fit the packet",
+        ),
+    ];
+    for (read, text) in cases {
+        let mut out = Packets::new();
+        let fault = cut(&read, 64, &mut out).expect_err(text);
+        assert_eq!(fault.to_string(), text);
+        assert!(out.is_empty() && out.octets().is_empty());
+    }
+    let mut out = Packets::new();
+    let many = Malformed::Many {
+        packets: 3,
+        limit: 2,
+    };
+    assert_eq!(cut(&good, 2, &mut out), Err(many));
+    assert_eq!(
+        many.to_string(),
+        "a superpacket makes 3 packets, the limit is 2"
+    );
+    assert_eq!(cut(&good, 3, &mut out), Ok(3));
+    // A checksum by itself: inside the IP header, beyond the packet.
+    for (start, offset) in [(19, 16), (20, 319), (65_535, 65_535)] {
+        let mut read = number(6, start);
+        read[8..10].copy_from_slice(&u16::to_ne_bytes(offset));
+        read[1] = 0;
+        let fault = Malformed::Checksum { start, offset };
+        assert_eq!(cut(&read, 64, &mut out), Err(fault));
+    }
+    assert_eq!(out.len(), 3);
+}
+
+/// Octets turned at random, and packets cut short, are a fault or packets, no panic.
+#[test]
+fn noise_is_never_a_panic() {
+    let mut chance = Chance(11);
+    let mut out = Packets::new();
+    let mut joiner = Joiner::new(Offloads::ALL);
+    for _ in 0..30_000 {
+        let flow = Flow::any(&mut chance, 4000);
+        let length = chance.below(300);
+        let payload = chance.octets(length);
+        let mut read = superpacket(flow.packet(1, 2, ACK, &payload), gso_type(&flow), 100);
+        for _ in 0..chance.below(5) {
+            // The headers more than the payload.
+            let end = if chance.below(2) == 0 { 70 } else { read.len() };
+            let at = chance.below(end.min(read.len()));
+            read[at] = chance.next() as u8;
+        }
+        if chance.below(4) == 0 {
+            read.truncate(chance.below(read.len() + 1));
+        }
+        out.clear();
+        let count = cut(&read, 64, &mut out);
+        assert_eq!(count.unwrap_or(0), out.len());
+        let packet = read.get(10..).unwrap_or(&[]);
+        out.clear();
+        joiner.join(&[packet, packet], &mut out);
+        assert!(out.len() <= 2);
+    }
+}
+
+/// Flows between each other, with losses, marks and wrong checksums: cutting what was
+/// joined gives the very packets back, those of one flow in order.
+#[test]
+fn cutting_what_was_joined_gives_the_packets_back() {
+    let mut chance = Chance(3);
+    let (mut given, mut written) = (0, 0);
+    for round in 0..600 {
+        let count = 1 + chance.below(4);
+        let mut flows: Vec<(Flow, usize, u16, u32)> = (0..count)
             .map(|number| {
-                let size = if number == count {
-                    random.between(1, size as u64) as usize
-                } else {
-                    size
-                };
-                let data: Vec<u8> = (0..size).map(|_| random.next() as u8).collect();
-                let push = if number == count && ends { 0x08 } else { 0 };
-                let packet = self.packet(&data, 0x10 | push);
-                self.identification = self.identification.wrapping_add(1);
-                self.sequence = self.sequence.wrapping_add(size as u32);
-                packet
+                let flow = Flow::any(&mut chance, 4000 + number as u16);
+                let size = 1 + chance.below(1400);
+                (flow, size, chance.next() as u16, chance.next() as u32)
             })
-            .collect()
-    }
-}
-
-fn joined(packets: &[Vec<u8>]) -> Vec<Vec<u8>> {
-    let slices: Vec<&[u8]> = packets.iter().map(Vec::as_slice).collect();
-    let mut frames = Packets::new();
-    Joiner::new().join(&slices, &mut frames);
-    frames.iter().map(<[u8]>::to_vec).collect()
-}
-
-fn cut(frame: &[u8]) -> Vec<Vec<u8>> {
-    let mut cut = Cut::new(frame).unwrap();
-    let mut packets = Packets::new();
-    while cut.next_into(3, &mut packets) > 0 {}
-    assert_eq!(cut.remaining(), 0);
-    packets.iter().map(<[u8]>::to_vec).collect()
-}
-
-fn fault(frame: &[u8]) -> OffloadFault {
-    Cut::new(frame).map(|cut| cut.remaining()).unwrap_err()
-}
-
-#[test]
-fn cutting_gives_back_what_was_joined() {
-    let mut random = Random::new(1);
-    for _ in 0..400 {
-        let count = random.between(2, 40) as usize;
-        let size = random.between(1, 1_400) as usize;
-        let mut flow = Flow::random(&mut random);
-        let packets = flow.packets(&mut random, count, size);
-        let frames = joined(&packets);
-        assert_eq!(frames.len(), 1, "{count} packets of {size}");
-        let (header, packet) = VirtioHeader::read(&frames[0]).unwrap();
-        assert!(header.needs_checksum && packet.len() <= 65_535);
-        assert_eq!(usize::from(header.segment_size), size);
-        assert_eq!(cut(&frames[0]), packets);
-    }
-}
-
-#[test]
-fn flows_among_each_other_keep_their_order() {
-    let mut random = Random::new(2);
-    for _ in 0..100 {
-        let mut queues: Vec<Vec<Vec<u8>>> = (0..4)
-            .map(|_| Flow::random(&mut random).packets(&mut random, 12, 100))
             .collect();
-        for queue in &mut queues {
-            // One with a wrong checksum, which is passed on alone.
-            let place = random.between(0, 11) as usize;
-            *queue[place].last_mut().unwrap() ^= 1;
-        }
-        let all = queues.clone();
-        let mut mixed = Vec::new();
-        while queues.iter().any(|queue| !queue.is_empty()) {
-            let flow = random.between(0, 3) as usize;
-            if !queues[flow].is_empty() {
-                mixed.push(queues[flow].remove(0));
+        let mut list = Vec::new();
+        for _ in 0..1 + chance.below(64) {
+            let which = chance.below(count);
+            let (flow, size, id, sequence) = &mut flows[which];
+            let mut length = *size;
+            if chance.below(10) == 0 {
+                length = chance.below(length + 2);
+            }
+            let mut flags = ACK;
+            if chance.below(12) == 0 {
+                flags |= 1 << chance.below(8);
+            }
+            if chance.below(20) == 0 {
+                flow.class = chance.next() as u8;
+            }
+            let payload = chance.octets(length);
+            let mut packet = flow.packet(*id, *sequence, flags, &payload);
+            if chance.below(20) == 0 {
+                let at = chance.below(packet.len());
+                // Not what this test itself reads: lengths, fragments, protocols.
+                if at >= 8 && ![9, 40, 41].contains(&at) {
+                    packet[at] ^= 1 << chance.below(8);
+                }
+            }
+            *id = id.wrapping_add(1);
+            *sequence = sequence.wrapping_add(length as u32);
+            if chance.below(20) > 0 {
+                list.push(packet);
             }
         }
-        let frames = joined(&mixed);
-        assert!(frames.len() <= 4 * 3, "{} frames", frames.len());
-        let back: Vec<Vec<u8>> = frames.iter().flat_map(|frame| cut(frame)).collect();
-        assert_eq!(back.len(), mixed.len());
-        for queue in all {
-            let of_flow = back.iter().filter(|packet| queue.contains(packet));
-            assert!(of_flow.eq(queue.iter()));
+        let joined = join_all(Offloads::ALL, &list);
+        given += list.len();
+        written += joined.len();
+        let back: Vec<Vec<u8>> = joined.iter().flat_map(|read| cut_all(read)).collect();
+        let name = |packet: &Vec<u8>| {
+            let (at, protocol) = transport(packet);
+            let addresses = if packet[0] >> 4 == 4 { 12..20 } else { 8..40 };
+            (
+                protocol,
+                packet[addresses].to_vec(),
+                packet[at..at + 4].to_vec(),
+            )
+        };
+        let mut names: Vec<_> = list.iter().map(name).collect();
+        names.sort_unstable();
+        names.dedup();
+        assert_eq!(back.len(), list.len(), "round {round}");
+        for own in names {
+            let of = |packets: &[Vec<u8>]| -> Vec<Vec<u8>> {
+                packets
+                    .iter()
+                    .filter(|packet| name(packet) == own)
+                    .cloned()
+                    .collect()
+            };
+            assert!(of(&back) == of(&list), "round {round}, flow {own:?}");
         }
+    }
+    assert!(
+        written * 3 < given * 2,
+        "{given} packets made {written} writes"
+    );
+}
+
+/// A run is one write, whose header says all that the kernel wants to know.
+#[test]
+fn a_run_is_one_write() {
+    for (v6, tcp) in [(false, false), (false, true), (true, false), (true, true)] {
+        let flow = Flow {
+            extra: Vec::new(),
+            ..Flow::plain(v6, tcp)
+        };
+        let list: Vec<Vec<u8>> = (0..5)
+            .map(|number: u16| {
+                let length = if number == 4 { 33 } else { 101 };
+                let flags = if number == 4 { ACK | PSH } else { ACK };
+                flow.packet(9 + number, u32::from(number) * 101, flags, &vec![1; length])
+            })
+            .collect();
+        let joined = join_all(Offloads::ALL, &list);
+        assert_eq!(joined.len(), 1);
+        let (header, packet) = VirtioHeader::split(&joined[0]).unwrap();
+        let at = if v6 { 40 } else { 20 };
+        let own = if tcp { 20 } else { 8 };
+        let offset = if tcp { 16 } else { 6 };
+        assert_eq!(
+            header,
+            VirtioHeader {
+                flags: 1,
+                gso_type: gso_type(&flow),
+                hdr_len: at + own,
+                gso_size: 101,
+                csum_start: at,
+                csum_offset: offset,
+            }
+        );
+        let field = usize::from(at + offset);
+        assert_eq!(packet[field..field + 2], pseudo(packet).to_be_bytes());
+        let mut whole = packet.to_vec();
+        packets::finish(&mut whole);
+        assert!(right(&whole));
+        whole[field..field + 2].copy_from_slice(&packet[field..field + 2]);
+        assert_eq!(whole, packet, "lengths and the header's checksum");
+        assert_eq!(packet.len(), usize::from(at + own) + 4 * 101 + 33);
     }
 }
 
+/// Two packets that agree are one write; each octet of the headers that is turned, the
+/// checksums right, makes them two.
 #[test]
 fn what_differs_is_not_joined() {
-    let mut random = Random::new(3);
-    for _ in 0..200 {
-        let mut flow = Flow::random(&mut random);
-        let first = flow.packet(&[1; 100], 0x10);
-        flow.identification = flow.identification.wrapping_add(1);
-        flow.sequence = flow.sequence.wrapping_add(100);
-        let same = flow.packet(&[2; 100], 0x10);
-        assert_eq!(joined(&[first.clone(), same.clone()]).len(), 1);
-        let differ = |change: fn(&mut Flow)| {
-            let mut other = flow.clone();
-            change(&mut other);
-            assert_eq!(
-                joined(&[first.clone(), other.packet(&[2; 100], 0x10)]).len(),
-                2
-            );
+    for (v6, tcp) in [(false, false), (false, true), (true, false), (true, true)] {
+        let extra = if v6 {
+            vec![0, 0, 1, 4, 0, 0, 0, 0]
+        } else {
+            vec![1; 4]
         };
-        differ(|flow| flow.class ^= 1); // ECN
-        differ(|flow| flow.class ^= 4); // DSCP
-        differ(|flow| flow.hops ^= 1);
-        differ(|flow| flow.ports[3] ^= 1);
-        differ(|flow| flow.tcp ^= true);
-        differ(|flow| flow.v6 ^= true);
-        if flow.tcp {
-            differ(|flow| flow.sequence = flow.sequence.wrapping_add(1));
-            differ(|flow| flow.tcp_options = vec![1; 20]);
-            for flags in [0x11, 0x12, 0x14, 0x30, 0x50, 0x90] {
-                let other = flow.packet(&[2; 100], flags);
-                assert_eq!(joined(&[first.clone(), other]).len(), 2);
+        let flow = Flow {
+            extra,
+            options: vec![1; 4],
+            class: 0xba,
+            ..Flow::plain(v6, tcp)
+        };
+        let options = if tcp { flow.options.len() } else { 0 };
+        let first = flow.packet(65_535, u32::MAX - 49, ACK, &[7; 100]);
+        let second = flow.packet(0, 50, ACK, &[8; 100]);
+        assert_eq!(writes(&[first.clone(), second.clone()]), 1);
+        let (at, _) = transport(&first);
+        let headers = at + options + if tcp { 20 } else { 8 };
+        for place in 0..headers {
+            for bit in 0..8 {
+                let mut other = second.clone();
+                other[place] ^= 1 << bit;
+                // PSH is what may differ, and what is turned at random may be no packet.
+                if tcp && place == at + 13 && 1 << bit == PSH {
+                    continue;
+                }
+                let shape = [0, 6, 9, 40, 41].contains(&place) || place == at + 12;
+                if !shape {
+                    let before = other.clone();
+                    packets::finish(&mut other);
+                    // Lengths and checksums were mended: then it is the same again.
+                    if other == second {
+                        other = before;
+                    }
+                }
+                let pair = [first.clone(), other];
+                assert_eq!(
+                    writes(&pair),
+                    2,
+                    "v6 {v6}, tcp {tcp}, octet {place}, bit {bit}"
+                );
             }
         }
-        if !flow.v6 {
-            differ(|flow| flow.identification ^= 1);
-        }
-        // A longer one, one behind a shorter one, and one whose checksum is wrong.
-        assert_eq!(
-            joined(&[first.clone(), flow.packet(&[2; 101], 0x10)]).len(),
-            2
-        );
-        let mut wrong = same.clone();
-        *wrong.last_mut().unwrap() ^= 4;
-        let frames = joined(&[first.clone(), wrong.clone()]);
-        assert_eq!(&frames[1][10..], wrong);
-        assert_eq!(frames[1][..10], [0; 10]);
     }
 }
 
+/// Shorter, PSH, wrong checksums, acknowledgements, 65,535 octets: where a run ends.
 #[test]
-fn a_joined_packet_has_at_most_65535_octets() {
-    let mut random = Random::new(4);
-    for _ in 0..8 {
-        let packets = Flow::random(&mut random).packets(&mut random, 64, 1_400);
-        let frames = joined(&packets);
-        assert_eq!(frames.len(), 2);
-        assert!(frames.iter().all(|frame| frame.len() <= 65_545));
-        let back: Vec<Vec<u8>> = frames.iter().flat_map(|frame| cut(frame)).collect();
-        assert_eq!(back, packets);
-    }
-}
-
-/// A superpacket of TCP in IPv4 with three segments.
-fn superpacket(flags: u8) -> Vec<u8> {
-    let flow = Flow {
-        v6: false,
-        tcp: true,
-        class: 2,
-        hops: 64,
-        options: Vec::new(),
-        tcp_options: Vec::new(),
-        ports: [1, 2, 3, 4],
-        identification: 0xffff,
-        sequence: u32::MAX - 5,
+fn where_a_run_ends() {
+    let flow = Flow::plain(false, true);
+    let segment = |number: u16, length: usize, flags: u8| {
+        flow.packet(number, u32::from(number) * 100, flags, &vec![5; length])
     };
-    let header = VirtioHeader {
-        needs_checksum: true,
-        segmentation: Segmentation::TcpV4,
-        ecn: flags & 0x80 != 0,
-        header_length: 40,
-        segment_size: 10,
-        checksum_start: 20,
-        checksum_offset: 16,
+    let run = |lengths: [usize; 4]| -> Vec<Vec<u8>> {
+        (0..4)
+            .map(|n| segment(n, lengths[usize::from(n)], ACK))
+            .collect()
     };
-    let mut frame = header.octets().to_vec();
-    frame.extend(flow.packet(&[7; 25], flags));
-    frame
-}
-
-#[test]
-fn flags_and_numbers_of_segments() {
-    let packets = cut(&superpacket(0x10 | 0x80 | 0x08 | 0x01));
-    let lengths: Vec<usize> = packets.iter().map(Vec::len).collect();
-    assert_eq!(lengths, [50, 50, 45]);
-    let flags: Vec<u8> = packets.iter().map(|packet| packet[33]).collect();
-    assert_eq!(flags, [0x90, 0x10, 0x19]);
-    let identifications: Vec<&[u8]> = packets.iter().map(|packet| &packet[4..6]).collect();
-    assert_eq!(identifications, [[0xff, 0xff], [0, 0], [0, 1]]);
-    let sequences: Vec<&[u8]> = packets.iter().map(|packet| &packet[24..28]).collect();
+    assert_eq!(writes(&run([100; 4])), 1);
+    assert_eq!(writes(&run([100, 100, 99, 100])), 2);
     assert_eq!(
-        sequences,
-        [[255, 255, 255, 250], [0, 0, 0, 4], [0, 0, 0, 14]]
+        writes(&run([100, 101, 100, 100])),
+        3,
+        "the longer, then a gap"
     );
-    assert!(packets.iter().all(|packet| checksum(&packet[..20]) == 0));
+    assert_eq!(writes(&run([0; 4])), 4, "no payload");
+
+    let mut pushed = run([100; 4]);
+    pushed[1] = segment(1, 100, ACK | PSH);
+    assert_eq!(writes(&pushed), 2);
+
+    // A wrong checksum is alone and as it was, and nothing overtakes it.
+    let mut wrong = run([100; 4]);
+    wrong[1][45] ^= 1;
+    let joined = join_all(Offloads::ALL, &wrong);
+    assert_eq!(joined.len(), 3);
+    assert_eq!(joined[1], [&[0; 10][..], &wrong[1]].concat());
+    let mut header = run([100; 4]);
+    header[1][10] ^= 1;
+    assert_eq!(writes(&header), 3);
+
+    // 20 + 20 + 65 * 1000 are 65,040 octets; one more of 495 just fits, one of 496 not.
+    for (last, count) in [(495, 1), (496, 2)] {
+        let long: Vec<Vec<u8>> = (0..66)
+            .map(|n| {
+                let length = if n == 65 { last } else { 1000 };
+                flow.packet(n, u32::from(n) * 1000, ACK, &vec![5; length])
+            })
+            .collect();
+        assert_eq!(writes(&long), count);
+    }
 }
 
+/// Flows between each other are a write each, others pass in between.
 #[test]
-fn a_wanted_checksum_is_made() {
-    let mut random = Random::new(5);
-    for _ in 0..100 {
-        let flow = Flow::random(&mut random);
-        let packet = flow.packet(&[3; 33], 0x10);
-        let (header, offset) = if flow.tcp {
-            (20 + flow.tcp_options.len(), 16)
-        } else {
-            (8, 6)
-        };
-        let start = packet.len() - 33 - header;
-        let wanted = VirtioHeader {
-            needs_checksum: true,
-            checksum_start: start as u16,
-            checksum_offset: offset as u16,
-            ..VirtioHeader::PLAIN
-        };
-        let mut half = packet.clone();
-        let addresses = if flow.v6 {
-            &packet[8..40]
-        } else {
-            &packet[12..20]
-        };
-        let mut pseudo = addresses.to_vec();
-        pseudo.extend([0, if flow.tcp { 6 } else { 17 }]);
-        pseudo.extend(((packet.len() - start) as u16).to_be_bytes());
-        let sum = !checksum(&pseudo);
-        half[start + offset..start + offset + 2].copy_from_slice(&sum.to_be_bytes());
-        let frame = [&wanted.octets()[..], &half].concat();
-        assert_eq!(cut(&frame), std::slice::from_ref(&packet));
-        let plain = [&[0; 10][..], &half].concat();
-        assert_eq!(cut(&plain), [half]);
+fn flows_are_told_apart() {
+    let (one, two) = (Flow::plain(true, false), Flow::plain(true, true));
+    let three = Flow {
+        port: 4001,
+        ..two.clone()
+    };
+    let ping = [&[0x45, 0, 0, 28, 0, 0, 0, 0, 64, 1][..], &[9; 18]].concat();
+    let mut list = Vec::new();
+    for number in 0..10_u16 {
+        for flow in [&one, &two, &three] {
+            list.push(flow.packet(number, u32::from(number) * 10, ACK, &[6; 10]));
+        }
+        if number == 5 {
+            list.push(ping.clone());
+        }
+    }
+    let joined = join_all(Offloads::ALL, &list);
+    assert_eq!(joined.len(), 4);
+    assert_eq!(joined[3][10..], ping);
+    // Without UDP's offloads its datagrams are alone; without any all are.
+    assert_eq!(join_all(Offloads::TCP, &list).len(), 10 + 2 + 1);
+    assert_eq!(join_all(Offloads::NONE, &list).len(), 31);
+}
+
+/// A kernel that refuses a set which has one of these flags.
+struct FakeKernel {
+    refuses: u32,
+    asked: Vec<u32>,
+    holds: u32,
+}
+
+impl FakeKernel {
+    fn takes(&mut self, offloads: Offloads) -> bool {
+        self.asked.push(offloads.bits());
+        let takes = offloads.bits() & self.refuses == 0;
+        if takes {
+            self.holds = offloads.bits();
+        }
+        takes
     }
 }
 
 #[test]
-fn what_is_malformed_is_a_fault() {
-    let good = superpacket(0x10);
-    let changed = |place: usize, value: u8| {
-        let mut frame = good.clone();
-        frame[place] = value;
-        fault(&frame)
-    };
-    assert_eq!(fault(&good[..9]), OffloadFault::NoHeader(9));
-    assert_eq!(changed(0, 0), OffloadFault::NoChecksum);
-    assert_eq!(changed(1, 3), OffloadFault::UnknownSegmentation(3));
-    assert_eq!(changed(1, 4), OffloadFault::WrongProtocol(6));
-    assert_eq!(changed(1, 5), OffloadFault::WrongProtocol(6));
-    assert_eq!(changed(4, 0), OffloadFault::NoSegmentSize);
-    let place = OffloadFault::ChecksumPlace {
-        start: 24,
-        offset: 16,
-    };
-    assert_eq!(changed(6, 24), place);
-    assert_eq!(changed(10, 0x44), OffloadFault::MalformedIp);
-    let length = OffloadFault::IpLength {
-        told: 66,
-        found: 65,
-    };
-    assert_eq!(changed(13, 66), length);
-    assert_eq!(changed(16, 0x20), OffloadFault::Fragment);
-    assert_eq!(changed(42, 0x40), OffloadFault::MalformedTransport);
-    assert_eq!(changed(42, 0xf0), OffloadFault::MalformedTransport);
-    let mut frame = good.clone();
-    frame[1] = 0;
-    frame[6..8].copy_from_slice(&64u16.to_ne_bytes());
-    let place = OffloadFault::ChecksumPlace {
-        start: 64,
-        offset: 16,
-    };
-    assert_eq!(fault(&frame), place);
-    assert!(place.to_string().contains("64"));
+fn what_remains_where_the_kernel_refuses() {
+    // Refused flags, the sets that are asked for, what holds.
+    let cases: [(u32, &[u32], Offloads); 5] = [
+        (0, &[0x6f], Offloads::ALL),
+        (0x20, &[0x6f, 0x0f], Offloads::TCP),
+        (0x60, &[0x6f, 0x0f], Offloads::TCP),
+        (0x02, &[0x6f, 0x0f], Offloads::NONE),
+        (0xff, &[0x6f, 0x0f], Offloads::NONE),
+    ];
+    for (refuses, asked, holds) in cases {
+        let mut kernel = FakeKernel {
+            refuses,
+            asked: Vec::new(),
+            holds: 0,
+        };
+        assert_eq!(Offloads::agreed(|offloads| kernel.takes(offloads)), holds);
+        assert_eq!(
+            (kernel.asked.as_slice(), kernel.holds),
+            (asked, holds.bits())
+        );
+        let refused = Offloads::from_bits(refuses);
+        assert_eq!(
+            Offloads::remaining(refused).has(Offloads::USO4),
+            refuses == 0
+        );
+    }
+    let without_ecn = Offloads::remaining(Offloads::TSO_ECN);
+    assert_eq!(without_ecn.bits(), 0x67);
+    assert_eq!(Offloads::remaining(Offloads::TSO6), Offloads::NONE);
 }
 
+/// A UDP checksum that comes to 0 is written as 0xffff (RFC 768): by itself, in a piece,
+/// and of what is joined.
 #[test]
-fn octets_at_random_never_panic() {
-    let mut random = Random::new(6);
-    for _ in 0..20_000 {
-        let mut flow = Flow::random(&mut random);
-        let packets = flow.packets(&mut random, 2, 20);
-        let mut frame = joined(&packets).remove(0);
-        for _ in 0..random.between(1, 4) {
-            let place = random.between(0, frame.len().min(80) as u64 - 1) as usize;
-            frame[place] = random.next() as u8;
-        }
-        frame.truncate(random.between(0, 2 * frame.len() as u64) as usize);
-        if let Ok(mut cut) = Cut::new(&frame) {
-            cut.next_into(64, &mut Packets::new());
-        }
-        let packet = frame.get(10..).unwrap_or_default().to_vec();
-        joined(&[packet.clone(), packet]);
+fn a_checksum_of_nought_is_written_as_ones() {
+    for v6 in [false, true] {
+        let flow = Flow::plain(v6, false);
+        let at = transport(&flow.packet(0, 0, 0, &[])).0;
+        let nought: Vec<Vec<u8>> = (5..7)
+            .map(|id| {
+                // With its complement in the payload the sum is of ones alone.
+                let open = flow.packet(id, 0, 0, &[0; 2]);
+                flow.packet(id, 0, 0, &open[at + 6..at + 8])
+            })
+            .collect();
+        assert_eq!(nought[0][at + 6..at + 8], [0xff, 0xff]);
+        assert_eq!(cut_all(&superpacket(nought[0].clone(), 0, 0)), nought[..1]);
+        let joined = join_all(Offloads::ALL, &nought);
+        assert_eq!(joined.len(), 1);
+        assert_eq!(cut_all(&joined[0]), nought);
     }
 }
 
+/// A superpacket of headers alone is one packet.
 #[test]
-fn refused_offloads() {
-    let all = Offloads::TcpAndUdp;
-    assert_eq!(all.without(0x20), Offloads::Tcp);
-    assert_eq!(all.without(0x40), Offloads::Tcp);
-    assert_eq!(all.without(0x02), Offloads::None);
-    assert_eq!(all.without(0x60 | 0x04), Offloads::None);
-    assert_eq!(all.without(0), all);
-    // Fakes of kernels that know some flags alone.
-    let kernel = |known: u32| Offloads::agree(|flags| flags & !known == 0);
-    assert_eq!(kernel(0x7f), Offloads::TcpAndUdp);
-    assert_eq!(kernel(0x0f), Offloads::Tcp);
-    assert_eq!(kernel(0x01), Offloads::None);
+fn no_payload_is_one_packet() {
+    for (v6, tcp) in [(false, false), (false, true), (true, false), (true, true)] {
+        let flow = Flow::plain(v6, tcp);
+        let packet = flow.packet(7, 8, ACK | PSH, &[]);
+        let read = superpacket(packet.clone(), gso_type(&flow), 100);
+        assert_eq!(cut_all(&read), [packet]);
+    }
+}
+
+/// Fragments, segments left in a routing header, UDP shorter than its packet: alone,
+/// though their checksums are right and they follow each other.
+#[test]
+fn what_cutting_refuses_is_not_joined() {
+    let pair = |flow: &Flow, change: &dyn Fn(&mut [u8])| -> usize {
+        let list: Vec<Vec<u8>> = (0..2)
+            .map(|number| {
+                let mut packet = flow.packet(number, 0, 0, &[4; 100]);
+                change(&mut packet);
+                packet
+            })
+            .collect();
+        writes(&list)
+    };
+    let v4 = Flow::plain(false, false);
+    assert_eq!(pair(&v4, &|_| ()), 1);
+    let fragment = |packet: &mut [u8]| {
+        packet[6] = 0x20;
+        packets::finish(packet);
+    };
+    assert_eq!(pair(&v4, &fragment), 2);
+    let shorter = |packet: &mut [u8]| {
+        // 50 octets less in its length, 50 more in its checksum.
+        for (at, change) in [(24, 50_u16.wrapping_neg()), (26, 50)] {
+            let value = u16::from_be_bytes([packet[at], packet[at + 1]]).wrapping_add(change);
+            packet[at..at + 2].copy_from_slice(&value.to_be_bytes());
+        }
+    };
+    assert_eq!(pair(&v4, &shorter), 2);
+    for (left, count) in [(0, 1), (1, 2)] {
+        let extra = vec![0, 0, 4, left, 0, 0, 0, 0];
+        let v6 = Flow {
+            extra,
+            ..Flow::plain(true, false)
+        };
+        assert_eq!(pair(&v6, &|packet| packet[6] = 43), count);
+    }
 }

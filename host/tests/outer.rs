@@ -1,230 +1,303 @@
-//! The outer header, marks, sizes, and the answer to what is too long.
+//! The outer header, the path MTU, and what the raw socket gives.
 
+mod packets;
+
+use packets::{right, sum, Chance, Flow};
 use std::net::Ipv4Addr;
-use sukperind::path::outer::{arrive, combine, inner_mtu, outer_header, outer_length};
-use sukperind::path::outer::{read_outer, too_big, DontFragment, Ecn, Outer, OuterFault};
+use sukperind::path::outer::{
+    fits, inner_mtu, leave_tunnel, sealed_length, too_big, Datagram, DatagramFault, Ecn, Left,
+    OuterHeader, OVERHEAD,
+};
 
-fn checksum(octets: &[u8]) -> u16 {
-    let mut sum = 0u32;
-    for pair in octets.chunks(2) {
-        sum += u32::from(pair[0]) << 8 | u32::from(*pair.get(1).unwrap_or(&0));
-        sum = (sum & 0xffff) + (sum >> 16);
-    }
-    !(sum as u16)
+const LEFT: Ipv4Addr = Ipv4Addr::new(192, 0, 2, 1);
+const RIGHT: Ipv4Addr = Ipv4Addr::new(198, 51, 100, 2);
+
+fn with_class(v6: bool, class: u8) -> Vec<u8> {
+    let flow = Flow {
+        class,
+        ..Flow::plain(v6, false)
+    };
+    flow.packet(1, 0, 0, &[3; 20])
 }
 
-/// An IPv4 packet with so many octets.
-fn packet_v4(class: u8, flags: u8, protocol: u8, length: usize) -> Vec<u8> {
-    let mut packet = vec![0; length];
-    packet[..4].copy_from_slice(&[0x45, class, (length >> 8) as u8, length as u8]);
-    packet[6] = flags;
-    packet[8..10].copy_from_slice(&[64, protocol]);
-    packet[12..20].copy_from_slice(&[10, 0, 0, 1, 10, 1, 0, 2]);
-    let sum = checksum(&packet[..20]);
-    packet[10..12].copy_from_slice(&sum.to_be_bytes());
-    packet
-}
-
-fn packet_v6(class: u8, next: u8, length: usize) -> Vec<u8> {
-    let mut packet = vec![0; length];
-    let data = length - 40;
-    packet[0] = 0x60 | class >> 4;
-    packet[1] = class << 4 | 5;
-    packet[4..8].copy_from_slice(&[(data >> 8) as u8, data as u8, next, 64]);
-    packet[8] = 0xfd;
-    packet[23] = 1;
-    packet[24] = 0xfd;
-    packet[39] = 2;
-    packet
-}
-
-fn outer(dont_fragment: DontFragment) -> Outer {
-    Outer {
-        source: Ipv4Addr::new(192, 0, 2, 1),
-        destination: Ipv4Addr::new(192, 0, 2, 2),
-        dont_fragment,
-        identification: 7,
-        time_to_live: 64,
-    }
-}
-
+/// DSCP and ECN are copied, all 256 of both families; don't fragment; the checksum.
 #[test]
 fn the_outer_header_copies_the_class() {
-    for class in [0, 1, 2, 3, 0xb8, 0xff] {
-        for inner in [packet_v4(class, 0x40, 17, 60), packet_v6(class, 17, 60)] {
-            let header = outer_header(&outer(DontFragment::Copy), &inner, 100).unwrap();
-            assert_eq!(header[..4], [0x45, class, 0, 120]);
-            assert_eq!(header[6..10], [0x40, 0, 64, 50]);
-            assert_eq!(checksum(&header), 0);
-            let datagram = [&header[..], &[9; 100]].concat();
-            let received = read_outer(&datagram).unwrap();
-            assert_eq!(received.source, Ipv4Addr::new(192, 0, 2, 1));
-            assert_eq!(
-                (received.ecn, received.esp),
-                (Ecn::of(class), &[9; 100][..])
-            );
+    for v6 in [false, true] {
+        for class in 0..=255 {
+            let outer = OuterHeader::of(&with_class(v6, class)).unwrap();
+            assert_eq!(outer.class, class);
+            let header = outer.octets(LEFT, RIGHT, 1432).unwrap();
+            assert_eq!(header[..2], [0x45, class]);
+            assert_eq!(header[2..10], [5, 0xac, 0, 0, 0x40, 0, 64, 50]);
+            assert_eq!(header[12..], [192, 0, 2, 1, 198, 51, 100, 2]);
+            assert_eq!(sum(&[&header]), 0xffff);
         }
     }
-    let inner = packet_v4(0, 0, 17, 60);
-    let flag = |choice| outer_header(&outer(choice), &inner, 100).unwrap()[6];
-    assert_eq!(flag(DontFragment::Copy), 0);
-    assert_eq!(flag(DontFragment::Set), 0x40);
-    assert_eq!(flag(DontFragment::Clear), 0);
-    let long = outer_header(&outer(DontFragment::Set), &inner, 65_516);
-    assert_eq!(long, Err(OuterFault::TooLong(65_536)));
+    for none in [&[][..], &[0x45], &[0x50, 0], &[0, 0]] {
+        assert_eq!(OuterHeader::of(none), None);
+    }
+    let outer = OuterHeader { class: 0 };
+    assert!(outer.octets(LEFT, RIGHT, 65_515).is_some());
+    assert_eq!(outer.octets(LEFT, RIGHT, 65_516), None);
+    assert_eq!(outer.octets(LEFT, RIGHT, usize::MAX), None);
 }
 
+/// RFC 6040 section 4.2, figure 4: rows are the inner mark, columns the outer one, both
+/// in the order Not-ECT, ECT(0), ECT(1), CE. `!` stands for an unusual pair.
 #[test]
-fn marks_by_the_table_of_rfc_6040() {
-    use Ecn::{Ce, Ect0, Ect1, NotEct};
-    let marks = [NotEct, Ect0, Ect1, Ce];
+fn marks_leave_the_tunnel_by_the_table() {
+    let order = [("n", 0), ("0", 2), ("1", 1), ("c", 3)];
     let table = [
-        (NotEct, [Some(NotEct), Some(NotEct), Some(NotEct), None]),
-        (Ect0, [Some(Ect0), Some(Ect0), Some(Ect1), Some(Ce)]),
-        (Ect1, [Some(Ect1), Some(Ect1), Some(Ect1), Some(Ce)]),
-        (Ce, [Some(Ce), Some(Ce), Some(Ce), Some(Ce)]),
+        ["n", "n!", "n!", "drop"],
+        ["0", "0", "1", "c"],
+        ["1", "1!", "1", "c"],
+        ["c", "c", "c!", "c"],
     ];
-    for (inner, row) in table {
-        for (outer, expected) in marks.into_iter().zip(row) {
-            assert_eq!(combine(inner, outer), expected);
-            let class = 0xb8 | inner.bits();
-            for v4 in [true, false] {
-                let packet = |class| match v4 {
-                    true => packet_v4(class, 0, 17, 60),
-                    false => packet_v6(class, 17, 60),
-                };
-                let mut arrived = packet(class);
-                let result = arrive(&mut arrived, outer);
-                match expected {
-                    Some(mark) => {
-                        assert_eq!(result, Ok(mark != inner));
-                        assert_eq!(arrived, packet(0xb8 | mark.bits()));
+    for v6 in [false, true] {
+        for ((_, inner), row) in order.iter().zip(table) {
+            for ((_, outer), wanted) in order.iter().zip(row) {
+                // DSCP stays, with all bits and with none.
+                for dscp in [0xfc, 0x00, 0xb8] {
+                    let mut packet = with_class(v6, dscp | inner);
+                    let before = packet.clone();
+                    let left = leave_tunnel(&mut packet, Ecn::of_class(*outer));
+                    if wanted == "drop" {
+                        assert_eq!((left, packet), (Left::Dropped, before));
+                        continue;
                     }
-                    None => {
-                        assert_eq!(result, Err(OuterFault::Congestion));
-                        assert_eq!(arrived, packet(class));
-                    }
+                    let mark = order.iter().find(|(name, _)| wanted.starts_with(name));
+                    let bits = mark.unwrap().1;
+                    let unusual = wanted.ends_with('!');
+                    let ecn = Ecn::of_class(bits);
+                    assert_eq!(ecn.bits(), bits);
+                    assert_eq!(left, Left::Passed { ecn, unusual });
+                    assert_eq!(packet, with_class(v6, dscp | bits), "{inner} {outer}");
                 }
             }
         }
     }
-    assert_eq!(arrive(&mut [0x45; 3], Ce), Err(OuterFault::NoInnerHeader));
-}
-
-#[test]
-fn sizes() {
-    assert_eq!(inner_mtu(1_500), 1_451);
-    assert_eq!(inner_mtu(20), 0);
-    let worst = (0..2_000).map(|inner| outer_length(inner) - inner).max();
-    assert_eq!(worst, Some(49));
-    assert!((49..2_000).all(|mtu| outer_length(inner_mtu(mtu)) <= mtu));
-    assert_eq!(outer_length(1_454), 1_500);
-}
-
-#[test]
-fn too_long_in_ipv4() {
-    for flags in [0x40, 0] {
-        let packet = packet_v4(0, flags, 17, 1_500);
-        let answer = too_big(&packet, 1_451);
-        assert_eq!(answer.len(), 576);
-        assert_eq!(answer[2..4], [2, 64]);
-        assert_eq!(answer[12..20], [10, 1, 0, 2, 10, 0, 0, 1]);
-        assert_eq!(answer[20..22], [3, 4]);
-        assert_eq!(answer[24..28], [0, 0, 5, 171]);
-        assert_eq!((checksum(&answer[..20]), checksum(&answer[20..])), (0, 0));
-        assert_eq!(answer[28..], packet[..548]);
+    for mut short in [vec![], vec![0x45; 19], vec![0x60; 39], vec![0x10; 60]] {
+        let before = short.clone();
+        assert_eq!(leave_tunnel(&mut short, Ecn::Ce), Left::NotIp);
+        assert_eq!(short, before);
     }
-    let short = packet_v4(0, 0x40, 17, 101);
-    assert_eq!(too_big(&short, 100).len(), 129);
+}
+
+/// The header whose checksum is b861 (a known example): with ECT(0) it is b85f, and CE
+/// from outside takes it to b85e.
+#[test]
+fn the_checksum_is_mended() {
+    let text = "45020073 00004000 4011b85f c0a80001 c0a800c7".replace(' ', "");
+    let octet = |at: usize| u8::from_str_radix(&text[at..at + 2], 16).unwrap();
+    let mut packet: Vec<u8> = (0..40).step_by(2).map(octet).collect();
+    assert_eq!(sum(&[&packet]), 0xffff);
+    leave_tunnel(&mut packet, Ecn::Ce);
+    assert_eq!(packet[..2], [0x45, 3]);
+    assert_eq!(packet[10..12], [0xb8, 0x5e]);
 }
 
 #[test]
-fn too_long_in_ipv6() {
-    let packet = packet_v6(0, 6, 1_500);
-    let answer = too_big(&packet, 1_451);
-    assert_eq!(answer.len(), 1_280);
-    assert_eq!(answer[8..24], packet[24..40]);
-    assert_eq!(answer[24..40], packet[8..24]);
-    assert_eq!(answer[40..42], [2, 0]);
-    assert_eq!(answer[44..48], [0, 0, 5, 171]);
-    let mut pseudo = answer[8..40].to_vec();
-    pseudo.extend(1_240u32.to_be_bytes());
-    pseudo.extend([0, 0, 0, 58]);
-    pseudo.extend(&answer[40..]);
-    assert_eq!(checksum(&pseudo), 0);
-    assert_eq!(answer[48..], packet[..1_232]);
+fn what_fits_through_the_path() {
+    assert_eq!(OVERHEAD, 49);
+    assert_eq!(inner_mtu(1500), 1451);
+    assert_eq!(inner_mtu(49), 0);
+    assert_eq!(inner_mtu(0), 0);
+    // 20 + 8 + 16, and payload and trailer up to a multiple of 4.
+    for (length, outer) in [
+        (0, 48),
+        (1, 48),
+        (2, 48),
+        (3, 52),
+        (1451, 1500),
+        (1454, 1500),
+    ] {
+        assert_eq!(sealed_length(length), outer);
+    }
+    for outer in 49..=u16::MAX {
+        let inner = usize::from(inner_mtu(outer));
+        assert!(fits(inner, outer));
+        assert!(!fits(inner + 4, outer));
+        assert_eq!(sealed_length(inner) == usize::from(outer), outer % 4 == 0);
+    }
+    assert!(!fits(usize::MAX, u16::MAX));
+}
+
+/// RFC 1191 section 4: type 3, code 4, the MTU in the last two octets of the header.
+#[test]
+fn an_ipv4_packet_that_is_too_long_is_answered() {
+    for (length, quoted) in [(20, 48), (520, 548), (521, 548), (1400, 548)] {
+        let packet = Flow::plain(false, false).packet(1, 0, 0, &Chance(2).octets(length));
+        let answer = too_big(&packet, 1371).unwrap();
+        assert_eq!(answer.len(), 28 + quoted);
+        assert_eq!(answer[..2], [0x45, 0xc0]);
+        assert_eq!(answer[2..4], (28 + quoted as u16).to_be_bytes());
+        assert_eq!(answer[4..10], [0, 0, 0, 0, 64, 1]);
+        assert_eq!(answer[12..20], [10, 1, 0, 6, 10, 0, 0, 5]);
+        assert_eq!(sum(&[&answer[..20]]), 0xffff);
+        assert_eq!(answer[20..22], [3, 4]);
+        assert_eq!(answer[24..28], [0, 0, 5, 0x5b]);
+        assert_eq!(sum(&[&answer[20..]]), 0xffff);
+        assert_eq!(answer[28..], packet[..quoted]);
+    }
+}
+
+/// RFC 4443 section 3.2: type 2, code 0, the MTU in 32 bits.
+#[test]
+fn an_ipv6_packet_that_is_too_long_is_answered() {
+    for (length, quoted) in [(20, 68), (1184, 1232), (1185, 1232), (1500, 1232)] {
+        let packet = Flow::plain(true, false).packet(1, 0, 0, &Chance(2).octets(length));
+        let answer = too_big(&packet, 1371).unwrap();
+        assert_eq!(answer.len(), 48 + quoted);
+        assert_eq!(answer[..4], [0x60, 0, 0, 0]);
+        assert_eq!(answer[4..6], (8 + quoted as u16).to_be_bytes());
+        assert_eq!(answer[6..8], [58, 64]);
+        assert_eq!(answer[8..24], packet[24..40]);
+        assert_eq!(answer[24..40], packet[8..24]);
+        assert_eq!(answer[40..42], [2, 0]);
+        assert_eq!(answer[44..48], [0, 0, 5, 0x5b]);
+        let count = (answer.len() as u32 - 40).to_be_bytes();
+        let parts = [&answer[8..40], &count, &[0, 58], &answer[40..]];
+        assert_eq!(sum(&parts), 0xffff);
+        assert_eq!(answer[48..], packet[..quoted]);
+    }
+}
+
+/// An answer is due to a packet after these octets were set in it, or none is.
+fn answered(v6: bool, changes: &[(usize, u8)]) -> bool {
+    let mut packet = Flow::plain(v6, false).packet(1, 0, 0, &[0; 60]);
+    for (at, octet) in changes {
+        packet[*at] = *octet;
+    }
+    too_big(&packet, 100).is_some()
 }
 
 #[test]
-fn no_answer_to_errors_fragments_and_many() {
-    let v4 = |change: fn(&mut Vec<u8>)| {
-        let mut packet = packet_v4(0, 0x40, 1, 1_500);
-        packet[20] = 8;
-        change(&mut packet);
-        too_big(&packet, 1_451).is_empty()
-    };
-    assert!(!v4(|_| ())); // an echo request
-    assert!(!v4(|packet| packet[6] = 0x20)); // a first fragment
-    assert!(v4(|packet| packet[20] = 3));
-    assert!(v4(|packet| packet[7] = 1));
-    assert!(v4(|packet| packet[16] = 224));
-    assert!(v4(|packet| packet[16..20].fill(255)));
-    assert!(v4(|packet| packet[12..16].fill(0)));
-    assert!(v4(|packet| packet.truncate(19)));
-    let v6 = |change: fn(&mut Vec<u8>)| {
-        let mut packet = packet_v6(0, 58, 1_500);
-        packet[40] = 128;
-        change(&mut packet);
-        too_big(&packet, 1_451).is_empty()
-    };
-    assert!(!v6(|_| ()));
-    assert!(v6(|packet| packet[40] = 1));
-    assert!(v6(|packet| packet[40] = 137));
-    assert!(v6(|packet| packet[24] = 0xff));
-    assert!(v6(|packet| packet[8..24].fill(0)));
-    // A fragment header: the first one is answered, a later one isn't.
-    let first: fn(&mut Vec<u8>) = |packet| {
-        packet[6] = 44;
-        packet[40..48].copy_from_slice(&[17, 0, 0, 1, 0, 0, 0, 1]);
-    };
-    assert!(!v6(first));
-    assert!(v6(|packet| {
-        packet[6] = 44;
-        packet[40..48].copy_from_slice(&[17, 0, 0, 8, 0, 0, 0, 1]);
-    }));
-}
-
-#[test]
-fn malformed_datagrams_are_faults() {
-    let good = packet_v4(0, 0, 50, 60);
-    let changed = |place: usize, value: u8| {
-        let mut datagram = good.clone();
-        datagram[place] = value;
-        read_outer(&datagram).unwrap_err()
-    };
-    assert_eq!(read_outer(&[]), Err(OuterFault::NoHeader(0)));
-    assert_eq!(read_outer(&good[..19]), Err(OuterFault::NoHeader(19)));
-    assert_eq!(changed(0, 0x65), OuterFault::Version(6));
-    assert_eq!(changed(0, 0x44), OuterFault::NoHeader(60));
-    assert_eq!(
-        changed(3, 61),
-        OuterFault::Length {
-            told: 61,
-            found: 60
+fn none_where_none_may_be() {
+    // IPv4: errors of ICMP, and what is none; fragments; addresses of no one station.
+    for kind in 0..=255 {
+        let error = [3, 4, 5, 11, 12].contains(&kind);
+        assert_eq!(answered(false, &[(9, 1), (20, kind)]), !error);
+    }
+    assert!(answered(false, &[(6, 0)]), "without DF too");
+    assert!(answered(false, &[(6, 0x20)]), "the first fragment");
+    assert!(!answered(false, &[(7, 1)]), "another fragment");
+    for first in [0, 127, 224, 239, 240, 255] {
+        assert!(!answered(false, &[(12, first)]));
+        assert!(!answered(false, &[(16, first)]));
+    }
+    // IPv6 alike; types below 128 are errors, 137 is a redirect.
+    for kind in 0..=255 {
+        let none = kind < 128 || kind == 137;
+        assert_eq!(answered(true, &[(6, 58), (40, kind)]), !none);
+        // Behind an extension header, and behind the header of a first fragment.
+        let behind = [(6, 60), (40, 58), (41, 0), (48, kind)];
+        assert_eq!(answered(true, &behind), !none);
+        let first = [(6, 44), (40, 58), (42, 0), (43, 1), (48, kind)];
+        assert_eq!(answered(true, &first), !none);
+    }
+    assert!(!answered(true, &[(6, 44), (40, 17), (42, 0), (43, 8)]));
+    assert!(!answered(true, &[(8, 0xff)]));
+    assert!(!answered(true, &[(24, 0xff)]));
+    for low in [0, 1] {
+        let source: Vec<(usize, u8)> = (8..23).map(|at| (at, 0)).chain([(23, low)]).collect();
+        assert!(!answered(true, &source));
+    }
+    // What isn't a packet.
+    let mut chance = Chance(9);
+    for _ in 0..20_000 {
+        let length = chance.below(80);
+        let mut octets = chance.octets(length);
+        if let Some(first) = octets.first_mut() {
+            *first = if *first & 1 == 0 { 0x45 } else { 0x60 } | (*first & 2);
         }
-    );
-    assert_eq!(
-        changed(3, 19),
-        OuterFault::Length {
-            told: 19,
-            found: 60
+        let _ = too_big(&octets, 100);
+        if length < 20 {
+            assert_eq!(too_big(&octets, 100), None);
         }
-    );
-    assert_eq!(changed(6, 0x20), OuterFault::Fragment);
-    assert_eq!(changed(9, 17), OuterFault::Protocol(17));
-    assert_eq!(changed(3, 27), OuterFault::NoEsp(7));
-    assert_eq!(
-        OuterFault::Protocol(17).to_string(),
-        "the outer protocol is 17, not 50 (ESP)"
-    );
+    }
+    assert!(right(&with_class(false, 0)) && right(&with_class(true, 0)));
+}
+
+/// A datagram of ESP as a raw socket gives it.
+fn datagram(class: u8, options: usize, esp: &[u8]) -> Vec<u8> {
+    let outer = OuterHeader { class };
+    let header = outer.octets(LEFT, RIGHT, options + esp.len()).unwrap();
+    let mut octets = [&header[..], &vec![1; options], esp].concat();
+    octets[0] = 0x45 + (options / 4) as u8;
+    octets
+}
+
+#[test]
+fn a_datagram_of_esp_is_told_apart() {
+    for (class, ecn) in [
+        (0xb8, Ecn::NotEct),
+        (1, Ecn::Ect1),
+        (2, Ecn::Ect0),
+        (0xff, Ecn::Ce),
+    ] {
+        for options in [0, 4, 40] {
+            let esp = Chance(4).octets(80);
+            let mut octets = datagram(class, options, &esp);
+            let wanted = Datagram {
+                source: LEFT,
+                ecn,
+                esp: &esp,
+            };
+            assert_eq!(Datagram::of(&octets), Ok(wanted));
+            octets.extend_from_slice(&[0; 6]);
+            assert_eq!(
+                Datagram::of(&octets),
+                Ok(wanted),
+                "what follows isn't the packet's"
+            );
+        }
+    }
+}
+
+#[test]
+fn a_malformed_datagram_has_a_name() {
+    let good = datagram(0, 0, &[7; 8]);
+    assert!(Datagram::of(&good).is_ok());
+    let turned = |at: usize, octet: u8| {
+        let mut octets = good.clone();
+        octets[at] = octet;
+        octets
+    };
+    let cases = [
+        (
+            good[..19].to_vec(),
+            "19 octets are too few for an IPv4 header",
+        ),
+        (turned(0, 0x65), "version 6 instead of 4"),
+        (turned(0, 0x44), "an IPv4 header of 16 octets in 28"),
+        (turned(0, 0x48), "an IPv4 header of 32 octets in 28"),
+        (
+            turned(3, 19),
+            "a total length of 19 with a header of 20, 28 octets came",
+        ),
+        (
+            turned(3, 29),
+            "a total length of 29 with a header of 20, 28 octets came",
+        ),
+        (turned(9, 17), "protocol 17 instead of 50"),
+        (turned(6, 0x20), "a fragment"),
+        (turned(7, 1), "a fragment"),
+        (turned(3, 27), "7 octets are too few for ESP"),
+    ];
+    for (octets, text) in cases {
+        let fault: DatagramFault = Datagram::of(&octets).expect_err(text);
+        assert_eq!(fault.to_string(), text);
+    }
+    let mut chance = Chance(6);
+    for _ in 0..20_000 {
+        let length = chance.below(60);
+        let mut octets = chance.octets(length);
+        if let Some(first) = octets.first_mut() {
+            *first = 0x40 | *first & 0xf;
+        }
+        if let Ok(datagram) = Datagram::of(&octets) {
+            assert!(datagram.esp.len() >= 8);
+        }
+    }
 }

@@ -1,20 +1,22 @@
-//! What is read from and written to a TUN device with `IFF_VNET_HDR`: a
-//! `virtio_net_hdr` of 10 octets, then an IP packet.
+//! The TUN device's offloads: superpackets are cut before the core seals them, and
+//! what comes up is joined before it is written.
 //!
-//! [`Cut`] makes packets of a superpacket that was read; [`Joiner`] makes superpackets
-//! of packets that come up. [`Offloads`] says what a kernel was asked for.
+//! The device is opened with `IFF_VNET_HDR`, so before each packet stands a
+//! [`VirtioHeader`] of 10 octets. [`cut`] makes packets of one read, a [`Joiner`] makes
+//! writes of a list of packets, and cutting what was joined gives the very packets back.
+//! Both fill [`Packets`], whose memory is used again, so that no packet costs an
+//! allocation.
 
 mod cut;
-mod fault;
 mod flags;
-mod header;
 mod join;
+mod malformed;
 mod packets;
-mod transport;
+mod virtio;
 
-pub use cut::Cut;
-pub use fault::OffloadFault;
+pub use cut::cut;
 pub use flags::Offloads;
-pub use header::{Segmentation, VirtioHeader};
 pub use join::Joiner;
+pub use malformed::Malformed;
 pub use packets::Packets;
+pub use virtio::VirtioHeader;

@@ -1,18 +1,21 @@
-//! The IPv4 header outside, as RFC 4301 sections 5.1.2 and 8 and RFC 6040 have it, and
-//! the answer to what is too long.
+//! The IPv4 header outside, the path MTU, and what a raw socket of protocol 50 gives.
 //!
-//! An IPv4 packet that is too long is refused whether it allows fragments or not, and
-//! its sender is told by [`too_big`]. The core refuses fragments inside, since they
-//! lack ports, so cutting it before it is sealed would lose every part.
+//! | File | Has |
+//! |---|---|
+//! | `outer/header.rs` | the header of a packet on its way out (RFC 4301 section 5.1.2) |
+//! | `outer/ecn.rs` | congestion marks, both ways (RFC 6040) |
+//! | `outer/mtu.rs` | what ESP adds, and which packet is too long |
+//! | `outer/too_big.rs` | the answer to a packet that is too long |
+//! | `outer/datagram.rs` | ESP out of what the raw socket gives |
 
+mod datagram;
 mod ecn;
-mod fault;
 mod header;
-mod size;
+mod mtu;
 mod too_big;
 
-pub use ecn::{arrive, combine, Ecn};
-pub use fault::OuterFault;
-pub use header::{outer_header, read_outer, DontFragment, Outer, Received};
-pub use size::{inner_mtu, outer_length, WORST_OVERHEAD};
+pub use datagram::{Datagram, DatagramFault};
+pub use ecn::{leave_tunnel, Ecn, Left};
+pub use header::OuterHeader;
+pub use mtu::{fits, inner_mtu, sealed_length, OVERHEAD};
 pub use too_big::too_big;

@@ -1,262 +1,267 @@
-//! Joining packets that come up.
+//! Joining packets that come up (GRO in software).
 
-use super::header::{Segmentation, VirtioHeader};
-use super::packets::Packets;
-use super::transport::{Transport, ACK, ECE, PSH};
-use crate::path::checksum;
-use crate::path::ip::{set_word, word, Family, Ip};
+use super::cut::{transport_header, udp_checksum, write_length, TCP_CHECKSUM, UDP_CHECKSUM};
+use super::{Offloads, Packets, VirtioHeader};
+use crate::path::checksum::{fold, pseudo, wanted, write_ipv4};
+use crate::path::ip::{Family, Ip, TCP, UDP};
+use crate::path::octets::{put_u16, u16_at, u32_at};
 
-/// The most octets of a joined packet, of either family.
+/// The longest packet that a join makes.
 const LONGEST: usize = 65_535;
+/// Flags of TCP (RFC 9293 section 3.1): others than these three keep a segment alone.
+const PSH: u8 = 0x08;
+const ACK: u8 = 0x10;
+const ECE: u8 = 0x40;
 
-/// Joins packets of one flow. It keeps its memory between lists.
-#[derive(Clone, Debug, Default)]
+/// Joins lists of packets, and keeps its memory from one to the next.
+///
+/// TCP segments of one flow are joined where each has the next sequence number and the
+/// same acknowledgement, window, options and flags. UDP datagrams are joined where they
+/// are of one flow. All are of one length but the last, which may be shorter.
+/// Whatever else cutting would not give back has to agree too: each octet of the IP
+/// header but length, identification (which rises by one) and checksum.
+#[derive(Debug)]
 pub struct Joiner {
-    /// In the order of their first packets.
-    groups: Vec<Group>,
-    /// For each packet the next one of its group.
+    offloads: Offloads,
+    runs: Vec<Run>,
+    /// For each packet of the list, the next of its run.
     next: Vec<Option<usize>>,
 }
 
-/// Packets that become one.
-#[derive(Clone, Debug)]
-struct Group {
+/// What tells one flow from another.
+#[derive(Clone, Copy, Debug, PartialEq, Eq)]
+struct Flow {
+    protocol: u8,
+    family: Family,
+    addresses: [u8; 32],
+    ports: u32,
+}
+
+/// What can be joined: where its parts are.
+#[derive(Clone, Copy, Debug)]
+struct Piece {
+    ip: Ip,
+    headers: usize,
+    payload: usize,
+}
+
+/// Packets that are one write, or are to be.
+#[derive(Clone, Copy, Debug)]
+struct Run {
+    /// Nothing of a packet that is neither TCP nor UDP.
+    flow: Option<Flow>,
+    /// The first packet's parts; nothing where nothing follows any more.
+    open: Option<Piece>,
+    /// The first packet's parts, where it could be joined.
+    piece: Option<Piece>,
     first: usize,
     last: usize,
     count: usize,
     /// The octets of the joined packet.
     length: usize,
-    /// The first packet's octets of data, and so of each but the last.
-    size: usize,
-    /// What the first packet is; `None` if it is of no flow that is known.
-    segment: Option<Segment>,
-    /// Whether another packet may follow.
-    open: bool,
-}
-
-/// A packet of a flow.
-#[derive(Clone, Copy, Debug)]
-struct Segment {
-    ip: Ip,
-    transport: Transport,
-    /// Where the data begin.
-    data: usize,
-    /// Whether it may be joined with others.
-    joinable: bool,
 }
 
 impl Joiner {
-    /// A joiner.
-    pub fn new() -> Joiner {
-        Joiner::default()
+    /// A joiner that makes what these offloads allow, and nothing else.
+    pub fn new(offloads: Offloads) -> Joiner {
+        Joiner {
+            offloads,
+            runs: Vec::new(),
+            next: Vec::new(),
+        }
     }
 
-    /// Appends a frame (virtio header and packet) for each group of packets that can be
-    /// joined, and for each other packet as it is. The order within a flow stays.
-    pub fn join(&mut self, packets: &[&[u8]], frames: &mut Packets) {
-        self.groups.clear();
+    /// Adds to `out` what is to be written of a list of packets: a virtio header and
+    /// a packet each. Packets of one flow keep their order. A packet that isn't joined
+    /// is as it was, behind a header of zeros.
+    pub fn join(&mut self, packets: &[&[u8]], out: &mut Packets) {
+        self.runs.clear();
         self.next.clear();
         self.next.resize(packets.len(), None);
-        for (index, packet) in packets.iter().enumerate() {
-            self.place(packets, index, packet);
+        for (number, packet) in packets.iter().enumerate() {
+            self.take(number, packet, packets);
         }
-        for group in &self.groups {
-            self.write(group, packets, frames);
+        for run in &self.runs {
+            self.write(run, packets, out);
         }
     }
 
-    /// Puts a packet into the group of its flow, or into a new one.
-    fn place(&mut self, packets: &[&[u8]], index: usize, packet: &[u8]) {
-        let segment = Segment::read(packet);
-        if let Some(segment) = segment {
-            // Only the newest group of a flow is open, if any.
-            let same_flow = |group: &&mut Group| {
-                group.open
-                    && group.segment.is_some_and(|first| {
-                        first.same_flow(packets[group.first], &segment, packet)
-                    })
-            };
-            if let Some(group) = self.groups.iter_mut().rev().find(same_flow) {
-                if group.follows(packets[group.first], &segment, packet) {
-                    self.next[group.last] = Some(index);
-                    group.take(index, &segment, packet);
-                    return;
+    /// Puts one packet behind the open run of its flow, or begins another.
+    fn take(&mut self, number: usize, packet: &[u8], packets: &[&[u8]]) {
+        let ip = Ip::of(packet).filter(|ip| ip.length == packet.len() && !ip.fragment);
+        let flow = ip.and_then(|ip| Flow::of(packet, &ip));
+        let piece = match (ip, flow) {
+            (Some(ip), Some(_)) if self.allows(&ip) => Piece::of(packet, ip),
+            _ => None,
+        };
+        if flow.is_some() {
+            let of_flow = |run: &&mut Run| run.open.is_some() && run.flow == flow;
+            if let Some(run) = self.runs.iter_mut().rev().find(of_flow) {
+                if let (Some(first), Some(piece)) = (run.open, piece) {
+                    let length = run.length + piece.payload;
+                    let head = packets[run.first];
+                    if length <= LONGEST && follows(head, &first, run, packet, &piece) {
+                        self.next[run.last] = Some(number);
+                        run.last = number;
+                        run.count += 1;
+                        run.length = length;
+                        if piece.payload < first.payload || pushes(packet, &piece) {
+                            run.open = None;
+                        }
+                        return;
+                    }
                 }
-                group.open = false;
+                // The next of this flow may not overtake this packet.
+                run.open = None;
             }
         }
-        self.groups.push(Group {
-            first: index,
-            last: index,
+        self.runs.push(Run {
+            flow,
+            open: piece.filter(|piece| !pushes(packet, piece)),
+            piece,
+            first: number,
+            last: number,
             count: 1,
             length: packet.len(),
-            size: segment.map_or(0, |segment| packet.len() - segment.data),
-            segment,
-            open: segment.is_some_and(|segment| segment.joinable && !segment.pushes(packet)),
         });
     }
 
-    fn write(&self, group: &Group, packets: &[&[u8]], frames: &mut Packets) {
-        let first = packets[group.first];
-        let Some(segment) = group.segment.filter(|_| group.count > 1) else {
-            frames.push([&VirtioHeader::PLAIN.octets()[..], first]);
-            return;
+    fn allows(&self, ip: &Ip) -> bool {
+        self.offloads.has(match (ip.protocol, ip.family) {
+            (TCP, Family::V4) => Offloads::TSO4,
+            (TCP, Family::V6) => Offloads::TSO6,
+            (_, Family::V4) => Offloads::USO4,
+            (_, Family::V6) => Offloads::USO6,
+        })
+    }
+
+    fn write(&self, run: &Run, packets: &[&[u8]], out: &mut Packets) {
+        let head = packets[run.first];
+        let piece = match run.piece {
+            Some(piece) if run.count > 1 => piece,
+            _ => {
+                out.push([&VirtioHeader::default().octets()[..], head]);
+                return;
+            }
         };
-        let header = segment.virtio_header(first);
-        let octets = header.octets();
-        let rest = std::iter::successors(self.next[group.first], |&index| self.next[index]);
-        let data = rest.map(|index| &packets[index][segment.data..]);
-        let frame = frames.push([&octets[..], first].into_iter().chain(data));
-        let packet = &mut frame[VirtioHeader::LENGTH..];
-        segment.finish(packet, packets[group.last]);
+        let (ip, at) = (piece.ip, piece.ip.transport);
+        let (gso_type, field) = match (ip.protocol, ip.family) {
+            (TCP, Family::V4) => (VirtioHeader::GSO_TCPV4, TCP_CHECKSUM),
+            (TCP, Family::V6) => (VirtioHeader::GSO_TCPV6, TCP_CHECKSUM),
+            _ => (VirtioHeader::GSO_UDP_L4, UDP_CHECKSUM),
+        };
+        let virtio = VirtioHeader {
+            flags: VirtioHeader::NEEDS_CSUM,
+            gso_type,
+            hdr_len: piece.headers as u16,
+            gso_size: piece.payload as u16,
+            csum_start: at as u16,
+            csum_offset: field as u16,
+        }
+        .octets();
+        let numbers = std::iter::successors(Some(run.first), |number| self.next[*number]);
+        let payloads = numbers.map(|number| &packets[number][piece.headers..]);
+        let heads = [&virtio[..], &head[..piece.headers]];
+        let written = out.push(heads.into_iter().chain(payloads));
+        let packet = &mut written[VirtioHeader::LENGTH..];
+        write_length(packet, &ip, run.length);
+        if ip.family == Family::V4 {
+            write_ipv4(&mut packet[..at]);
+        }
+        let others = fold(pseudo(packet, &ip, run.length - at));
+        if ip.protocol == TCP {
+            packet[at + 13] = packets[run.last][at + 13];
+        } else {
+            put_u16(packet, at + 4, (run.length - at) as u16);
+        }
+        put_u16(packet, at + field, others);
     }
 }
 
-impl Group {
-    /// Whether a packet of the same flow is the next one.
-    fn follows(&self, first: &[u8], segment: &Segment, packet: &[u8]) -> bool {
-        let Some(head) = &self.segment else {
-            return false;
-        };
-        let data = packet.len() - segment.data;
-        segment.joinable
-            && data <= self.size
-            && self.length + data <= LONGEST
-            && head.data == segment.data
-            && head.same_headers(first, segment, packet)
-            && head.in_order(first, packet, self.count, self.size)
-    }
-
-    fn take(&mut self, index: usize, segment: &Segment, packet: &[u8]) {
-        let data = packet.len() - segment.data;
-        self.last = index;
-        self.count += 1;
-        self.length += data;
-        // A shorter one is the last.
-        self.open = data == self.size && !segment.pushes(packet);
-    }
-}
-
-impl Segment {
-    /// Reads a packet of TCP or UDP that is whole. `None`: it is none, or a fragment.
-    fn read(packet: &[u8]) -> Option<Segment> {
-        let ip = Ip::read(packet)?;
-        if ip.length != packet.len() || ip.fragment || ip.routed {
+impl Flow {
+    fn of(packet: &[u8], ip: &Ip) -> Option<Flow> {
+        if ip.protocol != TCP && ip.protocol != UDP || packet.len() < ip.transport + 4 {
             return None;
         }
-        let transport = Transport::of(ip.protocol)?;
-        let data = transport.data(&ip, packet)?;
-        let mut segment = Segment {
-            ip,
-            transport,
-            data,
-            joinable: false,
-        };
-        segment.joinable = segment.is_joinable(packet);
-        Some(segment)
-    }
-
-    /// Whether there are data, no unusual flag, and the very checksums that cutting
-    /// would make.
-    fn is_joinable(&self, packet: &[u8]) -> bool {
-        let header = &packet[self.ip.transport..];
-        let usual = match self.transport {
-            Transport::Tcp => header[13] & !(PSH | ECE) == ACK,
-            Transport::Udp => true,
-        };
-        let place = self.transport.checksum_offset();
-        usual
-            && packet.len() > self.data
-            && (self.ip.family == Family::V6 || header_checksum_is_right(packet, &self.ip))
-            && word(header, place) == self.transport.checksum(&self.ip, packet)
-    }
-
-    /// Whether nothing is joined behind it.
-    fn pushes(&self, packet: &[u8]) -> bool {
-        self.transport == Transport::Tcp && packet[self.ip.transport + 13] & PSH != 0
-    }
-
-    /// Whether another packet has the same addresses, protocol and ports.
-    fn same_flow(&self, packet: &[u8], other: &Segment, other_packet: &[u8]) -> bool {
-        let ports = |segment: &Segment, packet: &[u8]| {
-            let place = segment.ip.transport;
-            (word(packet, place), word(packet, place + 2))
-        };
-        self.ip.family == other.ip.family
-            && self.transport == other.transport
-            && self.ip.addresses(packet) == other.ip.addresses(other_packet)
-            && ports(self, packet) == ports(other, other_packet)
-    }
-
-    /// Whether headers of one length differ only in what cutting makes anew: lengths,
-    /// identification, checksums, TCP's sequence number and PSH.
-    fn same_headers(&self, packet: &[u8], other: &Segment, other_packet: &[u8]) -> bool {
-        let place = self.ip.transport;
-        let same = |begin: usize, end: usize| packet[begin..end] == other_packet[begin..end];
-        let same_ip = match self.ip.family {
-            Family::V4 => same(0, 2) && same(6, 10) && same(12, place),
-            Family::V6 => same(0, 4) && same(6, place),
-        };
-        let same_transport = self.transport == Transport::Udp
-            || same(place + 8, place + 13)
-                && (packet[place + 13] ^ other_packet[place + 13]) & !PSH == 0
-                && same(place + 14, place + 16)
-                && same(place + 18, self.data);
-        place == other.ip.transport && same_ip && same_transport
-    }
-
-    /// Whether a packet has the identification and the sequence number that cutting
-    /// gives to the segment of this number.
-    fn in_order(&self, first: &[u8], packet: &[u8], number: usize, size: usize) -> bool {
-        let place = self.ip.transport + 4;
-        let sequence = |packet: &[u8]| {
-            u32::from_be_bytes([
-                packet[place],
-                packet[place + 1],
-                packet[place + 2],
-                packet[place + 3],
-            ])
-        };
-        let next_identification = word(first, 4).wrapping_add(number as u16);
-        let next_sequence = sequence(first).wrapping_add((number * size) as u32);
-        (self.ip.family == Family::V6 || word(packet, 4) == next_identification)
-            && (self.transport == Transport::Udp || sequence(packet) == next_sequence)
-    }
-
-    /// The header of what begins with this packet.
-    fn virtio_header(&self, packet: &[u8]) -> VirtioHeader {
-        VirtioHeader {
-            needs_checksum: true,
-            segmentation: match (self.transport, self.ip.family) {
-                (Transport::Udp, _) => Segmentation::Udp,
-                (Transport::Tcp, Family::V4) => Segmentation::TcpV4,
-                (Transport::Tcp, Family::V6) => Segmentation::TcpV6,
-            },
-            ecn: false,
-            header_length: self.data as u16,
-            segment_size: (packet.len() - self.data) as u16,
-            checksum_start: self.ip.transport as u16,
-            checksum_offset: self.transport.checksum_offset() as u16,
+        let mut addresses = [0; 32];
+        match ip.family {
+            Family::V4 => addresses[..8].copy_from_slice(&packet[12..20]),
+            Family::V6 => addresses.copy_from_slice(&packet[8..40]),
         }
-    }
-
-    /// Mends the headers of a joined packet, which are so far the first one's.
-    fn finish(&self, packet: &mut [u8], last: &[u8]) {
-        let length = packet.len();
-        let place = self.ip.transport;
-        let identification = word(packet, 4);
-        self.ip.finish_header(packet, length, identification);
-        match self.transport {
-            Transport::Tcp => packet[place + 13] |= last[place + 13] & PSH,
-            Transport::Udp => set_word(packet, place + 4, (length - place) as u16),
-        }
-        let sum = checksum::fold(self.ip.pseudo_sum(packet, length - place));
-        set_word(packet, place + self.transport.checksum_offset(), sum);
+        Some(Flow {
+            protocol: ip.protocol,
+            family: ip.family,
+            addresses,
+            ports: u32_at(packet, ip.transport),
+        })
     }
 }
 
-fn header_checksum_is_right(packet: &[u8], ip: &Ip) -> bool {
-    let header = &packet[..ip.transport];
-    let sum = checksum::add(checksum::add(0, &header[..10]), &header[12..]);
-    !checksum::fold(sum) == word(header, 10)
+impl Piece {
+    /// The parts of a packet that may be joined: payload, no flag that has to stay, and
+    /// checksums as cutting writes them.
+    fn of(packet: &[u8], ip: Ip) -> Option<Piece> {
+        let transport = &packet[ip.transport..];
+        let own = transport_header(ip.protocol, transport)?;
+        let payload = transport.len() - own;
+        if payload == 0 || ip.routed {
+            return None;
+        }
+        if ip.family == Family::V4 {
+            let header = &packet[..ip.transport];
+            if wanted(header, 10, 0) != u16_at(header, 10) {
+                return None;
+            }
+        }
+        let others = pseudo(packet, &ip, transport.len());
+        let right = match ip.protocol {
+            TCP => {
+                let plain = transport[13] & !(PSH | ECE) == ACK;
+                plain && wanted(transport, TCP_CHECKSUM, others) == u16_at(transport, TCP_CHECKSUM)
+            }
+            _ => {
+                let whole = usize::from(u16_at(transport, 4)) == transport.len();
+                whole && udp_checksum(transport, others) == u16_at(transport, UDP_CHECKSUM)
+            }
+        };
+        right.then_some(Piece {
+            ip,
+            headers: ip.transport + own,
+            payload,
+        })
+    }
+}
+
+/// True where a segment ends its run by PSH.
+fn pushes(packet: &[u8], piece: &Piece) -> bool {
+    piece.ip.protocol == TCP && packet[piece.ip.transport + 13] & PSH != 0
+}
+
+/// True where `packet` is what cutting would make as the next of `run`, whose first
+/// packet is `head`.
+fn follows(head: &[u8], first: &Piece, run: &Run, packet: &[u8], piece: &Piece) -> bool {
+    if piece.ip.transport != first.ip.transport
+        || piece.headers != first.headers
+        || piece.payload > first.payload
+    {
+        return false;
+    }
+    let at = first.ip.transport;
+    let same = |from: usize, to: usize| head[from..to] == packet[from..to];
+    let ip = match first.ip.family {
+        Family::V4 => {
+            let next = u16_at(head, 4).wrapping_add(run.count as u16);
+            same(0, 2) && u16_at(packet, 4) == next && same(6, 10) && same(12, at)
+        }
+        Family::V6 => same(0, 4) && same(6, at),
+    };
+    if first.ip.protocol == UDP {
+        return ip && same(at, at + 4);
+    }
+    let before = (run.count * first.payload) as u32;
+    ip && u32_at(packet, at + 4) == u32_at(head, at + 4).wrapping_add(before)
+        && same(at + 8, at + 13)
+        && packet[at + 13] & !PSH == head[at + 13] & !PSH
+        && same(at + 14, at + TCP_CHECKSUM)
+        && same(at + TCP_CHECKSUM + 2, first.headers)
 }

@@ -1,50 +1,59 @@
-//! A list of packets in one buffer.
+//! Packets in one buffer.
 
-/// Packets one behind the other. Once it has grown, nothing is allocated.
-#[derive(Clone, Debug, Default, PartialEq, Eq)]
+use std::ops::Range;
+
+/// Packets one behind the other in one buffer, with a place for each. Cleared and
+/// filled again it keeps its memory.
+#[derive(Clone, Debug, Default)]
 pub struct Packets {
-    octets: Vec<u8>,
-    /// Where each packet ends.
-    ends: Vec<usize>,
+    pub(super) octets: Vec<u8>,
+    places: Vec<Range<usize>>,
 }
 
 impl Packets {
-    /// An empty list.
+    /// None yet.
     pub fn new() -> Packets {
         Packets::default()
     }
 
-    /// Empties the list and keeps its memory.
+    /// Forgets the packets and keeps the memory.
     pub fn clear(&mut self) {
         self.octets.clear();
-        self.ends.clear();
+        self.places.clear();
     }
 
-    /// How many packets there are.
+    /// How many there are.
     pub fn len(&self) -> usize {
-        self.ends.len()
+        self.places.len()
     }
 
-    /// Whether there is none.
+    /// True where there is none.
     pub fn is_empty(&self) -> bool {
-        self.ends.is_empty()
+        self.places.is_empty()
     }
 
-    /// The packets in their order.
+    /// All octets, as a list of the core takes them.
+    pub fn octets(&self) -> &[u8] {
+        &self.octets
+    }
+
+    /// The place of each packet in [`Packets::octets`], in order.
+    pub fn places(&self) -> &[Range<usize>] {
+        &self.places
+    }
+
+    /// The packets in order.
     pub fn iter(&self) -> impl Iterator<Item = &[u8]> {
-        let begins = std::iter::once(0).chain(self.ends.iter().copied());
-        begins
-            .zip(&self.ends)
-            .map(|(begin, &end)| &self.octets[begin..end])
+        self.places.iter().map(|place| &self.octets[place.clone()])
     }
 
-    /// Appends a packet that consists of parts, and gives it for mending.
+    /// Adds a packet of these parts, and gives it for what is still to be changed.
     pub(super) fn push<'a>(&mut self, parts: impl IntoIterator<Item = &'a [u8]>) -> &mut [u8] {
-        let begin = self.octets.len();
+        let start = self.octets.len();
         for part in parts {
             self.octets.extend_from_slice(part);
         }
-        self.ends.push(self.octets.len());
-        &mut self.octets[begin..]
+        self.places.push(start..self.octets.len());
+        &mut self.octets[start..]
     }
 }

@@ -1,25 +1,40 @@
-//! Congestion marks through a tunnel (RFC 6040).
+//! Explicit congestion notification through a tunnel (RFC 6040).
 
-use super::fault::OuterFault;
-use crate::path::checksum;
-use crate::path::ip::{set_word, word, Family, Ip};
+use crate::path::checksum::mended;
+use crate::path::octets::{put_u16, u16_at};
 
-/// The ECN field (RFC 3168 section 5).
+/// The two bits of ECN (RFC 3168 section 5).
 #[derive(Clone, Copy, Debug, PartialEq, Eq)]
 pub enum Ecn {
-    /// The ends don't understand marks.
+    /// The transport knows no ECN.
     NotEct,
-    /// They do.
-    Ect0,
-    /// They do.
+    /// ECT(1): the transport knows ECN.
     Ect1,
+    /// ECT(0): the transport knows ECN.
+    Ect0,
     /// Congestion was met.
     Ce,
 }
 
+/// What became of a packet that left the tunnel.
+#[derive(Clone, Copy, Debug, PartialEq, Eq)]
+pub enum Left {
+    /// It goes on, with this mark.
+    Passed {
+        /// What its header says now.
+        ecn: Ecn,
+        /// True of pairs that nothing makes today, to be counted (RFC 6040 section 4.2).
+        unusual: bool,
+    },
+    /// It has to be dropped: congestion was met, and its transport can't be told.
+    Dropped,
+    /// It is no IP packet, and wasn't touched.
+    NotIp,
+}
+
 impl Ecn {
-    /// The mark in a type of service or traffic class.
-    pub fn of(class: u8) -> Ecn {
+    /// The mark in the low two bits of an octet of traffic class.
+    pub fn of_class(class: u8) -> Ecn {
         match class & 3 {
             0 => Ecn::NotEct,
             1 => Ecn::Ect1,
@@ -28,7 +43,7 @@ impl Ecn {
         }
     }
 
-    /// The two bits.
+    /// Its two bits.
     pub fn bits(self) -> u8 {
         match self {
             Ecn::NotEct => 0,
@@ -39,44 +54,55 @@ impl Ecn {
     }
 }
 
-/// The mark that a packet has after the tunnel, by the table of RFC 6040 section 4.2.
-/// `None`: it is dropped.
-pub fn combine(inner: Ecn, outer: Ecn) -> Option<Ecn> {
+/// The traffic class (RFC 2474: DSCP, then ECN) of an IP packet of either family.
+pub(super) fn class_of(packet: &[u8]) -> Option<u8> {
+    let (first, second) = (*packet.first()?, *packet.get(1)?);
+    match first >> 4 {
+        4 => Some(second),
+        6 => Some(first << 4 | second >> 4),
+        _ => None,
+    }
+}
+
+/// The table of RFC 6040 section 4.2 (figure 4): what the inner header is to say, or
+/// nothing where the packet is dropped; and whether the pair is unusual.
+fn table(inner: Ecn, outer: Ecn) -> (Option<Ecn>, bool) {
     match (inner, outer) {
-        (Ecn::NotEct, Ecn::Ce) => None,
-        (Ecn::NotEct, _) => Some(Ecn::NotEct),
-        (Ecn::Ce, _) | (_, Ecn::Ce) => Some(Ecn::Ce),
-        (Ecn::Ect0, Ecn::Ect1) => Some(Ecn::Ect1),
-        (inner, _) => Some(inner),
+        (Ecn::NotEct, Ecn::NotEct) => (Some(Ecn::NotEct), false),
+        (Ecn::NotEct, Ecn::Ce) => (None, true),
+        (Ecn::NotEct, _) => (Some(Ecn::NotEct), true),
+        (Ecn::Ect0, Ecn::NotEct) => (Some(Ecn::Ect0), false),
+        (Ecn::Ect0, outer) => (Some(outer), false),
+        (Ecn::Ect1, Ecn::Ce) => (Some(Ecn::Ce), false),
+        (Ecn::Ect1, outer) => (Some(Ecn::Ect1), outer == Ecn::Ect0),
+        (Ecn::Ce, outer) => (Some(Ecn::Ce), outer == Ecn::Ect1),
     }
 }
 
-/// Gives an inner packet the mark that follows from the outer one, and mends the IPv4
-/// header's checksum: a right one stays right, a wrong one wrong. Says whether the
-/// packet changed. Where it is refused it stays as it was.
-pub fn arrive(packet: &mut [u8], outer: Ecn) -> Result<bool, OuterFault> {
-    let ip = Ip::read(packet).ok_or(OuterFault::NoInnerHeader)?;
-    let inner = Ecn::of(class(packet, ip.family));
-    let mark = combine(inner, outer).ok_or(OuterFault::Congestion)?;
-    if mark == inner {
-        return Ok(false);
+/// Carries the mark of the outer header over to the packet that came out of the tunnel,
+/// and mends its IPv4 header's checksum. DSCP stays (RFC 4301 section 5.1.2.1).
+pub fn leave_tunnel(packet: &mut [u8], outer: Ecn) -> Left {
+    let Some(class) = class_of(packet) else {
+        return Left::NotIp;
+    };
+    let v4 = packet[0] >> 4 == 4;
+    if packet.len() < if v4 { 20 } else { 40 } {
+        return Left::NotIp;
     }
-    match ip.family {
-        Family::V4 => {
-            let old = word(packet, 0);
-            packet[1] = packet[1] & !3 | mark.bits();
-            let mended = checksum::mended(word(packet, 10), old, word(packet, 0));
-            set_word(packet, 10, mended);
-        }
-        Family::V6 => packet[1] = packet[1] & !0x30 | mark.bits() << 4,
+    let (ecn, unusual) = match table(Ecn::of_class(class), outer) {
+        (Some(ecn), unusual) => (ecn, unusual),
+        (None, _) => return Left::Dropped,
+    };
+    let class = class & !3 | ecn.bits();
+    if v4 && class != packet[1] {
+        let before = u16_at(packet, 0);
+        packet[1] = class;
+        let checksum = mended(u16_at(packet, 10), before, u16_at(packet, 0));
+        put_u16(packet, 10, checksum);
     }
-    Ok(true)
-}
-
-/// The type of service or traffic class of a packet.
-pub(super) fn class(packet: &[u8], family: Family) -> u8 {
-    match family {
-        Family::V4 => packet[1],
-        Family::V6 => packet[0] << 4 | packet[1] >> 4,
+    if !v4 {
+        packet[0] = packet[0] & 0xf0 | class >> 4;
+        packet[1] = packet[1] & 0x0f | class << 4;
     }
+    Left::Passed { ecn, unusual }
 }

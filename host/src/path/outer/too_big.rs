@@ -1,106 +1,119 @@
-//! Telling the inside that a packet is too long.
+//! The answer to the inside about a packet that is too long.
 
-use crate::path::checksum;
-use crate::path::ip::{set_word, Family, Ip, ICMP, ICMPV6};
-use std::net::{Ipv4Addr, Ipv6Addr};
+use crate::path::checksum::{fold, pseudo, sum, write_ipv4};
+use crate::path::ip::{Family, Ip, ICMP, ICMPV6};
+use crate::path::octets::{put_u16, put_u32};
 
-/// The longest answer: RFC 1812 section 4.3.2.3 and RFC 4443 section 3.2.
+/// The most octets of an answer by IPv4 (RFC 1812 section 4.3.2.3).
 const LONGEST_V4: usize = 576;
+/// The most octets of an answer by IPv6 (RFC 4443 section 3.2: the least MTU).
 const LONGEST_V6: usize = 1280;
+/// Hops of an answer.
+const HOPS: u8 = 64;
+/// Precedence of internetwork control (RFC 1812 section 4.3.2.5).
+const CONTROL: u8 = 0xc0;
 
-/// The answer to the sender of a packet that is longer than an MTU inside, in octets:
-/// 'fragmentation needed' (RFC 1191) or 'packet too big' (RFC 4443 section 3.2), with
-/// as much of the packet as fits.
+/// The answer to a packet that is longer than `mtu`, the inner one: ICMP 'fragmentation
+/// needed' (type 3, code 4, RFC 1191 section 4) or ICMPv6 'packet too big' (RFC 4443
+/// section 3.2), with as much of the packet as fits.
 ///
-/// Its source is the packet's destination. That one is routed to the TUN device, so the
-/// kernel takes it there, and it would drop one of this end's own addresses.
+/// Its source is the packet's destination: Linux drops a packet from a device whose
+/// source is one of its own addresses, and the destination is routed to that device.
 ///
-/// Empty where no answer may be: to ICMP errors, to a fragment other than the first, to
-/// and from addresses that aren't one host's, and to what has no whole header
-/// (RFC 1122 section 3.2.2, RFC 4443 section 2.4).
-pub fn too_big(packet: &[u8], mtu: usize) -> Vec<u8> {
-    let Some(ip) = Ip::read(packet) else {
-        return Vec::new();
-    };
-    if ip.fragment_offset != 0 || is_error(&ip, packet) || !between_hosts(&ip, packet) {
-        return Vec::new();
+/// None is given where none may be (RFC 1122 section 3.2.2, RFC 4443 section 2.4): for
+/// ICMP errors, fragments but the first, sources and destinations that aren't one
+/// station. Of IPv6 a multicast destination could be answered, but not be a source.
+pub fn too_big(packet: &[u8], mtu: u16) -> Option<Vec<u8>> {
+    let ip = Ip::of(packet)?;
+    if ip.offset != 0 || !one_station(packet, &ip) || is_error(packet, &ip) {
+        return None;
     }
-    let packet = &packet[..packet.len().min(ip.length)];
+    Some(match ip.family {
+        Family::V4 => answer_v4(packet, mtu),
+        Family::V6 => answer_v6(packet, mtu),
+    })
+}
+
+/// True where both addresses are of one station each.
+fn one_station(packet: &[u8], ip: &Ip) -> bool {
     match ip.family {
-        Family::V4 => too_big_v4(packet, mtu),
-        Family::V6 => too_big_v6(packet, mtu),
+        // This network, loopback, multicast and what is reserved, broadcast among it
+        // (RFC 1122 section 3.2.1.3).
+        Family::V4 => {
+            let one = |first: u8| first != 0 && first != 127 && first < 224;
+            one(packet[12]) && one(packet[16])
+        }
+        // Unspecified, loopback (RFC 4291 section 2.5) and multicast (section 2.7).
+        Family::V6 => {
+            let one = |address: &[u8]| {
+                let low = address[..15].iter().all(|octet| *octet == 0) && address[15] < 2;
+                !low && address[0] != 0xff
+            };
+            one(&packet[8..24]) && one(&packet[24..40])
+        }
     }
 }
 
-/// Whether it is an ICMP error, or a message of ICMP whose type can't be read.
-fn is_error(ip: &Ip, packet: &[u8]) -> bool {
-    let kind = packet.get(ip.transport);
+/// True of an ICMP error, of a redirect, and of ICMP whose type isn't there.
+fn is_error(packet: &[u8], ip: &Ip) -> bool {
+    let kind = packet.get(ip.transport).copied();
     match (ip.family, ip.protocol) {
-        (Family::V4, ICMP) => !kind.is_some_and(|kind| !matches!(kind, 3 | 4 | 5 | 11 | 12)),
-        // Errors have types below 128; 137 is a redirect.
-        (Family::V6, ICMPV6) => !kind.is_some_and(|&kind| kind >= 128 && kind != 137),
+        // Unreachable, source quench, redirect, time exceeded, parameter problem.
+        (Family::V4, ICMP) => matches!(kind, None | Some(3 | 4 | 5 | 11 | 12)),
+        // Errors are below 128, a redirect is 137 (RFC 4861 section 4.5).
+        (Family::V6, ICMPV6) => !matches!(kind, Some(128..=136 | 138..)),
         _ => false,
     }
 }
 
-/// Whether both addresses are those of one host each.
-fn between_hosts(ip: &Ip, packet: &[u8]) -> bool {
-    let addresses = ip.addresses(packet);
-    let (source, destination) = addresses.split_at(addresses.len() / 2);
-    [source, destination].into_iter().all(is_host)
-}
-
-fn is_host(address: &[u8]) -> bool {
-    if let Ok(octets) = <[u8; 4]>::try_from(address) {
-        // Net 0, loopback, multicast, and class E with broadcast.
-        return octets[0] != 0 && octets[0] < 224 && !Ipv4Addr::from(octets).is_loopback();
-    }
-    let Ok(octets) = <[u8; 16]>::try_from(address) else {
-        return false;
-    };
-    let address = Ipv6Addr::from(octets);
-    !address.is_unspecified() && !address.is_loopback() && !address.is_multicast()
-}
-
-fn too_big_v4(packet: &[u8], mtu: usize) -> Vec<u8> {
-    let kept = &packet[..packet.len().min(LONGEST_V4 - 28)];
-    let mut answer = vec![0; 28];
+fn answer_v4(packet: &[u8], mtu: u16) -> Vec<u8> {
+    let (header, icmp) = (20, 8);
+    let quoted = &packet[..packet.len().min(LONGEST_V4 - header - icmp)];
+    let mut answer = vec![0; header + icmp];
+    answer.extend_from_slice(quoted);
+    let length = answer.len();
     answer[0] = 0x45;
-    answer[1] = 0xc0; // internetwork control (RFC 1812 section 4.3.2.5)
-    set_word(&mut answer, 2, (28 + kept.len()) as u16);
-    answer[6] = 0x40;
-    answer[8] = 64;
+    answer[1] = CONTROL;
+    put_u16(&mut answer, 2, length as u16);
+    answer[8] = HOPS;
     answer[9] = ICMP;
     answer[12..16].copy_from_slice(&packet[16..20]);
     answer[16..20].copy_from_slice(&packet[12..16]);
-    let sum = checksum::of(&answer[..20]);
-    set_word(&mut answer, 10, sum);
-    answer[20] = 3;
-    answer[21] = 4;
-    set_word(&mut answer, 26, u16::try_from(mtu).unwrap_or(u16::MAX));
-    answer.extend_from_slice(kept);
-    let sum = checksum::of(&answer[20..]);
-    set_word(&mut answer, 22, sum);
+    write_ipv4(&mut answer[..header]);
+    let message = &mut answer[header..];
+    message[0] = 3;
+    message[1] = 4;
+    put_u16(message, 6, mtu);
+    let checksum = !fold(sum(message));
+    put_u16(message, 2, checksum);
     answer
 }
 
-fn too_big_v6(packet: &[u8], mtu: usize) -> Vec<u8> {
-    let kept = &packet[..packet.len().min(LONGEST_V6 - 48)];
-    let mut answer = vec![0; 48];
-    let length = 8 + kept.len();
+fn answer_v6(packet: &[u8], mtu: u16) -> Vec<u8> {
+    let (header, icmp) = (40, 8);
+    let quoted = &packet[..packet.len().min(LONGEST_V6 - header - icmp)];
+    let mut answer = vec![0; header + icmp];
+    answer.extend_from_slice(quoted);
+    let length = answer.len();
     answer[0] = 0x60;
-    set_word(&mut answer, 4, length as u16);
+    put_u16(&mut answer, 4, (length - header) as u16);
     answer[6] = ICMPV6;
-    answer[7] = 64;
+    answer[7] = HOPS;
     answer[8..24].copy_from_slice(&packet[24..40]);
     answer[24..40].copy_from_slice(&packet[8..24]);
-    answer[40] = 2;
-    let mtu = u32::try_from(mtu).unwrap_or(u32::MAX);
-    answer[44..48].copy_from_slice(&mtu.to_be_bytes());
-    answer.extend_from_slice(kept);
-    // The pseudo header: addresses, length, next header (RFC 8200 section 8.1).
-    let pseudo = checksum::add(0, &answer[8..40]) + length as u64 + u64::from(ICMPV6);
-    let sum = !checksum::fold(checksum::add(pseudo, &answer[40..]));
-    set_word(&mut answer, 42, sum);
+    answer[header] = 2;
+    put_u32(&mut answer, header + 4, u32::from(mtu));
+    let ip = Ip {
+        family: Family::V6,
+        transport: header,
+        protocol: ICMPV6,
+        length,
+        offset: 0,
+        fragment: false,
+        routed: false,
+    };
+    let others = pseudo(&answer, &ip, length - header);
+    let checksum = !fold(sum(&answer[header..]) + others);
+    put_u16(&mut answer, header + 2, checksum);
     answer
 }
