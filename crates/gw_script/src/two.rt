@@ -2,14 +2,14 @@
 mod directive;
 mod ends;
 mod fresh;
+mod preset;
 mod report;
-mod setup;
 mod side;
 
 use crate::{LineFault, Player};
 use directive::{Act, Directive};
 use ends::Ends;
-use setup::Setup;
+use preset::Preset;
 use std::alloc::Global;
 
 /// Plays a script of kind `two`. Its first directives, as long as they set an end up, are what the gateways are made with; the
@@ -17,7 +17,7 @@ use std::alloc::Global;
 #[derive(Drop)]
 pub struct Two {
     alloc: Global,
-    setup: Setup,
+    preset: Preset,
     ends: Option<Ends>,
 }
 
@@ -26,7 +26,7 @@ impl Two {
     pub fn new(alloc: Global) -> Two {
         Two {
             alloc,
-            setup: Setup::new(alloc),
+            preset: Preset::new(alloc),
             ends: None,
         }
     }
@@ -35,7 +35,7 @@ impl Two {
         if let Some(ends) = &mut self.ends {
             return ends.follow(act);
         }
-        let mut ends = Ends::new(self.alloc, &self.setup)?;
+        let mut ends = Ends::new(self.alloc, &self.preset)?;
         let text = ends.follow(act)?;
         self.ends = Some(ends);
         Ok(text)
@@ -54,7 +54,7 @@ impl Player for Two {
         match Directive::read(self.alloc, line)? {
             Directive::Set(_) if self.ends.is_some() => Err(LineFault::Refused),
             Directive::Set(term) => {
-                self.setup.take(self.alloc, term)?;
+                self.preset.take(self.alloc, term)?;
                 Ok(String::new(self.alloc))
             }
             Directive::Act(act) => self.act(act),

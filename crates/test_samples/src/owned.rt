@@ -97,11 +97,7 @@ pub fn lend_inputs<'a>(
     alloc: Global,
     owned: &'a [OwnedInput],
 ) -> Result<Vec<Input<'a>>, AllocError> {
-    let mut inputs = Vec::with_capacity(alloc, owned.len())?;
-    for input in owned {
-        inputs.push_reserved(input.lend());
-    }
-    Ok(inputs)
+    owned.iter().map(|input| input.lend()).collect(alloc)
 }
 
 /// The events of a list, in order.
@@ -109,9 +105,5 @@ pub fn lend_events<'a>(
     alloc: Global,
     owned: &'a [OwnedEvent],
 ) -> Result<Vec<Event<'a>>, AllocError> {
-    let mut events = Vec::with_capacity(alloc, owned.len())?;
-    for event in owned {
-        events.push_reserved(event.lend());
-    }
-    Ok(events)
+    owned.iter().map(|event| event.lend()).collect(alloc)
 }

@@ -1,8 +1,8 @@
 //! The two gateways, and the datagrams between them.
 use super::directive::{Act, Delivery, Protocol, Way};
 use super::fresh::fresh;
+use super::preset::Preset;
 use super::report;
-use super::setup::Setup;
 use super::side::{Side, address};
 use crate::LineFault;
 use base::Items;
@@ -21,9 +21,9 @@ pub struct Ends {
 
 impl Ends {
     /// Two gateways that hold nothing.
-    pub fn new(alloc: Global, setup: &Setup) -> Result<Ends, LineFault> {
-        let a = setup.gateway(alloc, Side::A)?;
-        let b = setup.gateway(alloc, Side::B)?;
+    pub fn new(alloc: Global, preset: &Preset) -> Result<Ends, LineFault> {
+        let a = preset.gateway(alloc, Side::A)?;
+        let b = preset.gateway(alloc, Side::B)?;
         Ok(Ends {
             alloc,
             world: World::new(alloc, a, b),

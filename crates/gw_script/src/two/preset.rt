@@ -27,7 +27,7 @@ const NAME: u8 = 2;
 
 /// What the gateways are made with.
 #[derive(Drop)]
-pub struct Setup {
+pub struct Preset {
     // No directive set anything yet.
     is_untouched: bool,
     extended: bool,
@@ -35,10 +35,10 @@ pub struct Setup {
     b: Terms,
 }
 
-impl Setup {
+impl Preset {
     /// Ends without a policy that take one request at a time, with extended sequence numbers.
-    pub fn new(alloc: Global) -> Setup {
-        Setup {
+    pub fn new(alloc: Global) -> Preset {
+        Preset {
             is_untouched: true,
             extended: true,
             a: Terms::new(alloc),
