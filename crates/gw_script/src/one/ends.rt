@@ -63,7 +63,7 @@ impl Ends {
     /// Gives the receiver the packet at this place.
     pub fn deliver(&mut self, place: u64) -> Result<Report, LineFault> {
         let packet = self.packet(place)?.clone()?;
-        self.receive(packet)
+        self.receive(&packet)
     }
 
     /// Gives the receiver the packet at this place with one octet changed.
@@ -76,7 +76,7 @@ impl Ends {
         let mut packet = self.packet(place)?.clone()?;
         let octet = packet.get_mut(offset as usize).ok_or(LineFault::Refused)?;
         *octet ^= change;
-        self.receive(packet)
+        self.receive(&packet)
     }
 
     /// Prints the packet at this place.
@@ -91,13 +91,12 @@ impl Ends {
     }
 
     // Gives the receiver a packet, but only if it has the association's index.
-    fn receive(&mut self, packet: Vec<u8>) -> Result<Report, LineFault> {
+    fn receive(&mut self, packet: &[u8]) -> Result<Report, LineFault> {
         if !packet.starts_with(&self.terms.spi.to_be_bytes()) {
             return Ok(Report::UnknownAssociation);
         }
-        let packets = [packet.as_slice()];
         let mut answers = Vec::with_capacity(self.alloc, 1)?;
-        if self.receiver.open_all(&packets, &mut answers).is_err() {
+        if self.receiver.open_all(&[packet], &mut answers).is_err() {
             return Err(LineFault::Memory);
         }
         match answers[0] {
