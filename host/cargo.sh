@@ -17,7 +17,7 @@ if [ -e Cargo.lock ] && ! grep -q "$mark" Cargo.lock; then rm Cargo.lock; fi
 
 folder=/usr/share/cargo/registry
 packages=""
-for name in clap clap-derive serde serde-derive thiserror toml zeroize; do
+for name in clap clap-derive getrandom libc nix serde serde-derive serde-json thiserror toml zeroize; do
     package="librust-$name-dev"
     if ! dpkg-query -W -f '${Status}' "$package" 2>/dev/null | grep -q 'ok installed'; then
         packages="$packages $package"

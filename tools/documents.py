@@ -1,6 +1,7 @@
 #!/usr/bin/env python3
 """Looks whether README, CONTRIBUTING and docs/ say what the tree says: each link leads to a file and a heading that are there, each quoted output is
-that of the example that it quotes, and each figure of FIGURES is the one of the source that it names.
+that of the example that it quotes, each quoted contract stands in the file that its block names, each mutant that is named is there, and each figure of
+FIGURES is the one of the source that it names.
 
 python3 tools/documents.py prints what is wrong, and ends with status 1 where something is.
 """
@@ -15,6 +16,8 @@ LINK = re.compile(r"\[[^\]]*\]\(([^)\s]+)\)")
 FENCE = re.compile(r"^```.*?^```$", re.M | re.S)
 HEADING = re.compile(r"^#+ (.*)$", re.M)
 NAMED = re.compile(r"\bcrates/([a-z_0-9]+)")
+MUTANTS = re.compile(r"^\*\*Mutants\.\*\*.*?(?=^$)", re.M | re.S)
+NAME = re.compile(r"`([a-z_0-9]+)/([a-z_0-9]+)`")
 
 # What a page says, with its figure as the group, and where the tree has that figure: a file and a form whose group it is.
 FIGURES = [
@@ -32,8 +35,6 @@ FIGURES = [
     (r"from ([\d,]+) half-open associations on cookies", "crates/sa_init/src/judging.rt", r"COOKIE_THRESHOLD: usize = ([\d_]+)"),
     (r"\| ([\d,]+) SPIs named in one INFORMATIONAL", "crates/deletions/src/deciding.rt", r"NAMED_LIMIT: usize = ([\d_]+)"),
     (r"`passed ([\d,]+) failed 0 unread 0`", "crates/vectors/src/report.rt", r"ENTRIES: u32 = ([\d_]+)"),
-    (r"computes ([\d,]+) values that are known from elsewhere", "crates/vectors/src/report.rt", r"ENTRIES: u32 = ([\d_]+)"),
-    (r"counts each of its ([\d,]+) entries", "crates/vectors/src/report.rt", r"ENTRIES: u32 = ([\d_]+)"),
 ]
 
 # Blocks of a page that show what an example prints: the page, the block's first line, and the file that has it.
@@ -71,6 +72,22 @@ def wrong_names(page):
             yield f"crates/{name} is no crate"
 
 
+def wrong_contracts(page):
+    for block in FENCE.findall(page.read_text()):
+        head, *lines = block.split("\n")[:-1]
+        if head.startswith("```antt "):
+            file = ROOT / head.split()[1]
+            if not file.is_file() or "\n".join(lines) + "\n" not in file.read_text():
+                yield f"{head.split()[1]} has no such lines: {lines[0].strip()[:60]}.."
+
+
+def wrong_mutants(page):
+    for paragraph in MUTANTS.findall(page.read_text()):
+        for crate, name in NAME.findall(paragraph):
+            if not (ROOT / "crates" / crate / "must-fail" / f"{name}.edit").is_file():
+                yield f"{crate}/{name} is no mutant"
+
+
 def number(text):
     return int(re.sub(r"[,_]", "", text))
 
@@ -106,7 +123,7 @@ def wrong_quotes():
 def main():
     wrong = [*wrong_quotes(), *unsaid_figures()]
     for page in PAGES:
-        for look in (wrong_links, wrong_names, wrong_figures):
+        for look in (wrong_links, wrong_names, wrong_contracts, wrong_mutants, wrong_figures):
             wrong += [f"{page.relative_to(ROOT)}: {it}" for it in look(page)]
     print("\n".join(wrong) or f"{len(PAGES)} pages say what the tree says")
     return 1 if wrong else 0

@@ -1,4 +1,4 @@
-"""What `gw play FILE` prints for a script of kind `one`, by docs/FORMATS.md and RFC 4303."""
+"""What `gw play FILE` prints for a script of kind `one`, by docs/SCRIPTS.md, docs/FORMATS.md and RFC 4303."""
 
 import hashlib
 import hmac

@@ -1,5 +1,6 @@
 pub mod Answers
 pub mod Fitting
+pub mod Names
 pub mod Proofs
 pub mod Requests
 pub mod Windows

@@ -25,12 +25,14 @@
 mod answering;
 mod identity;
 pub mod laws;
+mod naming;
 mod proving;
 mod requesting;
 mod window;
 
 pub use answering::{answer, is_accepted};
 pub use identity::Identity;
+pub use naming::IdentityFault;
 pub use proving::{Proving, is_proved, prove};
 pub use requesting::{Asked, Judgement, judge, request};
 pub use window::{peer_window, window_notice};

@@ -1,5 +1,5 @@
 -- What a counted response gives back.
-use Rattle.std.proofs.Common.{◌≡◌, ◌≢◌, ◌&&◌, ℕ, cond, not, Result, Ok, Err, IfOk, Some, None, ap, subst, sym, inl, inr, ◌∙◌}
+use Rattle.std.proofs.Common.{◌≡◌, ◌≢◌, ◌&&◌, ℕ, cond, not, Some, None, ap, subst, sym, inl, inr, ◌∙◌}
 use Rattle.std.proofs.lemmas.Bool.{eq-eqb, ne_eqb}
 use Rattle.std.proofs.lemmas.Option.{none-some}
 use Rattle.std.specs.Cmp.{nat_cmp_total, unsigned_tied}
@@ -14,11 +14,11 @@ use Rattle.association.specs.AskedChildren.{asked_of}
 use Rattle.association.specs.Closing.{HoldsReserved, HoldsSpi}
 use Rattle.association.specs.Purposes.{spi_asked, AwaitsChild}
 use Rattle.association.specs.declared.phase.Association.{Association}
+use Rattle.association.specs.declared.phase.Phase.TheVariants as phase
 use Rattle.association.specs.declared.phase.Request.{Request}
 use Rattle.association.specs.declared.purpose.FurtherChild.{FurtherChild}
 use Rattle.association.specs.declared.purpose.Purpose.TheVariants.{CreateChild}
 use Rattle.children.specs.declared.asking.Asked.{Asked}
-use Rattle.children.specs.declared.fault.MemoryFault.{MemoryFault}
 use Rattle.association.specs.Issuing.{with_outgoing}
 use Rattle.setup.specs.Configs.{Setup}
 use Rattle.further.specs.Concluding.{Concludes, KeepsTo}
@@ -31,15 +31,16 @@ its_own asked spi conclusion.Closes same keeps = tt
 its_own asked spi (conclusion.Made pair) same keeps = keeps.spi ∙ same
 its_own asked spi conclusion.NoChild same keeps = tt
 
-pub concluded_at : (setup : Setup) (a : Association) (keys : KeyRecord) (number : ℕ) (plain : Plain) (request : Request) (further : FurtherChild) (asked : Asked)
-    → map.get a.outgoing.outstanding number ≡ Some request → request.purpose ≡ CreateChild further → asked ≡ asked_of further.child
-    → (r : Result Conclusion MemoryFault) → IfOk r (Concludes setup.config.blocks a.serial keys asked further.nonce plain) → IfOk r (KeepsTo asked) → IfOk r (ConcludesAt setup a keys number plain)
-concluded_at setup a keys number plain request further asked there is same (Ok o) due keeps = record {
+pub concluded_at : (setup : Setup) (a : Association) (keys : KeyRecord) (number : ℕ) (plain : Plain) (request : Request) (further : FurtherChild) (asked : Asked) (o : Conclusion)
+    → a.phase ≡ phase.Established keys → map.get a.outgoing.outstanding number ≡ Some request → request.purpose ≡ CreateChild further → asked ≡ asked_of further.child
+    → Concludes setup.config.blocks a.serial keys asked further.nonce plain o → KeepsTo asked o → ConcludesAt setup a number plain o
+concluded_at setup a keys number plain request further asked o established there is same due keeps = record {
+  keys = keys;
+  established = established;
   at = record { request = request; outstanding = there; further = further; asked = is };
   due = subst (λ (x : Asked). Concludes setup.config.blocks a.serial keys x further.nonce plain o) same due;
   its_own = its_own asked further.child.spi o (ap (λ (x : Asked). x.spi) same) keeps;
 }
-concluded_at setup a keys number plain request further asked there is same (Err e) due keeps = tt
 
 -- another SPI stays reserved
 pub release_keeps : (old : Database) (spi : ℕ) (new : Database) (q : ℕ) → q ≢ spi → Releases old spi new → IsReserved old q → IsReserved new q

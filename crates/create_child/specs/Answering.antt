@@ -11,6 +11,7 @@ use Rattle.requests.specs.Incoming.{HasSameRequests, PeerRequests, TakesRequest}
 use Rattle.sadb.specs.Database.{Database, IsAsBefore}
 use Rattle.sadb.specs.declared.pair.Pair.{Pair}
 use Rattle.association.specs.Closing.{Closes}
+use Rattle.association.specs.Phases.{IsEstablished}
 use Rattle.association.specs.Purposes.{AwaitsDeletion}
 use Rattle.association.specs.declared.phase.Association.{Association}
 use Rattle.association.specs.declared.phase.Phase.TheVariants as phase
@@ -57,3 +58,8 @@ pub record AnswersFurther (body_of : Keys → Octets → Octets → Octets → O
   pub room : IsAsBefore table between
   pub closed : answer.closed ≡ is_closing_decision decision
   pub concluded : ConcludesFurther (is_closing_decision decision) (further_pair decision) (with_incoming old incoming) between setup.moment answer.child new new_table
+
+-- The request takes effect at an established association. Elsewhere nothing is done.
+abbrev pub AnswersWhereEstablished : (Keys → Octets → Octets → Octets → Octets) → Setup → Association → Database → ℕ → Plain → Option Answered → Association → Database → Type 0
+AnswersWhereEstablished body_of setup old table number plain None new new_table = (¬ IsEstablished old.phase) × (new ≡ old) × (new_table ≡ table)
+AnswersWhereEstablished body_of setup old table number plain (Some answer) new new_table = AnswersFurther body_of setup old table number plain answer new new_table

@@ -8,6 +8,7 @@ use Rattle.sadb.specs.Database.{Database, Installs, Releases}
 use Rattle.sadb.specs.declared.pair.Pair.{Pair}
 use Rattle.association.specs.AskedChildren.{asked_of}
 use Rattle.association.specs.Closing.{Closes}
+use Rattle.association.specs.Phases.{IsEstablished}
 use Rattle.association.specs.declared.phase.Association.{Association}
 use Rattle.association.specs.declared.phase.Phase.TheVariants as phase
 use Rattle.association.specs.declared.phase.Request.{Request}
@@ -27,17 +28,28 @@ pub record AsksAt (requests : OwnRequests Request) (number : ℕ) : Type 0 where
   pub further : FurtherChild
   pub asked : request.purpose ≡ CreateChild further
 
+-- and does so at an established association
+pub record AwaitsFurther (a : Association) (number : ℕ) : Type 0 where
+  pub established : IsEstablished a.phase
+  pub asked : AsksAt a.outgoing number
+
 -- a child that is made has the SPI that was reserved for it
 abbrev pub HasItsSpi : ℕ → Conclusion → Type 0
 HasItsSpi spi conclusion.Closes = Unit {0}
 HasItsSpi spi (conclusion.Made pair) = pair.inbound.association.spi ≡ spi
 HasItsSpi spi conclusion.NoChild = Unit {0}
 
--- what the response makes of it, under these keys; only private contracts cite this and the one before
-pub record ConcludesAt (setup : Setup) (a : Association) (keys : KeyRecord) (number : ℕ) (plain : Plain) (concluded : Conclusion) : Type 0 where
+-- what the response makes of it, under the association's keys; only private contracts cite this, the one before and the next
+pub record ConcludesAt (setup : Setup) (a : Association) (number : ℕ) (plain : Plain) (concluded : Conclusion) : Type 0 where
+  pub keys : KeyRecord
+  pub established : a.phase ≡ phase.Established keys
   pub at : AsksAt a.outgoing number
   pub due : Concludes setup.config.blocks a.serial keys (asked_of at.further.child) at.further.nonce plain concluded
   pub its_own : HasItsSpi at.further.child.spi concluded
+
+abbrev pub ConcludesWhereAwaited : Setup → Association → ℕ → Plain → Option Conclusion → Type 0
+ConcludesWhereAwaited setup a number plain None = ¬ AwaitsFurther a number
+ConcludesWhereAwaited setup a number plain (Some concluded) = ConcludesAt setup a number plain concluded
 
 abbrev pub is_closing_conclusion : Conclusion → Bool
 is_closing_conclusion conclusion.Closes = true
@@ -82,3 +94,8 @@ pub record CountsFurther (setup : Setup) (old : Association) (table : Database) 
   pub concluded : Concludes setup.config.blocks old.serial keys (asked_of further.child) further.nonce plain conclusion
   pub closed : ended.closed ≡ is_closing_conclusion conclusion
   pub ends : EndsFurther conclusion further.child.spi (with_outgoing old outgoing) table setup.moment ended.child new new_table
+
+-- It is counted where it answers such a request; else nothing is done.
+abbrev pub CountsWhereAwaited : Setup → Association → Database → ℕ → Plain → Option Ended → Association → Database → Type 0
+CountsWhereAwaited setup old table number plain None new new_table = (¬ AwaitsFurther old number) × (new ≡ old) × (new_table ≡ table)
+CountsWhereAwaited setup old table number plain (Some ended) new new_table = CountsFurther setup old table number plain ended new new_table

@@ -8,10 +8,9 @@ ghost use Rattle.sadb.specs.Database.{IsAsBefore};
 ghost use Rattle.association.specs.Closing.{HoldsReserved};
 ghost use Rattle.association.specs.Sending.{reply_message};
 ghost use Rattle.children.specs.Faults.{CanBeWanted};
-ghost use Rattle.setup.specs.Configs.{setup_of, IsConfig};
-ghost use Rattle.association.specs.Phases.{IsEstablished};
+ghost use Rattle.setup.specs.Configs.{setup_of};
 ghost use Rattle.further.specs.Answering.{further_answer, FitsAnswer};
-ghost use Rattle.create_child.specs.Answering.{AnswersFurther, CanInstall, ConcludesFurther};
+ghost use Rattle.create_child.specs.Answering.{AnswersWhereEstablished, CanInstall, ConcludesFurther};
 
 use association::laws::spis_stay_held;
 use association::{Answered, Association, Phase};
@@ -32,10 +31,10 @@ use wire::numbers::CREATE_CHILD_SA;
 ///
 /// Where the payloads are not in the grammar, or the request is incomplete, the answer is INVALID_SYNTAX and the association is closed
 /// (section 2.21.3). Where no child is made for another reason the answer is that notice alone. Otherwise the child is made, and the answer
-/// has the step's fresh nonce.
+/// has the step's fresh nonce. It is `None`, and nothing is changed, where the association is not established.
 ///
-/// The caller asks only at an established association, where the request is fresh and the SPIs that the association holds are reserved in
-/// the table. An error is for want of memory alone: association and table are as they were then, but for the table's room.
+/// The caller asks only where the request is fresh and the SPIs that the association holds are reserved in the table. An error is for want
+/// of memory alone: association and table are as they were then, but for the table's room.
 pub fn answer<C: Sealer>(
     alloc: Global,
     setup: &Setup<'_, C>,
@@ -43,19 +42,17 @@ pub fn answer<C: Sealer>(
     table: &mut Table,
     number: u32,
     plain: &Plain,
-) -> Result<Answered, MemoryFault>
-    requires config { IsConfig setup.now.config.now }
-    requires established { IsEstablished association.old.phase }
+) -> Result<Option<Answered>, MemoryFault>
     requires fresh { IsFreshRequest association.old.incoming number }
     requires reserved { HoldsReserved association.old table.old }
-    ensures answered { IfOk result (λ answered. AnswersFurther C.body_of (setup_of setup.now)
+    ensures answered { IfOk result (λ answered. AnswersWhereEstablished C.body_of (setup_of setup.now)
         association.old table.old number plain.now answered association.new table.new) }
     ensures refused { IfErr result
         (λ _. (association.new ≡ association.old) × IsAsBefore table.old table.new) }
     ensures wanted { IfErr result (CanBeWanted table.old) }
 {
     let Phase::Established(keys) = &association.phase else {
-        unreachable!();
+        return Ok(None);
     };
     spis_stay_held();
     let deleting = association.is_deleting();
@@ -76,11 +73,11 @@ pub fn answer<C: Sealer>(
     // From here on nothing can be refused.
     association.incoming.take(number, kept);
     let child = conclude(association, table, closed, pair, setup.moment);
-    Ok(Answered {
+    Ok(Some(Answered {
         octets,
         child,
         closed,
-    })
+    }))
 }
 
 fn make_reply<C: Sealer>(

@@ -33,10 +33,10 @@ use wire::numbers::CREATE_CHILD_SA;
 /// numbers where the configuration allows them, and the step's fresh nonce. The request waits for its answer from then on, and holds the
 /// SPI that the table reserved for the child.
 ///
-/// Refused, in this order: [`OrderFault::WrongPhase`] where the association is not established, [`OrderFault::Busy`] where a request to delete
-/// it waits for its answer or the peer takes no more requests at once, [`OrderFault::NumbersSpent`] where no number is left,
-/// [`OrderFault::TableFull`], [`OrderFault::SpisSpent`] and [`OrderFault::TableMemory`] where the table gives no SPI, [`OrderFault::Memory`]. What
-/// is refused changes nothing but the table's room.
+/// Refused, in this order: [`OrderFault::WrongPhase`] where the association is not established, [`OrderFault::Busy`] where a request to
+/// delete it waits for its answer or the peer takes no more requests at once, [`OrderFault::NumbersSpent`] where no number is left,
+/// [`OrderFault::TableFull`], [`OrderFault::SpisSpent`] and [`OrderFault::TableMemory`] where the table gives no SPI,
+/// [`OrderFault::Memory`]. What is refused changes nothing but the table's room.
 ///
 /// The caller gives selectors that a message can carry.
 pub fn ask<C: Sealer>(
@@ -64,7 +64,7 @@ pub fn ask<C: Sealer>(
         spi,
         local: *local,
         remote: *remote,
-        extended: setup.config.extended,
+        extended: setup.config.extended(),
     };
     let octets = make_request(alloc, setup, association, keys, number, &asked)?;
     let kept = Items::from_slice(alloc, octets.as_slice())?;

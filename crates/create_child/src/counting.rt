@@ -3,9 +3,8 @@ ghost use Rattle.std.specs.Prelude.{◌≡◌, ◌≢◌, IfOk, IfErr};
 ghost use Rattle.sadb.specs.Database.{IsReserved};
 ghost use Rattle.association.specs.Closing.{HoldsReserved, HoldsSpi};
 ghost use Rattle.children.specs.declared.fault.MemoryFault.TheVariants as child;
-ghost use Rattle.setup.specs.Configs.{setup_of, IsConfig};
-ghost use Rattle.association.specs.Phases.{IsEstablished};
-ghost use Rattle.create_child.specs.Counting.{is_closing_conclusion, AsksAt, ConcludesAt, CountsFurther, EndsFurther, HasItsSpi};
+ghost use Rattle.setup.specs.Configs.{setup_of};
+ghost use Rattle.create_child.specs.Counting.{is_closing_conclusion, ConcludesWhereAwaited, CountsWhereAwaited, EndsFurther, HasItsSpi};
 
 use association::laws::{children_are_asked_for, spis_stay_held};
 use association::{Association, Ended, Phase, Purpose};
@@ -15,15 +14,14 @@ use further::{Conclusion, conclude_response};
 use sadb::{Spi, Table};
 use setup::Setup;
 use std::alloc::Global;
-use suite::KeyRecord;
 
 /// Counts the response to a request for a further child (RFC 7296, section 1.3.1), by the payloads that it opened to and what
 /// [`further::conclude_response`] makes of them: the association is closed, the child is made under the SPI that was reserved for it, or no
-/// child is made and that SPI is given up.
+/// child is made and that SPI is given up. It is `None`, and nothing is changed, where the association is not established, or no request of
+/// this number that asked for a child is outstanding.
 ///
-/// The caller asks only at an established association, where a request of this number that asked for a child is outstanding, and the SPIs
-/// that the association holds are reserved in the table. An error is for want of memory alone, for the message or the pair: its place in the
-/// table stands since its SPI was reserved. It changes nothing.
+/// The caller asks only where the SPIs that the association holds are reserved in the table. An error is for want of memory alone, for the
+/// message or the pair: its place in the table stands since its SPI was reserved. It changes nothing.
 pub fn count<C>(
     alloc: Global,
     setup: &Setup<'_, C>,
@@ -31,62 +29,57 @@ pub fn count<C>(
     table: &mut Table,
     number: u32,
     plain: &Plain,
-) -> Result<Ended, MemoryFault>
-    requires config { IsConfig setup.now.config.now }
-    requires established { IsEstablished association.old.phase }
-    requires asked { AsksAt association.old.outgoing number }
+) -> Result<Option<Ended>, MemoryFault>
     requires reserved { HoldsReserved association.old table.old }
-    ensures counted { IfOk result (λ ended. CountsFurther (setup_of setup.now)
+    ensures counted { IfOk result (λ ended. CountsWhereAwaited (setup_of setup.now)
         association.old table.old number plain.now ended association.new table.new) }
     ensures refused { IfErr result (λ _. (association.new ≡ association.old) × (table.new ≡ table.old)) }
     ensures wanted { IfErr result (λ fault. fault ≢ child.Table) }
 {
-    let Phase::Established(keys) = &association.phase else {
-        unreachable!();
+    let Some(conclusion) = conclusion_at(alloc, setup, association, number, plain)? else {
+        return Ok(None);
     };
     spis_stay_held();
     children_are_asked_for();
-    let conclusion = conclusion_at(alloc, setup, association, keys, number, plain)?;
     // From here on nothing can be refused.
     let request = association.outgoing.count(number);
-    let Some(spi) = request.purpose.into_spi() else {
-        unreachable!();
-    };
+    let spi = request.purpose.into_spi().unwrap();
     let closed = is_closing(&conclusion);
     let child = conclude(association, table, spi, conclusion, setup.moment);
-    Ok(Ended { child, closed })
+    Ok(Some(Ended { child, closed }))
 }
 
-// What the response makes of the request of its number.
+// What the response makes of the request of its number, where that asked for a child.
 fn conclusion_at<C>(
     alloc: Global,
     setup: &Setup<'_, C>,
     association: &Association,
-    keys: &KeyRecord,
     number: u32,
     plain: &Plain,
-) -> Result<Conclusion, MemoryFault>
-    requires config { IsConfig setup.now.config.now }
-    requires asked { AsksAt association.now.outgoing number }
+) -> Result<Option<Conclusion>, MemoryFault>
     ensures concluded { IfOk result
-        (ConcludesAt (setup_of setup.now) association.now keys.now number plain.now) }
+        (ConcludesWhereAwaited (setup_of setup.now) association.now number plain.now) }
     ensures wanted { IfErr result (λ fault. fault ≢ child.Table) }
 {
+    let Phase::Established(keys) = &association.phase else {
+        return Ok(None);
+    };
     let Some(request) = association.outgoing.get(number) else {
-        unreachable!();
+        return Ok(None);
     };
     let Purpose::CreateChild(further) = &request.purpose else {
-        unreachable!();
+        return Ok(None);
     };
-    conclude_response(
+    let conclusion = conclude_response(
         alloc,
         plain,
         &further.child.asked(),
         &further.nonce,
         association.serial,
         keys,
-        setup.config.blocks,
-    )
+        setup.config.blocks(),
+    )?;
+    Ok(Some(conclusion))
 }
 
 fn is_closing(conclusion: &Conclusion) -> bool

@@ -40,7 +40,8 @@ pub fn a_further_spi_is_held()
         → IsReserved new_table spi }
 {}
 
-/// As the answer to a request for a further child is counted, the association gives the child's SPI back: it holds it no more. Does nothing.
+/// As the answer to a request for a further child is counted, the association gives the child's SPI back: it holds it no more. Does
+/// nothing.
 pub fn what_is_answered_is_given_back()
     ensures { (a : Association) (table : Database) (number : ℕ) (request : Request)
         (outgoing : OwnRequests Request) (spi : ℕ)

@@ -2,13 +2,15 @@
 //! request of the peer is answered by one or refused, and the response to one of this end is counted.
 //!
 //! Which association a message is for, whether its number is fresh and what it opens to, [`association`] tells; what the payloads say,
-//! [`further`]. Each call here makes all that it needs before it changes anything. The SPI of a child that was asked for is kept with the
-//! request ([`association::Purpose::CreateChild`]), and goes back to the table with the answer, or when the association ends.
+//! [`further`]. Each call here makes all that it needs before it changes anything, and tells where the association is not established. The
+//! SPI of a child that was asked for is kept with the request ([`association::Purpose::CreateChild`]), and goes back to the table with the
+//! answer, or when the association ends.
 //!
 //! ```text
 //! send(ask(alloc, &step, &mut association, &mut table, &local, &remote)?.octets);
-//! let answered = answer(alloc, &step, &mut association, &mut table, number, &plain)?;
-//! send(answered.octets);
+//! if let Some(answered) = answer(alloc, &step, &mut association, &mut table, number, &plain)? {
+//!     send(answered.octets);
+//! }
 //! let ended = count(alloc, &step, &mut association, &mut table, number, &plain)?;
 //! ```
 #![tactic(auto)]

@@ -8,7 +8,7 @@ use Rattle.wire.specs.declared.message.Message.{Message}
 use Rattle.suite.specs.declared.key_record.KeyRecord.{KeyRecord}
 use Rattle.children.specs.declared.fault.MemoryFault.{MemoryFault}
 use Rattle.children.specs.declared.fault.MemoryFault.TheVariants as child
-use Rattle.association.specs.Purposes.{asks_for_child, exchange_of}
+use Rattle.association.specs.Purposes.{exchange_of}
 use Rattle.association.specs.Receiving.{admits, IsAwaited}
 use Rattle.association.specs.declared.phase.Association.{Association}
 use Rattle.association.specs.declared.phase.AuthSent.{AuthSent}
@@ -19,7 +19,6 @@ use Rattle.association.specs.declared.phase.Request.{Request}
 use Rattle.association.specs.declared.purpose.FurtherChild.{FurtherChild}
 use Rattle.association.specs.declared.purpose.Purpose.TheVariants.{CreateChild, Identify}
 use Rattle.sadb.specs.Database.{Database}
-use Rattle.children.specs.Faults.{CanBeWanted}
 use Rattle.effects.specs.Taking.{CanWantIn, IsForChild}
 use Rattle.effects.specs.Waiting.{SuitPhase}
 use Rattle.effects.proofs.RequestLemmas.{yes_no}
@@ -54,28 +53,12 @@ identity_exchange old sent m was due waits =
     sym (eqb-true (exchange_of due.request.purpose) m.header.exchange due.exchange_is)
     ∙ ap exchange_of (identity_asked old sent m.header.id due.request was waits due.outstanding)
 
--- by what a child takes at the end that asked for it, and at the one that answers
+-- by what a child takes at the end that asked for it
 pub wants_asked : (p : Phase) (exchange : ℕ) (d : Database) (f : MemoryFault) → IsForChild p true exchange → f ≢ child.Table → CanWantIn p true exchange d f
 wants_asked p exchange d child.Message kind other = inl refl
 wants_asked p exchange d child.Window kind other = inr (kind, tt)
 wants_asked p exchange d child.Narrowing kind other = inr (kind, tt)
 wants_asked p exchange d child.Table kind other = absurd (other refl)
-
-pub wants_answered : (p : Phase) (exchange : ℕ) (d : Database) (f : MemoryFault) → IsForChild p false exchange → CanBeWanted d f → CanWantIn p false exchange d f
-wants_answered p exchange d child.Message kind can = inl refl
-wants_answered p exchange d child.Window kind can = inr (kind, tt)
-wants_answered p exchange d child.Narrowing kind can = inr (kind, tt)
-wants_answered p exchange d child.Table kind can = inr (kind, (refl, can))
-
-pub asked_identity : (old : Association) (sent : AuthSent) (number : ℕ) (request : Request) → old.phase ≡ phase.AuthSent sent → SuitPhase old.phase old.outgoing.outstanding
-    → map.get old.outgoing.outstanding number ≡ Some request → asks_for_child request.purpose ≡ false
-asked_identity old sent number request was waits there = ap asks_for_child (identity_asked old sent number request was waits there)
-
--- and its first child takes no place in the table any more
-pub wants_first : (old : Association) (sent : AuthSent) (m : Message) (d : Database) (f : MemoryFault) → old.phase ≡ phase.AuthSent sent → IsAwaited old m → SuitPhase old.phase old.outgoing.outstanding → f ≢ child.Table
-    → CanWantIn old.phase true m.header.exchange d f
-wants_first old sent m d f was due waits other =
-    wants_asked old.phase m.header.exchange d f (inl (record { awaited = record { sent = sent; is = was }; exchange_is = identity_exchange old sent m was due waits })) other
 
 -- what an error is, and what follows of it
 pub err_and : {T E : Type 0} (r : Result T E) (P Q : E → Type 0) → IsErrAnd r P → ((e : E) → P e → Q e) → IfErr r Q

@@ -9,6 +9,7 @@ mod ProvingLemmas
 mod WayLemmas
 mod KeepingLemmas
 mod ExchangeLemmas
+mod TakingLemmas
 mod PayloadLemmas
 mod MadeLemmas
 mod OfferLemmas

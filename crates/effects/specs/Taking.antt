@@ -17,6 +17,8 @@ use Rattle.children.specs.declared.fault.MemoryFault.TheVariants as child
 use Rattle.association.specs.Purposes.{asks_for_child}
 use Rattle.association.specs.Receiving.{Answers, AnswersInitial, IsAnswering, IsEffective, IsReceived, Opening, Reception, Refused, Repeat, TakesEffect}
 use Rattle.association.specs.declared.fault.MessageFault.TheVariants.{WrongPhase}
+use Rattle.association.specs.declared.outcome.Answered.{Answered}
+use Rattle.association.specs.declared.outcome.Ended.{Ended}
 use Rattle.association.specs.declared.phase.Association.{Association}
 use Rattle.association.specs.declared.phase.Phase.{Phase}
 use Rattle.association.specs.declared.phase.Phase.TheVariants as phase
@@ -170,6 +172,16 @@ DoesResponse meaning setup (phase.Established keys) old table number plain e new
     DoesAnswer (asked_further old number) setup old table number plain e new new_table
 DoesResponse meaning setup p old table number plain (effect.Refused fault) new new_table = (fault ≡ WrongPhase) × IsPassedOver old table new new_table
 DoesResponse meaning setup p old table number plain e new new_table = ⊥
+
+-- What comes of a request by its answer, and of a response by how it is counted. Neither is there in another phase than the exchange's, nor
+-- how a response is counted of which no request waits. Only private contracts cite these.
+abbrev pub replied_by : Option Answered → Effect
+replied_by None = effect.Refused WrongPhase
+replied_by (Some answered) = effect.Replied answered
+
+abbrev pub counted_by : Option Ended → Effect
+counted_by None = effect.Refused WrongPhase
+counted_by (Some ended) = effect.Counted ended
 
 -- what is done about the response to IKE_SA_INIT, by how it is gone on
 abbrev pub Says : Effect → Continued → Type 0

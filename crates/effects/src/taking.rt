@@ -1,19 +1,16 @@
 //! What a message does to the association that it is for.
-ghost use Rattle.std.specs.Prelude.{◌≡◌, ◌==◌, true, false, IfOk, IfErr};
+ghost use Rattle.std.specs.Prelude.{◌≡◌, true, false, IfOk, IfErr};
 ghost use Rattle.wire.specs.Messages.{Spells};
-ghost use Rattle.wire.specs.Numbers.{INFORMATIONAL};
 ghost use Rattle.requests.specs.Incoming.{IsFreshRequest};
 ghost use Rattle.sadb.specs.Database.{IsAsBefore};
 ghost use Rattle.association.specs.Closing.{HoldsReserved};
 ghost use Rattle.association.specs.Receiving.{admits, IsAnsweringInitial, IsAwaited};
-ghost use Rattle.setup.specs.Configs.{setup_of, IsConfig};
-ghost use Rattle.initial.specs.Reading.{IsInitSent};
-ghost use Rattle.association.specs.Phases.{IsEstablished};
+ghost use Rattle.setup.specs.Configs.{setup_of};
 ghost use Rattle.effects.specs.Waiting.{SuitPhase};
-ghost use Rattle.effects.specs.Taking.{asked_further, meaning_of, CanWant, CanWantIn, DoesAnswer, DoesAtEstablished, DoesInitial, DoesRequest, DoesResponse, TakesMessage};
+ghost use Rattle.effects.specs.Taking.{counted_by, meaning_of, replied_by, CanWant, CanWantIn, DoesInitial, DoesRequest, DoesResponse, TakesMessage};
 
 use association::laws::receptions_say_why;
-use association::{Answered, Association, Ended, MessageFault, Phase, Received, receive};
+use association::{Answered, Association, Ended, MessageFault, Received, receive};
 use base::Items;
 use children::MemoryFault;
 use exchange::Plain;
@@ -23,7 +20,7 @@ use setup::Setup;
 use std::alloc::{AllocError, Global};
 use suite::{Agreement, Proof, Sealer};
 use wire::Message;
-use wire::numbers::INFORMATIONAL;
+use wire::numbers::{CREATE_CHILD_SA, IKE_AUTH, INFORMATIONAL};
 
 /// What came of a message.
 #[derive(Debug, Drop)]
@@ -43,9 +40,9 @@ pub enum Effect {
 }
 
 /// Takes a message for the association that [`association::find`] found for it. What it is, [`association::receive`] tells; a
-/// response to IKE_SA_INIT is taken by [`read_response`], IKE_AUTH by [`answer_auth`], and its response by [`end_auth`]; at an
-/// established association INFORMATIONAL is taken by [`informational::answer`], and its response by [`informational::count`], and
-/// CREATE_CHILD_SA by [`create_child::answer`], and its response by [`create_child::count`].
+/// response to IKE_SA_INIT is taken by [`read_response`], IKE_AUTH by [`answer_auth`], and its response by [`end_auth`]; INFORMATIONAL is
+/// taken by [`informational::answer`], and its response by [`informational::count`]; CREATE_CHILD_SA by [`create_child::answer`], and its
+/// response by [`create_child::count`]. In another phase than its exchange's a message is refused as [`MessageFault::WrongPhase`].
 ///
 /// The octets are those that the message was decoded from, the SPIs that the association holds for children are reserved in the table, and
 /// what waits for an answer belongs to its phase. An error is for want of memory alone, and changes nothing but the table's room:
@@ -59,7 +56,6 @@ pub fn take_message<C: Sealer + Agreement + Proof>(
     octets: &[u8],
     message: &Message,
 ) -> Result<Effect, MemoryFault>
-    requires config { IsConfig setup.now.config.now }
     requires spelled { Spells message.now octets.now }
     requires reserved { HoldsReserved association.old table.old }
     requires waits { SuitPhase association.old.phase association.old.outgoing.outstanding }
@@ -103,7 +99,6 @@ fn take_initial<C: Sealer + Agreement + Proof>(
     octets: &[u8],
     message: &Message,
 ) -> Result<Effect, AllocError>
-    requires config { IsConfig setup.now.config.now }
     requires spelled { Spells message.now octets.now }
     requires due { IsAnsweringInitial association.old message.now }
     ensures taken { IfOk result (λ effect. DoesInitial
@@ -134,7 +129,6 @@ fn take_request<C: Sealer + Agreement + Proof>(
     number: u32,
     plain: &Plain,
 ) -> Result<Effect, MemoryFault>
-    requires config { IsConfig setup.now.config.now }
     requires fresh { IsFreshRequest association.old.incoming number }
     requires admitted { admits association.old.phase exchange ≡ true }
     requires reserved { HoldsReserved association.old table.old }
@@ -146,52 +140,26 @@ fn take_request<C: Sealer + Agreement + Proof>(
         (λ _. (association.new ≡ association.old) × IsAsBefore table.old table.new) }
     ensures wanted { IfErr result (CanWantIn association.old.phase false exchange table.old) }
 {
-    match &association.phase {
-        Phase::HalfOpen(_) => {
-            let answered = answer_auth(alloc, setup, association, table, number, plain)?;
-            Ok(Effect::Replied(answered))
-        }
-        Phase::Established(_) => take_at_established(
-            alloc,
-            setup,
-            association,
-            table,
-            exchange,
-            number,
-            plain,
-        ),
-        _ => Ok(Effect::Refused(MessageFault::WrongPhase)),
+    if exchange == IKE_AUTH {
+        let answered = answer_auth(alloc, setup, association, table, number, plain)?;
+        Ok(replied(answered))
+    } else if exchange == INFORMATIONAL {
+        let answered = informational::answer(alloc, setup, association, table, number, plain)?;
+        Ok(replied(answered))
+    } else {
+        let answered = create_child::answer(alloc, setup, association, table, number, plain)?;
+        Ok(replied(answered))
     }
 }
 
-// A request at an established association: of INFORMATIONAL, or else of CREATE_CHILD_SA.
-fn take_at_established<C: Sealer + Agreement + Proof>(
-    alloc: Global,
-    setup: &Setup<'_, C>,
-    association: &mut Association,
-    table: &mut Table,
-    exchange: u8,
-    number: u32,
-    plain: &Plain,
-) -> Result<Effect, MemoryFault>
-    requires config { IsConfig setup.now.config.now }
-    requires established { IsEstablished association.old.phase }
-    requires fresh { IsFreshRequest association.old.incoming number }
-    requires admitted { admits association.old.phase exchange ≡ true }
-    requires reserved { HoldsReserved association.old table.old }
-    ensures taken { IfOk result (λ effect. DoesAtEstablished (exchange == INFORMATIONAL)
-        (meaning_of C.Sealer C.Agreement C.Proof setup.now.caller.now)
-        (setup_of setup.now) association.old table.old number plain.now effect association.new table.new) }
-    ensures refused { IfErr result
-        (λ _. (association.new ≡ association.old) × IsAsBefore table.old table.new) }
-    ensures wanted { IfErr result (CanWantIn association.old.phase false exchange table.old) }
+// What came of a request by its answer, of which there is none in another phase than its exchange's.
+fn replied(answered: Option<Answered>) -> Effect
+    ensures { result ≡ replied_by answered }
 {
-    let answered = if exchange == INFORMATIONAL {
-        informational::answer(alloc, setup, association, table, number, plain)?
-    } else {
-        create_child::answer(alloc, setup, association, table, number, plain)?
-    };
-    Ok(Effect::Replied(answered))
+    match answered {
+        Some(answered) => Effect::Replied(answered),
+        None => Effect::Refused(MessageFault::WrongPhase),
+    }
 }
 
 fn take_response<C: Sealer + Agreement + Proof>(
@@ -202,7 +170,6 @@ fn take_response<C: Sealer + Agreement + Proof>(
     message: &Message,
     plain: &Plain,
 ) -> Result<Effect, MemoryFault>
-    requires config { IsConfig setup.now.config.now }
     requires due { IsAwaited association.old message.now }
     requires waits { SuitPhase association.old.phase association.old.outgoing.outstanding }
     requires reserved { HoldsReserved association.old table.old }
@@ -214,51 +181,26 @@ fn take_response<C: Sealer + Agreement + Proof>(
     ensures wanted { IfErr result
         (CanWantIn association.old.phase true message.now.header.exchange table.old) }
 {
-    match &association.phase {
-        Phase::AuthSent(_) => {
-            let ended = end_auth(alloc, setup, association, table, message.header.id, plain)?;
-            Ok(Effect::Counted(ended))
-        }
-        Phase::Established(_) => take_answer(alloc, setup, association, table, message, plain),
-        _ => Ok(Effect::Refused(MessageFault::WrongPhase)),
+    let number = message.header.id;
+    let exchange = message.header.exchange;
+    if exchange == IKE_AUTH {
+        let ended = end_auth(alloc, setup, association, table, number, plain)?;
+        Ok(counted(ended))
+    } else if exchange == CREATE_CHILD_SA {
+        let ended = create_child::count(alloc, setup, association, table, number, plain)?;
+        Ok(counted(ended))
+    } else {
+        let ended = informational::count(alloc, setup, association, table, number, plain)?;
+        Ok(counted(ended))
     }
 }
 
-// A response at an established association, by what its request asked for.
-fn take_answer<C>(
-    alloc: Global,
-    setup: &Setup<'_, C>,
-    association: &mut Association,
-    table: &mut Table,
-    message: &Message,
-    plain: &Plain,
-) -> Result<Effect, MemoryFault>
-    requires config { IsConfig setup.now.config.now }
-    requires established { IsEstablished association.old.phase }
-    requires due { IsAwaited association.old message.now }
-    requires reserved { HoldsReserved association.old table.old }
-    ensures taken { IfOk result (λ effect. DoesAnswer (asked_further association.old message.now.header.id)
-        (setup_of setup.now) association.old table.old message.now.header.id plain.now effect
-        association.new table.new) }
-    ensures refused { IfErr result (λ _. (association.new ≡ association.old) × (table.new ≡ table.old)) }
-    ensures wanted { IfErr result
-        (CanWantIn association.old.phase true message.now.header.exchange table.old) }
+// What came of a response by how it was counted, which it was not in another phase than its exchange's, or where no request asked for it.
+fn counted(ended: Option<Ended>) -> Effect
+    ensures { result ≡ counted_by ended }
 {
-    let number = message.header.id;
-    let ended = if asked_further(association, number) {
-        create_child::count(alloc, setup, association, table, number, plain)?
-    } else {
-        informational::count(alloc, setup, association, table, number, plain)?
-    };
-    Ok(Effect::Counted(ended))
-}
-
-// Whether the request of this number asked for a further child.
-fn asked_further(association: &Association, number: u32) -> bool
-    ensures { result ≡ asked_further association.now number }
-{
-    match association.outgoing.get(number) {
-        Some(request) => request.purpose.asks_for_child(),
-        None => false,
+    match ended {
+        Some(ended) => Effect::Counted(ended),
+        None => Effect::Refused(MessageFault::WrongPhase),
     }
 }

@@ -5,7 +5,7 @@ ghost use Rattle.wire.specs.Sizes.{FitsFields};
 ghost use Rattle.exchange.specs.Children.{offered, CanBeAnswered};
 ghost use Rattle.sadb.specs.Database.{IsAsBefore};
 ghost use Rattle.children.specs.Faults.{CanBeWanted};
-ghost use Rattle.setup.specs.Configs.{setup_of, IsConfig};
+ghost use Rattle.setup.specs.Configs.{setup_of};
 ghost use Rattle.further.specs.Answering.{answer_to_further, further_pair, FitsAnswer};
 ghost use Rattle.further.specs.Deciding.{further_setting, is_closing_decision, DecidesFurther, DecidesFurtherBy, DecidesFurtherOn, FitsFurtherDecision, IsFurtherRefusedAtOnce, IsRefusedFurther, LeavesRoomForFurther};
 ghost use Rattle.further.specs.Judging.{further_request_view, Admitted};
@@ -68,9 +68,8 @@ impl Decision {
 /// Otherwise a child is made, under the keys that come of the request's nonce and of this end's, the step's fresh one (section 2.17).
 /// What is decided can be sent.
 ///
-/// The configuration is one that can be used: its blocks are a count that [`replay::is_block_count`] allows. Of the table its room alone
-/// changes, also after an error, and not even that where 1 or 2 applies; where a child is made, the table can take its pair, as
-/// [`children::install`] wants it. An error is for want of memory alone.
+/// Of the table its room alone changes, also after an error, and not even that where 1 or 2 applies; where a child is made, the table can
+/// take its pair, as [`children::install`] wants it. An error is for want of memory alone.
 pub fn decide<C>(
     alloc: Global,
     setup: &Setup<'_, C>,
@@ -80,7 +79,6 @@ pub fn decide<C>(
     deleting: bool,
     plain: &Plain,
 ) -> Result<Decision, MemoryFault>
-    requires { IsConfig setup.now.config.now }
     ensures decided { IfOk result
         (DecidesFurther (setup_of setup.now) ike keys.now table.old deleting plain.now) }
     ensures table { IsAsBefore table.old table.new }
@@ -115,7 +113,6 @@ fn decide_on<C>(
     deleting: bool,
     payloads: &[Payload],
 ) -> Result<Decision, MemoryFault>
-    requires config { IsConfig setup.now.config.now }
     requires fits { AllByRecursion FitsFields payloads.now }
     ensures decided { IfOk result
         (DecidesFurtherOn (setup_of setup.now) ike keys.now table.old deleting payloads.now) }
@@ -144,7 +141,6 @@ fn respond_to<C>(
     keys: &KeyRecord,
     request: &FurtherRequest<'_>,
 ) -> Result<Decision, MemoryFault>
-    requires config { IsConfig setup.now.config.now }
     requires fits { CanBeAnswered (offered request.now.offer) }
     ensures decided { IfOk result
         (DecidesFurtherBy (setup_of setup.now) ike keys.now table.old
@@ -156,7 +152,7 @@ fn respond_to<C>(
 {
     payloads_fit();
     let setting = further_setting(
-        setup.config.blocks,
+        setup.config.blocks(),
         ike,
         keys,
         request.nonce,
@@ -165,7 +161,7 @@ fn respond_to<C>(
     match respond(
         alloc,
         &request.offer,
-        setup.config.extended,
+        setup.config.extended(),
         &setting,
         setup.policy,
         table,

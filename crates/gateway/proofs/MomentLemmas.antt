@@ -16,6 +16,7 @@ use Rattle.ike.specs.declared.output.Stepped.{Stepped}
 use Rattle.gateway.specs.Histories.{IsTrail, Passage}
 use Rattle.gateway.specs.Inputs.{Input}
 use Rattle.gateway.specs.Inputs as input
+use Rattle.moments.specs.Due.{SomethingComes}
 use Rattle.gateway.specs.Moments.{is_moment, tells_moment, Brings, BringsNone, MomentsComeInTime}
 use Rattle.gateway.specs.Outputs.{view_of_ike, wants_memory, Clear, Counted, Discarded, Done, Dropped, Dummy, Refused, Repeat, Reply, Request, OutputView, Sealed, Ticked, Up}
 use Rattle.gateway.specs.Requests.{for_ike}
@@ -30,6 +31,8 @@ pub record MomentFacts : Type 0 where
       → ike.Steps meaning entries (ike.Tick moment) old table stepped new new_table → ComesTo (max old.moment moment) old table stepped new new_table
   pub unrefused : (meaning : Meaning) (entries : List Entry) (moment : ℕ) (machine : Machine) (table : Database) (reason : IkeFault)
       → ike.Refuses meaning entries (ike.Tick moment) machine table reason → faults.is_want_of_memory reason ≡ true
+  pub needed : (meaning : Meaning) (entries : List Entry) (moment : ℕ) (machine : Machine) (table : Database) (reason : IkeFault)
+      → ike.Refuses meaning entries (ike.Tick moment) machine table reason → SomethingComes (max machine.moment moment) machine.held.associations
   pub stays : (meaning : Meaning) (entries : List Entry) (view : ike.InputView) (old : Machine) (table : Database) (stepped : Stepped) (new : Machine) (new_table : Database) → ike.is_tick view ≡ false
       → IsSoundMachine old table → ike.Steps meaning entries view old table stepped new new_table → StaysAt old stepped new
 
@@ -62,6 +65,15 @@ told_by (made.Counted serial child closed) = refl
 told_by (made.Ticked ticked) = refl
 told_by made.Done = refl
 told_by (made.Dropped fault) = refl
+
+wants_none : (o : IkeOutput) → wants_memory (view_of_ike o) ≡ false
+wants_none (made.Reply octets closed) = refl
+wants_none (made.Repeat octets) = refl
+wants_none (made.Request serial octets) = refl
+wants_none (made.Counted serial child closed) = refl
+wants_none (made.Ticked ticked) = refl
+wants_none made.Done = refl
+wants_none (made.Dropped fault) = refl
 
 told_of_packet : (s : OutputView) → IsOfPacket s → tells_moment s ≡ false
 told_of_packet (Reply octets closed) is = refl
@@ -104,6 +116,16 @@ module _ {C : Type 0} (facts : MomentFacts) (meaning_of : C → Meaning) where
       absurd (yes_no (faults.is_want_of_memory r.fault) wants (sym (ap wants_memory r.output) ∙ had))
   come_to moment p given had (elsewhere e) = absurd (no_view (ike.Tick moment) (sym e.is ∙ given))
 
+  need_for : (moment : ℕ) (p : Passage C) → for_ike p.given ≡ Some (ike.Tick moment) → wants_memory p.said ≡ true → IkeWay (meaning_of p.before.caller) (for_ike p.given) p.before p.said p.after
+      → SomethingComes (max p.before.machine.moment moment) p.before.machine.held.associations
+  need_for moment p given had (answered s) = absurd (yes_no (wants_memory p.said) had (ap wants_memory s.output ∙ wants_none s.stepped.output))
+  need_for moment p given had (refused r) =
+      let view : r.view ≡ ike.Tick moment = same_view r.view (ike.Tick moment) (sym r.is ∙ given) in
+      let refuses : ike.Refuses (meaning_of p.before.caller) p.before.entries (ike.Tick moment) p.before.machine p.before.table r.fault =
+      subst (λ (v : ike.InputView). ike.Refuses (meaning_of p.before.caller) p.before.entries v p.before.machine p.before.table r.fault) view r.refuses in
+      facts.needed (meaning_of p.before.caller) p.before.entries moment p.before.machine p.before.table r.fault refuses
+  need_for moment p given had (elsewhere e) = absurd (no_view (ike.Tick moment) (sym e.is ∙ given))
+
   none_come : (p : Passage C) → is_moment p.given ≡ false → IsSoundMachine p.before.machine p.before.table → IkeWay (meaning_of p.before.caller) (for_ike p.given) p.before p.said p.after → BringsNone p
   none_come p none sound (answered s) =
       let stays = facts.stays (meaning_of p.before.caller) p.before.entries s.view p.before.machine p.before.table s.stepped p.after.machine p.after.table (no_tick p.given s.view none s.is) sound s.steps in
@@ -136,5 +158,7 @@ module _ {C : Type 0} (facts : MomentFacts) (meaning_of : C → Meaning) where
         (passage.sound.timely, done_after p passage.sound.timely (passage_way meaning_of p passage));
     comes = λ place moment p there given had.
         come_to moment p (ap for_ike given) had (passage_way meaning_of p (at_place meaning_of old new ps place p trail there).passage);
+    needed = λ place moment p there given had.
+        need_for moment p (ap for_ike given) had (passage_way meaning_of p (at_place meaning_of old new ps place p trail there).passage);
     otherwise = λ place p there none. none_come p none (at_place meaning_of old new ps place p trail there).passage.sound.machine (passage_way meaning_of p (at_place meaning_of old new ps place p trail there).passage);
   }

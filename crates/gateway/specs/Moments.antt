@@ -2,6 +2,7 @@
 use Rattle.std.specs.Prelude.{◌≡◌, ◌⊎◌, ℕ, Bool, true, false, Some, List, max, slice_get}
 use Rattle.ike.specs.Moments.{BringsDue, IsTimely, StaysAt}
 use Rattle.ike.specs.declared.output.Stepped.{Stepped}
+use Rattle.moments.specs.Due.{SomethingComes}
 use Rattle.moments.specs.declared.ticking.Ticked.{Ticked}
 use Rattle.gateway.specs.Histories.{Passage}
 use Rattle.gateway.specs.Inputs.{Input}
@@ -45,4 +46,7 @@ pub record MomentsComeInTime {C : Type 0} (passages : List (Passage C)) : Type 0
   pub done : (place : ℕ) (p : Passage C) → slice_get passages place ≡ Some p → IsTimely p.before.machine × IsTimely p.after.machine
   pub comes : (place moment : ℕ) (p : Passage C) → slice_get passages place ≡ Some p → p.given ≡ input.Tick moment → wants_memory p.said ≡ false
       → Brings (max p.before.machine.moment moment) p
+  -- a moment is refused only where something comes with it, so one that brings nothing never is
+  pub needed : (place moment : ℕ) (p : Passage C) → slice_get passages place ≡ Some p → p.given ≡ input.Tick moment → wants_memory p.said ≡ true
+      → SomethingComes (max p.before.machine.moment moment) p.before.machine.held.associations
   pub otherwise : (place : ℕ) (p : Passage C) → slice_get passages place ≡ Some p → is_moment p.given ≡ false → BringsNone p

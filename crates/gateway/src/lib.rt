@@ -11,30 +11,23 @@
 //! ```rust
 //! use caller_script::ScriptCaller; // hides nothing: for real peers it is caller_peer::PeerCaller
 //! use gateway::{Address, Config, EndConfig, Entry, Fresh, Gateway, Identity, Input};
-//! use gateway::{Items, Policy, Range, Transmit};
+//! use gateway::{Items, Policy, Range, Transmit, first_spi};
 //!
-//! let identity = Identity {
-//!     kind: 2,
-//!     data: Items::from_slice(rt.alloc(), b"a.example")?,
-//! };
 //! let own = EndConfig {
-//!     identity,
+//!     identity: Identity::fqdn(rt.alloc(), "a.example")?,
 //!     address: [192, 0, 2, 1],
 //! };
-//! let identity = Identity {
-//!     kind: 2,
-//!     data: Items::from_slice(rt.alloc(), b"b.example")?,
-//! };
 //! let peer = EndConfig {
-//!     identity,
+//!     identity: Identity::fqdn(rt.alloc(), "b.example")?,
 //!     address: [192, 0, 2, 2],
 //! };
-//! let config = Config::new(own, peer, &[0; 32]).checked()?;
+//! let config = Config::new(own, peer, &[0; 32])?;
 //! let local = Range::prefix(Address::v4([10, 0, 0, 0]), 24)?;
 //! let remote = Range::prefix(Address::v4([10, 1, 0, 0]), 24)?;
 //! let entry = Entry::protect(local, remote);
 //! let policy = Policy::new(Items::from_slice(rt.alloc(), &[entry])?)?;
-//! let mut gateway = Gateway::new(rt.alloc(), config, policy, 4096, ScriptCaller);
+//! let start = first_spi(4096)?;
+//! let mut gateway = Gateway::new(rt.alloc(), config, policy, start, ScriptCaller);
 //!
 //! gateway.step(rt.alloc(), &Input::Tick { moment: 0 });
 //! // Of random octets, drawn anew for each input that has them.
@@ -44,12 +37,12 @@
 //!     secret: [7; 32],
 //!     seal: [0; 16],
 //! };
-//! let start = Input::Start {
+//! let beginning = Input::Start {
 //!     ike: None,
 //!     entry: 0,
 //!     fresh: &fresh,
 //! };
-//! let output = gateway.step(rt.alloc(), &start);
+//! let output = gateway.step(rt.alloc(), &beginning);
 //! for datagram in output.datagrams() {
 //!     match datagram {
 //!         Transmit::Ike(octets) => assert_eq!(rt; octets.len(), 148), // by UDP, to port 500
@@ -73,7 +66,7 @@ mod world;
 
 // What a host needs to make a gateway, to read what it tells, and to name why it refuses.
 pub use association::{Association, MessageFault};
-pub use auth::Identity;
+pub use auth::{Identity, IdentityFault};
 pub use base::{Address, Items, PrefixFault, Range, Selector};
 pub use fault::{Reason, RunFault};
 pub use ike::{IkeFault, Trace};
@@ -83,7 +76,7 @@ pub use moments::Resent;
 pub use output::{Output, Traced};
 pub use policy::{Action, Entry, Policy, PolicyFault};
 pub use running::run;
-pub use sadb::{Pair, Table};
+pub use sadb::{Pair, SpiFault, Table, first_spi};
 pub use setup::{Config, ConfigFault, EndConfig};
 pub use suite::Fresh;
 pub use traffic::PacketFault;

@@ -2,7 +2,6 @@
 ghost use Rattle.std.specs.Prelude.{◌≡◌, ◌<◌, IfSome};
 ghost use Rattle.std.specs.Option.{option_copied};
 ghost use Rattle.sadb.specs.Database.{IsSoundTable, IsStart};
-ghost use Rattle.setup.specs.Configs.{IsConfig};
 ghost use Rattle.ike.specs.Machines.{keys_of_serial};
 ghost use Rattle.ike.specs.Moments.{IsTimely};
 ghost use Rattle.ike.specs.Soundness.{AreReservationsHeld, IsSoundMachine};
@@ -61,11 +60,9 @@ impl<C> Model for Gateway<C> {
 }
 
 impl<C> Gateway<C> {
-    /// A gateway with no association, at the moment 0. Takes no memory. The caller gives a configuration whose identities fit
-    /// payloads, with a window of 1 to 16 and a count of blocks that [`replay::is_block_count`] allows. The first inbound SPI for
-    /// ESP is `start`, from 256 to 2^32 - 65,536.
+    /// A gateway with no association, at the moment 0. Takes no memory. The first inbound SPI for ESP is `start`, from 256 to
+    /// 2^32 - 65,536, as [`first_spi`](crate::first_spi) has it.
     pub fn new(alloc: Global, config: Config, policy: Policy, start: u32, caller: C) -> Gateway<C>
-        requires config { IsConfig config }
         requires start { IsStart start }
         ensures { result ≡ new_gateway config policy start caller }
     {
@@ -134,8 +131,8 @@ impl<C: Sealer + Agreement + Proof> Gateway<C> {
     ///
     /// Datagrams of IKE and orders are refused or dropped as [`Ike::step`] says, packets dropped as [`traffic::receive`],
     /// [`traffic::send`] and [`traffic::admit`] say. A packet on its way out is refused ([`Reason::Memory`](crate::Reason), E20) for want of
-    /// memory for its ESP packet; an ESP packet that came takes none. What is done with flows outward is remembered, as far as there is
-    /// memory for it.
+    /// memory for its ESP packet; an ESP packet that came takes none. A moment that brings nothing is never refused. What is done with flows
+    /// outward is remembered, as far as there is memory for it.
     ///
     /// What is refused changes nothing but the table's room.
     pub fn step<'a>(&mut self, alloc: Global, input: &Input<'a>) -> Output<'a>

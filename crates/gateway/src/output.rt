@@ -12,7 +12,7 @@ use std::fmt;
 use traffic::{Admission, Arrival, Departure};
 
 /// What comes of an input. IKE associations and children are named by their serials.
-#[derive(Debug, Drop)]
+#[derive(Debug, Drop, PartialEq, Eq)]
 pub enum Output<'a> {
     /// A request of IKE took effect, and these octets answer it.
     Reply {
@@ -82,7 +82,7 @@ pub enum Output<'a> {
 }
 
 /// An output, and beside it what the step sent under the keys of IKE associations and what it made.
-#[derive(Debug, Drop)]
+#[derive(Debug, Drop, PartialEq, Eq)]
 pub struct Traced<'a> {
     pub output: Output<'a>,
     pub trace: Trace,

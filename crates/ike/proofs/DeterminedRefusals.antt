@@ -1,5 +1,5 @@
 -- What is done is not refused but for want of memory, and a refusal has one reason.
-use Rattle.std.proofs.Common.{◌≡◌, ◌⊎◌, inl, inr, ◌<◌, ◌+◌, ◌^◌, ℕ, Bool, true, false, List, length, Option, Some, None, refl, sym, ap, subst, ◌∙◌, arith}
+use Rattle.std.proofs.Common.{◌≡◌, ◌⊎◌, inl, inr, ◌<◌, ◌+◌, ◌^◌, ℕ, Bool, true, false, List, length, Option, Some, None, refl, sym, ap, subst, ◌∙◌, arith, max}
 use Rattle.std.specs.List.{position}
 use Rattle.std.specs.Prelude.{◌==◌, nat_le, if◌then◌else◌}
 use Rattle.base.specs.Octets.{Octets}
@@ -302,7 +302,7 @@ step_or_refused laws meaning entries (Start ike place fresh) old other new table
     start_or_refused laws meaning (setup_at old entries fresh) ike place old.held other.held table another stepped new.held new_table reason (ap (λ (m : Machine). m.held) same) alike is.1 also
 step_or_refused laws meaning entries (steps.Order what fresh) old other new table another new_table stepped reason same alike is also =
     asked_or_refused meaning.body_of (setup_at old entries fresh) what old.held other.held table another stepped new.held new_table reason (ap (λ (m : Machine). m.held) same) alike is.1 also
-step_or_refused laws meaning entries (steps.Tick moment) old other new table another new_table stepped reason same alike is also = moment_refused reason also
+step_or_refused laws meaning entries (steps.Tick moment) old other new table another new_table stepped reason same alike is also = moment_refused (max other.moment moment) other.held.associations reason also
 step_or_refused laws meaning entries (Secret secret) old other new table another new_table stepped reason same alike is also = secret_or_refused old other reason same is.left also
 
 pub one_refusal : Laws → (meaning : Meaning) (entries : List Entry) (given : InputView) (old other : Machine) (table another : Database) (one two : IkeFault)
@@ -319,5 +319,5 @@ one_refusal laws meaning entries (Start ike place fresh) old other table another
 one_refusal laws meaning entries (steps.Order what fresh) old other table another one two same alike not_one not_two is also =
     one_asking_refusal what old.held other.held table another one two (ap (λ (m : Machine). m.held) same) alike not_one not_two is also
 one_refusal laws meaning entries (steps.Tick moment) old other table another one two same alike not_one not_two is also =
-    absurd (clash (is_want_of_memory one) (moment_refused one is) not_one)
+    absurd (clash (is_want_of_memory one) (moment_refused (max old.moment moment) old.held.associations one is) not_one)
 one_refusal laws meaning entries (Secret secret) old other table another one two same alike not_one not_two is also = secret_refused old one is ∙ sym (secret_refused other two also)

@@ -34,6 +34,7 @@ use Rattle.ike.specs.Asking.{fault_of_order, fault_of_order, AsksFor, AsksFurthe
 use Rattle.ike.specs.Starting.{RefusesFurtherBy}
 use Rattle.ike.specs.Orders.{OrderView}
 use Rattle.ike.specs.Orders as orders
+use Rattle.moments.specs.Due.{SomethingComes}
 use Rattle.ike.specs.Ticking.{RefusesMoment}
 use Rattle.ike.specs.declared.fault.IkeFault.{IkeFault}
 use Rattle.ike.specs.declared.fault.IkeFault.TheVariants as fault
@@ -288,15 +289,29 @@ asked_or_refused body_of setup (orders.DeleteChild serial) old other table anoth
     (subst (λ (s : State). RefusesChildBy s (association_of is.pair.ike other.associations) reason) is.live by)
 asked_or_refused body_of setup (orders.DeleteIke ike) old other table another stepped new new_table reason same alike is refuses = probe_or_refused body_of setup ike asked.DeleteAssociation old other table stepped new new_table reason same is refuses
 
-pub moment_refused : (reason : IkeFault) → RefusesMoment reason → is_want_of_memory reason ≡ true
-moment_refused (fault.Unread f) is = absurd is
-moment_refused (fault.Message f) is = absurd is
-moment_refused fault.Unprotected is = absurd is
-moment_refused fault.Crowded is = absurd is
-moment_refused fault.TableFull is = absurd is
-moment_refused fault.SpisSpent is = absurd is
-moment_refused fault.HalfOpenFull is = absurd is
-moment_refused fault.Busy is = absurd is
-moment_refused fault.NumbersSpent is = absurd is
-moment_refused fault.BadFresh is = absurd is
-moment_refused (fault.Memory f) is = refl
+pub moment_refused : (now : ℕ) (associations : List Association) (reason : IkeFault) → RefusesMoment now associations reason → is_want_of_memory reason ≡ true
+moment_refused now associations (fault.Unread f) is = absurd is
+moment_refused now associations (fault.Message f) is = absurd is
+moment_refused now associations fault.Unprotected is = absurd is
+moment_refused now associations fault.Crowded is = absurd is
+moment_refused now associations fault.TableFull is = absurd is
+moment_refused now associations fault.SpisSpent is = absurd is
+moment_refused now associations fault.HalfOpenFull is = absurd is
+moment_refused now associations fault.Busy is = absurd is
+moment_refused now associations fault.NumbersSpent is = absurd is
+moment_refused now associations fault.BadFresh is = absurd is
+moment_refused now associations (fault.Memory f) is = refl
+
+-- it comes only where something comes with the moment
+pub moment_needs : (now : ℕ) (associations : List Association) (reason : IkeFault) → RefusesMoment now associations reason → SomethingComes now associations
+moment_needs now associations (fault.Unread f) is = absurd is
+moment_needs now associations (fault.Message f) is = absurd is
+moment_needs now associations fault.Unprotected is = absurd is
+moment_needs now associations fault.Crowded is = absurd is
+moment_needs now associations fault.TableFull is = absurd is
+moment_needs now associations fault.SpisSpent is = absurd is
+moment_needs now associations fault.HalfOpenFull is = absurd is
+moment_needs now associations fault.Busy is = absurd is
+moment_needs now associations fault.NumbersSpent is = absurd is
+moment_needs now associations fault.BadFresh is = absurd is
+moment_needs now associations (fault.Memory f) is = is.1

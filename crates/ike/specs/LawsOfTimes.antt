@@ -3,6 +3,7 @@ use Rattle.std.specs.Prelude.{◌≡◌, ◌<◌, ◌^◌, [], false, max, true,
 use Rattle.policy.specs.declared.entry.Entry.{Entry}
 use Rattle.sadb.specs.Database.{Database}
 use Rattle.setup.specs.declared.config.Config.{Config}
+use Rattle.moments.specs.Due.{SomethingComes}
 use Rattle.moments.specs.Next.{IsBefore, NothingIsDueBefore}
 use Rattle.effects.specs.Taking.{Meaning}
 use Rattle.ike.specs.Faults.{is_want_of_memory}
@@ -38,6 +39,12 @@ MomentsAreRefusedForMemoryAlone = (meaning : Meaning) (entries : List Entry) (mo
     (table : Database) (reason : IkeFault)
     → Refuses meaning entries (Tick moment) machine table reason
     → is_want_of_memory reason ≡ true
+
+abbrev pub MomentsAreRefusedForWhatComes : Type 0
+MomentsAreRefusedForWhatComes = (meaning : Meaning) (entries : List Entry) (moment : ℕ) (machine : Machine)
+    (table : Database) (reason : IkeFault)
+    → Refuses meaning entries (Tick moment) machine table reason
+    → SomethingComes (max machine.moment moment) machine.held.associations
 
 abbrev pub TheTimeStandsStill : Type 0
 TheTimeStandsStill = EachStep (λ it.

@@ -1,5 +1,5 @@
 -- One step: what a datagram or an order does, and why it is refused.
-use Rattle.std.specs.Prelude.{◌≡◌, ◌+◌, ◌<◌, ◌^◌, ℕ, Bool, true, false, Option, List}
+use Rattle.std.specs.Prelude.{◌≡◌, ◌+◌, ◌<◌, ◌^◌, ℕ, Bool, true, false, Option, List, max}
 use Rattle.base.specs.Octets.{Octets}
 use Rattle.policy.specs.declared.entry.Entry.{Entry}
 use Rattle.suite.specs.declared.fresh.Fresh.{Fresh}
@@ -75,4 +75,4 @@ Refuses meaning entries (Message from octets fresh) old table reason =
 Refuses meaning entries (Start ike place fresh) old table reason = RefusesStart entries fresh ike place old.held table reason
 Refuses meaning entries (Order what fresh) old table reason = RefusesAsking what old.held table reason
 Refuses meaning entries (Secret secret) old table reason = RefusesSecret old reason
-Refuses meaning entries (Tick moment) old table reason = RefusesMoment reason
+Refuses meaning entries (Tick moment) old table reason = RefusesMoment (max old.moment moment) old.held.associations reason

@@ -1,5 +1,7 @@
 -- What a moment brings (RFC 7296 sections 2.1 and 2.4).
-use Rattle.std.specs.Prelude.{◌≡◌, ℕ, max}
+use Rattle.std.specs.Prelude.{◌≡◌, ℕ, List, max}
+use Rattle.association.specs.declared.phase.Association.{Association}
+use Rattle.moments.specs.Due.{SomethingComes}
 use Rattle.sadb.specs.Database.{Database}
 use Rattle.children.specs.declared.fault.MemoryFault.TheVariants as child
 use Rattle.moments.specs.Ticking.{Ticks}
@@ -23,7 +25,7 @@ pub record TakesMoment (moment : ℕ) (old : Machine) (table : Database) (steppe
   pub takes : TakesHeld (max old.moment moment) old.held table new.held new_table stepped
   pub content : new ≡ record old { moment = max old.moment moment; held = new.held }
 
--- for want of memory alone, for what is told
-abbrev pub RefusesMoment : IkeFault → Type 0
-RefusesMoment (fault.Memory f) = f ≡ child.Message
-RefusesMoment reason = ⊥
+-- for want of memory alone, for what is told, and only where something comes then of the associations that are held
+abbrev pub RefusesMoment : ℕ → List Association → IkeFault → Type 0
+RefusesMoment now associations (fault.Memory f) = (f ≡ child.Message) × SomethingComes now associations
+RefusesMoment now associations reason = ⊥

@@ -59,15 +59,14 @@ impl Model for Ike {
 }
 
 impl Ike {
-    /// A machine with no association, at the moment 0. Takes no memory. The caller gives a configuration whose identities fit
-    /// payloads, with a window of 1 to 16 and a count of blocks that [`replay::is_block_count`] allows.
+    /// A machine with no association, at the moment 0. Takes no memory.
     pub fn new(alloc: Global, config: Config) -> Ike
-        requires { IsConfig config }
         ensures content { result ≡ new_machine config }
         ensures sound { (table : Database) → IsSoundMachine result table }
     {
+        config.invariants_hold();
         Ike {
-            cookies: Cookies::new(&config.cookie_secret),
+            cookies: Cookies::new(config.cookie_secret()),
             config,
             moment: 0,
             held: Held::new(alloc),
@@ -114,7 +113,8 @@ impl Ike {
     /// where the peer's window is full or the association is being deleted, E36; then E25 or E26 by the table; and for want of memory. The
     /// orders to ask whether the peer is there, and to delete a child or an association, are refused, in this order: E28 where no child
     /// or association has the serial, E32 where the association is not established or the child is being deleted, E35 and E36 as for a
-    /// further child, and for want of memory. Another secret is refused by E36, and a moment for want of memory alone.
+    /// further child, and for want of memory. Another secret is refused by E36. A moment is refused for want of memory alone, and only where a
+    /// request is due to go out again or an association to be closed.
     ///
     /// What is refused changes nothing but the table's room.
     pub fn step<C: Sealer + Agreement + Proof>(

@@ -8,7 +8,7 @@ use effects::Effect;
 use moments::Ticked;
 
 /// What comes of a step. Associations and children are named by their serials.
-#[derive(Debug, Drop)]
+#[derive(Debug, Drop, PartialEq, Eq)]
 pub enum IkeOutput {
     /// A request took effect, and these octets answer it.
     Reply {
@@ -70,7 +70,7 @@ pub struct Trace {
 }
 
 /// The output of a step, and its trace.
-#[derive(Debug, Drop)]
+#[derive(Debug, Drop, PartialEq, Eq)]
 pub struct Stepped {
     pub output: IkeOutput,
     pub trace: Trace,

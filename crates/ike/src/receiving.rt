@@ -6,7 +6,7 @@ ghost use Rattle.sadb.specs.Database.{Database, IsAsBefore};
 ghost use Rattle.sa_init.specs.Fitting.{FitsOffer};
 ghost use Rattle.sa_init.specs.Judging.{judgement_view, offer_view, IsJudgement};
 ghost use Rattle.association.specs.Finding.{place_meant};
-ghost use Rattle.setup.specs.Configs.{setup_of, IsConfig};
+ghost use Rattle.setup.specs.Configs.{setup_of};
 ghost use Rattle.ike.specs.Machines.{half_open_count, SERIAL_END};
 ghost use Rattle.ike.specs.Outputs.{half_open_step};
 ghost use Rattle.ike.specs.Receiving.{is_answered, is_initial_request, is_sound_initial, sender_of, with_next, CannotMake, CanWantMemory, RefusesDatagram, RefusesNew, Repeats, SaysNotice, TakesAt, TakesDatagram, TakesFound, TakesNew, TakesOffer, TakesRead, TakesSound, WantsFound};
@@ -41,7 +41,6 @@ pub(crate) fn take_datagram<C: Sealer + Agreement + Proof>(
     from: &[u8; 4],
     octets: &[u8],
 ) -> Result<Stepped, IkeFault>
-    requires config { IsConfig setup.now.config.now }
     requires sound { AreSound held.old table.old }
     ensures taken { IfOk result (λ stepped. TakesDatagram
         (meaning_of C.Sealer C.Agreement C.Proof setup.now.caller.now)
@@ -70,7 +69,6 @@ fn take_read<C: Sealer + Agreement + Proof>(
     octets: &[u8],
     message: &Message,
 ) -> Result<Stepped, IkeFault>
-    requires config { IsConfig setup.now.config.now }
     requires sound { AreSound held.old table.old }
     requires spelled { Spells message.now octets.now }
     requires sound_header { CanWantMemory octets.now }
@@ -111,7 +109,6 @@ fn take_found<C: Sealer + Agreement + Proof>(
     octets: &[u8],
     message: &Message,
 ) -> Result<Stepped, MemoryFault>
-    requires config { IsConfig setup.now.config.now }
     requires sound { AreSound held.old table.old }
     requires spelled { Spells message.now octets.now }
     ensures taken { IfOk result (λ stepped. TakesFound (place_meant message.now.header held.old.associations)
@@ -137,7 +134,6 @@ fn take_at<C: Sealer + Agreement + Proof>(
     octets: &[u8],
     message: &Message,
 ) -> Result<Stepped, MemoryFault>
-    requires config { IsConfig setup.now.config.now }
     requires there { place < length held.old.associations }
     requires sound { AreSound held.old table.old }
     requires spelled { Spells message.now octets.now }

@@ -67,7 +67,7 @@ fn begin_by<C: Sealer + Agreement + Proof>(
         held,
         table,
         &allowed,
-        setup.config.extended,
+        setup.config.extended(),
         beginning,
     )?)
 }

@@ -1,5 +1,6 @@
 //! What a moment brings.
-ghost use Rattle.std.specs.Prelude.{◌≡◌, IfOk, IfErr};
+ghost use Rattle.std.specs.Prelude.{◌≡◌, IfOk, IfErr, OnErr};
+ghost use Rattle.moments.specs.Due.{SomethingComes};
 ghost use Rattle.moments.specs.Ticking.{HoldTheirSpis, Ticks};
 ghost use Rattle.ike.specs.Soundness.{AreSound};
 ghost use Rattle.ike.specs.Ticking.{TakesHeld};
@@ -20,6 +21,7 @@ pub(crate) fn take_moment(
     requires { AreSound held.old table.old }
     ensures taken { IfOk result (TakesHeld now held.old table.old held.new table.new) }
     ensures refused { IfErr result (λ _. (held.new ≡ held.old) × (table.new ≡ table.old)) }
+    ensures needs { OnErr result (SomethingComes now held.old.associations) }
 {
     let ticked = tick(alloc, &mut held.associations, table, now)?;
     Ok(Stepped::plain(IkeOutput::Ticked(ticked)))

@@ -1,6 +1,6 @@
 -- The answer to a request of INFORMATIONAL, and what becomes of the association and of its pairs (RFC 7296 sections 1.4, 1.4.1, 2.5 and
 -- 2.21.3).
-use Rattle.std.specs.Prelude.{◌≡◌, ℕ, Option, None, List, []}
+use Rattle.std.specs.Prelude.{◌≡◌, ℕ, Option, Some, None, List, []}
 use Rattle.base.specs.Octets.{Octets}
 use Rattle.wire.specs.Numbers.{INFORMATIONAL}
 use Rattle.wire.specs.declared.payload.Payload.{Payload}
@@ -11,6 +11,7 @@ use Rattle.exchange.specs.Sealed.{IsSealed}
 use Rattle.exchange.specs.declared.sealed.Plain.{Plain}
 use Rattle.requests.specs.Incoming.{HasSameRequests, PeerRequests, TakesRequest}
 use Rattle.sadb.specs.Database.{Database}
+use Rattle.association.specs.Phases.{IsEstablished}
 use Rattle.association.specs.declared.phase.Association.{Association}
 use Rattle.association.specs.declared.phase.Phase.TheVariants as phase
 use Rattle.association.specs.Sending.{reply_message}
@@ -45,3 +46,8 @@ pub record AnswersInformational (body_of : Keys → Octets → Octets → Octets
   pub child : answer.child ≡ None
   pub closed : answer.closed ≡ is_closing_verdict (verdict_on table.pairs old.serial payloads)
   pub concluded : ClosesIf (is_closing_verdict (verdict_on table.pairs old.serial payloads)) (gone_by (verdict_on table.pairs old.serial payloads)) (with_incoming old incoming) table setup.moment new new_table
+
+-- The request takes effect at an established association. Elsewhere nothing is done.
+abbrev pub AnswersWhereEstablished : (Keys → Octets → Octets → Octets → Octets) → Setup → Association → Database → ℕ → Plain → Option Answered → Association → Database → Type 0
+AnswersWhereEstablished body_of setup old table number plain None new new_table = (¬ IsEstablished old.phase) × (new ≡ old) × (new_table ≡ table)
+AnswersWhereEstablished body_of setup old table number plain (Some answer) new new_table = AnswersInformational body_of setup old table number plain answer new new_table

@@ -8,6 +8,7 @@ use Rattle.requests.specs.Outgoing.{CountsAnswer, OwnRequests}
 use Rattle.sadb.specs.Database.{pair_at, Database, PairMap}
 use Rattle.sadb.specs.declared.pair.Pair.{Pair}
 use Rattle.association.specs.Purposes.{asks_to_end}
+use Rattle.association.specs.Phases.{IsEstablished}
 use Rattle.association.specs.declared.phase.Association.{Association}
 use Rattle.association.specs.declared.phase.Request.{Request}
 use Rattle.association.specs.declared.purpose.Purpose.{Purpose}
@@ -58,3 +59,8 @@ pub record CountsInformational (setup : Setup) (old : Association) (table : Data
   pub child : ended.child ≡ None
   pub closed : ended.closed ≡ is_ended payloads request.purpose
   pub concluded : ClosesIf (is_ended payloads request.purpose) (gone_with table.pairs old.serial request.purpose) (with_outgoing old outgoing) table setup.moment new new_table
+
+-- It is counted at an established association; else nothing is done.
+abbrev pub CountsWhereEstablished : Setup → Association → Database → ℕ → Plain → Option Ended → Association → Database → Type 0
+CountsWhereEstablished setup old table number plain None new new_table = (¬ IsEstablished old.phase) × (new ≡ old) × (new_table ≡ table)
+CountsWhereEstablished setup old table number plain (Some ended) new new_table = IsEstablished old.phase × CountsInformational setup old table number plain ended new new_table

@@ -9,9 +9,8 @@ ghost use Rattle.association.specs.Sending.{reply_message};
 ghost use Rattle.setup.specs.Configs.{setup_of};
 ghost use Rattle.deletions.specs.Answering.{payloads_of_verdict};
 ghost use Rattle.deletions.specs.Deciding.{is_closing_verdict, IsSoundVerdict};
-ghost use Rattle.informational.specs.Answering.{gone_by, AnswersInformational};
+ghost use Rattle.informational.specs.Answering.{gone_by, AnswersWhereEstablished};
 ghost use Rattle.informational.specs.Orders.{ClosesIf};
-ghost use Rattle.association.specs.Phases.{IsEstablished};
 
 use association::laws::spis_stay_held;
 use association::{Answered, Association, Phase};
@@ -33,10 +32,11 @@ use wire::numbers::INFORMATIONAL;
 /// The answer is INVALID_SYNTAX, and the association is closed, where the payloads are not in the grammar or name more than 512 SPIs; it
 /// is UNSUPPORTED_CRITICAL_PAYLOAD where one that is not known is marked as critical (section 2.5). Where the association is deleted it is
 /// closed, and the answer is empty. Otherwise the Live pairs that are named go, and the answer names the SPIs of the other direction; it
-/// is empty where none goes. A pair that is Deleting stays until the request of this end is answered, and isn't named.
+/// is empty where none goes. A pair that is Deleting stays until the request of this end is answered, and isn't named. It is `None`, and
+/// nothing is changed, where the association is not established.
 ///
-/// The caller asks only at an established association, where the request is fresh and the SPIs that the association holds are reserved in
-/// the table. An error is for want of memory alone, and changes nothing.
+/// The caller asks only where the request is fresh and the SPIs that the association holds are reserved in the table. An error is for want
+/// of memory alone, and changes nothing.
 pub fn answer<C: Sealer>(
     alloc: Global,
     setup: &Setup<'_, C>,
@@ -44,16 +44,15 @@ pub fn answer<C: Sealer>(
     table: &mut Table,
     number: u32,
     plain: &Plain,
-) -> Result<Answered, AllocError>
-    requires established { IsEstablished association.old.phase }
+) -> Result<Option<Answered>, AllocError>
     requires fresh { IsFreshRequest association.old.incoming number }
     requires reserved { HoldsReserved association.old table.old }
-    ensures answered { IfOk result (λ answered. AnswersInformational C.body_of (setup_of setup.now)
+    ensures answered { IfOk result (λ answered. AnswersWhereEstablished C.body_of (setup_of setup.now)
         association.old table.old number plain.now answered association.new table.new) }
     ensures refused { IfErr result (λ _. (association.new ≡ association.old) × (table.new ≡ table.old)) }
 {
     let Phase::Established(keys) = &association.phase else {
-        unreachable!();
+        return Ok(None);
     };
     spis_stay_held();
     let verdict = decide(alloc, plain, association.serial, table)?;
@@ -64,11 +63,11 @@ pub fn answer<C: Sealer>(
     association.incoming.take(number, kept);
     let closed = verdict.is_closing();
     conclude(association, table, &verdict, setup.moment);
-    Ok(Answered {
+    Ok(Some(Answered {
         octets,
         child: None,
         closed,
-    })
+    }))
 }
 
 fn make_reply<C: Sealer>(

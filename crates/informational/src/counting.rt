@@ -2,14 +2,13 @@
 ghost use Rattle.std.specs.Prelude.{◌≡◌, IfOk, IfErr};
 ghost use Rattle.requests.specs.Outgoing.{IsOutstanding};
 ghost use Rattle.association.specs.Closing.{HoldsReserved};
-ghost use Rattle.informational.specs.Counting.{gone_with, CountsInformational, IsRejectedBy};
+ghost use Rattle.informational.specs.Counting.{gone_with, CountsWhereEstablished, IsRejectedBy};
 ghost use Rattle.informational.specs.Orders.{ClosesIf, RemovesOwn};
-ghost use Rattle.association.specs.Phases.{IsEstablished};
 ghost use Rattle.setup.specs.Configs.{setup_of};
 ghost use Rattle.association.specs.Purposes.{AsksForNoFurtherChild};
 
 use association::laws::spis_stay_held;
-use association::{Association, Ended, Purpose};
+use association::{Association, Ended, Phase, Purpose};
 use deletions::remove_named;
 use exchange::{Plain, has_invalid_syntax, read_chain};
 use sadb::Table;
@@ -18,10 +17,11 @@ use std::alloc::{AllocError, Global};
 
 /// Counts the response to a request of INFORMATIONAL (RFC 7296, sections 1.4 and 1.4.1), by the payloads that it opened to. The association
 /// is closed where it has a notice INVALID_SYNTAX (section 2.21.3), or answers a request to delete it; the pair of a child goes whose
-/// deletion it answers. What else it says is nothing to that.
+/// deletion it answers. What else it says is nothing to that. It is `None`, and nothing is changed, where the association is not
+/// established.
 ///
-/// The caller asks only at an established association, where a request of this number is outstanding, which asks for no child, and the SPIs
-/// that the association holds are reserved in the table. An error is for want of memory alone, and changes nothing.
+/// The caller asks only where a request of this number is outstanding, which asks for no child, and the SPIs that the association holds are
+/// reserved in the table. An error is for want of memory alone, and changes nothing.
 pub fn count<C>(
     alloc: Global,
     setup: &Setup<'_, C>,
@@ -29,25 +29,27 @@ pub fn count<C>(
     table: &mut Table,
     number: u32,
     plain: &Plain,
-) -> Result<Ended, AllocError>
-    requires established { IsEstablished association.old.phase }
+) -> Result<Option<Ended>, AllocError>
     requires outstanding { IsOutstanding association.old.outgoing number }
     requires no_child { AsksForNoFurtherChild association.old.outgoing number }
     requires reserved { HoldsReserved association.old table.old }
-    ensures counted { IfOk result (λ ended. CountsInformational (setup_of setup.now)
+    ensures counted { IfOk result (λ ended. CountsWhereEstablished (setup_of setup.now)
         association.old table.old number plain.now ended association.new table.new) }
     ensures refused { IfErr result (λ _. (association.new ≡ association.old) × (table.new ≡ table.old)) }
 {
+    let Phase::Established(_) = &association.phase else {
+        return Ok(None);
+    };
     spis_stay_held();
     let rejected = is_rejected(alloc, plain)?;
     // From here on nothing can be refused.
     let request = association.outgoing.count(number);
     let closed = rejected || request.purpose.asks_to_end();
     conclude(association, table, closed, &request.purpose, setup.moment);
-    Ok(Ended {
+    Ok(Some(Ended {
         child: None,
         closed,
-    })
+    }))
 }
 
 // Whether the peer tells that it could not read the request.

@@ -3,12 +3,14 @@
 //! peer is there, to delete a child, or to delete the association.
 //!
 //! Which association a message is for, whether its number is fresh and what it opens to, [`association`] tells; what Delete payloads ask
-//! for, [`deletions`]. Each call here makes all that it needs before it changes anything.
+//! for, [`deletions`]. Each call here makes all that it needs before it changes anything, and tells where the association is not
+//! established.
 //!
 //! ```text
 //! send(ask(alloc, &step, &mut association, &mut table, Order::Probe)?.octets);
-//! let answered = answer(alloc, &step, &mut association, &mut table, number, &plain)?;
-//! send(answered.octets);
+//! if let Some(answered) = answer(alloc, &step, &mut association, &mut table, number, &plain)? {
+//!     send(answered.octets);
+//! }
 //! ```
 #![tactic(auto)]
 

@@ -90,3 +90,8 @@ pub record AnswersAuth (prover : Prover) (setup : Setup) (old : Association) (ta
 pub record IsHalfOpen (p : Phase) : Type 0 where
   pub opened : HalfOpen
   pub is : p ≡ phase.HalfOpen opened
+
+-- The request takes effect at a half-open association. Elsewhere nothing is done.
+abbrev pub AnswersWhereHalfOpen : Prover → Setup → Association → Database → ℕ → Plain → Option Answered → Association → Database → Type 0
+AnswersWhereHalfOpen prover setup old table number plain None new new_table = (¬ IsHalfOpen old.phase) × (new ≡ old) × (new_table ≡ table)
+AnswersWhereHalfOpen prover setup old table number plain (Some answer) new new_table = AnswersAuth prover setup old table number plain answer new new_table

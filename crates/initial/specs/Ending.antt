@@ -70,6 +70,11 @@ pub record IsAuthSent (p : Phase) : Type 0 where
   pub sent : AuthSent
   pub is : p ≡ phase.AuthSent sent
 
+-- The response is counted where IKE_AUTH was sent. Elsewhere nothing is done.
+abbrev pub EndsWhereSent : Accepts → Setup → Association → Database → ℕ → Plain → Option Ended → Association → Database → Type 0
+EndsWhereSent accepts setup old table number plain None new new_table = (¬ IsAuthSent old.phase) × (new ≡ old) × (new_table ≡ table)
+EndsWhereSent accepts setup old table number plain (Some ended) new new_table = EndsAuth accepts setup old table number plain ended new new_table
+
 -- the child that is made has the SPI that was reserved for it
 abbrev pub HasItsSpi : ℕ → Option Pair → Type 0
 HasItsSpi spi None = Unit {0}

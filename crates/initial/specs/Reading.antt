@@ -1,5 +1,5 @@
 -- What an initiator does about the response to IKE_SA_INIT (RFC 7296 sections 1.2, 2.6, 2.14 and 2.15).
-use Rattle.std.specs.Prelude.{◌≡◌, ◌+◌, ◌<◌, ℕ, false, Option, Some}
+use Rattle.std.specs.Prelude.{◌≡◌, ◌⊎◌, ◌+◌, ◌<◌, ℕ, false, Option, Some}
 use Rattle.std.specs.FinMap as map
 use Rattle.base.specs.Octets.{Octets}
 use Rattle.wire.specs.Messages.{SpellsPlainly}
@@ -110,6 +110,15 @@ pub record ReadsResponse (asker : Asker) (setup : Setup) (old : Association) (nu
 pub record IsInitSent (p : Phase) : Type 0 where
   pub sent : InitSent
   pub is : p ≡ phase.InitSent sent
+
+-- it doesn't: the response is unfit
+pub record IsNotAwaited (old : Association) (said : Continued) (new : Association) : Type 0 where
+  pub not_waiting : ¬ IsInitSent old.phase
+  pub unfit : said ≡ continued.Unfit
+  pub same : new ≡ old
+
+abbrev pub ReadsWhereWaiting : Asker → Setup → Association → ℕ → Octets → Message → Continued → Association → Type 0
+ReadsWhereWaiting asker setup old number octets m continued new = ReadsResponse asker setup old number octets m continued new ⊎ IsNotAwaited old continued new
 
 -- the request carries this cookie from then on; only private contracts cite this and the next
 abbrev pub carrying : Octets → Phase → Phase

@@ -8,11 +8,11 @@ ghost use Rattle.association.specs.Closing.{HoldsReserved};
 ghost use Rattle.auth.specs.Fitting.{FitWithin};
 ghost use Rattle.auth.specs.Answers.{auth_answer};
 ghost use Rattle.exchange.specs.Children.{answering_payloads};
-ghost use Rattle.initial.specs.Answering.{child_answer, outcome_of, pair_of, prover_by, reply_payloads, AnswersAuth, IsHalfOpen};
+ghost use Rattle.initial.specs.Answering.{child_answer, outcome_of, pair_of, prover_by, reply_payloads, AnswersWhereHalfOpen};
 ghost use Rattle.association.specs.Sending.{reply_message};
 ghost use Rattle.initial.specs.Concluding.{is_closing};
 ghost use Rattle.children.specs.Faults.{CanBeWanted};
-ghost use Rattle.setup.specs.Configs.{setup_of, IsConfig};
+ghost use Rattle.setup.specs.Configs.{setup_of};
 ghost use Rattle.initial.specs.Deciding.{own_proving, FitsDecision, FitsResponse};
 ghost use Rattle.wire.specs.Numbers.{IKE_AUTH};
 
@@ -38,11 +38,12 @@ use wire::{Message, Payload};
 /// The association is closed, and the reply is one notice, where the payloads are not in the grammar (INVALID_SYNTAX), or the peer is
 /// refused by [`auth::judge`]. Otherwise it is established: the reply has this end's identity and its proof, what
 /// [`children::respond`] answers for the child, and the window of this end where it is above 1. From then on both windows count
-/// (section 2.3): this end's as configured, the peer's as it told, 1 where it told none.
+/// (section 2.3): this end's as configured, the peer's as it told, 1 where it told none. It is `None`, and nothing is changed, where the
+/// association is not half-open.
 ///
-/// The caller asks only at a half-open association, where the request is fresh and the SPIs that it holds are reserved in the table. An
-/// error is for want of memory alone, for a place in the table as [`children::respond`] says: association and table are as they were then,
-/// but for the table's room.
+/// The caller asks only where the request is fresh and the SPIs that the association holds are reserved in the table. An error is for want
+/// of memory alone, for a place in the table as [`children::respond`] says: association and table are as they were then, but for the
+/// table's room.
 pub fn answer_auth<C: Sealer + Proof>(
     alloc: Global,
     setup: &Setup<'_, C>,
@@ -50,12 +51,10 @@ pub fn answer_auth<C: Sealer + Proof>(
     table: &mut Table,
     number: u32,
     plain: &Plain,
-) -> Result<Answered, MemoryFault>
-    requires config { IsConfig setup.now.config.now }
-    requires waiting { IsHalfOpen association.old.phase }
+) -> Result<Option<Answered>, MemoryFault>
     requires fresh { IsFreshRequest association.old.incoming number }
     requires reserved { HoldsReserved association.old table.old }
-    ensures answered { IfOk result (λ answered. AnswersAuth
+    ensures answered { IfOk result (λ answered. AnswersWhereHalfOpen
         (prover_by C.Sealer C.Proof setup.now.caller.now)
         (setup_of setup.now) association.old table.old number plain.now
         answered association.new table.new) }
@@ -64,7 +63,7 @@ pub fn answer_auth<C: Sealer + Proof>(
     ensures wanted { IfErr result (CanBeWanted table.old) }
 {
     let Phase::HalfOpen(half_open) = &association.phase else {
-        unreachable!();
+        return Ok(None);
     };
     spis_stay_held();
     let decision = decide(alloc, setup, table, association.serial, half_open, plain)?;
@@ -75,11 +74,11 @@ pub fn answer_auth<C: Sealer + Proof>(
     association.incoming.take(number, kept);
     let closed = reply.outcome.is_closing();
     let child = conclude(setup, association, table, reply.outcome);
-    Ok(Answered {
+    Ok(Some(Answered {
         octets: reply.octets,
         child,
         closed,
-    })
+    }))
 }
 
 // A reply, and what it brings the association to.
@@ -97,7 +96,6 @@ fn make_reply<C: Sealer + Proof>(
     number: u32,
     decision: Decision,
 ) -> Result<Reply, AllocError>
-    requires config { IsConfig setup.now.config.now }
     requires fits { FitsDecision decision }
     ensures sealed { IfOk result
         (λ reply. IsSealed C.body_of (keys_of association.now.role half_open.now.keys)
@@ -144,7 +142,6 @@ fn make_content<C: Proof>(
     half_open: &HalfOpen,
     decision: Decision,
 ) -> Result<Content, AllocError>
-    requires config { IsConfig setup.now.config.now }
     requires fits { FitsDecision decision }
     ensures payloads { IfOk result (λ content. content.payloads ≡ reply_payloads
         (C.own_method setup.now.caller.now) (C.proof_of setup.now.caller.now)
@@ -179,7 +176,6 @@ fn accepting<C: Proof>(
     half_open: &HalfOpen,
     child: ChildAnswer,
 ) -> Result<Items<Payload>, AllocError>
-    requires config { IsConfig setup.now.config.now }
     requires fits { FitWithin 1400 (answering_payloads child) }
     ensures payloads { IfOk result (λ payloads. payloads ≡ auth_answer
         (C.own_method setup.now.caller.now) (C.proof_of setup.now.caller.now)
@@ -191,10 +187,10 @@ fn accepting<C: Proof>(
     answer(
         alloc,
         setup.caller,
-        &setup.config.own.identity,
+        &setup.config.own().identity,
         &proving,
         child,
-        setup.config.window,
+        setup.config.window(),
     )
 }
 

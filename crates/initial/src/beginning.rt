@@ -106,9 +106,9 @@ pub struct Admitted {
     pub octets: Items<u8>,
 }
 
-/// Answers an offer that was accepted ([`sa_init::judge`]), with the SPI, the secret and the nonce that are fresh: the association
-/// is half open from then on. `request` is the very datagram that brought the offer, over which the initiator's AUTH is computed.
-/// That the fresh SPI is not zero and no SPI of this end in use is the caller's to see to. `None` (E32) exactly where the agreement refuses the
+/// Answers an offer that was accepted ([`sa_init::judge`]), with the SPI, the secret and the nonce that are fresh: the association is half
+/// open from then on. `request` is the very datagram that brought the offer, over which the initiator's AUTH is computed. That the fresh
+/// SPI is not zero and no SPI of this end in use is the caller's to see to. `None` (E32) exactly where the agreement refuses the
 /// initiator's public value. An error is for want of memory alone.
 pub fn admit<C: Sealer + Agreement>(
     alloc: Global,

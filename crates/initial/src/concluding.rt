@@ -43,7 +43,6 @@ pub fn conclude<C>(
     table: &mut Table,
     outcome: Outcome,
 ) -> Option<u32>
-    requires window { IsWindow setup.now.config.now.window }
     requires ready { CanConclude association.old table.old outcome }
     ensures { ConcludesBy
         (setup_of setup.now) association.old table.old outcome result association.new table.new }
@@ -57,7 +56,7 @@ pub fn conclude<C>(
             association,
             table,
             pair,
-            setup.config.window,
+            setup.config.window(),
             window,
         ),
     }

@@ -5,7 +5,7 @@ ghost use Rattle.wire.specs.Sizes.{FitsFields};
 ghost use Rattle.exchange.specs.Children.{offered, CanBeAnswered};
 ghost use Rattle.sadb.specs.Database.{IsAsBefore};
 ghost use Rattle.children.specs.Faults.{CanBeWanted};
-ghost use Rattle.setup.specs.Configs.{setup_of, IsConfig, first_setting};
+ghost use Rattle.setup.specs.Configs.{setup_of, first_setting};
 ghost use Rattle.initial.specs.Deciding.{AcceptsAuth, Decides, FitsDecision, FitsResponse, IsDecision, LeavesRoomFor};
 ghost use Rattle.exchange.specs.Chains.{IsRead};
 ghost use Rattle.children.specs.Responding.{IsChildResponse, LeavesRoom};
@@ -47,7 +47,6 @@ pub fn decide<C: Proof>(
     half_open: &HalfOpen,
     plain: &Plain,
 ) -> Result<Decision, MemoryFault>
-    requires { IsConfig setup.now.config.now }
     ensures decided { IfOk result (Decides (C.accepts setup.now.caller.now) (setup_of setup.now)
         ike half_open.now table.old plain.now) }
     ensures table { IsAsBefore table.old table.new }
@@ -71,7 +70,6 @@ fn decide_on<C: Proof>(
     half_open: &HalfOpen,
     payloads: &[Payload],
 ) -> Result<Decision, MemoryFault>
-    requires config { IsConfig setup.now.config.now }
     requires fits { AllByRecursion FitsFields payloads.now }
     ensures decided { IfOk result (IsDecision (C.accepts setup.now.caller.now) (setup_of setup.now)
         ike half_open.now table.old (Some payloads.now)) }
@@ -90,7 +88,7 @@ fn decide_on<C: Proof>(
     match judge(
         alloc,
         setup.caller,
-        &setup.config.peer.identity,
+        &setup.config.peer().identity,
         &proving,
         payloads,
     )? {
@@ -114,7 +112,6 @@ fn respond_to<C>(
     keys: &KeyRecord,
     offer: &ChildOffer<'_>,
 ) -> Result<Response, MemoryFault>
-    requires config { IsConfig setup.now.config.now }
     requires fits { CanBeAnswered (offered offer.now) }
     ensures response { IfOk result (IsChildResponse (first_setting setup.now.config.now ike keys.now)
         setup.now.config.now.extended setup.now.policy.now table.old (offered offer.now)) }
@@ -127,12 +124,12 @@ fn respond_to<C>(
     let setting = Setting {
         ike,
         keys: keys.first_child_keys(),
-        blocks: setup.config.blocks,
+        blocks: setup.config.blocks(),
     };
     let response = respond(
         alloc,
         offer,
-        setup.config.extended,
+        setup.config.extended(),
         &setting,
         setup.policy,
         table,

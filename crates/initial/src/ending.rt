@@ -3,9 +3,9 @@ ghost use Rattle.std.specs.Prelude.{◌≡◌, ◌≢◌, Some, IfOk, IfErr};
 ghost use Rattle.requests.specs.Outgoing.{IsOutstanding};
 ghost use Rattle.association.specs.Closing.{HoldsReserved};
 ghost use Rattle.children.specs.declared.fault.MemoryFault.TheVariants as child;
-ghost use Rattle.setup.specs.Configs.{setup_of, IsConfig};
+ghost use Rattle.setup.specs.Configs.{setup_of};
 ghost use Rattle.initial.specs.Concluding.{is_closing, CanConclude};
-ghost use Rattle.initial.specs.Ending.{EndsAuth, FitsVerdict, IsAuthSent, IsVerdict, Judges};
+ghost use Rattle.initial.specs.Ending.{EndsWhereSent, FitsVerdict, IsVerdict, Judges};
 ghost use Rattle.association.specs.Purposes.{AsksForNoFurtherChild};
 
 use crate::concluding::{Outcome, conclude};
@@ -25,10 +25,11 @@ use wire::Payload;
 ///
 /// The association is closed where the payloads are not in the grammar, or the peer is refused by [`auth::is_accepted`]. Otherwise it is
 /// established, with the child that [`children::accept`] makes of the answer, or without one: then its SPI is given up. From then
-/// on both windows count (section 2.3): this end's as configured, the peer's as it told, 1 where it told none.
+/// on both windows count (section 2.3): this end's as configured, the peer's as it told, 1 where it told none. It is `None`, and nothing is
+/// changed, where this end doesn't wait for the response to IKE_AUTH.
 ///
-/// The caller asks only where the response to IKE_AUTH is waited for, of this number, whose request asks for no child but the first, and the
-/// SPIs that the association holds are reserved in the table. An error is for want of memory alone, for the message or the pair: its place in
+/// The caller asks only where a request of this number is outstanding, which asks for no child but the first, and the SPIs that the
+/// association holds are reserved in the table. An error is for want of memory alone, for the message or the pair: its place in
 /// the table stands since its SPI was reserved. It changes nothing.
 pub fn end_auth<C: Proof>(
     alloc: Global,
@@ -37,19 +38,17 @@ pub fn end_auth<C: Proof>(
     table: &mut Table,
     number: u32,
     plain: &Plain,
-) -> Result<Ended, MemoryFault>
-    requires config { IsConfig setup.now.config.now }
-    requires waiting { IsAuthSent association.old.phase }
+) -> Result<Option<Ended>, MemoryFault>
     requires outstanding { IsOutstanding association.old.outgoing number }
     requires no_child { AsksForNoFurtherChild association.old.outgoing number }
     requires reserved { HoldsReserved association.old table.old }
-    ensures ended { IfOk result (λ ended. EndsAuth (C.accepts setup.now.caller.now) (setup_of setup.now)
+    ensures ended { IfOk result (λ ended. EndsWhereSent (C.accepts setup.now.caller.now) (setup_of setup.now)
         association.old table.old number plain.now ended association.new table.new) }
     ensures refused { IfErr result (λ _. (association.new ≡ association.old) × (table.new ≡ table.old)) }
     ensures wanted { IfErr result (λ fault. fault ≢ child.Table) }
 {
     let Phase::AuthSent(sent) = &association.phase else {
-        unreachable!();
+        return Ok(None);
     };
     spis_stay_held();
     let verdict = judge_response(alloc, setup, association.serial, sent, plain)?;
@@ -57,7 +56,7 @@ pub fn end_auth<C: Proof>(
     let _ = association.outgoing.count(number);
     let closed = verdict.is_closing();
     let child = conclude(setup, association, table, verdict);
-    Ok(Ended { child, closed })
+    Ok(Some(Ended { child, closed }))
 }
 
 fn judge_response<C: Proof>(
@@ -67,7 +66,6 @@ fn judge_response<C: Proof>(
     sent: &AuthSent,
     plain: &Plain,
 ) -> Result<Outcome, MemoryFault>
-    requires { IsConfig setup.now.config.now }
     ensures judged { IfOk result
         (Judges (C.accepts setup.now.caller.now) (setup_of setup.now) ike sent.now plain.now) }
     ensures fits { IfOk result (FitsVerdict sent.now) }
@@ -86,7 +84,6 @@ fn judge_payloads<C: Proof>(
     sent: &AuthSent,
     payloads: &[Payload],
 ) -> Result<Outcome, MemoryFault>
-    requires { IsConfig setup.now.config.now }
     ensures judged { IfOk result (IsVerdict (C.accepts setup.now.caller.now) (setup_of setup.now) ike sent.now
         (Some payloads.now)) }
     ensures fits { IfOk result (FitsVerdict sent.now) }
@@ -97,7 +94,7 @@ fn judge_payloads<C: Proof>(
     if !is_accepted(
         alloc,
         setup.caller,
-        &setup.config.peer.identity,
+        &setup.config.peer().identity,
         &proving,
         payloads,
     )? {
@@ -106,7 +103,7 @@ fn judge_payloads<C: Proof>(
     let setting = Setting {
         ike,
         keys: sent.keys.first_child_keys(),
-        blocks: setup.config.blocks,
+        blocks: setup.config.blocks(),
     };
     Ok(Outcome::Establishes {
         pair: accept(alloc, payloads, &sent.child.asked(), &setting)?,

@@ -5,8 +5,8 @@ ghost use Rattle.exchange.specs.Headers.{keys_of};
 ghost use Rattle.exchange.specs.Sealed.{PAYLOADS_LIMIT, IsSealed};
 ghost use Rattle.requests.specs.Outgoing.{IsOutstanding};
 ghost use Rattle.sa_init.specs.Reading.{waiting_view};
-ghost use Rattle.setup.specs.Configs.{setup_of, IsConfig};
-ghost use Rattle.initial.specs.Reading.{asker_by, carrying, identity_message, telling, waiting_of, IsInitSent, ReadsResponse, TakesFew};
+ghost use Rattle.setup.specs.Configs.{setup_of};
+ghost use Rattle.initial.specs.Reading.{asker_by, carrying, identity_message, telling, waiting_of, ReadsWhereWaiting, TakesFew};
 ghost use Rattle.std.specs.Prelude.{Some};
 ghost use Rattle.sa_init.specs.Messages.{request_message};
 ghost use Rattle.association.specs.AskedChildren.{asked_of};
@@ -42,17 +42,17 @@ pub enum Continued {
     Again(Items<u8>),
     /// The association has its keys, and IKE_AUTH goes out.
     AsksAuth(Items<u8>),
-    /// E32: the response doesn't fit, and nothing is changed.
+    /// E32: the response doesn't fit, or none is waited for, and nothing is changed.
     Unfit,
 }
 
 /// Goes on by the response to IKE_SA_INIT (RFC 7296, sections 1.2 and 2.6), as [`sa_init::read`] reads it. Where it asks for a
 /// cookie, the request goes out again with it, and its timer runs anew. Where it gives keys, the association has them and the
 /// responder's SPI from now on, and IKE_AUTH goes out as the request of number 1: this end's identity and its proof, what it asks for
-/// its first child, and its window where that is above 1.
+/// its first child, and its window where that is above 1. Where this end doesn't wait for the response, it is [`Continued::Unfit`].
 ///
-/// The caller asks only where the response to IKE_SA_INIT is waited for, of this number, and the octets are those that the message
-/// was decoded from. An error is for want of memory alone, and changes nothing.
+/// The caller asks only where a request of this number is outstanding, and the octets are those that the message was decoded from. An error
+/// is for want of memory alone, and changes nothing.
 pub fn read_response<C: Sealer + Agreement + Proof>(
     alloc: Global,
     setup: &Setup<'_, C>,
@@ -61,18 +61,16 @@ pub fn read_response<C: Sealer + Agreement + Proof>(
     octets: &[u8],
     message: &Message,
 ) -> Result<Continued, AllocError>
-    requires config { IsConfig setup.now.config.now }
     requires spelled { Spells message.now octets.now }
-    requires waiting { IsInitSent association.old.phase }
     requires outstanding { IsOutstanding association.old.outgoing number }
-    ensures read { IfOk result (λ continued. ReadsResponse
+    ensures read { IfOk result (λ continued. ReadsWhereWaiting
         (asker_by C.Sealer C.Agreement C.Proof setup.now.caller.now)
         (setup_of setup.now) association.old number octets.now message.now continued association.new) }
     ensures refused { IfErr result (λ _. association.new ≡ association.old) }
 {
     cookies_are_short();
     let Phase::InitSent(sent) = &association.phase else {
-        unreachable!();
+        return Ok(Continued::Unfit);
     };
     let waiting = waiting(association.spi_i, sent);
     match read(alloc, setup.caller, message, &waiting) {
@@ -168,7 +166,6 @@ fn identity_request<C: Sealer + Proof>(
     keys: &KeyRecord,
     first: &[u8],
 ) -> Result<Items<u8>, AllocError>
-    requires { IsConfig setup.now.config.now }
     ensures { IfOk result (IsSealed C.body_of (keys_of association.now.role keys.now) setup.now.fresh.now.seal
         (identity_message (C.own_method setup.now.caller.now) (C.proof_of setup.now.caller.now)
         (setup_of setup.now)
@@ -191,7 +188,6 @@ fn identity_payloads<C: Proof>(
     keys: &KeyRecord,
     first: &[u8],
 ) -> Result<Items<Payload>, AllocError>
-    requires { IsConfig setup.now.config.now }
     ensures payloads { IfOk result (λ payloads. payloads ≡ auth_request
         (C.own_method setup.now.caller.now)
         (C.proof_of setup.now.caller.now) setup.now.config.now.own.identity
@@ -206,10 +202,10 @@ fn identity_payloads<C: Proof>(
     request(
         alloc,
         setup.caller,
-        &setup.config.own.identity,
+        &setup.config.own().identity,
         &proving,
         ask(alloc, &asked)?,
-        setup.config.window,
+        setup.config.window(),
     )
 }
 

@@ -1,10 +1,10 @@
 -- Where something is due, a moment sends, closes or removes something.
-use Rattle.std.proofs.Common.{◌≡◌, ◌+◌, ◌<◌, ◌≤◌, ◌++◌, ◌∷◌, ◌&&◌, [], ℕ, List, map, nat_le, nat_lt, Bool, true, false, cond, Some, None, All, Contains, arith, sym, ap, ◌∙◌, refl, inl, inr, subst, length, length-append}
-use Rattle.std.proofs.lemmas.Bool.Decides.{eqb_tells, nat_tests}
+use Rattle.std.proofs.Common.{◌≡◌, ◌<◌, ◌≤◌, ◌++◌, ◌∷◌, [], ℕ, List, map, Bool, true, false, cond, Some, arith, sym, ap, ◌∙◌, refl, inl, inr, length, length-append}
+use Rattle.std.proofs.lemmas.Bool.Decides.{eqb_tells}
 use Rattle.std.proofs.lemmas.Option.{none-some, same_Some}
-use Rattle.std.proofs.lemmas.List.Elements.{All-contains, All-from_recursion}
+use Rattle.std.proofs.lemmas.List.Elements.{All-from_recursion}
 use Rattle.std.specs.FinMap as numbers
-use Rattle.std.specs.List.{filter, list_any, AllByRecursion}
+use Rattle.std.specs.List.{filter, AllByRecursion}
 use Rattle.requests.specs.Timers.{due_from, waits}
 use Rattle.sadb.specs.Database.{Database}
 use Rattle.association.specs.declared.phase.Association.{Association}
@@ -15,7 +15,7 @@ use Rattle.moments.specs.Next.{SomethingIsDue}
 use Rattle.moments.specs.Ticking.{PassAll, PassesBy, Ticks}
 use Rattle.moments.specs.declared.resent.Resent.{Resent}
 use Rattle.moments.specs.declared.ticking.Ticked.{Ticked}
-use Rattle.moments.proofs.EntryLemmas.{find, found_further, found_here}
+use Rattle.requests.proofs.OrderLemmas.{find, found_further, found_here}
 use Rattle.moments.proofs.NextLemmas.{lies_ahead}
 use Rattle.moments.proofs.TimelyLemmas.{later_than, not_passed}
 

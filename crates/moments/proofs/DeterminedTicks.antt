@@ -14,7 +14,7 @@ use Rattle.moments.specs.Due.{after_sending, due_of, has_failed, is_over, SendsA
 use Rattle.moments.specs.Ticking.{PassAll, Passes, PassesBy, Ticks}
 use Rattle.moments.specs.declared.resent.Resent.{Resent}
 use Rattle.moments.specs.declared.ticking.Ticked.{Ticked}
-use Rattle.moments.proofs.EntryLemmas.{same_map}
+use Rattle.requests.proofs.EntryLemmas.{same_map}
 
 -- what a lower law says of endings
 abbrev pub EndsAlike : Type 0

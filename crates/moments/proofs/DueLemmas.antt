@@ -1,18 +1,17 @@
 -- What is due of one association, number by number.
-use Rattle.std.proofs.Common.{◌≡◌, ◌≢◌, ◌+◌, ◌-◌, ◌^◌, ◌<◌, ◌≤◌, ◌++◌, ◌∷◌, [], ℕ, List, map, Bool, true, false, cond, Option, Some, None, arith, sym, ap, ◌∙◌, refl, inl, inr, subst, append_assoc, add-one, length}
+use Rattle.std.proofs.Common.{◌≡◌, ◌≢◌, ◌+◌, ◌-◌, ◌^◌, ◌<◌, ℕ, List, map, Bool, true, false, cond, Option, Some, None, arith, sym, ap, ◌∙◌, refl, inl, inr, Result, Ok, Err, OnErr, slice_index_or, length, ◌∷◌, [], subst}
 use Rattle.std.proofs.lemmas.Bool.Decides.{eqb_tells, leb_tells}
-use Rattle.std.proofs.lemmas.Option.{none-some}
 use Rattle.std.specs.List.{filter}
-use Rattle.std.specs.Ordering.{nat_cmp}
 use Rattle.std.specs.Option.{option_map}
 use Rattle.std.specs.FinMap as numbers
-use Rattle.requests.specs.Outgoing.{IsAbove, IsNextOutstanding, IsSoundOutgoing, OwnRequests}
+use Rattle.requests.specs.Outgoing.{IsAbove, IsNextOutstanding, OwnRequests, is_above}
 use Rattle.association.specs.declared.phase.Association.{Association}
 use Rattle.association.specs.declared.phase.Request.{Request}
-use Rattle.moments.specs.Due.{after_sending, due_of, is_due, outstanding_of, resent, SendsAgain}
-use Rattle.moments.specs.Passing.{one_due, RestartsAt}
+use Rattle.moments.specs.Due.{after_sending, closed_by, due_of, has_failed, is_due, is_over, resent, sent_by, SendsAgain, SomethingComes}
+use Rattle.moments.specs.Passing.{RestartsAt}
 use Rattle.moments.specs.declared.resent.Resent.{Resent}
-use Rattle.moments.proofs.EntryLemmas.{above, above_later, above_none, above_told, above_true, inserted_apart, inserted_here, is_above, next_above, none_above, not_above}
+use Rattle.requests.proofs.EntryLemmas.{inserted_apart, inserted_here}
+use Rattle.requests.proofs.OrderLemmas.{above_later, above_told, above_true, not_above}
 
 -- how many numbers of 32 bits lie above one, or above none
 abbrev pub numbers_left : Option ℕ → ℕ
@@ -25,36 +24,6 @@ fewer_left (Some m) n above fits = omega arith
 
 abbrev pub due_among : ℕ → Association → List (ℕ × Request) → List Resent
 due_among now a es = map (resent a) (filter (λ e. is_due now e.1) es)
-
-due_cons : (now : ℕ) (a : Association) (n : ℕ) (r : Request) (es : List (ℕ × Request)) (b : Bool)
-    → map (resent a) (cond b ((n, r) ∷ filter (λ e. is_due now e.1) es) (filter (λ e. is_due now e.1) es)) ≡ cond b (resent a (n, r) ∷ []) [] ++ due_among now a es
-due_cons now a n r es true = refl
-due_cons now a n r es false = refl
-
-found_least : (low : Option ℕ) (a : Association) (n : ℕ) (r : Request) → IsNextOutstanding a.outgoing low n r → (k : ℕ) (y : Request) → numbers.find nat_cmp k (outstanding_of a) ≡ Some y → IsAbove low k → k < n → ⊥
-found_least low a n r next k y there above less = none-some y (sym (next.least k above less) ∙ numbers.get-entries a.outgoing.outstanding k ∙ there)
-
--- those above a number are the next one and those above that
-pub next_of : (low : Option ℕ) (a : Association) (n : ℕ) (r : Request) → IsNextOutstanding a.outgoing low n r → above low (outstanding_of a) ≡ (n, r) ∷ above (Some n) (outstanding_of a)
-next_of low a n r next =
-    next_above low (outstanding_of a) n r (numbers.entries_sorted a.outgoing.outstanding) (sym (numbers.get-entries a.outgoing.outstanding n) ∙ next.there) next.above (found_least low a n r next)
-
-pub one_more : (now : ℕ) (a : Association) (low : Option ℕ) (n : ℕ) (r : Request) (sent later all : List Resent) → IsNextOutstanding a.outgoing low n r
-    → later ≡ sent ++ one_due now a n r → sent ++ due_among now a (above low (outstanding_of a)) ≡ all → later ++ due_among now a (above (Some n) (outstanding_of a)) ≡ all
-one_more now a low n r sent later all next is whole =
-    ap (λ (xs : List Resent). xs ++ due_among now a (above (Some n) (outstanding_of a))) is
-    ∙ append_assoc sent (one_due now a n r) (due_among now a (above (Some n) (outstanding_of a)))
-    ∙ ap (λ (xs : List Resent). sent ++ xs) (sym (ap (due_among now a) (next_of low a n r next) ∙ due_cons now a n r (above (Some n) (outstanding_of a)) (is_due now r)))
-    ∙ whole
-
-pub at_first : (now : ℕ) (a : Association) → due_among now a (above None (outstanding_of a)) ≡ due_of now a
-at_first now a = ap (due_among now a) (above_none (outstanding_of a))
-
-all_gone : (a : Association) (low : Option ℕ) → ((k : ℕ) → IsAbove low k → numbers.get a.outgoing.outstanding k ≡ None) → above low (outstanding_of a) ≡ []
-all_gone a low none = none_above low (outstanding_of a) (numbers.entries_sorted a.outgoing.outstanding) (λ k y there above. none-some y (sym (none k above) ∙ numbers.get-entries a.outgoing.outstanding k ∙ there))
-
-pub at_last : (now : ℕ) (a : Association) (low : Option ℕ) → ((k : ℕ) → IsAbove low k → numbers.get a.outgoing.outstanding k ≡ None) → due_among now a (above low (outstanding_of a)) ≡ []
-at_last now a low none = ap (due_among now a) (all_gone a low none)
 
 -- what stands under a number when those up to another one were gone through
 abbrev pub up_to : Option ℕ → ℕ → ℕ → Option Request → Option Request
@@ -122,16 +91,25 @@ all_sent low now first old so_far none =
       content = so_far.content;
     }
 
--- ---- how many wait
+-- ---- what takes memory
 
-pub few_wait : (a : Association) → IsSoundOutgoing a.outgoing → length (outstanding_of a) ≤ 16
-few_wait a sound = let same = numbers.len-entries a.outgoing.outstanding in let few = sound.few_outstanding in let most = sound.most in omega arith
+pub on_refusal : {A B P : Type 0} (r : Result A B) → P → OnErr r P
+on_refusal (Ok x) p = tt
+on_refusal (Err e) p = p
 
-pub counted_first : (a : Association) → 0 + length (above None (outstanding_of a)) ≡ length (outstanding_of a)
-counted_first a = let same = ap length (above_none (outstanding_of a)) in omega arith
+pub one_sends : (now place : ℕ) (associations : List Association) (a : Association) → place < length associations → a ≡ slice_index_or associations place a → is_over now a.phase ≡ false → has_failed now a ≡ false → due_of now a ≢ []
+    → SomethingComes now associations
+one_sends now place associations a inside is held not_gone some =
+    record {
+      association = a;
+      held = (place, inside, sym is);
+      comes = λ none. some (sym (λ i. sent_by (held i) (not_gone i) now a) ∙ none.0);
+    }
 
-pub one_fewer : (low : Option ℕ) (a : Association) (n : ℕ) (r : Request) → IsNextOutstanding a.outgoing low n r → length (above low (outstanding_of a)) ≡ length (above (Some n) (outstanding_of a)) + 1
-one_fewer low a n r next = ap length (next_of low a n r next) ∙ sym (add-one (length (above (Some n) (outstanding_of a))))
-
-pub none_left : (a : Association) (low : Option ℕ) → ((k : ℕ) → IsAbove low k → numbers.get a.outgoing.outstanding k ≡ None) → length (above low (outstanding_of a)) ≡ 0
-none_left a low none = ap length (all_gone a low none)
+pub one_closes : (now place : ℕ) (associations : List Association) (a : Association) → place < length associations → a ≡ slice_index_or associations place a → is_over now a.phase ≡ false → has_failed now a ≡ true → SomethingComes now associations
+one_closes now place associations a inside is held gone =
+    record {
+      association = a;
+      held = (place, inside, sym is);
+      comes = λ none. (let one : a.serial ∷ [] ≡ [] = sym (λ i. closed_by (held i) (gone i) a) ∙ none.1 in absurd cc);
+    }

@@ -19,7 +19,8 @@ use Rattle.moments.specs.Ticking.{PassAll, Passes, PassesBy, Ticks}
 use Rattle.moments.specs.declared.resent.Resent.{Resent}
 use Rattle.moments.specs.declared.ticking.Ticked.{Ticked}
 use Rattle.moments.proofs.DueLemmas.{due_among}
-use Rattle.moments.proofs.EntryLemmas.{filtered_none, find, found_here, found_later, found_none, in_order_after, same_map, IsInOrder}
+use Rattle.requests.proofs.EntryLemmas.{same_map}
+use Rattle.requests.proofs.OrderLemmas.{filtered_none, find, found_here, found_later, found_none, in_order_after, IsInOrder}
 use Rattle.moments.proofs.PassingLemmas.{if_held}
 
 -- ---- what is held

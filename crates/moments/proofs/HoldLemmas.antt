@@ -1,9 +1,9 @@
 -- What a moment leaves of the associations and of the table.
-use Rattle.std.proofs.Common.{◌≡◌, ◌≢◌, inl, inr, ℕ, suc, ◌+◌, ◌++◌, ◌∷◌, [], Bool, true, false, List, Option, Some, None, ap, refl, subst, sym, ◌∙◌}
+use Rattle.std.proofs.Common.{◌≡◌, inl, inr, ℕ, suc, ◌+◌, ◌++◌, ◌∷◌, [], Bool, true, false, List, Option, Some, None, ap, refl, subst, sym, ◌∙◌}
 use Rattle.std.specs.FinMap as map
 use Rattle.std.specs.Option.{option_map}
 use Rattle.std.specs.Ordering.{nat_cmp}
-use Rattle.std.specs.Prelude.{◌&&◌, if◌then◌else◌}
+use Rattle.std.specs.Prelude.{if◌then◌else◌}
 use Rattle.sadb.specs.Database.{Database, IsReserved, RemovesAllOf}
 use Rattle.association.specs.Closing.{Closes, GivesUpSpis, HoldsSpi}
 use Rattle.association.specs.declared.phase.Association.{Association}

@@ -1,6 +1,5 @@
 mod DeterminedTicks
 mod DueLemmas
-mod EntryLemmas
 mod HeldLemmas
 mod PassingLemmas
 mod HoldLemmas

@@ -1,5 +1,5 @@
 -- The least moment at which something is due.
-use Rattle.std.proofs.Common.{◌≡◌, ◌≢◌, ◌⊎◌, ◌+◌, ◌<◌, ◌≤◌, ◌^◌, ◌&&◌, ℕ, List, Bool, true, false, Option, Some, None, All, Contains, min, nat_le, nat_lt, arith, sym, ap, ◌∙◌, refl, inl, inr, subst, length, IfSome}
+use Rattle.std.proofs.Common.{◌≡◌, ◌⊎◌, ◌+◌, ◌<◌, ◌≤◌, ◌^◌, ◌&&◌, ℕ, List, Bool, true, false, Option, Some, None, All, [], ◌∷◌, min, nat_le, nat_lt, arith, sym, ap, ◌∙◌, refl, inl, inr, subst, length, IfSome}
 use Rattle.std.proofs.lemmas.Bool.{true≢false}
 use Rattle.std.proofs.lemmas.Bool.Decides.{eqb_tells, leb_tells, nat_tests}
 use Rattle.std.proofs.lemmas.Option.{none-some, same_Some, IfSome_then}
@@ -7,9 +7,8 @@ use Rattle.std.proofs.lemmas.List.Elements.{All-contains, AllWithin-more, at_rea
 use Rattle.std.specs.FinMap as numbers
 use Rattle.std.specs.List.{slice_index_or, AllWithin}
 use Rattle.std.specs.Option.{SomeIff}
-use Rattle.requests.specs.Outgoing.{IsAbove, IsNextOutstanding}
+use Rattle.requests.proofs.OrderLemmas.{find, found_further, found_here, found_later, in_order_after, IsInOrder}
 use Rattle.requests.specs.Timers.{due_from, waits}
-use Rattle.sadb.specs.Database.{Database}
 use Rattle.association.specs.declared.phase.Association.{Association}
 use Rattle.association.specs.declared.phase.Phase.{Phase}
 use Rattle.association.specs.declared.phase.Phase.TheVariants.{AuthSent, Closed, Established, HalfOpen, InitSent}
@@ -17,8 +16,6 @@ use Rattle.association.specs.declared.phase.Request.{Request}
 use Rattle.moments.specs.Due.{is_due, is_over, is_unanswered}
 use Rattle.moments.specs.Held.{HasNothingDue}
 use Rattle.moments.specs.Next.{earlier, HasSomethingDue, IsBefore, NothingIsDueBefore, SomeRequestIsDue, SomethingIsDue}
-use Rattle.moments.specs.Ticking.{Ticks}
-use Rattle.moments.specs.declared.ticking.Ticked.{Ticked}
 
 -- ---- the earlier one of two
 
@@ -73,37 +70,47 @@ request_due now r come =
       | inr (_, fewer) ↦ inl (both_true (due_from r.timer) now r.timer.repeats (length waits) come fewer)
     ]
 
--- none of those up to a number is due before the first moment found, at which one is
-pub record WalkedTo (number first : Option ℕ) (a : Association) : Type 0 where
-  pub early : (now : ℕ) → now < 2 ^ 64 → IsBefore now first → (n : ℕ) (r : Request) → numbers.get a.outgoing.outstanding n ≡ Some r → (IsAbove number n → ⊥) → now < due_from r.timer
+-- none but those that are left is due before the first moment found, at which one is
+pub record WalkedTo (left : List (ℕ × Request)) (first : Option ℕ) (a : Association) : Type 0 where
+  pub order : IsInOrder left
+  pub there : (n : ℕ) (r : Request) → find n left ≡ Some r → numbers.get a.outgoing.outstanding n ≡ Some r
+  pub early : (now : ℕ) → now < 2 ^ 64 → IsBefore now first → (n : ℕ) (r : Request) → numbers.get a.outgoing.outstanding n ≡ Some r → find n left ≡ None → now < due_from r.timer
   pub due : IfSome first (λ m. SomeRequestIsDue m a)
 
-pub none_walked : (a : Association) → WalkedTo None None a
-none_walked a = record { early = λ now fits before n r there past. absurd (past tt); due = tt }
+pub none_walked : (a : Association) (left : List (ℕ × Request)) → left ≡ numbers.entries a.outgoing.outstanding → WalkedTo left None a
+none_walked a left is =
+    subst (λ (l : List (ℕ × Request)). WalkedTo l None a) (sym is)
+    (record {
+      order = numbers.entries_sorted a.outgoing.outstanding;
+      there = λ n r found. numbers.get-entries a.outgoing.outstanding n ∙ found;
+      early = λ now fits before n r there lost. absurd (none-some r (sym (numbers.get-entries a.outgoing.outstanding n ∙ lost) ∙ there));
+      due = tt;
+    })
 
-below : (q n : ℕ) → q ≢ n → (n < q → ⊥) → q < n
-below q n apart past = elim (leb_tells (n + 1) q) [ inl (_, more) ↦ absurd (past (omega arith)) | inr (_, less) ↦ omega arith ]
-
-pub walked_one : (number first o later : Option ℕ) (a : Association) (n : ℕ) (r : Request) → WalkedTo number first a → IsNextOutstanding a.outgoing number n r → SomeIff o (due_from r.timer < 2 ^ 64) (due_from r.timer) → later ≡ earlier first o
-    → WalkedTo (Some n) later a
-walked_one number first o later a n r walked next is found =
+pub walked_one : (left rest : List (ℕ × Request)) (first o later : Option ℕ) (a : Association) (n : ℕ) (r : Request) → left ≡ (n, r) ∷ rest → WalkedTo left first a → SomeIff o (due_from r.timer < 2 ^ 64) (due_from r.timer)
+    → later ≡ earlier first o → WalkedTo rest later a
+walked_one left rest first o later a n r next so_far is found =
+    let walked : WalkedTo ((n, r) ∷ rest) first a = subst (λ (l : List (ℕ × Request)). WalkedTo l first a) next so_far in
+    let its : numbers.get a.outgoing.outstanding n ≡ Some r = walked.there n r (found_here n (n, r) rest refl) in
     let come : IfSome o (λ m. SomeRequestIsDue m a) =
-    IfSome_then o (due_by o (due_from r.timer) is) (λ m same. record { number = n; request = r; there = next.there; due = request_due m r (omega arith) }) in
+    IfSome_then o (due_by o (due_from r.timer) is) (λ m same. record { number = n; request = r; there = its; due = request_due m r (omega arith) }) in
     record {
-      early = λ now fits before q s there past.
+      order = in_order_after (n, r) rest walked.order;
+      there = λ q s later. walked.there q s (found_later (n, r) rest q s walked.order later);
+      early = λ now fits before q s there lost.
           (let both = before_both first o now (subst (IsBefore now) found before) in
           elim (eqb_tells q n) [
             | inl (_, same) ↦
-                (let one : r ≡ s = same_Some r s (sym next.there ∙ ap (numbers.get a.outgoing.outstanding) (sym same) ∙ there) in
+                (let one : r ≡ s = same_Some r s (sym its ∙ ap (numbers.get a.outgoing.outstanding) (sym same) ∙ there) in
                 subst (λ (x : Request). now < due_from x.timer) one (early_by o (due_from r.timer) now is fits both.1))
-            | inr (_, apart) ↦ walked.early now fits both.0 q s there (λ above. none-some s (sym (next.least q above (below q n apart past)) ∙ there))
+            | inr (_, apart) ↦ walked.early now fits both.0 q s there (found_further q (n, r) rest (λ same. apart (sym same)) ∙ lost)
           ]);
       due = subst (λ (x : Option ℕ). IfSome x (λ m. SomeRequestIsDue m a)) (sym found) (one_is (λ m. SomeRequestIsDue m a) first o walked.due come);
     }
 
-pub walked_all : (number first : Option ℕ) (a : Association) → WalkedTo number first a → ((k : ℕ) → IsAbove number k → numbers.get a.outgoing.outstanding k ≡ None)
+pub walked_all : (left : List (ℕ × Request)) (first : Option ℕ) (a : Association) → left ≡ [] → WalkedTo left first a
     → (now : ℕ) → now < 2 ^ 64 → IsBefore now first → (n : ℕ) (r : Request) → numbers.get a.outgoing.outstanding n ≡ Some r → now < due_from r.timer
-walked_all number first a walked none now fits before n r there = walked.early now fits before n r there (λ above. none-some r (sym (none n above) ∙ there))
+walked_all left first a none walked now fits before n r there = walked.early now fits before n r there (ap (find n) none)
 
 -- ---- one association
 

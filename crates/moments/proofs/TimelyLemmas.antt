@@ -18,7 +18,7 @@ use Rattle.moments.specs.Held.{began, HasBegun, IsInTime, LeavesPairsBut}
 use Rattle.moments.specs.Ticking.{PassAll, PassesBy, Ticks}
 use Rattle.moments.specs.declared.resent.Resent.{Resent}
 use Rattle.moments.specs.declared.ticking.Ticked.{Ticked}
-use Rattle.moments.proofs.EntryLemmas.{any_found, find, found_any}
+use Rattle.requests.proofs.OrderLemmas.{any_found, find, found_any}
 use Rattle.moments.proofs.PassingLemmas.{closed_now}
 
 -- ---- all that is due comes

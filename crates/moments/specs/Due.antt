@@ -1,5 +1,5 @@
 -- What is due of an association at a moment (RFC 7296 sections 2.1 and 2.4). Moments are in milliseconds.
-use Rattle.std.specs.Prelude.{◌≡◌, ◌==◌, ◌+◌, ◌&&◌, ◌∷◌, ℕ, Bool, true, false, not, List, [], length, map, nat_le, nat_lt, if◌then◌else◌}
+use Rattle.std.specs.Prelude.{◌≡◌, ◌==◌, ◌+◌, ◌&&◌, ◌∷◌, ℕ, Bool, true, false, not, List, [], Contains, length, map, nat_le, nat_lt, if◌then◌else◌}
 use Rattle.std.specs.FinMap as numbers
 use Rattle.std.specs.List.{filter, list_any, sum_by}
 use Rattle.std.specs.Option.{option_map}
@@ -83,3 +83,9 @@ pub record SendsAgain (now : ℕ) (old new : Association) : Type 0 where
 -- how many requests wait for an answer, of all associations
 abbrev pub outstanding_count : List Association → ℕ
 outstanding_count associations = sum_by (λ a. length (outstanding_of a)) associations
+
+-- something comes of one of these associations with the moment: a request goes out again, or the association is closed
+pub record SomethingComes (now : ℕ) (associations : List Association) : Type 0 where
+  pub association : Association
+  pub held : Contains associations association
+  pub comes : ¬ ((sent_of now association ≡ []) × (closed_of now association ≡ []))

@@ -1,13 +1,13 @@
 //! What is due of one association.
-ghost use Rattle.std.specs.Prelude.{◌≡◌, ◌<◌, ◌≤◌, ◌^◌, ◌++◌, IfOk, OnOk, length};
-ghost use Rattle.moments.specs.Due.{after_sending, due_of, has_failed, is_over, is_unanswered, outstanding_count, outstanding_of, resent, SendsAgain};
+ghost use Rattle.std.specs.Prelude.{◌≡◌, ◌≢◌, ◌<◌, ◌≤◌, ◌^◌, ◌++◌, [], true, IfOk, OnOk, OnErr, length};
+ghost use Rattle.moments.specs.Due.{after_sending, due_of, has_failed, is_due, is_over, is_unanswered, outstanding_count, outstanding_of, resent, SendsAgain};
 ghost use Rattle.moments.specs.Passing.{one_due, RestartsAt};
 ghost use Rattle.requests.specs.Outgoing.{IsOutstanding};
 
 use crate::Resent;
-use association::{Association, Phase, Purpose, Request};
+use association::{Association, Phase, Request};
 use base::Items;
-use requests::{Due, Outgoing, Timer};
+use requests::{Due, Outgoing};
 use std::alloc::{AllocError, Global};
 use wire::numbers::IKE_SA_INIT;
 
@@ -51,12 +51,11 @@ pub(crate) fn append_due(
     association: &Association,
     now: u64,
 ) -> Result<(), AllocError>
-    ensures { OnOk result (requests.new ≡ requests.old ++ due_of now association.now) }
+    ensures ok { OnOk result (requests.new ≡ requests.old ++ due_of now association.now) }
+    ensures refused { OnErr result (due_of now association.now ≢ []) }
 {
-    let mut number = None;
-    while let Some((next, request)) = association.outgoing.after(number) {
-        append_one(alloc, requests, association, next, request, now)?;
-        number = Some(next);
+    for (number, request) in association.outgoing.iter() {
+        append_one(alloc, requests, association, number, request, now)?;
     }
     Ok(())
 }
@@ -71,6 +70,7 @@ fn append_one(
     now: u64,
 ) -> Result<(), AllocError>
     ensures ok { OnOk result (requests.new ≡ requests.old ++ one_due now association.now number request.now) }
+    ensures refused { OnErr result (is_due now request.now ≡ true) }
     ensures fits { number < 2 ^ 32 }
 {
     if request.timer.due(now) == Due::Again {
@@ -97,29 +97,23 @@ fn resent(
 }
 
 // Notes of the requests that are due that they were sent at this moment. Takes no memory.
-pub(crate) fn send_again(alloc: Global, association: &mut Association, now: u64)
+pub(crate) fn send_again(association: &mut Association, now: u64)
     ensures { SendsAgain now association.old association.new }
 {
     let mut number = None;
     while let Some((next, _)) = association.outgoing.after(number) {
-        restart(alloc, &mut association.outgoing, next, now);
+        restart(&mut association.outgoing, next, now);
         number = Some(next);
     }
 }
 
 // Notes it of one of them, if it is due.
-fn restart(alloc: Global, outgoing: &mut Outgoing<Request>, number: u32, now: u64)
+fn restart(outgoing: &mut Outgoing<Request>, number: u32, now: u64)
     requires { IsOutstanding outgoing.old number }
     ensures restarts { RestartsAt now outgoing.old number outgoing.new }
     ensures fits { number < 2 ^ 32 }
 {
-    let nothing = Request {
-        octets: Items::new(alloc),
-        purpose: Purpose::Probe,
-        timer: Timer::started(now),
-    };
-    let request = outgoing.replace(number, nothing);
-    outgoing.replace(number, sent_again(request, now));
+    outgoing.update(number, |request| sent_again(request, now));
 }
 
 // A request after a moment.
@@ -153,12 +147,5 @@ fn count_of(association: &Association) -> usize
     ensures count { result ≡ length (outstanding_of association.now) }
     ensures few { result ≤ 16 }
 {
-    association.outgoing.invariants_hold();
-    let mut count = 0;
-    let mut number = None;
-    while let Some((next, _)) = association.outgoing.after(number) {
-        count += 1;
-        number = Some(next);
-    }
-    count
+    association.outgoing.len()
 }

@@ -56,10 +56,8 @@ fn next_request(association: &Association) -> Option<u64>
     ensures due { IfSome result (λ moment. SomeRequestIsDue moment association.now) }
 {
     let mut first = None;
-    let mut number = None;
-    while let Some((next, request)) = association.outgoing.after(number) {
+    for (_, request) in association.outgoing.iter() {
         first = earlier(first, request.timer.moment());
-        number = Some(next);
     }
     first
 }

@@ -3,7 +3,7 @@
 use base::Items;
 
 /// A request that goes out again, the same octets (RFC 7296, section 2.1).
-#[derive(Debug, Drop)]
+#[derive(Debug, Drop, PartialEq, Eq)]
 pub struct Resent {
     /// The serial of its association.
     pub ike: u32,

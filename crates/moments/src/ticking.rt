@@ -1,8 +1,8 @@
 //! What a moment brings, at all associations.
-ghost use Rattle.std.specs.Prelude.{◌≡◌, IfOk, IfErr};
+ghost use Rattle.std.specs.Prelude.{◌≡◌, IfOk, IfErr, OnErr};
 ghost use Rattle.std.specs.List.{flat_map};
 ghost use Rattle.association.specs.Closing.{HoldsReserved};
-ghost use Rattle.moments.specs.Due.{closed_of, sent_of};
+ghost use Rattle.moments.specs.Due.{closed_of, sent_of, SomethingComes};
 ghost use Rattle.moments.specs.Passing.{Becomes, BecomeAll};
 ghost use Rattle.moments.specs.Ticking.{HoldTheirSpis, Ticks};
 
@@ -14,7 +14,7 @@ use sadb::Table;
 use std::alloc::{AllocError, Global};
 
 /// What a moment brought.
-#[derive(Debug, Drop)]
+#[derive(Debug, Drop, PartialEq, Eq)]
 pub struct Ticked {
     /// The requests that go out again, in the order of their associations and by rising number.
     pub requests: Items<Resent>,
@@ -27,7 +27,8 @@ pub struct Ticked {
 /// however late it is.
 ///
 /// The caller gives associations whose SPIs are reserved in the table, each for one of them alone. An error is for want of memory alone,
-/// and changes nothing.
+/// and changes nothing. It comes only where a request is due to go out again or an association to be closed: to let go of what is over
+/// takes no memory.
 pub fn tick(
     alloc: Global,
     associations: &mut Vec<Association>,
@@ -39,18 +40,20 @@ pub fn tick(
         (λ ticked. Ticks now associations.old.items table.old ticked associations.new.items table.new) }
     ensures refused { IfErr result
         (λ _. (associations.new.items ≡ associations.old.items) × (table.new ≡ table.old)) }
+    ensures needs { OnErr result (SomethingComes now associations.old.items) }
 {
     let requests = due(alloc, associations.as_slice(), now)?;
     let closed = failed(alloc, associations.as_slice(), now)?;
     // From here on nothing can be refused.
-    pass_all(alloc, associations.as_mut_slice(), table, now);
+    pass_all(associations.as_mut_slice(), table, now);
     associations.retain(|association| !is_over(association, now));
     Ok(Ticked { requests, closed })
 }
 
 // The requests that go out again.
 fn due(alloc: Global, associations: &[Association], now: u64) -> Result<Items<Resent>, AllocError>
-    ensures { IfOk result (λ requests. requests ≡ flat_map (sent_of now) associations.now) }
+    ensures ok { IfOk result (λ requests. requests ≡ flat_map (sent_of now) associations.now) }
+    ensures refused { OnErr result (SomethingComes now associations.now) }
 {
     let mut requests = Items::new(alloc);
     for association in associations {
@@ -63,7 +66,8 @@ fn due(alloc: Global, associations: &[Association], now: u64) -> Result<Items<Re
 
 // The serials of those that are closed.
 fn failed(alloc: Global, associations: &[Association], now: u64) -> Result<Items<u32>, AllocError>
-    ensures { IfOk result (λ closed. closed ≡ flat_map (closed_of now) associations.now) }
+    ensures ok { IfOk result (λ closed. closed ≡ flat_map (closed_of now) associations.now) }
+    ensures refused { OnErr result (SomethingComes now associations.now) }
 {
     let mut closed = Items::new(alloc);
     for association in associations {
@@ -75,16 +79,16 @@ fn failed(alloc: Global, associations: &[Association], now: u64) -> Result<Items
 }
 
 // Closes those that have failed, and notes of the others what they send.
-fn pass_all(alloc: Global, associations: &mut [Association], table: &mut Table, now: u64)
+fn pass_all(associations: &mut [Association], table: &mut Table, now: u64)
     requires { HoldTheirSpis associations.old table.old }
     ensures { BecomeAll now associations.old table.old associations.new table.new }
 {
     for association in associations.iter_mut() {
-        pass(alloc, association, table, now);
+        pass(association, table, now);
     }
 }
 
-fn pass(alloc: Global, association: &mut Association, table: &mut Table, now: u64)
+fn pass(association: &mut Association, table: &mut Table, now: u64)
     requires { HoldsReserved association.old table.old }
     ensures { Becomes now association.old table.old association.new table.new }
 {
@@ -94,6 +98,6 @@ fn pass(alloc: Global, association: &mut Association, table: &mut Table, now: u6
     if has_failed(association, now) {
         association.close(table, now);
     } else {
-        send_again(alloc, association, now);
+        send_again(association, now);
     }
 }

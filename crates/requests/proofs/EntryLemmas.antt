@@ -8,8 +8,8 @@ use Rattle.std.specs.List.{position, position_or_len, remove, slice_index_or, fi
 use Rattle.std.specs.Ordering.{nat_cmp}
 use Rattle.std.specs.Cmp.{nat_cmp_total, unsigned_tied}
 use Rattle.std.specs.FinMap as map
-use Rattle.requests.specs.Outgoing.{IsAbove, SomeOutstanding, NoneOutstanding}
-use Rattle.requests.specs.Storage.{StandOnce, HasNoneAbove, IsNextItem, is_above, next_above}
+use Rattle.requests.specs.Outgoing.{IsAbove, SomeOutstanding, NoneOutstanding, is_above}
+use Rattle.requests.specs.Storage.{StandOnce, HasNoneAbove, IsNextItem, next_above}
 
 untold : (b : Bool) (i : ℕ) → cond b (Some i) None ≡ None → b ≡ false
 untold true i is = absurd (none-some i (sym is))

@@ -1,5 +1,6 @@
 mod SetLemmas
-mod EntryLemmas
+pub mod EntryLemmas
+pub mod OrderLemmas
 mod CountLemmas
 mod IncomingLemmas
 mod OutgoingLemmas

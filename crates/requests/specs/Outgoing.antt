@@ -1,6 +1,6 @@
 -- This end's requests of one association, as the set of the numbers answered and a finite map of the outstanding requests
 -- (RFC 7296 sections 2.1 to 2.3).
-use Rattle.std.specs.Prelude.{◌≡◌, ◌+◌, ◌^◌, ◌<◌, ◌≤◌, ℕ, Bool, true, false, Option, Some, None, IsSome, refl}
+use Rattle.std.specs.Prelude.{◌≡◌, ◌+◌, ◌^◌, ◌<◌, ◌≤◌, ℕ, Bool, true, false, Option, Some, None, IsSome, nat_lt, refl}
 use Rattle.std.specs.Ordering.{nat_cmp}
 use Rattle.std.specs.Coded.{Coded, code_by, coded×, coded_ℕ}
 use Rattle.std.specs.FinMap as map
@@ -93,6 +93,13 @@ pub record ReplacesRequest {T : Type 0} (old : OwnRequests T) (number : ℕ) (wa
   pub there : map.get old.outstanding number ≡ Some was
   pub content : new ≡ record old { outstanding = map.insert old.outstanding number is }
 
+-- what a change makes of an outstanding request stands for it, where what is made of one stands in a relation to it
+pub record ChangesRequest {T : Type 0} (Makes : T → T → Type 0) (old : OwnRequests T) (number : ℕ) (new : OwnRequests T) : Type 0 where
+  pub was : T
+  pub is : T
+  pub made : Makes was is
+  pub replaced : ReplacesRequest old number was is new
+
 -- an outstanding request is given back unanswered, so its number is never answered; its room is free again
 pub record WithdrawsRequest {T : Type 0} (old : OwnRequests T) (number : ℕ) (request : T) (new : OwnRequests T) : Type 0 where
   pub there : map.get old.outstanding number ≡ Some request
@@ -106,6 +113,11 @@ pub record GivesUpRequests {T : Type 0} (old new : OwnRequests T) : Type 0 where
 abbrev pub IsAbove : Option ℕ → ℕ → Type 0
 IsAbove None number = Unit {0}
 IsAbove (Some low) number = low < number
+
+-- whether it does
+abbrev pub is_above : Option ℕ → ℕ → Bool
+is_above None number = true
+is_above (Some low) number = nat_lt low number
 
 -- the next outstanding request by number
 pub record IsNextOutstanding {T : Type 0} (r : OwnRequests T) (low : Option ℕ) (number : ℕ) (request : T) : Type 0 where

@@ -6,7 +6,7 @@ use Rattle.std.specs.Coded.{Coded, code_by, coded×, coded_ℕ}
 use Rattle.std.specs.FinMap as map
 use Rattle.std.specs.FinSet as set
 use Rattle.base.specs.Octets.{Octets}
-use Rattle.requests.specs.Outgoing.{IsAbove}
+use Rattle.requests.specs.Outgoing.{IsAbove, is_above}
 use Rattle.requests.specs.Numbers.{NumberSet, HasNumber, LacksNumber, IsGap}
 
 -- the set with this member, if it is to be one
@@ -42,6 +42,14 @@ abbrev pub held_code : {T : Type 0} → Coded T → Coded (Held T)
 held_code {T} code =
     code_by (map.FinMap nat_cmp T × ℕ) (coded× (map.code coded_ℕ code) coded_ℕ) (λ h. (h.items, h.room)) (λ c. record { items = c.0; room = c.1 }) (λ _. refl)
 
+-- what a change makes of an item stands in its place
+pub record ChangesItem {T : Type 0} (Makes : T → T → Type 0) (old : Held T) (number : ℕ) (new : Held T) : Type 0 where
+  pub was : T
+  pub is : T
+  pub made : Makes was is
+  pub there : map.get old.items number ≡ Some was
+  pub content : new ≡ record old { items = map.insert old.items number is }
+
 -- each number stands once
 abbrev pub StandOnce : {T : Type 0} → List (ℕ × T) → Type 0
 StandOnce [] = Unit {0}
@@ -55,11 +63,6 @@ pub record IsNextItem {T : Type 0} (items : map.FinMap nat_cmp T) (low : Option 
 
 abbrev pub HasNoneAbove : {T : Type 0} → map.FinMap nat_cmp T → Option ℕ → Type 0
 HasNoneAbove items low = (other : ℕ) → IsAbove low other → map.get items other ≡ None
-
--- whether a number lies above another one, or above none
-abbrev pub is_above : Option ℕ → ℕ → Bool
-is_above None number = true
-is_above (Some low) number = nat_lt low number
 
 -- the least number above another one, or of all, where this one was found before
 abbrev pub next_above : {T : Type 0} → Option ℕ → Option ℕ → List (ℕ × T) → Option ℕ

@@ -5,8 +5,8 @@ ghost use Rattle.std.specs.List.{position};
 ghost use Rattle.std.specs.Fn.{FnReturnsAt};
 ghost use Rattle.std.specs.FinMap as map;
 ghost use Rattle.std.specs.Bool.{MatchBool};
-ghost use Rattle.requests.specs.Outgoing.{SomeOutstanding, NoneOutstanding};
-ghost use Rattle.requests.specs.Storage.{IsNextItem, HasNoneAbove, is_above, next_above};
+ghost use Rattle.requests.specs.Outgoing.{SomeOutstanding, NoneOutstanding, is_above};
+ghost use Rattle.requests.specs.Storage.{ChangesItem, IsNextItem, HasNoneAbove, next_above};
 
 use std::alloc::{AllocError, Global};
 use std::marker::Model;
@@ -129,6 +129,23 @@ impl<T> ByNumber<T> {
         let was = self.remove(number);
         self.add(number, item);
         was
+    }
+
+    /// Changes the item under a number.
+    pub fn update<F: FnOnce(T) -> T>(&mut self, number: u32, change: F)
+        requires there { IsSome (map.get self.old.items number) }
+        requires callable { F.IsAlwaysCallable change }
+        ensures { ChangesItem (F.post change) self.old number self.new }
+    {
+        let item = self.remove(number);
+        self.add(number, change(item));
+    }
+
+    /// How many items there are.
+    pub fn len(&self) -> usize
+        ensures { result ≡ map.len self.now.items }
+    {
+        self.entries.len()
     }
 
     /// The item of the least number above another one, or of all.

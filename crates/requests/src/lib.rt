@@ -28,11 +28,13 @@ mod incoming;
 pub mod laws;
 mod numbers;
 mod outgoing;
+mod outstanding;
 mod timer;
 
 pub use fault::RequestFault;
 pub use incoming::{Incoming, Judgement};
 pub use outgoing::Outgoing;
+pub use outstanding::Outstanding;
 pub use timer::{Due, Timer};
 
 #[cfg(test)]

@@ -4,7 +4,7 @@ ghost use Rattle.std.specs.Bool.{MatchBool};
 ghost use Rattle.std.specs.Fn.{FnReturnsAt};
 ghost use Rattle.std.specs.FinMap as map;
 ghost use Rattle.std.specs.Option.{option_copied};
-ghost use Rattle.requests.specs.Outgoing.{IsRequestRefusal, MayIssue, IsSoundOutgoing, HasSameOwnRequests, IssuesRequest, CountsAnswer, ReplacesRequest, WithdrawsRequest};
+ghost use Rattle.requests.specs.Outgoing.{IsRequestRefusal, MayIssue, IsSoundOutgoing, HasSameOwnRequests, IssuesRequest, CountsAnswer, ReplacesRequest, ChangesRequest, WithdrawsRequest};
 ghost use Rattle.requests.specs.Outgoing.{IsOutstanding, IsNextOutstanding, IsAbove, SomeOutstanding, NoneOutstanding, none_issued, number_0_answered};
 
 use crate::RequestFault;
@@ -179,6 +179,25 @@ impl<T> Outgoing<T> {
         ensures { ReplacesRequest self.old number result request self.new }
     {
         self.outstanding.replace(number, request)
+    }
+
+    /// Changes what is kept of an outstanding request, as its timer that runs anew. The caller asks only for an outstanding
+    /// number. Takes no memory, but for what the change takes.
+    pub fn update<F: FnOnce(T) -> T>(&mut self, number: u32, change: F)
+        requires outstanding { IsOutstanding self.old number }
+        requires callable { F.IsAlwaysCallable change }
+        ensures { ChangesRequest (F.post change) self.old number self.new }
+    {
+        self.outstanding.update(number, change);
+    }
+
+    /// How many requests wait for an answer, at most 16. Takes no memory.
+    pub fn len(&self) -> usize
+        ensures count { result ≡ map.len self.now.outstanding }
+        ensures few { result ≤ 16 }
+    {
+        self.invariants_hold();
+        self.outstanding.len()
     }
 
     /// The next outstanding request by number, the first for None. From None on, one after the other, all are found. Takes no

@@ -30,3 +30,14 @@ impl TableFault {
         }
     }
 }
+
+/// Why a number can't be the first inbound SPI of a table.
+#[derive(Clone, Copy, Debug, PartialEq, Eq, Error)]
+pub enum SpiFault {
+    /// It is one of 0 to 255, which are reserved (RFC 4303, section 2.1).
+    #[error("the first SPI is below 256, where SPIs are reserved")]
+    Reserved,
+    /// A table gives up to 65,536 SPIs from the first on, and so many don't fit 32 bits.
+    #[error("the first SPI is above 2^32 - 65,536, so that the SPIs don't fit 32 bits")]
+    TooHigh,
+}

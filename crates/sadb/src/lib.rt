@@ -30,7 +30,7 @@ mod places;
 mod spi;
 mod table;
 
-pub use fault::TableFault;
+pub use fault::{SpiFault, TableFault};
 pub use pair::{Pair, State};
-pub use spi::Spi;
+pub use spi::{Spi, first_spi};
 pub use table::Table;

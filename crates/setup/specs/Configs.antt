@@ -15,20 +15,19 @@ use Rattle.setup.specs.declared.fault.ConfigFault.{ConfigFault}
 use Rattle.setup.specs.declared.fault.ConfigFault.TheVariants as fault
 use Rattle.setup.specs.declared.surroundings.Setup.{Setup as Surroundings}
 
--- the identities fit payloads, the blocks are those of a replay window, and the window is one of 1 to 16
+-- what holds of every configuration: the identities fit payloads, the blocks are those of a replay window, and the window is one of 1 to 16
 pub record IsConfig (config : Config) : Type 0 where
   pub own : IsIdentity config.own.identity
   pub peer : IsIdentity config.peer.identity
   pub blocks : IsBlockCount config.blocks
   pub window : IsWindow config.window
 
--- by which fault it can't be used, each where those before it don't apply
-abbrev pub IsConfigFault : Config → ConfigFault → Type 0
-IsConfigFault config fault.OwnIdentity = ¬ IsIdentity config.own.identity
-IsConfigFault config fault.PeerIdentity = IsIdentity config.own.identity × (¬ IsIdentity config.peer.identity)
-IsConfigFault config fault.Blocks = IsIdentity config.own.identity × IsIdentity config.peer.identity × (¬ IsBlockCount config.blocks)
-IsConfigFault config fault.Window =
-    IsIdentity config.own.identity × IsIdentity config.peer.identity × IsBlockCount config.blocks × (¬ IsWindow config.window)
+-- by which fault no configuration is made of two ends, the second where the first doesn't apply
+abbrev pub IsEndFault : EndConfig → EndConfig → ConfigFault → Type 0
+IsEndFault own peer fault.OwnIdentity = ¬ IsIdentity own.identity
+IsEndFault own peer fault.PeerIdentity = IsIdentity own.identity × (¬ IsIdentity peer.identity)
+IsEndFault own peer fault.Blocks = ⊥
+IsEndFault own peer fault.Window = ⊥
 
 -- one with the sizes that most have
 abbrev pub plain_config : EndConfig → EndConfig → Octets → Config

@@ -1,1 +1,3 @@
 pub mod Configs
+pub mod Insides
+pub mod Views

@@ -1,8 +1,8 @@
-//! Why a configuration can't be used.
+//! Why a configuration isn't made.
 
 use thiserror::Error;
 
-/// Why a configuration can't be used.
+/// Why a configuration isn't made.
 #[derive(Clone, Copy, Debug, PartialEq, Eq, Error)]
 pub enum ConfigFault {
     /// This end's identity doesn't fit an ID payload, where it has 1 to 256 octets (RFC 7296, section 3.5).

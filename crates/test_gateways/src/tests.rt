@@ -1,4 +1,5 @@
 mod asserts;
+mod first_messages;
 mod flood;
 mod lists;
 mod next_moments;

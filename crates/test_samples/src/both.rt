@@ -11,8 +11,7 @@ pub fn gateway_with(
     extended: bool,
 ) -> Result<Gateway<ScriptCaller>, SampleFault> {
     let policy = policy(alloc, end)?;
-    let mut config = config(alloc, end, 1)?;
-    config.extended = extended;
+    let config = config(alloc, end, 1)?.with_extended(extended);
     let start = match end {
         End::A => 4096,
         End::B => 8192,

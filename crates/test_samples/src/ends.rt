@@ -1,8 +1,5 @@
 //! Two gateways, each the other's peer, that protect what goes between 10.0.0.0/24, A's, and 10.1.0.0/24.
 ghost use Rattle.std.specs.Prelude.{IfOk};
-ghost use Rattle.auth.specs.Proofs.{IsIdentity};
-ghost use Rattle.auth.specs.Windows.{IsWindow};
-ghost use Rattle.setup.specs.Configs.{IsConfig};
 ghost use Rattle.gateway.specs.Worlds.{HoldsNothing};
 
 use crate::SampleFault;
@@ -11,7 +8,7 @@ use base::{Items, Range};
 use caller_script::ScriptCaller;
 use gateway::{End, Gateway};
 use policy::{Action, Entry, Policy};
-use setup::Config;
+use setup::{Config, EndConfig};
 use std::alloc::{AllocError, Global};
 
 /// The name that an end goes by.
@@ -22,38 +19,22 @@ pub fn own_name(end: End) -> [u8; 9] {
     }
 }
 
-fn identity(alloc: Global, name: &[u8; 9]) -> Result<Identity, AllocError>
-    ensures { IfOk result IsIdentity }
-{
-    let data = Items::from_slice(alloc, name)?;
-    Ok(Identity { kind: 2, data })
-}
-
-fn end_of(alloc: Global, end: End) -> Result<setup::EndConfig, AllocError>
-    ensures { IfOk result (λ end. IsIdentity end.identity) }
-{
-    let identity = identity(alloc, &own_name(end))?;
-    Ok(setup::EndConfig {
+fn end_of(alloc: Global, end: End) -> Result<EndConfig, AllocError> {
+    let identity = Identity {
+        kind: 2,
+        data: Items::from_slice(alloc, &own_name(end))?,
+    };
+    Ok(EndConfig {
         identity,
         address: [192, 0, 2, 1],
     })
 }
 
 /// What an end is set to, with a window of so many requests from 1 to 16.
-pub fn config(alloc: Global, end: End, window: u8) -> Result<Config, AllocError>
-    requires { IsWindow window }
-    ensures { IfOk result IsConfig }
-{
+pub fn config(alloc: Global, end: End, window: u8) -> Result<Config, SampleFault> {
     let own = end_of(alloc, end)?;
     let peer = end_of(alloc, end.other())?;
-    Ok(Config {
-        own,
-        peer,
-        extended: true,
-        blocks: 2,
-        cookie_secret: [0; 32],
-        window,
-    })
+    Ok(Config::new(own, peer, &[0; 32])?.with_window(window)?)
 }
 
 /// What an end protects.

@@ -1,5 +1,6 @@
 //! Why what tests are made of can't be made.
 use policy::PolicyFault;
+use setup::ConfigFault;
 use std::alloc::AllocError;
 use thiserror::Error;
 
@@ -12,4 +13,7 @@ pub enum SampleFault {
     /// A policy was refused.
     #[error("{0}")]
     Policy(#[from] PolicyFault),
+    /// A configuration was refused.
+    #[error("{0}")]
+    Config(#[from] ConfigFault),
 }

@@ -1,8 +1,5 @@
 //! What the two gateways are made with.
 ghost use Rattle.std.specs.Prelude.{◌≡◌, IfOk};
-ghost use Rattle.auth.specs.Proofs.{IsIdentity};
-ghost use Rattle.auth.specs.Windows.{IsWindow};
-ghost use Rattle.setup.specs.Configs.{IsConfig};
 ghost use Rattle.gateway.specs.Worlds.{HoldsNothing};
 
 use super::directive::Term;
@@ -15,9 +12,6 @@ use gateway::Gateway;
 use policy::{Entry, Policy};
 use setup::{Config, EndConfig};
 use std::alloc::{AllocError, Global};
-
-// The blocks of the replay windows of children.
-const BLOCKS: u32 = 2;
 
 // The most requests that an end may take at once.
 const WINDOW_LIMIT: u8 = 16;
@@ -85,7 +79,6 @@ impl Preset {
 struct Terms {
     entries: Items<Entry>,
     window: u8,
-    ghost window_fits: { IsWindow window },
 }
 
 impl Terms {
@@ -116,36 +109,24 @@ impl Terms {
         Policy::new(entries).map_err(|_| LineFault::Refused)
     }
 
-    fn config(&self, alloc: Global, side: Side, extended: bool) -> Result<Config, AllocError>
-        ensures { IfOk result IsConfig }
-    {
+    fn config(&self, alloc: Global, side: Side, extended: bool) -> Result<Config, LineFault> {
         let own = end(alloc, side)?;
         let peer = end(alloc, side.other())?;
-        Ok(Config {
-            own,
-            peer,
-            extended,
-            blocks: BLOCKS,
-            cookie_secret: [0; 32],
-            window: self.window,
-        })
+        let config = Config::new(own, peer, &[0; 32])
+            .and_then(|config| config.with_window(self.window))
+            .map_err(|_| LineFault::Refused)?;
+        Ok(config.with_extended(extended))
     }
 }
 
 // An end as its configuration, and its peer's, has it.
-fn end(alloc: Global, side: Side) -> Result<EndConfig, AllocError>
-    ensures { IfOk result (λ end. IsIdentity end.identity) }
-{
-    let identity = identity(alloc, &name(side))?;
+fn end(alloc: Global, side: Side) -> Result<EndConfig, LineFault> {
+    let identity = Identity {
+        kind: NAME,
+        data: Items::from_slice(alloc, &name(side))?,
+    };
     Ok(EndConfig {
         identity,
         address: address(side),
     })
-}
-
-fn identity(alloc: Global, name: &[u8; 9]) -> Result<Identity, AllocError>
-    ensures { IfOk result IsIdentity }
-{
-    let data = Items::from_slice(alloc, name)?;
-    Ok(Identity { kind: NAME, data })
 }

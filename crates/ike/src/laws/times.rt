@@ -1,5 +1,5 @@
 //! What is due, and when it comes.
-ghost use Rattle.ike.specs.LawsOfTimes.{MachinesStayTimely, MomentsAreRefusedForMemoryAlone, NewMachinesAreTimely, NothingComesBeforeTheNextMoment, TheTimeStandsStill, WhatIsDueComes};
+ghost use Rattle.ike.specs.LawsOfTimes.{MachinesStayTimely, MomentsAreRefusedForMemoryAlone, MomentsAreRefusedForWhatComes, NewMachinesAreTimely, NothingComesBeforeTheNextMoment, TheTimeStandsStill, WhatIsDueComes};
 
 use effects::laws::{associations_stay_themselves, nothing_comes_due, requests_wait_on};
 use moments::laws::{
@@ -8,16 +8,17 @@ use moments::laws::{
 };
 
 /// What is due comes with a moment that has reached it. A machine with no association has nothing due that its moment has reached
-/// (`first`), and a step leaves nothing due where nothing was (`timely`); with a moment all comes that is due then (`comes`), and it is
-/// refused for want of memory alone (`unrefused`); where no moment is given, none is told and the time stands still: what waits for its
-/// answer waited before since the same moment, or goes out now, and what waited waits on, unless it is answered, goes out anew or its
-/// association ends; and a time of an association that is closed or half open begins now or began before (`stays`) (RFC 7296, sections 2.1
-/// and 2.4).
+/// (`first`), and a step leaves nothing due where nothing was (`timely`). With a moment all comes that is due then (`comes`). It is
+/// refused for want of memory alone (`unrefused`), and only where a request or a closing is due (`needed`). Where
+/// no moment is given, none is told and the time stands still: what waits for its answer waited before since the same moment, or goes out
+/// now, and what waited waits on, unless it is answered, goes out anew or its association ends; and a time of an association that is
+/// closed or half open begins now or began before (`stays`) (RFC 7296, sections 2.1 and 2.4).
 pub fn what_is_due_comes_in_time()
     ensures first { NewMachinesAreTimely }
     ensures timely { MachinesStayTimely }
     ensures comes { WhatIsDueComes }
     ensures unrefused { MomentsAreRefusedForMemoryAlone }
+    ensures needed { MomentsAreRefusedForWhatComes }
     ensures stays { TheTimeStandsStill }
 {
     associations_stay_themselves();

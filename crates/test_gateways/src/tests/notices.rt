@@ -1,21 +1,13 @@
 //! Requests of IKE_AUTH, made by hand, that close their association (RFC 7296, sections 2.21.2 and 3.10.1).
-use super::asserts::{add, same};
+use super::asserts::{add, hex, same};
 use caller_script::ScriptCaller;
 use gateway::{End, Gateway, Output};
-use gw_console::read_hex;
 use mac::icv;
 use sa_init::request;
 use std::alloc::Global;
 use std::panic::Expect;
 use std::process::Abort;
 use test_samples::{gateway, message};
-
-/// The octets that digits spell.
-fn hex(rt: &impl Abort, alloc: Global, digits: &str) -> Vec<u8> {
-    let mut octets = Vec::new(alloc);
-    read_hex(digits.as_bytes(), &mut octets).expect(rt, "digits");
-    octets
-}
 
 /// A message as the caller of scripts seals it: with one octet 00 behind the payloads, under its integrity key.
 fn sealed(rt: &impl Abort, alloc: Global, digits: &str, key: &[u8; 32]) -> Vec<u8> {

@@ -1,6 +1,4 @@
 //! What is sent, and the order of what is refused (RFC 7296, sections 1.3.1, 2.5, 2.21.3 and 3.10.1).
-ghost use Rattle.auth.specs.Proofs.{IsIdentity};
-ghost use Rattle.setup.specs.Configs.{IsConfig};
 ghost use Rattle.policy.specs.Narrowing.{IsSendableSelector};
 ghost use Rattle.further.specs.Deciding.{FitsFurtherDecision};
 
@@ -159,35 +157,17 @@ fn refusal(
     }
 }
 
-fn identity(rt: &impl Abort, alloc: Global, last: u8) -> Identity
-    ensures { IsIdentity result }
-{
-    Identity {
-        kind: 1,
-        data: Items::from_slice(alloc, &[192, 0, 2, last]).expect(rt, "memory"),
-    }
-}
-
-fn end(rt: &impl Abort, alloc: Global, last: u8) -> EndConfig
-    ensures { IsIdentity result.identity }
-{
+fn end(rt: &impl Abort, alloc: Global, last: u8) -> EndConfig {
+    let identity = Identity::address(alloc, [192, 0, 2, last]).expect(rt, "memory");
     EndConfig {
-        identity: identity(rt, alloc, last),
+        identity,
         address: [192, 0, 2, last],
     }
 }
 
-fn config(rt: &impl Abort, alloc: Global) -> Config
-    ensures { IsConfig result }
-{
-    Config {
-        own: end(rt, alloc, 2),
-        peer: end(rt, alloc, 1),
-        extended: true,
-        blocks: 2,
-        cookie_secret: [0; 32],
-        window: 1,
-    }
+fn config(rt: &impl Abort, alloc: Global) -> Config {
+    let config = Config::new(end(rt, alloc, 2), end(rt, alloc, 1), &[0; 32]);
+    config.expect(rt, "a configuration")
 }
 
 // The responder's: it protects what goes between 10.1.0.0/24 and 10.0.0.0/24.

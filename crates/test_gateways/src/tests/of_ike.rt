@@ -1,7 +1,10 @@
 //! The machine of one end by its own step: requests whose numbers and SPIs no script writes.
 mod deleting;
 mod further_children;
+mod past_the_window;
 mod sealing;
+
+ghost use Rattle.auth.specs.Windows.{IsWindow};
 
 use super::asserts::{add, holds, same};
 use association::MessageFault;
@@ -44,7 +47,14 @@ impl Side {
     }
 
     fn with(rt: &impl Abort, alloc: Global, end: End, table: Table) -> Side {
-        let config = config(alloc, end, 4).expect(rt, "a configuration");
+        Side::of_window(rt, alloc, end, 4, table)
+    }
+
+    /// An end that takes so many requests at once, from 1 to 16.
+    fn of_window(rt: &impl Abort, alloc: Global, end: End, window: u8, table: Table) -> Side
+        requires { IsWindow window }
+    {
+        let config = config(alloc, end, window).expect(rt, "a configuration");
         let policy = policy(alloc, end).expect(rt, "a policy");
         Side {
             ike: Ike::new(alloc, config),
@@ -142,13 +152,18 @@ fn agreed_twice(rt: &impl Abort, alloc: Global, b: &mut Side) -> Side {
 
 /// A request of INFORMATIONAL without payloads under A's SPI 1 and B's 2, as the caller of scripts seals it under A's key.
 fn request(rt: &impl Abort, alloc: Global, number: u32, key: &[u8; 32]) -> Vec<u8> {
+    empty(rt, alloc, 0x08, number, key)
+}
+
+/// A message of INFORMATIONAL without payloads, with these flags, as the caller of scripts seals it under its sender's key.
+fn empty(rt: &impl Abort, alloc: Global, flags: u8, number: u32, key: &[u8; 32]) -> Vec<u8> {
     let mut octets = Vec::new(alloc);
     add(
         rt,
         &mut octets,
         &[0, 0, 0, 0, 0, 0, 0, 1, 0, 0, 0, 0, 0, 0, 0, 2],
     );
-    add(rt, &mut octets, &[46, 0x20, 37, 8]);
+    add(rt, &mut octets, &[46, 0x20, 37, flags]);
     add(rt, &mut octets, &number.to_be_bytes());
     add(rt, &mut octets, &[0, 0, 0, 49, 0, 0, 0, 21, 0]);
     let check = icv(key, &[&octets]);

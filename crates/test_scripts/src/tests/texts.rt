@@ -22,46 +22,52 @@ fn prints<F: Display + Drop>(rt: &impl Abort, alloc: Global, fault: F, text: &st
 
 #[test]
 fn faults_of_messages(rt: HostRuntime) {
-    for (fault, text) in [
-        (WireFault::Short, "E1: fewer octets than a header has"),
+    for (fault, number, text) in [
+        (WireFault::Short, 1, "E1: fewer octets than a header has"),
         (
             WireFault::BadLength,
+            2,
             "E2: the length field is not the length of the datagram",
         ),
-        (WireFault::BadVersion, "E3: the version is not supported"),
-        (WireFault::TooLong, "E9: the message is too long"),
-        (WireFault::Memory, "E10: no memory"),
+        (WireFault::BadVersion, 3, "E3: the version is not supported"),
+        (WireFault::TooLong, 9, "E9: the message is too long"),
+        (WireFault::Memory, 10, "E10: no memory"),
     ] {
-        prints(&rt, rt.alloc(), fault, text);
+        tells(&rt, rt.alloc(), fault.code(), number, fault, text);
     }
 }
 
 #[test]
 fn faults_of_payloads(rt: HostRuntime) {
     let offset = 28;
-    for (fault, text) in [
+    for (fault, number, text) in [
         (
             WireFault::BadChain { offset },
+            4,
             "E4 at 28: the chain of payloads is broken",
         ),
         (
             WireFault::BadProposal { offset },
+            5,
             "E5 at 28: a proposal is malformed",
         ),
         (
             WireFault::BadSelector { offset },
+            6,
             "E6 at 28: a traffic selector is malformed",
         ),
         (
             WireFault::BadNonce { offset },
+            7,
             "E7 at 28: the nonce has a wrong length",
         ),
         (
             WireFault::BadField { offset },
+            8,
             "E8 at 28: a field is malformed",
         ),
     ] {
-        prints(&rt, rt.alloc(), fault, text);
+        tells(&rt, rt.alloc(), fault.code(), number, fault, text);
     }
 }
 

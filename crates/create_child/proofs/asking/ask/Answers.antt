@@ -1,4 +1,4 @@
-use Rattle.std.proofs.Common.{◌≡◌, ◌+◌, ℕ, ap, subst, sym, ◌∙◌}
+use Rattle.std.proofs.Common.{◌≡◌, ◌+◌, ℕ, Bool, ap, subst, sym, ◌∙◌}
 use Rattle.base.specs.Octets.{Octets}
 use Rattle.base.specs.declared.selector.Selector.{Selector}
 use Rattle.wire.specs.Numbers.{CREATE_CHILD_SA}
@@ -13,6 +13,7 @@ use Rattle.association.specs.Issuing.{new_request, IssuesNext}
 use Rattle.association.specs.Sending.{request_message}
 use Rattle.further.specs.Payloads.{further_payloads}
 use Rattle.create_child.specs.Asking.{wanted}
+use Rattle.create_child.specs.Readying.{kept_child}
 use Rattle.create_child.proofs.asking.ask.Goals as goal
 
 pub returns-clause-asked : goal.returns-clause-asked
@@ -33,12 +34,16 @@ returns-clause-asked g c =
       room = c.prepare.ensures.content;
       spi = issued.spi;
       reserved = issued.reserved;
-      sealed = subst (λ (s : ℕ). IsSealed g.C.Sealer.body_of (keys_of a.role c.in-Established.keys) setup.fresh.seal
-          (request_message a CREATE_CHILD_SA a.outgoing.next (further_payloads (child_request (record { spi = s; local = local; remote = remote; extended = setup.config.extended })) setup.fresh.nonce)) c.in_ok-octets.octets) (sym same)
+      sealed = subst (λ (x : Bool). IsSealed g.C.Sealer.body_of (keys_of a.role c.in-Established.keys) setup.fresh.seal
+          (request_message a CREATE_CHILD_SA a.outgoing.next (further_payloads (child_request (record { spi = issued.spi; local = local; remote = remote; extended = x })) setup.fresh.nonce)) c.in_ok-octets.octets) c.extended.ensures
+          (subst (λ (s : ℕ). IsSealed g.C.Sealer.body_of (keys_of a.role c.in-Established.keys) setup.fresh.seal
+          (request_message a CREATE_CHILD_SA a.outgoing.next (further_payloads (child_request (record { spi = s; local = local; remote = remote; extended = c.extended.result })) setup.fresh.nonce)) c.in_ok-octets.octets) (sym same)
           (subst (λ (n : ℕ). IsSealed g.C.Sealer.body_of (keys_of a.role c.in-Established.keys) setup.fresh.seal
-          (request_message a CREATE_CHILD_SA n (further_payloads (child_request (record { spi = c.in_ok-spi.spi; local = local; remote = remote; extended = setup.config.extended })) setup.fresh.nonce)) c.in_ok-octets.octets)
-          c.in_ok-number.ensures.number c.in_ok-octets.ensures);
+          (request_message a CREATE_CHILD_SA n (further_payloads (child_request (record { spi = c.in_ok-spi.spi; local = local; remote = remote; extended = c.extended.result })) setup.fresh.nonce)) c.in_ok-octets.octets)
+          c.in_ok-number.ensures.number c.in_ok-octets.ensures));
       outgoing = c.issue.new.association.outgoing;
-      issued = subst (λ (o : Octets). IssuesNext a.outgoing (new_request o (CreateChild (wanted setup issued.spi local remote)) setup.moment) c.issue.new.association.outgoing) (c.in_ok-kept.ensures ∙ c.as_slice.ensures) issued.issued;
+      issued = subst (λ (o : Octets). IssuesNext a.outgoing (new_request o (CreateChild (wanted setup issued.spi local remote)) setup.moment) c.issue.new.association.outgoing) (c.in_ok-kept.ensures ∙ c.as_slice.ensures)
+          (subst (λ (x : Bool). IssuesNext a.outgoing (new_request c.in_ok-kept.kept (CreateChild (kept_child issued.spi (record { spi = c.in_ok-spi.spi; local = local; remote = remote; extended = x }) setup.fresh.nonce)) setup.moment) c.issue.new.association.outgoing)
+          c.extended.ensures issued.issued);
       content = issued.content;
     }

@@ -14,18 +14,20 @@ returns-clause-counted g c =
     let closed : c.if-rejected.closed ≡ is_ended told.payloads asked = elim c.if-rejected.branch [
       | then-rejected w ↦ w.closed-is ∙ w.if-rejected.true ∙ ap (λ b. b || asks_to_end asked) (sym w.if-rejected.true ∙ told.told)
       | else-rejected w ↦ w.closed-is ∙ w.asks_to_end-closed.ensures ∙ ap (λ b. b || asks_to_end asked) (sym w.if-rejected.false ∙ told.told)
-    ] in
-    record {
-      payloads = told.payloads;
-      read = told.read;
-      request = c.count-request.result;
-      outgoing = c.count-request.new.self;
-      counted = c.count-request.ensures;
-      child = refl;
-      closed = closed;
-      concluded = subst (λ b. ClosesIf b (gone_with c.args.table.now.pairs c.args.association.now.serial asked) a c.args.table.now c.args.setup.now.moment c.conclude.new.association c.conclude.new.table)
-          closed c.conclude.ensures;
-    }
+    ] in (
+      record { keys = c.in-Established.field-0; is = c.in-Established.is },
+      record {
+        payloads = told.payloads;
+        read = told.read;
+        request = c.count-request.result;
+        outgoing = c.count-request.new.self;
+        counted = c.count-request.ensures;
+        child = refl;
+        closed = closed;
+        concluded = subst (λ b. ClosesIf b (gone_with c.args.table.now.pairs c.args.association.now.serial asked) a c.args.table.now c.args.setup.now.moment c.conclude.new.association c.conclude.new.table)
+            closed c.conclude.ensures;
+      },
+    )
 
 pub conclude-requires : goal.conclude-requires
 conclude-requires g c =

@@ -1,4 +1,4 @@
-use Rattle.std.proofs.Common.{◌≡◌, ap, refl, subst, sym, ◌∙◌}
+use Rattle.std.proofs.Common.{◌≡◌, ap, inl, refl, subst, sym, ◌∙◌}
 use Rattle.std.specs.Option.{option_copied}
 use Rattle.base.specs.Octets.{Octets}
 use Rattle.suite.specs.declared.key_record.KeyRecord.{KeyRecord}
@@ -20,13 +20,13 @@ returns-in-Ok-Unfit-clause-read g c =
     let sent = c.in-InitSent.sent in
     let m = c.args.message.now in
     let read = subst (λ w. IsResponse g.C.Sealer.cipher g.C.Agreement.group_number g.C.Agreement.shared_secret w m c.in-Ok-Unfit.field-0) c.waiting-waiting.ensures c.in-Ok-Unfit.ensures in
-    record {
+    inl (record {
       sent = sent;
       was = c.in-InitSent.is;
       response = response.Unfit;
       means = subst (λ r. IsResponse g.C.Sealer.cipher g.C.Agreement.group_number g.C.Agreement.shared_secret (waiting_of c.args.association.now.spi_i sent) m r) c.in-Ok-Unfit.field-0-is read;
       continues = refl;
-    }
+    })
 
 pub returns-in_ok-outgoing-in-Ok-Keys-clause-read : goal.returns-in_ok-outgoing-in-Ok-Keys-clause-read
 returns-in_ok-outgoing-in-Ok-Keys-clause-read g c =
@@ -43,7 +43,7 @@ returns-in_ok-outgoing-in-Ok-Keys-clause-read g c =
     let phase : telling keys c.in_ok-response-in-Ok-Keys.response old.phase ≡ phase.AuthSent (record { keys = keys; first = c.args.octets.now; child = sent.child }) =
     ap (telling keys c.in_ok-response-in-Ok-Keys.response) c.in-InitSent.is
     ∙ ap (λ f. phase.AuthSent (record { keys = keys; first = f; child = sent.child })) c.in_ok-response-in-Ok-Keys.ensures in
-    record {
+    inl (record {
       sent = sent;
       was = c.in-InitSent.is;
       response = response.Keys keys;
@@ -59,4 +59,4 @@ returns-in_ok-outgoing-in-Ok-Keys-clause-read g c =
             (subst (λ old. IssuesNext old c.new_request.result c.in_ok-outgoing-in-Ok-Keys.outgoing) c.after_initial.ensures c.in_ok-outgoing-in-Ok-Keys.ensures));
         content = c.tell.ensures ∙ (λ i. record old { spi_r = m.header.spi_r; outgoing = outgoing i; phase = phase i });
       };
-    }
+    })

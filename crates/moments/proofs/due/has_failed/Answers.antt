@@ -1,6 +1,6 @@
 use Rattle.std.proofs.Common.{rules}
 use Rattle.moments.specs.Due.{is_unanswered}
-use Rattle.moments.proofs.EntryLemmas.{any_told}
+use Rattle.requests.proofs.OrderLemmas.{any_told}
 use Rattle.moments.proofs.due.has_failed.Goals as goal
 
 pub returns : goal.returns

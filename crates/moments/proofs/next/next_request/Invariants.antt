@@ -1,12 +1,7 @@
--- none of those up to the last number is due before the first moment found
-use Rattle.std.proofs.Common.{length}
-use Rattle.moments.specs.Due.{outstanding_of}
-use Rattle.moments.proofs.EntryLemmas.{above}
+-- none of those gone through is due before the first moment found
+use Rattle.requests.specs.Outstanding.{requests_left}
 use Rattle.moments.proofs.NextLemmas.{WalkedTo}
 use Rattle.moments.proofs.next.next_request.Given as goal
 
-abbrev pub invariant-loop-next : goal.invariant-loop-next
-invariant-loop-next l = WalkedTo l.number l.first l.association
-
-abbrev pub decreases-loop-next : goal.decreases-loop-next
-decreases-loop-next l = length (above l.number (outstanding_of l.association))
+abbrev pub invariant-loop-request : goal.invariant-loop-request
+invariant-loop-request l = WalkedTo (requests_left l.request-iterator) l.first l.association

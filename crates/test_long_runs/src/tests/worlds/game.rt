@@ -1,6 +1,5 @@
 //! A world, and what happens in it.
 ghost use Rattle.std.specs.Prelude.{IfOk};
-ghost use Rattle.auth.specs.Windows.{IsWindow};
 ghost use Rattle.gateway.specs.Worlds.{HoldsNothing};
 
 use super::book::{Book, child_of, twin_of};
@@ -59,7 +58,6 @@ struct Game {
 
 /// A gateway that holds nothing and takes so many requests at once.
 fn gateway(alloc: Global, end: End, window: u8) -> Result<Gateway<ScriptCaller>, SampleFault>
-    requires { IsWindow window }
     ensures { IfOk result HoldsNothing }
 {
     let policy = policy(alloc, end)?;
@@ -71,18 +69,14 @@ fn gateway(alloc: Global, end: End, window: u8) -> Result<Gateway<ScriptCaller>,
     Ok(Gateway::new(alloc, config, policy, start, ScriptCaller))
 }
 
-fn world(alloc: Global, window: u8) -> Result<World<ScriptCaller>, SampleFault>
-    requires { IsWindow window }
-{
+fn world(alloc: Global, window: u8) -> Result<World<ScriptCaller>, SampleFault> {
     let a = gateway(alloc, End::A, window)?;
     let b = gateway(alloc, End::B, window)?;
     Ok(World::new(alloc, a, b))
 }
 
 /// So many events in a world whose ends take so many requests at once.
-pub fn play(alloc: Global, window: u8, events: usize) -> Result<Played, Fail>
-    requires { IsWindow window }
-{
+pub fn play(alloc: Global, window: u8, events: usize) -> Result<Played, Fail> {
     let mut game = Game::new(alloc, window)?;
     for place in 0..events {
         game.turn(alloc, place)?;
@@ -103,9 +97,7 @@ fn carried(end: End, packet: u64) -> [u8; 20] {
 }
 
 impl Game {
-    fn new(alloc: Global, window: u8) -> Result<Game, SampleFault>
-        requires { IsWindow window }
-    {
+    fn new(alloc: Global, window: u8) -> Result<Game, SampleFault> {
         let world = world(alloc, window)?;
         Ok(Game {
             world,

@@ -22,8 +22,8 @@ const KEYS: [u8; 32] = [
     0x66, 0xb0, 0xf2, 0xf7, 0xbf, 0x1a, 0xed, 0xb6, 0x2b, 0xed, 0x88, 0x15, 0x55, 0x0b, 0x54, 0xd6,
 ];
 
-// The answer to a request that is accepted.
-fn answered(rt: &impl Abort, alloc: Global, message: &Message) -> Agreed
+// The answer to a request that is accepted; `None` where its public value is refused.
+fn answer_to(rt: &impl Abort, alloc: Global, message: &Message) -> Option<Agreed>
     requires { IsSpelled message.now }
 {
     accepted_offers_fit();
@@ -32,10 +32,16 @@ fn answered(rt: &impl Abort, alloc: Global, message: &Message) -> Agreed
     match judge(&ScriptCaller, payloads, &SENDER, &cookies, 0, 0) {
         Judgement::Accepted(offer) => {
             let agreed = answer(alloc, &ScriptCaller, &offer, SENDER.spi_i, &FRESH);
-            agreed.expect(rt, "memory").expect(rt, "a secret")
+            agreed.expect(rt, "memory")
         }
         _ => panic!(rt; "not accepted"),
     }
+}
+
+fn answered(rt: &impl Abort, alloc: Global, message: &Message) -> Agreed
+    requires { IsSpelled message.now }
+{
+    answer_to(rt, alloc, message).expect(rt, "a secret")
 }
 
 fn agreed(rt: &impl Abort, alloc: Global) -> Agreed {
@@ -65,8 +71,13 @@ fn answers(rt: HostRuntime) {
     same(&rt, hash, KEYS);
 }
 
-// The keys that the initiator reads from an answer.
-fn keys_read(rt: &impl Abort, alloc: Global, octets: &[u8], carried: Option<&[u8]>) -> KeyRecord {
+// The keys that the initiator reads from an answer; `None` where that doesn't fit.
+fn keys_in(
+    rt: &impl Abort,
+    alloc: Global,
+    octets: &[u8],
+    carried: Option<&[u8]>,
+) -> Option<KeyRecord> {
     let message = decoded(rt, alloc, octets);
     let (secret, nonce) = (SECRET, NONCE);
     let sent = Waiting {
@@ -77,9 +88,14 @@ fn keys_read(rt: &impl Abort, alloc: Global, octets: &[u8], carried: Option<&[u8
         cookies_taken: 0,
     };
     match read(alloc, &ScriptCaller, &message, &sent) {
-        Ok(Response::Keys(keys)) => keys,
-        _ => panic!(rt; "no keys"),
+        Ok(Response::Keys(keys)) => Some(keys),
+        Ok(Response::Unfit) => None,
+        _ => panic!(rt; "neither"),
     }
+}
+
+fn keys_read(rt: &impl Abort, alloc: Global, octets: &[u8], carried: Option<&[u8]>) -> KeyRecord {
+    keys_in(rt, alloc, octets, carried).expect(rt, "keys")
 }
 
 #[test]
@@ -87,6 +103,38 @@ fn both_ends_have_one_record(rt: HostRuntime) {
     let agreed = agreed(&rt, rt.alloc());
     let keys = keys_read(&rt, rt.alloc(), agreed.octets.as_slice(), None);
     holds(&rt, keys == agreed.record);
+}
+
+// A message of 148 octets without the last octet of its public value: 31 are left, which the agreement of the caller of scripts refuses.
+fn shortened(rt: &impl Abort, alloc: Global, octets: &[u8]) -> Vec<u8> {
+    let mut shortened = Vec::new(alloc);
+    for (place, octet) in octets.iter().enumerate() {
+        match place {
+            // The last octets of the message's length and of the payload's.
+            27 | 75 => granted(rt, shortened.push(octet.saturating_sub(1))),
+            111 => {}
+            _ => granted(rt, shortened.push(*octet)),
+        }
+    }
+    shortened
+}
+
+#[test]
+fn a_public_value_is_refused_at_a_responder(rt: HostRuntime) {
+    let alloc = rt.alloc();
+    let octets = request(alloc, &ScriptCaller, 1, None, &SECRET, &NONCE).expect(&rt, "memory");
+    let shortened = shortened(&rt, alloc, octets.as_slice());
+    let message = decoded(&rt, alloc, &shortened);
+    holds(&rt, answer_to(&rt, alloc, &message).is_none());
+}
+
+#[test]
+fn a_public_value_is_refused_at_an_initiator(rt: HostRuntime) {
+    let alloc = rt.alloc();
+    let agreed = agreed(&rt, alloc);
+    let shortened = shortened(&rt, alloc, agreed.octets.as_slice());
+    same(&rt, shortened.len(), 147);
+    holds(&rt, keys_in(&rt, alloc, &shortened, None).is_none());
 }
 
 #[test]

@@ -72,3 +72,12 @@ pub fn replace(outgoing: &mut Outgoing<u32>, number: u32, request: u32) -> Optio
     }
     Some(outgoing.replace(number, request))
 }
+
+/// Changes some bits of a request in its place, if it is outstanding, and answers whether it is.
+pub fn update(outgoing: &mut Outgoing<u32>, number: u32, bits: u32) -> bool {
+    if outgoing.get(number).is_none() {
+        return false;
+    }
+    outgoing.update(number, |request| request ^ bits);
+    true
+}

@@ -1,6 +1,6 @@
 //! The own requests beside a plain set and a plain map.
 use super::draws::Draws;
-use super::fixture::{count, issue, replace, withdraw};
+use super::fixture::{count, issue, replace, update, withdraw};
 use super::plain::PlainOutgoing;
 use crate::tests::asserts::{holds, same, same_at};
 use requests::{Outgoing, RequestFault};
@@ -38,6 +38,13 @@ fn same_outstanding(rt: &impl Abort, outgoing: &Outgoing<u32>, plain: &PlainOutg
         last = Some(*number);
     }
     holds(rt, outgoing.after(last).is_none());
+    same(rt, outgoing.len(), plain.outstanding.len());
+    let mut all = outgoing.iter();
+    for (number, request) in &plain.outstanding {
+        let found = all.next().map(|next| (next.0, *next.1));
+        same(rt, found, Some((*number, *request)));
+    }
+    holds(rt, all.next().is_none());
     same(
         rt,
         outgoing.any(|request| *request % 3 == 0),
@@ -61,7 +68,23 @@ fn replace_both(
     }
 }
 
-/// Does one of the three things to both, as the draws have it.
+/// Changes some bits of one of both in its place, if it is outstanding.
+fn update_both(
+    rt: &impl Abort,
+    outgoing: &mut Outgoing<u32>,
+    plain: &mut PlainOutgoing,
+    number: u32,
+    bits: u32,
+) {
+    let was = plain.outstanding.get(&number).copied();
+    same_at(rt, number, update(outgoing, number, bits), was.is_some());
+    if let Some(was) = was {
+        let replaced: Result<_, _> = plain.outstanding.insert(number, was ^ bits);
+        replaced.expect(rt, "memory");
+    }
+}
+
+/// Does one of the four things to both, as the draws have it.
 fn change_both(
     rt: &impl Abort,
     outgoing: &mut Outgoing<u32>,
@@ -73,13 +96,14 @@ fn change_both(
         .expect(rt, "a number of 32 bits")
         .saturating_sub(18);
     let number = near.saturating_add(draws.below(20));
-    match draws.below(4) {
+    match draws.below(5) {
         0 | 1 => issue_both(rt, outgoing, plain, round),
         2 => {
             let wanted = plain.count(rt, number);
             same_at(rt, number, count(outgoing, number), wanted);
         }
-        _ => replace_both(rt, outgoing, plain, number, round),
+        3 => replace_both(rt, outgoing, plain, number, round),
+        _ => update_both(rt, outgoing, plain, number, round),
     }
 }
 

@@ -37,6 +37,7 @@ returns g c =
       timely = c.what_is_due_comes_in_time.ensures.timely;
       comes = c.what_is_due_comes_in_time.ensures.comes;
       unrefused = c.what_is_due_comes_in_time.ensures.unrefused;
+      needed = c.what_is_due_comes_in_time.ensures.needed;
       stays = c.what_is_due_comes_in_time.ensures.stays;
     } in
     let packets : DeliveryFacts = record {

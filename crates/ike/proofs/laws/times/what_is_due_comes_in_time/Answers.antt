@@ -1,6 +1,7 @@
+use Rattle.std.proofs.Common.{max}
 use Rattle.std.proofs.lemmas.List.Elements.{All-nil}
 use Rattle.moments.specs.Held.{IsInTime}
-use Rattle.ike.proofs.OrderLemmas.{moment_refused}
+use Rattle.ike.proofs.OrderLemmas.{moment_needs, moment_refused}
 use Rattle.ike.proofs.MomentLemmas.{step_comes, step_stays, step_timely, TimelyLaws}
 use Rattle.ike.proofs.WaitLemmas.{WaitLaws}
 use Rattle.ike.proofs.laws.times.what_is_due_comes_in_time.Goals as goal
@@ -27,4 +28,11 @@ returns c =
       requested = c.requests_wait_on.ensures.requested;
       beside = c.requests_wait_on.ensures.beside;
     } in
-    record { first = λ config. All-nil (IsInTime 0); timely = step_timely laws; comes = step_comes laws; unrefused = λ meaning entries moment machine table reason is. moment_refused reason is; stays = step_stays waits }
+    record {
+      first = λ config. All-nil (IsInTime 0);
+      timely = step_timely laws;
+      comes = step_comes laws;
+      unrefused = λ meaning entries moment machine table reason is. moment_refused (max machine.moment moment) machine.held.associations reason is;
+      needed = λ meaning entries moment machine table reason is. moment_needs (max machine.moment moment) machine.held.associations reason is;
+      stays = step_stays waits;
+    }

@@ -92,10 +92,11 @@ fn windows(rt: HostRuntime) {
 fn moments(rt: HostRuntime) {
     let rows = [
         (
-            "start A 0\ntick A 999\ntick A 1000\ntick A 2999\ntick A 3000\ntick A 7000\ntick A 15000\ntick A 31000\ntick A 47000\n\
-            same 1 2\nsame 1 6\n",
-            "request 1 ike 1 length 148\nticked\nrequest 2 ike 1 length 148\nticked\nrequest 3 ike 1 length 148\n\
-            request 4 ike 1 length 148\nrequest 5 ike 1 length 148\nrequest 6 ike 1 length 148\nclosed ike 1\nsame yes\nsame yes\n",
+            "start A 0\ntick A 999\ntick A 1000\ntick A 2999\ntick A 3000\ntick A 6999\ntick A 7000\ntick A 14999\ntick A 15000\n\
+            tick A 30999\ntick A 31000\ntick A 46999\ntick A 47000\nsame 1 2\nsame 1 3\nsame 1 4\nsame 1 5\nsame 1 6\n",
+            "request 1 ike 1 length 148\nticked\nrequest 2 ike 1 length 148\nticked\nrequest 3 ike 1 length 148\nticked\n\
+            request 4 ike 1 length 148\nticked\nrequest 5 ike 1 length 148\nticked\nrequest 6 ike 1 length 148\nticked\nclosed ike 1\n\
+            same yes\nsame yes\nsame yes\nsame yes\nsame yes\n",
         ),
         (
             "start A 0\ndeliver 1\ndeliver 1\nsame 2 3\ntick B 29999\ndeliver 1\ntick B 30000\ndeliver 1\nsame 2 5\n",
@@ -118,11 +119,13 @@ fn moments(rt: HostRuntime) {
         (
             "start A 0\ndeliver 1\ndeliver 2\ndeliver 3\ndeliver 4\nprobe A 1\nprobe B 1\n\
             tick A 1000\ntick A 3000\ntick A 7000\ntick A 15000\ntick A 31000\ntick A 47000\n\
-            deliver 6\nprobe A 1\ntable A\ntick A 166999\ndeliver 6\ntick A 167000\ndeliver 6\n",
+            deliver 6\nprobe A 1\ntable A\ntick A 166999\ndeliver 6\ntick A 167000\ndeliver 6\n\
+            same 5 7\nsame 5 8\nsame 5 9\nsame 5 10\nsame 5 11\n",
             "request 1 ike 1 length 148\nreply 2 length 148\nrequest 3 ike 1 length 202\nreply 4 length 194\ncounted ike 1 child 1\n\
             request 5 ike 1 length 49\nrequest 6 ike 1 length 49\nrequest 7 ike 1 length 49\nrequest 8 ike 1 length 49\n\
             request 9 ike 1 length 49\nrequest 10 ike 1 length 49\nrequest 11 ike 1 length 49\nclosed ike 1\n\
-            dropped E32\nrefused E32\nempty\nticked\ndropped E32\nticked\ndropped E28\n",
+            dropped E32\nrefused E32\nempty\nticked\ndropped E32\nticked\ndropped E28\n\
+            same yes\nsame yes\nsame yes\nsame yes\nsame yes\n",
         ),
     ];
     for (script, wanted) in rows {

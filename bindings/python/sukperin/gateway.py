@@ -1,0 +1,225 @@
+"""One gateway."""
+
+import ctypes
+import secrets
+from ctypes import byref
+from ipaddress import IPv4Address
+from types import TracebackType
+from typing import List, Optional, Sequence, Type, Union
+
+from . import _library
+from ._library import LIBRARY
+from .association import ESP_OCTETS
+from .outputs import (KINDS, Clear, Counted, Discarded, Done, Dummy, Output, Repeat, Reply, Request, Resent, Sealed, Ticked, Up)
+from .refusals import CallFault, Dropped, Refused, check
+from .settings import Address, Entry, Fresh, Identity
+from .tables import Association, Child, Selector
+
+# No message has more than 3000 octets, and no more than 128 associations are held beside those that the peer closed.
+MESSAGE_ROOM = 3000
+ASSOCIATION_ROOM = 256
+
+
+class Gateway:
+    """One end, with one peer.
+
+    `own` and `peer` are identities: a name, an address of mail, an IP address, or an `Identity`. `psk` is the secret of both ends, unless
+    `peer_psk` is another one for the peer. Raises `CallFault` with 104 (an identity, the window or the blocks), 106 (the policy) or
+    107 (the first SPI).
+    """
+
+    def __init__(
+        self,
+        *,
+        own: Union[str, Address, Identity],
+        peer: Union[str, Address, Identity],
+        psk: bytes,
+        policy: Sequence[Entry],
+        peer_psk: Optional[bytes] = None,
+        extended: bool = True,
+        window: int = 1,
+        blocks: int = 64,
+        first_spi: int = 4096,
+        own_address: str = "192.0.2.1",
+        peer_address: str = "192.0.2.2",
+        cookie_secret: Optional[bytes] = None,
+    ) -> None:
+        self._handle = _library.GatewayHandle()
+        self._peer_address = IPv4Address(peer_address).packed
+        own_identity, peer_identity = Identity.of(own), Identity.of(peer)
+        for value, limit in ((own_identity.kind, 2**8), (peer_identity.kind, 2**8), (window, 2**8), (blocks, 2**32), (first_spi, 2**32)):
+            _library.in_range(value, limit)
+        terms = _library.TermsRecord(
+            own_kind=own_identity.kind, peer_kind=peer_identity.kind, extended=extended, window=window, blocks=blocks, first_spi=first_spi)
+        terms.own_address[:], terms.peer_address[:] = IPv4Address(own_address).packed, self._peer_address
+        terms.cookie_secret[:] = cookie_secret if cookie_secret is not None else secrets.token_bytes(32)
+        entries = (_library.EntryRecord * len(policy))(*(entry.record() for entry in policy))
+        peer_secret = psk if peer_psk is None else peer_psk
+        check(LIBRARY.suk_new(
+            byref(self._handle), byref(terms), own_identity.data, len(own_identity.data), peer_identity.data, len(peer_identity.data),
+            psk, len(psk), peer_secret, len(peer_secret), entries, len(policy)))
+
+    def start(self, entry: int = 0, *, ike: Optional[int] = None, fresh: Optional[Fresh] = None) -> Output:
+        """The order to ask for a child by an entry of the policy: with a new association, or as a further child of `ike`."""
+        output = _library.OutputRecord()
+        check(LIBRARY.suk_start(byref(self._handle), ike or 0, entry, _fresh(fresh), byref(output)))
+        return self._output(output)
+
+    def ike(self, datagram: bytes, *, source: Optional[str] = None, fresh: Optional[Fresh] = None) -> Output:
+        """A datagram of IKE that came, from the peer's address if `source` is no other one."""
+        address = self._peer_address if source is None else IPv4Address(source).packed
+        output = _library.OutputRecord()
+        check(LIBRARY.suk_ike(byref(self._handle), address, datagram, len(datagram), _fresh(fresh), byref(output)))
+        return self._output(output)
+
+    def probe(self, ike: int, *, fresh: Optional[Fresh] = None) -> Output:
+        """The order to ask the peer of an association whether it is there."""
+        output = _library.OutputRecord()
+        check(LIBRARY.suk_probe(byref(self._handle), ike, _fresh(fresh), byref(output)))
+        return self._output(output)
+
+    def delete_child(self, child: int, *, fresh: Optional[Fresh] = None) -> Output:
+        """The order to delete a child."""
+        output = _library.OutputRecord()
+        check(LIBRARY.suk_delete_child(byref(self._handle), child, _fresh(fresh), byref(output)))
+        return self._output(output)
+
+    def delete_ike(self, ike: int, *, fresh: Optional[Fresh] = None) -> Output:
+        """The order to delete an association with all its children."""
+        output = _library.OutputRecord()
+        check(LIBRARY.suk_delete_ike(byref(self._handle), ike, _fresh(fresh), byref(output)))
+        return self._output(output)
+
+    def secret(self, secret: bytes) -> Output:
+        """The order to make cookies under another secret, of 32 octets."""
+        if len(secret) != 32:
+            raise ValueError("a secret of cookies has 32 octets")
+        output = _library.OutputRecord()
+        check(LIBRARY.suk_secret(byref(self._handle), secret, byref(output)))
+        return self._output(output)
+
+    def tick(self, moment: int) -> Output:
+        """The time, in milliseconds from any beginning."""
+        output = _library.OutputRecord()
+        check(LIBRARY.suk_tick(byref(self._handle), moment, byref(output)))
+        return self._output(output)
+
+    def next_moment(self) -> Optional[int]:
+        """When `tick` is due next; None where nothing will ever be due."""
+        moment = ctypes.c_uint64()
+        code = LIBRARY.suk_next(byref(self._handle), byref(moment))
+        return moment.value if _is_told(code) else None
+
+    def esp(self, packet: bytes) -> Output:
+        """An ESP packet that came, from its SPI on."""
+        output = _library.OutputRecord()
+        check(LIBRARY.suk_esp(byref(self._handle), packet, len(packet), byref(output)))
+        return self._output(output, packet)
+
+    def outward(self, packet: bytes) -> Output:
+        """A whole IP packet on its way out."""
+        output = _library.OutputRecord()
+        room = ctypes.create_string_buffer(len(packet) + ESP_OCTETS)
+        check(LIBRARY.suk_outward(byref(self._handle), packet, len(packet), room, len(room), byref(output)))
+        return self._output(output, packet, room)
+
+    def inward(self, packet: bytes) -> Output:
+        """A whole IP packet that came in unprotected."""
+        output = _library.OutputRecord()
+        check(LIBRARY.suk_inward(byref(self._handle), packet, len(packet), byref(output)))
+        return self._output(output, packet)
+
+    def children(self) -> List[Child]:
+        """The children, by rising serial."""
+        children: List[Child] = []
+        record = _library.ChildRecord()
+        while _is_told(LIBRARY.suk_child_after(byref(self._handle), record.serial, byref(record))):
+            selectors = [
+                tuple(self._selector(record.serial, remote, place) for place in range(count))
+                for remote, count in ((0, record.locals), (1, record.remotes))
+            ]
+            children.append(Child(
+                record.serial, record.ike, record.spi_in, record.spi_out, bool(record.live), bool(record.extended),
+                record.sent, record.taken, *selectors))
+        return children
+
+    def associations(self) -> List[Association]:
+        """The IKE associations that are held, those half open or closed among them."""
+        room = (_library.IkeAssociationRecord * ASSOCIATION_ROOM)()
+        count = ctypes.c_uint64()
+        check(LIBRARY.suk_associations(byref(self._handle), room, ASSOCIATION_ROOM, byref(count)))
+        return [Association.of(record) for record in room[: count.value]]
+
+    def close(self) -> None:
+        """Frees it; keys and secrets aren't wiped from memory. Any call after that raises 101."""
+        LIBRARY.suk_end(byref(self._handle))
+
+    def __enter__(self) -> "Gateway":
+        return self
+
+    def __exit__(self, kind: Optional[Type[BaseException]], value: Optional[BaseException], trace: Optional[TracebackType]) -> None:
+        self.close()
+
+    def __del__(self) -> None:
+        if hasattr(self, "_handle"):
+            self.close()
+
+    def _selector(self, child: int, remote: int, place: int) -> Selector:
+        record = _library.SelectorRecord()
+        check(LIBRARY.suk_selector(byref(self._handle), child, remote, place, byref(record)))
+        return Selector.of(record)
+
+    # Messages are kept in the handle until its next input: here they are taken at once.
+    def _message(self, place: int = 0) -> Resent:
+        room = ctypes.create_string_buffer(MESSAGE_ROOM)
+        told = _library.MessageRecord()
+        check(LIBRARY.suk_message(byref(self._handle), place, room, len(room), byref(told)))
+        return Resent(told.ike, room.raw[: told.length])
+
+    def _closing(self, place: int) -> int:
+        ike = ctypes.c_uint32()
+        check(LIBRARY.suk_closing(byref(self._handle), place, byref(ike)))
+        return ike.value
+
+    def _output(self, told: _library.OutputRecord, packet: bytes = b"", room: "Optional[ctypes.Array[ctypes.c_char]]" = None) -> Output:
+        kind = KINDS.get(told.kind)
+        if kind == "DROPPED":
+            raise Dropped(told.code)
+        if kind == "REFUSED":
+            raise Refused(told.code)
+        if kind == "REPLY":
+            return Reply(self._message().message, told.ike or None, told.child or None, told.closed or None)
+        if kind == "REPEAT":
+            return Repeat(self._message().message)
+        if kind == "REQUEST":
+            return Request(told.ike, self._message().message)
+        if kind == "COUNTED":
+            return Counted(told.ike, told.child or None, told.closed or None)
+        if kind == "TICKED":
+            requests = tuple(self._message(place) for place in range(told.messages))
+            return Ticked(requests, tuple(self._closing(place) for place in range(told.closings)))
+        if kind == "DONE":
+            return Done()
+        if kind == "UP":
+            return Up(told.child, told.number, packet[told.offset : told.offset + told.length])
+        if kind == "DUMMY":
+            return Dummy(told.child, told.number)
+        if kind == "SEALED" and room is not None:
+            return Sealed(told.child, told.number, room.raw[: told.length])
+        if kind == "CLEAR":
+            return Clear(packet)
+        if kind == "DISCARDED":
+            return Discarded()
+        raise CallFault(told.kind)
+
+
+def _fresh(fresh: Optional[Fresh]) -> "ctypes._Pointer[_library.FreshRecord]":
+    return ctypes.pointer((fresh or Fresh()).record())
+
+
+# Whether a view told something; 108 says that there is no such thing.
+def _is_told(code: int) -> bool:
+    if code == 108:
+        return False
+    check(code)
+    return True

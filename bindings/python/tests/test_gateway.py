@@ -1,0 +1,160 @@
+"""Two gateways, brought up against each other in memory."""
+
+import unittest
+from ipaddress import IPv4Address
+from typing import Tuple
+
+from sukperin import (Action, CallFault, Clear, Counted, Discarded, Done, Entry, Fresh, Gateway, Phase, Refusal, Repeat, Reply, Request,
+                      Role, Sealed, Ticked, Up)
+
+OWN, PEER = "10.0.0.0/24", "10.1.0.0/24"
+
+
+def gateway(own: str, peer: str, local: str, remote: str, **terms) -> Gateway:  # type: ignore[no-untyped-def]
+    policy = [Entry(local, remote), Entry(local, "10.9.0.0-10.9.0.255", action=Action.BYPASS)]
+    return Gateway(own=own, peer=peer, psk=b"secret", policy=policy, **terms)
+
+
+def two() -> Tuple[Gateway, Gateway]:
+    return gateway("a.example", "b.example", OWN, PEER), gateway("b.example", "a.example", PEER, OWN)
+
+
+def carried(request, to: Gateway, back: Gateway):  # type: ignore[no-untyped-def]
+    """Carries a request and what follows on, until an answer is counted."""
+    output = request
+    while isinstance(output, Request):
+        output = back.ike(to.ike(output.message).message)
+    return output
+
+
+def up() -> Tuple[Gateway, Gateway]:
+    a, b = two()
+    assert carried(a.start(), b, a) == Counted(1, 1, None)
+    return a, b
+
+
+def packet(source: str, target: str) -> bytes:
+    return bytes([0x45, 0, 0, 20, 0, 0, 0, 0, 64, 1, 0, 0]) + IPv4Address(source).packed + IPv4Address(target).packed
+
+
+class Gateways(unittest.TestCase):
+    def refuses(self, number, call, *words, **named):  # type: ignore[no-untyped-def]
+        with self.assertRaises(Refusal) as caught:
+            call(*words, **named)
+        self.assertEqual(caught.exception.number, number)
+
+    def faults(self, code, **changed):  # type: ignore[no-untyped-def]
+        with self.assertRaises(CallFault) as caught:
+            gateway("a.example", "b.example", OWN, PEER, **changed)
+        self.assertEqual(caught.exception.code, code)
+
+    def test_a_packet_goes_through_once(self) -> None:
+        a, b = up()
+        inner = packet("10.0.0.1", "10.1.0.1")
+        sealed = a.outward(inner)
+        self.assertIsInstance(sealed, Sealed)
+        self.assertEqual((sealed.child, sealed.number, len(sealed.packet)), (1, 1, 48))
+        self.refuses(18, b.esp, sealed.packet[:-1] + b"\0")
+        self.assertEqual(b.esp(sealed.packet), Up(1, 1, inner))
+        self.refuses(16, b.esp, sealed.packet)
+        self.refuses(28, b.esp, b"\xff" + sealed.packet[1:])
+        self.assertEqual([(child.sent, child.taken) for child in a.children() + b.children()], [(1, 0), (0, 1)])
+
+    def test_policy(self) -> None:
+        a, _ = up()
+        passing = packet("10.0.0.1", "10.9.0.1")
+        self.assertEqual(a.outward(passing), Clear(passing))
+        self.assertEqual(a.outward(packet("10.0.0.1", "10.8.0.1")), Discarded())
+        self.assertEqual(a.inward(packet("10.1.0.1", "10.0.0.1")), Discarded())
+        self.refuses(21, a.inward, passing[:19])
+        self.refuses(22, a.inward, passing[:6] + b"\x20" + passing[7:])
+        self.refuses(39, a.inward, bytes([0x60, 0, 0, 0, 0, 8, 0, 64]) + bytes(40))
+
+    def test_a_request_again_and_damaged(self) -> None:
+        a, b = up()
+        request = a.probe(1)
+        damaged = bytearray(request.message)
+        damaged[-1] ^= 1
+        self.refuses(29, b.ike, bytes(damaged))
+        self.refuses(2, b.ike, request.message[:-1])
+        self.refuses(1, b.ike, b"")
+        reply = b.ike(request.message)
+        self.assertIsInstance(reply, Reply)
+        self.assertEqual(b.ike(request.message), Repeat(reply.message))
+        self.assertIsInstance(a.ike(reply.message), Counted)
+        self.refuses(31, a.ike, reply.message)
+        self.refuses(33, a.ike, request.message)
+
+    def test_tables(self) -> None:
+        a, b = up()
+        (child,) = a.children()
+        self.assertEqual((child.serial, child.ike, child.spi_in, child.live, child.extended), (1, 1, 4096, True, True))
+        self.assertEqual((child.remotes[0].start, child.remotes[0].end), (IPv4Address("10.1.0.0"), IPv4Address("10.1.0.255")))
+        self.assertEqual(child.locals[0].ports, (0, 65535))
+        self.assertEqual([(held.role, held.phase) for held in a.associations()], [(Role.INITIATOR, Phase.ESTABLISHED)])
+        self.assertEqual([(held.role, held.phase) for held in b.associations()], [(Role.RESPONDER, Phase.ESTABLISHED)])
+
+    def test_orders(self) -> None:
+        a, b = up()
+        self.assertEqual(carried(a.start(ike=1), b, a).child, 2)
+        order = a.delete_child(1)
+        self.assertFalse(a.children()[0].live)
+        carried(order, b, a)
+        self.assertEqual([child.serial for child in b.children()], [2])
+        self.assertEqual(carried(a.delete_ike(1), b, a).closed, 1)
+        self.assertEqual(a.children(), [])
+        self.refuses(32, a.probe, 1)
+        self.refuses(28, a.probe, 5)
+        self.refuses(23, a.start, 1)
+        self.refuses(37, a.start, fresh=Fresh(spi=0))
+        self.assertEqual(a.secret(bytes(32)), Done())
+
+    def test_time(self) -> None:
+        a, _ = two()
+        self.assertIsNone(a.next_moment())
+        request = a.start()
+        moments, messages, closed = [], [], ()
+        while not closed:
+            moments.append(a.next_moment())
+            output = a.tick(moments[-1])
+            self.assertIsInstance(output, Ticked)
+            messages += [resent.message for resent in output.requests]
+            closed = output.closed
+        self.assertEqual(moments, [1000, 3000, 7000, 15000, 31000, 47000])
+        self.assertEqual(messages, [request.message] * 5)
+        self.assertEqual(closed, (1,))
+
+    def test_what_cannot_be_used(self) -> None:
+        self.faults(104, window=0)
+        self.faults(104, blocks=5)
+        self.faults(107, first_spi=255)
+        with self.assertRaises(ValueError):
+            gateway("a.example", "b.example", OWN, PEER, first_spi=2**32 + 4096)
+        for entry in (Entry("10.0.0.9-10.0.0.1", PEER), Entry(OWN, "2001:db8::/32")):
+            with self.assertRaises(CallFault) as caught:
+                Gateway(own="a", peer="b", psk=b"", policy=[entry])
+            self.assertEqual(caught.exception.code, 106)
+
+    def test_another_secret_gives_no_child(self) -> None:
+        a, _ = two()
+        b = Gateway(own="b.example", peer="a.example", psk=b"another", policy=[Entry(PEER, OWN)])
+        self.assertEqual(carried(a.start(), b, a), Counted(1, None, 1))
+
+    def test_ipv6(self) -> None:
+        own, peer = "2001:db8:1::/64", "2001:db8:2::/64"
+        a = Gateway(own="a@example", peer="b@example", psk=b"s", policy=[Entry(own, peer)], extended=False)
+        b = Gateway(own="b@example", peer="a@example", psk=b"s", policy=[Entry(peer, own)])
+        self.assertEqual(carried(a.start(), b, a).child, 1)
+        self.assertEqual(str(b.children()[0].locals[0].start), "2001:db8:2::")
+        self.assertFalse(b.children()[0].extended)
+
+    def test_a_closed_gateway_does_nothing(self) -> None:
+        a, _ = two()
+        a.close()
+        with self.assertRaises(CallFault) as caught:
+            a.tick(0)
+        self.assertEqual(caught.exception.code, 101)
+
+
+if __name__ == "__main__":
+    unittest.main()

@@ -1,0 +1,113 @@
+//! A gateway behind a handle.
+ghost use Rattle.std.specs.Prelude.{◌≡◌};
+ghost use Rattle.gateway.specs.Inputs.{input_view};
+ghost use Rattle.gateway.specs.Outputs.{output_view};
+ghost use Rattle.sukperin.specs.Outputs.{left_of};
+ghost use Rattle.sukperin.specs.Inputs.{TakesInput};
+
+use crate::output::SukOutput;
+use crate::room::write_front;
+use base::Items;
+use caller_peer::PeerCaller;
+use gateway::{Gateway, Input, Output, Resent};
+use std::alloc::Global;
+
+/// What the last input left to be taken.
+#[derive(Drop)]
+pub enum Left {
+    /// Nothing.
+    Nothing,
+    /// A message of IKE, and the association that asks by it, 0 of an answer.
+    Message {
+        ike: u32,
+        octets: Items<u8>,
+    },
+    /// What a moment brought: the requests that go out again, and the associations that were closed.
+    Ticked {
+        requests: Items<Resent>,
+        closed: Items<u32>,
+    },
+}
+
+/// A gateway behind a handle.
+#[derive(Drop)]
+pub struct Hosted {
+    /// The gateway.
+    pub gateway: Gateway<PeerCaller>,
+    /// What the last input left to be taken.
+    pub left: Left,
+    /// Whether it tells the keys of its IKE associations.
+    pub tells_keys: bool,
+}
+
+impl Left {
+    // What an output leaves.
+    fn of(output: Output<'_>) -> Left
+        ensures { result ≡ left_of (output_view output.entry) }
+    {
+        match output {
+            Output::Reply { octets, .. } | Output::Repeat { octets } => Left::Message {
+                ike: 0,
+                octets,
+            },
+            Output::Request { ike, octets } => Left::Message { ike, octets },
+            Output::Ticked { requests, closed } => Left::Ticked { requests, closed },
+            _ => Left::Nothing,
+        }
+    }
+
+    // The message of IKE at a place, with the association that asks by it.
+    pub fn message(&self, place: u64) -> Option<(u32, &[u8])> {
+        match self {
+            Left::Message { ike, octets } => {
+                if place == 0 {
+                    Some((*ike, octets.as_slice()))
+                } else {
+                    None
+                }
+            }
+            Left::Ticked { requests, .. } => {
+                let request = requests.as_slice().get(place as usize)?;
+                Some((request.ike, request.octets.as_slice()))
+            }
+            Left::Nothing => None,
+        }
+    }
+
+    // The closed association at a place.
+    pub fn closing(&self, place: u64) -> Option<u32> {
+        match self {
+            Left::Ticked { closed, .. } => closed.as_slice().get(place as usize).copied(),
+            _ => None,
+        }
+    }
+}
+
+impl Hosted {
+    // Takes one input, tells what came of it, and keeps what is left to be taken.
+    pub fn take(&mut self, alloc: Global, input: &Input<'_>, out: &mut SukOutput)
+        ensures { TakesInput (input_view input.now) self.old self.new out.new }
+    {
+        let traced = self.gateway.traced_step(alloc, input);
+        *out = SukOutput::of(&traced.output, &traced.trace);
+        self.left = Left::of(traced.output);
+    }
+
+    // Takes a packet on its way out, and writes its ESP packet at the beginning of the room where it goes protected.
+    pub fn take_outward(
+        &mut self,
+        alloc: Global,
+        packet: &[u8],
+        room: &mut [u8],
+        out: &mut SukOutput,
+    ) {
+        let traced = self.gateway.traced_step(alloc, &Input::Outward { packet });
+        *out = SukOutput::of(&traced.output, &traced.trace);
+        if let Output::Sealed { octets, .. } = &traced.output {
+            if octets.len() <= room.len() {
+                write_front(room, octets.as_slice());
+            }
+        }
+        self.left = Left::Nothing;
+    }
+}

@@ -1,0 +1,177 @@
+//! What came of an input, as C reads it.
+ghost use Rattle.std.specs.Prelude.{◌≡◌};
+ghost use Rattle.gateway.specs.Outputs.{output_view};
+ghost use Rattle.sukperin.specs.Outputs.{child_in, ike_in, of_kind, serial_of, told_of, with_code};
+
+use gateway::{Output, Reason, Trace};
+
+/// What came of an input. A serial that is 0 names nothing. What a kind doesn't tell is 0.
+#[repr(C)]
+#[derive(Clone, Copy)]
+pub struct SukOutput {
+    /// 1 a reply, 2 a repeat, 3 a request, 4 counted, 5 ticked, 6 done, 7 up, 8 a dummy, 9 sealed, 10 clear, 11 discarded, 12 dropped, 13 refused.
+    pub kind: u32,
+    /// Why it was dropped or refused: an E number.
+    pub code: u32,
+    /// The IKE association that a request or what was counted is of; of a reply and a repeat, that under whose keys it was sent.
+    pub ike: u32,
+    /// The child that a packet is of, or that was made.
+    pub child: u32,
+    /// The IKE association that was closed.
+    pub closed: u32,
+    /// The IKE association whose keys were made.
+    pub keyed: u32,
+    /// How many messages of IKE are left to be taken.
+    pub messages: u64,
+    /// How many IKE associations a moment closed.
+    pub closings: u64,
+    /// The sequence number of an ESP packet.
+    pub number: u64,
+    /// Where octets begin: of what goes up, in the packet that came.
+    pub offset: u64,
+    /// How many octets there are: of what goes up, of what was sealed, of what goes on as it is, or of one message of IKE.
+    pub length: u64,
+}
+
+impl SukOutput {
+    // One of a kind, which tells nothing else.
+    fn of_kind(kind: u32) -> SukOutput
+        ensures { result ≡ of_kind kind }
+    {
+        SukOutput {
+            kind,
+            code: 0,
+            ike: 0,
+            child: 0,
+            closed: 0,
+            keyed: 0,
+            messages: 0,
+            closings: 0,
+            number: 0,
+            offset: 0,
+            length: 0,
+        }
+    }
+
+    // What an output and the trace of its step come to.
+    pub fn of(output: &Output<'_>, trace: &Trace) -> SukOutput
+        ensures { result ≡ told_of (output_view output.now) trace.now }
+    {
+        match output {
+            Output::Reply { octets, closed } => SukOutput {
+                ike: ike_in(trace),
+                child: child_in(trace),
+                closed: serial_of(*closed),
+                keyed: keyed_in(trace),
+                messages: 1,
+                length: octets.len() as u64,
+                ..SukOutput::of_kind(1)
+            },
+            Output::Repeat { octets } => SukOutput {
+                ike: ike_in(trace),
+                messages: 1,
+                length: octets.len() as u64,
+                ..SukOutput::of_kind(2)
+            },
+            Output::Request { ike, octets } => SukOutput {
+                ike: *ike,
+                keyed: keyed_in(trace),
+                messages: 1,
+                length: octets.len() as u64,
+                ..SukOutput::of_kind(3)
+            },
+            Output::Counted { ike, child, closed } => SukOutput {
+                ike: *ike,
+                child: serial_of(*child),
+                closed: serial_of(*closed),
+                keyed: keyed_in(trace),
+                ..SukOutput::of_kind(4)
+            },
+            Output::Ticked { requests, closed } => SukOutput {
+                messages: requests.len() as u64,
+                closings: closed.len() as u64,
+                ..SukOutput::of_kind(5)
+            },
+            Output::Done => SukOutput::of_kind(6),
+            Output::Up {
+                child,
+                number,
+                packet,
+            } => SukOutput {
+                child: *child,
+                number: *number,
+                offset: 8,
+                length: packet.len() as u64,
+                ..SukOutput::of_kind(7)
+            },
+            Output::Dummy { child, number } => SukOutput {
+                child: *child,
+                number: *number,
+                ..SukOutput::of_kind(8)
+            },
+            Output::Sealed {
+                child,
+                number,
+                octets,
+            } => SukOutput {
+                child: *child,
+                number: *number,
+                length: octets.len() as u64,
+                ..SukOutput::of_kind(9)
+            },
+            Output::Clear { packet } => SukOutput {
+                length: packet.len() as u64,
+                ..SukOutput::of_kind(10)
+            },
+            Output::Discarded => SukOutput::of_kind(11),
+            Output::Dropped { reason } => SukOutput::with_code(12, *reason),
+            Output::Refused { reason } => SukOutput::with_code(13, *reason),
+        }
+    }
+
+    fn with_code(kind: u32, reason: Reason) -> SukOutput
+        ensures { result ≡ with_code kind reason }
+    {
+        SukOutput {
+            code: u32::from(reason.code()),
+            ..SukOutput::of_kind(kind)
+        }
+    }
+}
+
+// A serial, 0 where there is none.
+fn serial_of(serial: Option<u32>) -> u32
+    ensures { result ≡ serial_of serial }
+{
+    match serial {
+        Some(serial) => serial,
+        None => 0,
+    }
+}
+
+// The association under whose keys a message was sent.
+fn ike_in(trace: &Trace) -> u32
+    ensures { result ≡ ike_in trace.now }
+{
+    match trace.sent {
+        Some(mark) => mark.ike,
+        None => 0,
+    }
+}
+
+// The association whose keys were made.
+fn keyed_in(trace: &Trace) -> u32
+    ensures { result ≡ serial_of trace.now.keyed }
+{
+    serial_of(trace.keyed)
+}
+
+// The child that was made.
+fn child_in(trace: &Trace) -> u32
+    ensures { result ≡ child_in trace.now }
+{
+    match trace.child {
+        Some(child) => child.serial,
+        None => 0,
+    }
+}
