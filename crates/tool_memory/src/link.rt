@@ -34,7 +34,7 @@ impl From<SampleFault> for Trouble {
     fn from(fault: SampleFault) -> Trouble {
         match fault {
             SampleFault::Memory(_) => Trouble::Memory,
-            SampleFault::Policy(_) => Trouble::Other,
+            SampleFault::Policy(_) | SampleFault::Config(_) => Trouble::Other,
         }
     }
 }
