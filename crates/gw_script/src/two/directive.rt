@@ -18,8 +18,8 @@ pub enum Directive {
 /// What the gateways are made with.
 #[derive(Clone, Copy, Debug)]
 pub enum Term {
-    /// `extended yes|no`: whether the ends allow extended sequence numbers.
-    Extended(bool),
+    /// `extended no`: the ends allow no extended sequence numbers.
+    NotExtended,
     /// `window END N`: how many requests an end takes at once (RFC 7296 section 2.3), 1 to 16.
     Window { side: Side, requests: u8 },
     /// `entry END ACTION PROTO LO-HI PORT-PORT LO-HI PORT-PORT`: one more entry of an end's policy.
@@ -136,13 +136,21 @@ impl Directive {
     pub fn read(alloc: Global, line: &[u8]) -> Result<Directive, LineFault> {
         let mut words = Words::of(line);
         let directive = match words.word()? {
-            b"extended" => Directive::Set(Term::Extended(words.yes_or_no()?)),
+            b"extended" => Directive::Set(read_not_extended(&mut words)?),
             b"window" => Directive::Set(read_window(&mut words)?),
             b"entry" => Directive::Set(read_entry(&mut words)?),
             name => Directive::Act(read_act(alloc, name, &mut words)?),
         };
         words.end()?;
         Ok(directive)
+    }
+}
+
+// Extended numbers are what both ends allow where nothing is said: so there is no other word than `no`.
+fn read_not_extended(words: &mut Words) -> Result<Term, LineFault> {
+    match words.word()? {
+        b"no" => Ok(Term::NotExtended),
+        _ => Err(LineFault::Refused),
     }
 }
 

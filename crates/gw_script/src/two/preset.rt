@@ -44,8 +44,8 @@ impl Preset {
     /// numbers behind any other term.
     pub fn take(&mut self, alloc: Global, term: Term) -> Result<(), LineFault> {
         match term {
-            Term::Extended(_) if !self.is_untouched => return Err(LineFault::Refused),
-            Term::Extended(extended) => self.extended = extended,
+            Term::NotExtended if !self.is_untouched => return Err(LineFault::Refused),
+            Term::NotExtended => self.extended = false,
             Term::Window { side, requests } => self.terms(side).set_window(requests)?,
             Term::Entry { side, entry } => self.terms(side).add(alloc, entry)?,
         }

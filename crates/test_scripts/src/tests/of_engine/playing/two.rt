@@ -52,7 +52,6 @@ fn establishments(rt: HostRuntime) {
     // What stands before it, the entries, the lengths of datagrams 3 and 4, and what is made at A.
     let rows = [
         ("", OPENING, (202, 194), "ike 1 child 1"),
-        ("extended yes\n", OPENING, (202, 194), "ike 1 child 1"),
         ("extended no\n", OPENING, (194, 194), "ike 1 child 1"),
         ("", OPENING_APART, (202, 114), "ike 1"),
         ("", OPENING_V6, (250, 242), "ike 1 child 1"),

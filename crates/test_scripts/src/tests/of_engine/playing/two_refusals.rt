@@ -4,7 +4,7 @@ use crate::tests::asserts::{joined, repeated};
 
 /// First directives that set nothing up, parted by bars.
 const TERMS: &str =
-    "extended|extended maybe|extended No|extended no no|window|window A|window A 0|window A 17|window A 257|window A -1|window a 1|\
+    "extended|extended yes|extended maybe|extended No|extended no no|window|window A|window A 0|window A 17|window A 257|window A -1|window a 1|\
     window C 1|window A 1 |window 1 A|two|one|entry|\
     entry C protect 0 10.0.0.0-10.0.0.255 0-65535 10.1.0.0-10.1.0.255 0-65535|\
     entry A pass 0 10.0.0.0-10.0.0.255 0-65535 10.1.0.0-10.1.0.255 0-65535|\
