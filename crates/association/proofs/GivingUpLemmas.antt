@@ -1,4 +1,5 @@
--- All outstanding requests are given up, one after the other, with the SPIs of the children that they asked for.
+-- All outstanding requests are given up, one after the other, with the SPIs of the children that they asked
+-- for.
 use Rattle.std.proofs.Common.{◌≡◌, ◌≢◌, ◌+◌, ◌-◌, ◌<◌, ◌≤◌, ◌&&◌, ◌↔◌, ℕ, Bool, true, false, cond, not, Option, Some, None, refl, sym, ap, subst, ◌∙◌, inl, inr, arith}
 use Rattle.std.specs.Prelude.{is_some, nat_eq, ◌⊎◌}
 use Rattle.std.proofs.lemmas.Bool.{eq-eqb, ne_eqb}

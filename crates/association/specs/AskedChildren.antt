@@ -1,4 +1,5 @@
--- A child that an end asked for, with the association or by an exchange of its own (RFC 7296 sections 1.2 and 1.3.1).
+-- A child that an end asked for, with the association or by an exchange of its own (RFC 7296 sections 1.2
+-- and 1.3.1).
 use Rattle.std.specs.Prelude.{ℕ, Bool}
 use Rattle.base.specs.declared.selector.Selector.{Selector}
 use Rattle.policy.specs.Narrowing.{IsSendableSelector}

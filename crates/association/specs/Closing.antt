@@ -1,4 +1,5 @@
--- The SPIs that an association holds for children that are still to come, and its end (RFC 7296 sections 1.4.1, 2.4 and 2.21).
+-- The SPIs that an association holds for children that are still to come, and its end (RFC 7296 sections
+-- 1.4.1, 2.4 and 2.21).
 use Rattle.std.specs.Prelude.{◌≡◌, ◌⊎◌, ◌↔◌, ◌≤◌, ℕ, Option, Some, None}
 use Rattle.requests.specs.Outgoing.{GivesUpRequests}
 use Rattle.sadb.specs.Database.{Database, IsReserved, Releases, RemovesAllOf}
@@ -36,8 +37,8 @@ pub record GivesUpSpis (Held : ℕ → Type 0) (old new : Database) : Type 0 whe
   pub content : new ≡ record old { reserved = new.reserved; room = new.room }
   pub room : old.room ≤ new.room
 
--- From this moment on it waits for no answer, and has no child and no SPI for one. Its number, its keys, and what the peer may ask for
--- again stay.
+-- From this moment on it waits for no answer, and has no child and no SPI for one. Its number, its keys,
+-- and what the peer may ask for again stay.
 pub record Closes (old : Association) (old_table : Database) (moment : ℕ) (new : Association) (new_table : Database) : Type 0 where
   pub between : Database
   pub released : GivesUpSpis (HoldsSpi old) old_table between

@@ -11,7 +11,8 @@ use Rattle.association.specs.declared.phase.Association.{Association}
 use Rattle.association.specs.declared.phase.Phase.{Phase}
 use Rattle.association.specs.declared.phase.Phase.TheVariants.{InitSent}
 
--- The flag I is set in what the association's original initiator sends, and so is that of messages to a responder.
+-- The flag I is set in what the association's original initiator sends, and so is that of messages to a
+-- responder.
 abbrev pub sent_by_other : Role → Bool → Bool
 sent_by_other Initiator initiator = not initiator
 sent_by_other Responder initiator = initiator

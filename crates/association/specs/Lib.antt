@@ -9,4 +9,5 @@ pub mod GivingUp
 pub mod Contents
 pub mod Issuing
 pub mod Ordering
+pub mod Outcomes
 pub mod Sending

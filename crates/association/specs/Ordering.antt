@@ -7,8 +7,8 @@ use Rattle.association.specs.declared.fault.OrderFault.{OrderFault}
 use Rattle.association.specs.declared.fault.OrderFault.TheVariants.{WrongPhase, Busy, NumbersSpent, Memory, TableFull, SpisSpent, TableMemory}
 use Rattle.association.specs.declared.phase.Association.{Association}
 
--- why an order on an association is refused, each where those before it don't apply; none is taken while a request of this end to delete the
--- association waits for its answer
+-- why an order on an association is refused, each where those before it don't apply; none is taken while a
+-- request of this end to delete the association waits for its answer
 abbrev pub RefusesOrder : Association → OrderFault → Type 0
 RefusesOrder a WrongPhase = ¬ IsEstablished a.phase
 RefusesOrder a Busy = IsEstablished a.phase × (AwaitsDeletion a.outgoing ⊎ IsBusy a.outgoing)

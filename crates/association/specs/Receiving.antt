@@ -1,5 +1,5 @@
--- What a message is to the association that it is for (RFC 7296 sections 2.1 to 2.3 and 3.14): by its number, its exchange, the phase,
--- and what it opens to.
+-- What a message is to the association that it is for (RFC 7296 sections 2.1 to 2.3 and 3.14): by its
+-- number, its exchange, the phase, and what it opens to.
 use Rattle.std.specs.Prelude.{◌≡◌, ◌==◌, ◌≢◌, ◌||◌, ℕ, Bool, true, false, not, Option, Some, None, List, if◌then◌else◌}
 use Rattle.std.specs.FinMap as map
 use Rattle.base.specs.Octets.{Octets}
@@ -140,14 +140,15 @@ abbrev pub IsUndecidedBy : Bool → Association → Header → Type 0
 IsUndecidedBy true a h = is_undecided_response a h ≡ true
 IsUndecidedBy false a h = IsUndecidedRequest a h
 
--- what the message is depends on what it opens to, it has an encrypted payload alone, and there are keys to open it under
+-- what the message is depends on what it opens to, it has an encrypted payload alone, and there are keys to
+-- open it under
 pub record IsUndecided (a : Association) (m : Message) : Type 0 where
   pub undecided : IsUndecidedBy m.header.flags.response a m.header
   pub encrypted : lone_body m.payloads ≢ None
   pub keyed : keys_in a.phase ≢ None
 
--- A request that takes effect: its number did not yet and lies in the window, its exchange belongs to the phase, and it opens under
--- the peer's keys.
+-- A request that takes effect: its number did not yet and lies in the window, its exchange belongs to the
+-- phase, and it opens under the peer's keys.
 pub record IsEffective (plain_of : Opening) (a : Association) (octets : Octets) (m : Message) (plain : Plain) : Type 0 where
   pub request : m.header.flags.response ≡ false
   pub fresh : IsFreshRequest a.incoming m.header.id

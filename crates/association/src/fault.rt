@@ -12,8 +12,8 @@ pub enum MessageFault {
     /// No association has its pair of SPIs.
     #[error("E28: no association has these SPIs")]
     UnknownAssociation,
-    /// It has not one encrypted payload and no other, or that doesn't open under the peer's keys, or there are none yet (RFC 7296,
-    /// section 3.14).
+    /// It has not one encrypted payload and no other, or that doesn't open under the peer's keys, or there
+    /// are none yet (RFC 7296, section 3.14).
     #[error("E29: the message doesn't open")]
     NotOpened,
     /// A request that took effect, and whose reply is kept no more (section 2.1).
@@ -52,7 +52,8 @@ pub enum OrderFault {
     /// The association is not established.
     #[error("E32: the association is in another phase")]
     WrongPhase,
-    /// So many requests wait for an answer as the peer takes at once (RFC 7296, section 2.3), or one to delete the association does.
+    /// So many requests wait for an answer as the peer takes at once (RFC 7296, section 2.3), or one to
+    /// delete the association does.
     #[error("E35: the peer's window is full, or the association is being deleted")]
     Busy,
     /// All request numbers of the association were issued (RFC 7296, section 2.2).

@@ -8,12 +8,12 @@ use exchange::Role;
 use wire::Header;
 use wire::numbers::IKE_SA_INIT;
 
-/// The place of the association that a message with this header is for: the first that has its SPIs, and the other role than
-/// its sender claims by the flag I (RFC 7296, section 3.1). A response to IKE_SA_INIT names the responder's SPI for the first
-/// time, so one that waits for it is found by its own SPI alone.
+/// The place of the association that a message with this header is for: the first that has its SPIs, and
+/// the other role than its sender claims by the flag I (RFC 7296, section 3.1). A response to IKE_SA_INIT
+/// names the responder's SPI for the first time, so one that waits for it is found by its own SPI alone.
 ///
-/// Refused where there is none: [`MessageFault::WrongRole`] where one of the role that the sender claims has both SPIs, and
-/// [`MessageFault::UnknownAssociation`] otherwise. Takes no memory.
+/// Refused where there is none: [`MessageFault::WrongRole`] where one of the role that the sender claims
+/// has both SPIs, and [`MessageFault::UnknownAssociation`] otherwise. Takes no memory.
 pub fn find(associations: &[Association], header: &Header) -> Result<usize, MessageFault>
     ensures { result ≡ place_meant header.now associations.now }
 {

@@ -18,7 +18,8 @@ pub fn new_request(octets: Items<u8>, purpose: Purpose, moment: u64) -> Request
     }
 }
 
-/// These requests with one more, under the next number. An error is for want of memory, where the number may be issued.
+/// These requests with one more, under the next number. An error is for want of memory, where the number
+/// may be issued.
 pub fn issued(
     mut outgoing: Outgoing<Request>,
     request: Request,

@@ -29,8 +29,9 @@ pub fn receptions_are_determined()
     judgements_are_determined();
 }
 
-/// What a message is to an association tells what is asked of the association: a request that takes effect is fresh, belongs to the
-/// phase and opens; a response answers an outstanding request, and opens but for that of IKE_SA_INIT.
+/// What a message is to an association tells what is asked of the association: a request that takes effect
+/// is fresh, belongs to the phase and opens; a response answers an outstanding request, and opens but for
+/// that of IKE_SA_INIT.
 pub fn receptions_say_why()
     ensures effective { (plain_of : Opening) (a : Association) (octets : Octets) (m : Message) (plain : Plain)
         → IsReceived plain_of a octets m (TakesEffect plain) → IsEffective plain_of a octets m plain }
@@ -40,8 +41,8 @@ pub fn receptions_say_why()
         → IsReceived plain_of a octets m AnswersInitial → IsAnsweringInitial a m }
 {}
 
-/// A request that is answered by the same octets again took effect before: these are the reply that is kept of its number. It opens
-/// under the peer's keys.
+/// A request that is answered by the same octets again took effect before: these are the reply that is kept
+/// of its number. It opens under the peer's keys.
 pub fn repeats_say_why()
     ensures { (plain_of : Opening) (a : Association) (octets : Octets) (m : Message) (reply : Octets)
         → IsReceived plain_of a octets m (Repeat reply) → IsRepeating plain_of a octets m reply }
@@ -62,7 +63,8 @@ pub fn receptions_go_by_content()
     later_incoming_are_determined();
 }
 
-/// What is held of an association after its end, and what the table holds then, goes by what both held before.
+/// What is held of an association after its end, and what the table holds then, goes by what both held
+/// before.
 pub fn endings_are_determined()
     ensures { (old other a b : Association) (old_table other_table a_table b_table : Database) (moment : ℕ)
         → association_content old ≡ association_content other
@@ -74,8 +76,9 @@ pub fn endings_are_determined()
     later_outgoing_are_determined::<Request>();
 }
 
-/// The SPIs that an association holds for children stay reserved, each for one child: while the peer's requests change, while one of its
-/// own is answered, and while the table's room alone does; and wherever it holds none that it did not hold, and none of these is given up.
+/// The SPIs that an association holds for children stay reserved, each for one child: while the peer's
+/// requests change, while one of its own is answered, and while the table's room alone does; and wherever
+/// it holds none that it did not hold, and none of these is given up.
 pub fn spis_stay_held()
     ensures taking { (a : Association) (table : Database) (incoming : PeerRequests) → HoldsReserved a table
         → HoldsReserved (record a { incoming = incoming }) table }
@@ -92,8 +95,8 @@ pub fn spis_stay_held()
         → HoldsReserved b new }
 {}
 
-/// An association waits for a child's answer only where it asked for that child: none comes to be awaited while room is made, a request
-/// for something else is issued, a request is answered, or one is withdrawn.
+/// An association waits for a child's answer only where it asked for that child: none comes to be awaited
+/// while room is made, a request for something else is issued, a request is answered, or one is withdrawn.
 pub fn children_are_asked_for()
     ensures preparing { (old new : OwnRequests Request) (number spi : ℕ) → HasSameOwnRequests old new
         → AwaitsChild new number spi → AwaitsChild old number spi }

@@ -1,10 +1,12 @@
-//! One association of IKE (RFC 7296, sections 1.1, 2.1 to 2.4 and 2.6): what an end holds of it in each phase, which association
-//! a message is for, and what the message's number, exchange and sealing allow it to be.
+//! One association of IKE (RFC 7296, sections 1.1, 2.1 to 2.4 and 2.6): what an end holds of it in each
+//! phase, which association a message is for, and what the message's number, exchange and sealing allow it
+//! to be.
 //!
-//! An [`Association`] has its SPIs, its requests and the peer's ([`requests`]), and a [`Phase`] with what that phase alone has.
-//! [`find`] tells which of a list a message is for, and [`receive`] what is to be made of it: the payloads of a request or of
-//! a response, the reply that was sent before, or a [`MessageFault`]. What payloads say and do is nothing to this crate.
-//! What follows from the definitions alone is in [`laws`].
+//! An [`Association`] has its SPIs, its requests and the peer's ([`requests`]), and a [`Phase`] with what
+//! that phase alone has. [`find`] tells which of a list a message is for, and [`receive`] what is to be
+//! made of it: the payloads of a request or of a response, the reply that was sent before, or a
+//! [`MessageFault`]. What payloads say and do is nothing to this crate. What follows from the definitions
+//! alone is in [`laws`].
 //!
 //! ```text
 //! let message = decode_message(alloc, &datagram)?;
@@ -15,6 +17,16 @@
 //!     ..
 //! }
 //! ```
+//!
+//! # How it is proved
+//!
+//! What a message is to an IKE SA follows from its phase, from how its Message ID is judged or which
+//! request it answers, and from what it opens to (`specs/Receiving`). `proofs/ReceivingLemmas` goes through
+//! the cases, so it is one thing alone, and each result says what was asked. `RepeatingLemmas` does so for
+//! retransmissions. An IKE SA that ends gives up its requests one after the other, with the SPIs of the
+//! children that they asked for. The loop's invariant is `GivesUpSome` (`GivingUpLemmas`), and it ends
+//! since one fewer is outstanding each time. `HeldLemmas` shows that reserved SPIs stay so under each
+//! change of an IKE SA.
 #![tactic(auto)]
 
 mod asked_child;
@@ -31,7 +43,7 @@ pub use asked_child::AskedChild;
 pub use fault::{MessageFault, OrderFault};
 pub use finding::find;
 pub use issuing::{issued, new_request};
-pub use outcome::{Answered, Ended, Issued};
+pub use outcome::{Answered, Ended, Issued, unless_made};
 pub use phase::{Association, AuthSent, HalfOpen, InitSent, Phase, Request};
 pub use purpose::{FurtherChild, Purpose};
 pub use receiving::{Received, receive};

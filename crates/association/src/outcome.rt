@@ -1,4 +1,6 @@
 //! What comes of an exchange at one association.
+ghost use Rattle.std.specs.Prelude.{◌≡◌};
+ghost use Rattle.association.specs.Outcomes.{unless_made};
 
 use base::Items;
 
@@ -29,4 +31,17 @@ pub struct Ended {
     pub child: Option<u32>,
     /// Whether the association is closed.
     pub closed: bool,
+    /// The notice by which the peer declined what was asked: the type of the first error notice of its answer
+    /// ([`exchange::first_error`]), where no child was made of that. `None` where the answer has no such notice, or is not in the grammar.
+    pub declined: Option<u16>,
+}
+
+/// The error that an answer tells, where no child was made of that: beside a child that is made it declines nothing.
+pub fn unless_made(child: Option<u32>, error: Option<u16>) -> Option<u16>
+    ensures { result ≡ unless_made child error }
+{
+    match child {
+        Some(_) => None,
+        None => error,
+    }
 }

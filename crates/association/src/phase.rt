@@ -95,11 +95,11 @@ pub struct AuthSent {
 #[derive(Drop)]
 pub struct HalfOpen {
     pub keys: KeyRecord,
-    /// The initiator's first message, over which its AUTH is computed (RealMessage1; RFC 7296, section 2.15), and by which its
-    /// repeat is known.
+    /// The initiator's first message, over which its AUTH is computed (RealMessage1; RFC 7296, section
+    /// 2.15), and by which its repeat is known.
     pub request: Items<u8>,
-    /// This end's answer, over which its own AUTH is computed (RealMessage2), and which goes out again where the request comes
-    /// again.
+    /// This end's answer, over which its own AUTH is computed (RealMessage2), and which goes out again
+    /// where the request comes again.
     pub reply: Items<u8>,
     /// The moment at which it was made, in milliseconds.
     pub made: u64,
@@ -120,7 +120,8 @@ impl Association {
         }
     }
 
-    /// Whether a request of this end to delete it waits for its answer (RFC 7296, section 1.4.1). Takes no memory.
+    /// Whether a request of this end to delete it waits for its answer (RFC 7296, section 1.4.1). Takes no
+    /// memory.
     pub fn is_deleting(&self) -> bool
         ensures { MatchBool result (AwaitsDeletion self.now.outgoing) (¬ AwaitsDeletion self.now.outgoing) }
     {
@@ -134,9 +135,9 @@ impl Association {
         asks_first(&self.phase) || asks_further(&self.outgoing)
     }
 
-    /// Makes an association established whose IKE_AUTH is done; in any other phase than [`Phase::AuthSent`] and
-    /// [`Phase::HalfOpen`] nothing changes. The SPI is answered that was reserved for the first child, where this end asked for
-    /// one. Takes no memory.
+    /// Makes an association established whose IKE_AUTH is done; in any other phase than [`Phase::AuthSent`]
+    /// and [`Phase::HalfOpen`] nothing changes. The SPI is answered that was reserved for the first child,
+    /// where this end asked for one. Takes no memory.
     pub fn establish(&mut self) -> Option<Spi>
         ensures spi { result ≡ established_spi self.old.phase }
         ensures content { self.new ≡ record self.old { phase = established_of self.old.phase } }
@@ -146,8 +147,9 @@ impl Association {
         spi
     }
 
-    /// Ends it at a moment, in milliseconds: it waits for no answer any more, its children are taken out of the table, and the SPIs
-    /// that were reserved for further ones are given up. What it answered is kept to be sent again. Takes no memory.
+    /// Ends it at a moment, in milliseconds: it waits for no answer any more, its children are taken out of
+    /// the table, and the SPIs that were reserved for further ones are given up. What it answered is kept
+    /// to be sent again. Takes no memory.
     ///
     /// The caller asks only where these SPIs are reserved in the table, each for one child.
     pub fn close(&mut self, table: &mut Table, moment: u64)
@@ -167,7 +169,8 @@ impl Phase {
     const ENDED: Phase = Phase::Closed { keys: None, at: 0 };
 }
 
-// The phase that follows where both ends have proved who they are, and the SPI that the first child was to have.
+// The phase that follows where both ends have proved who they are, and the SPI that the first child was to
+// have.
 fn established(phase: Phase) -> (Phase, Option<Spi>)
     ensures phase { result.0 ≡ established_of phase }
     ensures spi { result.1 ≡ established_spi phase }

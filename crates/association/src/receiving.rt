@@ -19,7 +19,8 @@ use wire::numbers::{CREATE_CHILD_SA, IKE_AUTH, INFORMATIONAL};
 pub enum Received {
     /// It is passed over.
     Refused(MessageFault),
-    /// A request that took effect before. These octets answered it, and answer it again (RFC 7296, section 2.1).
+    /// A request that took effect before. These octets answered it, and answer it again (RFC 7296, section
+    /// 2.1).
     Repeat(Items<u8>),
     /// A request that is to take effect, with its payloads.
     Request(Plain),
@@ -29,19 +30,22 @@ pub enum Received {
     InitialResponse,
 }
 
-/// What a message is to the association that [`find`](crate::find) found for it (RFC 7296, sections 2.1 to 2.3 and 3.14). The
-/// octets are those that the message was decoded from.
+/// What a message is to the association that [`find`](crate::find) found for it (RFC 7296, sections 2.1 to
+/// 2.3 and 3.14). The octets are those that the message was decoded from.
 ///
-/// A response, in this order: [`MessageFault::WrongPhase`] where the association is closed, [`MessageFault::OutsideWindow`] where
-/// no request of its number is outstanding, [`MessageFault::WrongPhase`] where that has another exchange, and, but for
-/// IKE_SA_INIT, [`MessageFault::NotOpened`].
+/// A response, in this order: [`MessageFault::WrongPhase`] where the association is closed,
+/// [`MessageFault::OutsideWindow`] where no request of its number is outstanding,
+/// [`MessageFault::WrongPhase`] where that has another exchange, and, but for IKE_SA_INIT,
+/// [`MessageFault::NotOpened`].
 ///
-/// A request: [`MessageFault::Forgotten`] or [`MessageFault::OutsideWindow`] by its number, [`MessageFault::WrongPhase`] where it is
-/// fresh and the association closed, [`MessageFault::NotOpened`]; then one that took effect is a repeat, and a fresh one is
-/// refused by [`MessageFault::WrongPhase`] where its exchange doesn't belong to the phase: IKE_AUTH to a half-open association,
-/// CREATE_CHILD_SA and INFORMATIONAL to an established one.
+/// A request: [`MessageFault::Forgotten`] or [`MessageFault::OutsideWindow`] by its number,
+/// [`MessageFault::WrongPhase`] where it is fresh and the association closed, [`MessageFault::NotOpened`];
+/// then one that took effect is a repeat, and a fresh one is refused by [`MessageFault::WrongPhase`] where
+/// its exchange doesn't belong to the phase: IKE_AUTH to a half-open association, CREATE_CHILD_SA and
+/// INFORMATIONAL to an established one.
 ///
-/// An error is for want of memory alone, which none but a message that is opened takes, and a reply that is answered again.
+/// An error is for want of memory alone, which none but a message that is opened takes, and a reply that is
+/// answered again.
 pub fn receive<S: Sealer>(
     alloc: Global,
     sealer: &S,

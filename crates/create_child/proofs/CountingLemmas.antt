@@ -22,6 +22,8 @@ use Rattle.children.specs.declared.asking.Asked.{Asked}
 use Rattle.association.specs.Issuing.{with_outgoing}
 use Rattle.setup.specs.Configs.{Setup}
 use Rattle.further.specs.Concluding.{Concludes, KeepsTo}
+use Rattle.exchange.specs.Chains.{TellsError}
+use Rattle.further.specs.declared.concluding.Concluded.{Concluded}
 use Rattle.further.specs.declared.concluding.Conclusion.{Conclusion}
 use Rattle.further.specs.declared.concluding.Conclusion.TheVariants as conclusion
 use Rattle.create_child.specs.Counting.{ConcludesAt, HasItsSpi}
@@ -31,15 +33,16 @@ its_own asked spi conclusion.Closes same keeps = tt
 its_own asked spi (conclusion.Made pair) same keeps = keeps.spi ∙ same
 its_own asked spi conclusion.NoChild same keeps = tt
 
-pub concluded_at : (setup : Setup) (a : Association) (keys : KeyRecord) (number : ℕ) (plain : Plain) (request : Request) (further : FurtherChild) (asked : Asked) (o : Conclusion)
+pub concluded_at : (setup : Setup) (a : Association) (keys : KeyRecord) (number : ℕ) (plain : Plain) (request : Request) (further : FurtherChild) (asked : Asked) (o : Concluded)
     → a.phase ≡ phase.Established keys → map.get a.outgoing.outstanding number ≡ Some request → request.purpose ≡ CreateChild further → asked ≡ asked_of further.child
-    → Concludes setup.config.blocks a.serial keys asked further.nonce plain o → KeepsTo asked o → ConcludesAt setup a number plain o
-concluded_at setup a keys number plain request further asked o established there is same due keeps = record {
+    → Concludes setup.config.blocks a.serial keys asked further.nonce plain o.conclusion → TellsError plain o.error → KeepsTo asked o.conclusion → ConcludesAt setup a number plain o
+concluded_at setup a keys number plain request further asked o established there is same due told keeps = record {
   keys = keys;
   established = established;
   at = record { request = request; outstanding = there; further = further; asked = is };
-  due = subst (λ (x : Asked). Concludes setup.config.blocks a.serial keys x further.nonce plain o) same due;
-  its_own = its_own asked further.child.spi o (ap (λ (x : Asked). x.spi) same) keeps;
+  due = subst (λ (x : Asked). Concludes setup.config.blocks a.serial keys x further.nonce plain o.conclusion) same due;
+  told = told;
+  its_own = its_own asked further.child.spi o.conclusion (ap (λ (x : Asked). x.spi) same) keeps;
 }
 
 -- another SPI stays reserved

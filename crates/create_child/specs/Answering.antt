@@ -40,7 +40,8 @@ abbrev pub ConcludesFurther : Bool → Option Pair → Association → Database 
 ConcludesFurther true pair old table moment child new new_table = (child ≡ None) × Closes old table moment new new_table
 ConcludesFurther false pair old table moment child new new_table = (new ≡ old) × AddsFurther pair table child new_table
 
--- The request takes effect: it is answered, the answer is kept, and the child is made, or none, or the association ends.
+-- The request takes effect: it is answered, the answer is kept, and the child is made, or none, or the
+-- association ends.
 pub record AnswersFurther (body_of : Keys → Octets → Octets → Octets → Octets) (setup : Setup) (old : Association) (table : Database) (number : ℕ) (plain : Plain) (answer : Answered) (new : Association) (new_table : Database) : Type 0 where
   pub keys : KeyRecord
   pub established : old.phase ≡ phase.Established keys

@@ -34,8 +34,8 @@ wanted setup spi local remote = record {
   nonce = setup.fresh.nonce;
 }
 
--- The next SPI is reserved for the child, and its request goes out under the next number and waits for its answer. None goes out while one to
--- delete the association waits for its own.
+-- The next SPI is reserved for the child, and its request goes out under the next number and waits for its
+-- answer. None goes out while one to delete the association waits for its own.
 pub record AsksForFurther (body_of : Keys → Octets → Octets → Octets → Octets) (setup : Setup) (local remote : Selector) (old : Association) (table : Database) (octets : Octets) (new : Association) (new_table : Database) : Type 0 where
   pub keys : KeyRecord
   pub established : old.phase ≡ phase.Established keys

@@ -1,4 +1,5 @@
--- The response to a request for a further child, and what comes of it (RFC 7296 sections 1.3.1, 2.17 and 2.21.3).
+-- The response to a request for a further child, and what comes of it (RFC 7296 sections 1.3.1, 2.17 and
+-- 2.21.3).
 use Rattle.std.specs.Prelude.{◌≡◌, ℕ, Bool, true, false, Option, Some, None}
 use Rattle.std.specs.FinMap as map
 use Rattle.suite.specs.declared.key_record.KeyRecord.{KeyRecord}
@@ -8,6 +9,7 @@ use Rattle.sadb.specs.Database.{Database, Installs, Releases}
 use Rattle.sadb.specs.declared.pair.Pair.{Pair}
 use Rattle.association.specs.AskedChildren.{asked_of}
 use Rattle.association.specs.Closing.{Closes}
+use Rattle.association.specs.Outcomes.{IsDeclinedBy}
 use Rattle.association.specs.Phases.{IsEstablished}
 use Rattle.association.specs.declared.phase.Association.{Association}
 use Rattle.association.specs.declared.phase.Phase.TheVariants as phase
@@ -18,6 +20,8 @@ use Rattle.association.specs.Issuing.{with_outgoing}
 use Rattle.setup.specs.Configs.{Setup}
 use Rattle.association.specs.declared.outcome.Ended.{Ended}
 use Rattle.further.specs.Concluding.{Concludes}
+use Rattle.exchange.specs.Chains.{TellsError}
+use Rattle.further.specs.declared.concluding.Concluded.{Concluded}
 use Rattle.further.specs.declared.concluding.Conclusion.{Conclusion}
 use Rattle.further.specs.declared.concluding.Conclusion.TheVariants as conclusion
 
@@ -40,14 +44,15 @@ HasItsSpi spi (conclusion.Made pair) = pair.inbound.association.spi ≡ spi
 HasItsSpi spi conclusion.NoChild = Unit {0}
 
 -- what the response makes of it, under the association's keys; only private contracts cite this, the one before and the next
-pub record ConcludesAt (setup : Setup) (a : Association) (number : ℕ) (plain : Plain) (concluded : Conclusion) : Type 0 where
+pub record ConcludesAt (setup : Setup) (a : Association) (number : ℕ) (plain : Plain) (concluded : Concluded) : Type 0 where
   pub keys : KeyRecord
   pub established : a.phase ≡ phase.Established keys
   pub at : AsksAt a.outgoing number
-  pub due : Concludes setup.config.blocks a.serial keys (asked_of at.further.child) at.further.nonce plain concluded
-  pub its_own : HasItsSpi at.further.child.spi concluded
+  pub due : Concludes setup.config.blocks a.serial keys (asked_of at.further.child) at.further.nonce plain concluded.conclusion
+  pub told : TellsError plain concluded.error
+  pub its_own : HasItsSpi at.further.child.spi concluded.conclusion
 
-abbrev pub ConcludesWhereAwaited : Setup → Association → ℕ → Plain → Option Conclusion → Type 0
+abbrev pub ConcludesWhereAwaited : Setup → Association → ℕ → Plain → Option Concluded → Type 0
 ConcludesWhereAwaited setup a number plain None = ¬ AwaitsFurther a number
 ConcludesWhereAwaited setup a number plain (Some concluded) = ConcludesAt setup a number plain concluded
 
@@ -93,6 +98,7 @@ pub record CountsFurther (setup : Setup) (old : Association) (table : Database) 
   pub conclusion : Conclusion
   pub concluded : Concludes setup.config.blocks old.serial keys (asked_of further.child) further.nonce plain conclusion
   pub closed : ended.closed ≡ is_closing_conclusion conclusion
+  pub declined : IsDeclinedBy plain ended.child ended.declined
   pub ends : EndsFurther conclusion further.child.spi (with_outgoing old outgoing) table setup.moment ended.child new new_table
 
 -- It is counted where it answers such a request; else nothing is done.

@@ -26,15 +26,17 @@ use suite::{KeyRecord, Sealer};
 use wire::Message;
 use wire::numbers::CREATE_CHILD_SA;
 
-/// Answers a request of CREATE_CHILD_SA at an established association (RFC 7296, section 1.3.1), by the payloads that it opened to and what
-/// [`further::decide`] makes of them.
+/// Answers a request of CREATE_CHILD_SA at an established association (RFC 7296, section 1.3.1), by the
+/// payloads that it opened to and what [`further::decide`] makes of them.
 ///
-/// Where the payloads are not in the grammar, or the request is incomplete, the answer is INVALID_SYNTAX and the association is closed
-/// (section 2.21.3). Where no child is made for another reason the answer is that notice alone. Otherwise the child is made, and the answer
-/// has the step's fresh nonce. It is `None`, and nothing is changed, where the association is not established.
+/// Where the payloads are not in the grammar, or the request is incomplete, the answer is INVALID_SYNTAX
+/// and the association is closed (section 2.21.3). Where no child is made for another reason the answer is
+/// that notice alone. Otherwise the child is made, and the answer has the step's fresh nonce. It is `None`,
+/// and nothing is changed, where the association is not established.
 ///
-/// The caller asks only where the request is fresh and the SPIs that the association holds are reserved in the table. An error is for want
-/// of memory alone: association and table are as they were then, but for the table's room.
+/// The caller asks only where the request is fresh and the SPIs that the association holds are reserved in
+/// the table. An error is for want of memory alone: association and table are as they were then, but for
+/// the table's room.
 pub fn answer<C: Sealer>(
     alloc: Global,
     setup: &Setup<'_, C>,

@@ -29,13 +29,14 @@ use suite::{KeyRecord, Sealer};
 use wire::Message;
 use wire::numbers::CREATE_CHILD_SA;
 
-/// Asks for a further child with these selectors of this end's side and of the peer's (RFC 7296, section 1.3.1), with extended sequence
-/// numbers where the configuration allows them, and the step's fresh nonce. The request waits for its answer from then on, and holds the
-/// SPI that the table reserved for the child.
+/// Asks for a further child with these selectors of this end's side and of the peer's (RFC 7296, section
+/// 1.3.1), with extended sequence numbers where the configuration allows them, and the step's fresh nonce.
+/// The request waits for its answer from then on, and holds the SPI that the table reserved for the child.
 ///
-/// Refused, in this order: [`OrderFault::WrongPhase`] where the association is not established, [`OrderFault::Busy`] where a request to
-/// delete it waits for its answer or the peer takes no more requests at once, [`OrderFault::NumbersSpent`] where no number is left,
-/// [`OrderFault::TableFull`], [`OrderFault::SpisSpent`] and [`OrderFault::TableMemory`] where the table gives no SPI,
+/// Refused, in this order: [`OrderFault::WrongPhase`] where the association is not established,
+/// [`OrderFault::Busy`] where a request to delete it waits for its answer or the peer takes no more
+/// requests at once, [`OrderFault::NumbersSpent`] where no number is left, [`OrderFault::TableFull`],
+/// [`OrderFault::SpisSpent`] and [`OrderFault::TableMemory`] where the table gives no SPI,
 /// [`OrderFault::Memory`]. What is refused changes nothing but the table's room.
 ///
 /// The caller gives selectors that a message can carry.

@@ -7,21 +7,23 @@ ghost use Rattle.setup.specs.Configs.{setup_of};
 ghost use Rattle.create_child.specs.Counting.{is_closing_conclusion, ConcludesWhereAwaited, CountsWhereAwaited, EndsFurther, HasItsSpi};
 
 use association::laws::{children_are_asked_for, spis_stay_held};
-use association::{Association, Ended, Phase, Purpose};
+use association::{Association, Ended, Phase, Purpose, unless_made};
 use children::MemoryFault;
 use exchange::Plain;
-use further::{Conclusion, conclude_response};
+use further::{Concluded, Conclusion, conclude_response};
 use sadb::{Spi, Table};
 use setup::Setup;
 use std::alloc::Global;
 
 /// Counts the response to a request for a further child (RFC 7296, section 1.3.1), by the payloads that it opened to and what
 /// [`further::conclude_response`] makes of them: the association is closed, the child is made under the SPI that was reserved for it, or no
-/// child is made and that SPI is given up. It is `None`, and nothing is changed, where the association is not established, or no request of
-/// this number that asked for a child is outstanding.
+/// child is made and that SPI is given up. Where no child is made, the first error notice of the answer is told ([`Ended::declined`]). It is
+/// `None`, and nothing is changed, where the association is not established, or no request of this number that asked for a child is
+/// outstanding.
 ///
-/// The caller asks only where the SPIs that the association holds are reserved in the table. An error is for want of memory alone, for the
-/// message or the pair: its place in the table stands since its SPI was reserved. It changes nothing.
+/// The caller asks only where the SPIs that the association holds are reserved in the table. An error is
+/// for want of memory alone, for the message or the pair: its place in the table stands since its SPI was
+/// reserved. It changes nothing.
 pub fn count<C>(
     alloc: Global,
     setup: &Setup<'_, C>,
@@ -36,9 +38,10 @@ pub fn count<C>(
     ensures refused { IfErr result (λ _. (association.new ≡ association.old) × (table.new ≡ table.old)) }
     ensures wanted { IfErr result (λ fault. fault ≢ child.Table) }
 {
-    let Some(conclusion) = conclusion_at(alloc, setup, association, number, plain)? else {
+    let Some(concluded) = conclusion_at(alloc, setup, association, number, plain)? else {
         return Ok(None);
     };
+    let Concluded { conclusion, error } = concluded;
     spis_stay_held();
     children_are_asked_for();
     // From here on nothing can be refused.
@@ -46,7 +49,12 @@ pub fn count<C>(
     let spi = request.purpose.into_spi().unwrap();
     let closed = is_closing(&conclusion);
     let child = conclude(association, table, spi, conclusion, setup.moment);
-    Ok(Some(Ended { child, closed }))
+    let declined = unless_made(child, error);
+    Ok(Some(Ended {
+        child,
+        closed,
+        declined,
+    }))
 }
 
 // What the response makes of the request of its number, where that asked for a child.
@@ -56,7 +64,7 @@ fn conclusion_at<C>(
     association: &Association,
     number: u32,
     plain: &Plain,
-) -> Result<Option<Conclusion>, MemoryFault>
+) -> Result<Option<Concluded>, MemoryFault>
     ensures concluded { IfOk result
         (ConcludesWhereAwaited (setup_of setup.now) association.now number plain.now) }
     ensures wanted { IfErr result (λ fault. fault ≢ child.Table) }
@@ -70,7 +78,7 @@ fn conclusion_at<C>(
     let Purpose::CreateChild(further) = &request.purpose else {
         return Ok(None);
     };
-    let conclusion = conclude_response(
+    let concluded = conclude_response(
         alloc,
         plain,
         &further.child.asked(),
@@ -79,7 +87,7 @@ fn conclusion_at<C>(
         keys,
         setup.config.blocks(),
     )?;
-    Ok(Some(conclusion))
+    Ok(Some(concluded))
 }
 
 fn is_closing(conclusion: &Conclusion) -> bool

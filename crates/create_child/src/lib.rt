@@ -1,9 +1,11 @@
-//! The exchange CREATE_CHILD_SA (RFC 7296, section 1.3.1) at one association that is established: this end asks for a further child, a
-//! request of the peer is answered by one or refused, and the response to one of this end is counted.
+//! The exchange CREATE_CHILD_SA (RFC 7296, section 1.3.1) at one association that is established: asked,
+//! answered and counted. This end asks for a further child, a request of the peer is answered by one or
+//! refused, and the response to one of this end is counted.
 //!
-//! Which association a message is for, whether its number is fresh and what it opens to, [`association`] tells; what the payloads say,
-//! [`further`]. Each call here makes all that it needs before it changes anything, and tells where the association is not established. The
-//! SPI of a child that was asked for is kept with the request ([`association::Purpose::CreateChild`]), and goes back to the table with the
+//! Which association a message is for, whether its number is fresh and what it opens to, [`association`]
+//! tells; what the payloads say, [`further`]. Each call here makes all that it needs before it changes
+//! anything, and tells where the association is not established. The SPI of a child that was asked for is
+//! kept with the request ([`association::Purpose::CreateChild`]), and goes back to the table with the
 //! answer, or when the association ends.
 //!
 //! ```text
@@ -13,6 +15,14 @@
 //! }
 //! let ended = count(alloc, &step, &mut association, &mut table, number, &plain)?;
 //! ```
+//!
+//! # How it is proved
+//!
+//! Each call is a row of calls of [`association`], [`further`] and [`sadb`], and its contract is their
+//! relations in that order. The answers in `proofs/` bring these together, exit by exit. Two facts need a
+//! proof of their own. An IKE SA holds an additional child's SPI from its request on, and no two hold one
+//! (`proofs/AskingLemmas`). With the answer it gives that SPI back, and holds it no more
+//! (`CountingLemmas`). The crates `effects` and `ike` make of these that no SPI is lost.
 #![tactic(auto)]
 
 mod answering;

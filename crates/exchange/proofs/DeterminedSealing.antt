@@ -1,4 +1,5 @@
--- A message is sealed in one way: the head of its octets follows from the length of the body, and the body from that head.
+-- A message is sealed in one way: the head of its octets follows from the length of the body, and the body
+-- from that head.
 use Rattle.std.proofs.Common.{◌≡◌, ℕ, ◌+◌, List, [], ◌∷◌, ◌++◌, length, take, drop, sym, ap, subst, ◌∙◌, arith}
 use Rattle.std.proofs.lemmas.List.{length-append, append-nil, take_at, take-append-drop}
 use Rattle.byteorder.specs.Endian.{big_bytes}

@@ -156,8 +156,8 @@ is_sealed body_of sealed_size told keys fresh m clear whole s keyed fresh_octets
           (subst (λ (x : List ℕ). SpellsPlainly (holding m (slice_index clear 16) body) x) (sym made) spelled);
     }
 
--- two spellings of one message are equally long
--- what the laws of the format say of messages: what is spelled with zeros is spelled, and lengths follow from sizes
+-- two spellings of one message are equally long what the laws of the format say of messages: what is
+-- spelled with zeros is spelled, and lengths follow from sizes
 abbrev pub WeakensMessages : Type 0
 WeakensMessages = (m : Message) (b : List ℕ) → SpellsPlainly m b → Spells m b
 

@@ -1,4 +1,5 @@
--- Which payloads of a message count (RFC 7296 section 2.5 and the payloads that each exchange has, sections 1.2 to 1.4).
+-- Which payloads of a message count (RFC 7296 section 2.5 and the payloads that each exchange has, sections
+-- 1.2 to 1.4).
 use Rattle.std.specs.Prelude.{Bool, true, false, ◌==◌, ℕ, Option, Some, None, List, [], ◌∷◌, if◌then◌else◌, option_and_then}
 use Rattle.std.specs.Option.{option_or}
 use Rattle.base.specs.Octets.{Octets}
@@ -79,8 +80,9 @@ abbrev pub ts_r_in : Payload → Option (List Selector)
 ts_r_in (TsR selectors) = Some selectors
 ts_r_in _ = None
 
--- What the only payload of a type says, where there is just one and it is read as such: proposals (section 3.3), a group and a
--- public value (3.4), identities by their types (3.5), a method and its data (3.8), a nonce (3.9), selectors (3.13).
+-- What the only payload of a type says, where there is just one and it is read as such: proposals (section
+-- 3.3), a group and a public value (3.4), identities by their types (3.5), a method and its data (3.8), a
+-- nonce (3.9), selectors (3.13).
 abbrev pub only_sa : List Payload → Option (List Proposal)
 only_sa payloads = option_and_then sa_in (only SA_TYPE payloads)
 

@@ -1,9 +1,10 @@
 -- Notices (RFC 7296 section 3.10).
-use Rattle.std.specs.Prelude.{◌<◌, ◌==◌, ◌&&◌, ℕ, Bool, false, Option, Some, None, List, [], ◌∷◌, length, nat_le, if◌then◌else◌}
+use Rattle.std.specs.Prelude.{◌<◌, ◌==◌, ◌&&◌, ℕ, Bool, false, Option, Some, None, List, [], ◌∷◌, length, nat_le, nat_lt, if◌then◌else◌}
 use Rattle.wire.specs.Numbers.{AUTHENTICATION_FAILED, COOKIE, INVALID_SYNTAX, NO_ADDITIONAL_SAS, NO_PROPOSAL_CHOSEN, TS_UNACCEPTABLE, UNSUPPORTED_CRITICAL_PAYLOAD}
 use Rattle.wire.specs.Sizes.{FitsData}
 use Rattle.wire.specs.declared.payload.Payload.{Payload}
 use Rattle.wire.specs.declared.payload.Payload.TheVariants.{Notify}
+use Rattle.exchange.specs.Counting.{first_some}
 use Rattle.exchange.specs.declared.notices.Notice.{Notice}
 use Rattle.exchange.specs.declared.notices.Notice.TheVariants.{UnsupportedCriticalPayload, InvalidSyntax, NoProposalChosen, AuthenticationFailed, NoAdditionalSas, TsUnacceptable, Cookie}
 
@@ -45,7 +46,8 @@ abbrev pub cookie_in : Payload → Option (List ℕ)
 cookie_in (Notify protocol spi kind octets) = cookie_of kind octets
 cookie_in _ = None
 
--- a request that brings a cookie has it as its first payload, and an answer that asks for one has no other (section 2.6)
+-- a request that brings a cookie has it as its first payload, and an answer that asks for one has no other
+-- (section 2.6)
 abbrev pub leading_cookie : List Payload → Option (List ℕ)
 leading_cookie [] = None
 leading_cookie (p ∷ ps) = cookie_in p
@@ -59,3 +61,12 @@ asked_cookie (p ∷ q ∷ ps) = None
 abbrev pub is_invalid_syntax : Payload → Bool
 is_invalid_syntax (Notify protocol spi kind octets) = kind == INVALID_SYNTAX
 is_invalid_syntax _ = false
+
+-- the type of a notice that tells an error: one below 16384, since those from there on tell a status (section 3.10.1)
+abbrev pub error_in : Payload → Option ℕ
+error_in (Notify protocol spi kind octets) = if nat_lt kind 16384 then Some kind else None
+error_in _ = None
+
+-- that of the first such notice
+abbrev pub first_error : List Payload → Option ℕ
+first_error payloads = first_some error_in payloads

@@ -19,8 +19,8 @@ use Rattle.exchange.specs.declared.sealed.Plain.{Plain}
 abbrev pub HEAD_LENGTH : ℕ
 HEAD_LENGTH = 32
 
--- How many octets a message in clear may have: with the encrypted payload's header and the 128 octets that a cipher adds at most
--- it has no more than a message may have.
+-- How many octets a message in clear may have: with the encrypted payload's header and the 128 octets that
+-- a cipher adds at most it has no more than a message may have.
 abbrev pub CLEAR_LIMIT : ℕ
 CLEAR_LIMIT = 2868
 
@@ -28,12 +28,13 @@ CLEAR_LIMIT = 2868
 abbrev pub PAYLOADS_LIMIT : ℕ
 PAYLOADS_LIMIT = 2840
 
--- What a cipher covers beside the body, and doesn't seal: the message's header and the header of its encrypted payload.
+-- What a cipher covers beside the body, and doesn't seal: the message's header and the header of its
+-- encrypted payload.
 abbrev pub head_of : List ℕ → List ℕ
 head_of b = take HEAD_LENGTH b
 
--- The payloads of the message, spelled with zeros in all that is reserved, are sealed as the body of the one payload of a
--- message with the same header.
+-- The payloads of the message, spelled with zeros in all that is reserved, are sealed as the body of the
+-- one payload of a message with the same header.
 pub record IsSealed (body_of : Keys → List ℕ → List ℕ → List ℕ → List ℕ) (keys : Keys) (fresh : List ℕ) (m : Message) (b : List ℕ) : Type 0 where
   pub first : ℕ
   pub plain : List ℕ
@@ -41,13 +42,13 @@ pub record IsSealed (body_of : Keys → List ℕ → List ℕ → List ℕ → L
   pub octets : AreOctets plain
   pub whole : SpellsPlainly (record { header = m.header; payloads = Sealed first (body_of keys (head_of b) plain fresh) ∷ [] }) b
 
--- Under these keys and with these fresh octets a body is as long whatever its head is: its length follows from its plain text, as
--- the law of a cipher says.
+-- Under these keys and with these fresh octets a body is as long whatever its head is: its length follows
+-- from its plain text, as the law of a cipher says.
 pub record TellsLength (body_of : Keys → List ℕ → List ℕ → List ℕ → List ℕ) (keys : Keys) (fresh : List ℕ) : Type 0 where
   pub told : (head other plain : List ℕ) → AreOctets head → AreOctets other → AreOctets plain → length (body_of keys head plain fresh) ≡ length (body_of keys other plain fresh)
 
--- The header of the message in clear, with the type of an encrypted payload and the length of the whole, and that payload's
--- header, before a body of so many octets.
+-- The header of the message in clear, with the type of an encrypted payload and the length of the whole,
+-- and that payload's header, before a body of so many octets.
 abbrev pub sealed_head : List ℕ → ℕ → List ℕ
 sealed_head clear body =
     take 16 clear ++ SEALED_TYPE ∷ take 7 (drop 17 clear) ++ big_bytes 4 (HEAD_LENGTH + body) ++ slice_index clear 16 ∷ 0 ∷ big_bytes 2 (4 + body)
@@ -58,8 +59,8 @@ sealed_octets body_of sealed_size keys fresh clear =
     let head = sealed_head clear (sealed_size (length clear - HEADER_LENGTH)) in
     head ++ body_of keys head (drop HEADER_LENGTH clear) fresh
 
--- The message has a spelling, in clear so short that it fits a message whatever the cipher adds. A longer one may fit too, under a
--- cipher that adds less.
+-- The message has a spelling, in clear so short that it fits a message whatever the cipher adds. A longer
+-- one may fit too, under a cipher that adds less.
 pub record CanBeSealed (m : Message) : Type 0 where
   pub clear : List ℕ
   pub spelled : SpellsPlainly m clear
@@ -96,8 +97,8 @@ abbrev pub plain_by : (List ℕ → Option (List ℕ)) → Option Plain → Opti
 plain_by plain_of None = None
 plain_by plain_of (Some sealed) = plain_behind sealed.first (plain_of sealed.octets)
 
--- What a datagram with these payloads opens to under keys; none where another payload stands beside the encrypted one, or
--- the body doesn't open.
+-- What a datagram with these payloads opens to under keys; none where another payload stands beside the
+-- encrypted one, or the body doesn't open.
 abbrev pub plain_of_message : (Keys → List ℕ → List ℕ → Option (List ℕ)) → Keys → List ℕ → List Payload → Option Plain
 plain_of_message plain_of keys b payloads = plain_by (λ body. plain_of keys (head_of b) body) (lone_body payloads)
 

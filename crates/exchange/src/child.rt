@@ -7,8 +7,8 @@ use base::{Items, Selector};
 use std::alloc::{AllocError, Global};
 use wire::{Payload, Proposal};
 
-/// What a request says of a child, or its reply: the content of one SA, one TSi and one TSr payload (RFC 7296, sections 1.2
-/// and 1.3.1).
+/// What a request says of a child, or its reply: the content of one SA, one TSi and one TSr payload (RFC
+/// 7296, sections 1.2 and 1.3.1).
 #[derive(Debug, Drop)]
 pub struct ChildPayloads {
     /// The proposals, or the answer to one (section 3.3).
@@ -57,7 +57,8 @@ pub enum ChildAnswer {
 }
 
 impl ChildAnswer {
-    /// Adds its payloads behind those of a message: those of the child, or the notice. An error is for want of memory alone.
+    /// Adds its payloads behind those of a message: those of the child, or the notice. An error is for want
+    /// of memory alone.
     pub fn append_to(self, alloc: Global, payloads: &mut Items<Payload>) -> Result<(), AllocError>
         ensures { OnOk result (payloads.new ≡ payloads.old ++ answering_payloads self) }
     {

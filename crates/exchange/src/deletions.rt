@@ -19,7 +19,8 @@ pub fn deletes_association(payloads: &[Payload]) -> bool
     false
 }
 
-/// Whether the payloads name more SPIs than this to be deleted, each counted as often as it is named, whatever its protocol.
+/// Whether the payloads name more SPIs than this to be deleted, each counted as often as it is named,
+/// whatever its protocol.
 pub fn names_more_than(payloads: &[Payload], limit: usize) -> bool
     ensures { IsTrue result ↔ (limit < count_of_spis payloads.now) }
 {

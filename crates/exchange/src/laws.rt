@@ -21,8 +21,8 @@ use wire::laws::{
     messages_that_fit_are_spelled, plain_spellings_are_determined, plain_spellings_are_spellings,
 };
 
-/// A message whose payloads have what their fields allow, and have at most 2840 octets together, can be sent: sealing it is
-/// refused for memory alone. Does nothing.
+/// A message whose payloads have what their fields allow, and have at most 2840 octets together, can be
+/// sent: sealing it is refused for memory alone. Does nothing.
 pub fn short_messages_can_be_sent()
     ensures { (m : Message) → FitsHeaderFields m.header → AllByRecursion FitsFields m.payloads
         → sum_by size_of m.payloads ≤ PAYLOADS_LIMIT
@@ -41,7 +41,8 @@ pub fn what_counts_fits()
         → only_ts_r payloads ≡ Some selectors → FitsFields (TsR selectors) }
 {}
 
-/// A notice that fits is carried by a payload that has what its fields allow, of at most 72 octets. Does nothing.
+/// A notice that fits is carried by a payload that has what its fields allow, of at most 72 octets. Does
+/// nothing.
 pub fn notices_fit()
     ensures { (notice : Notice) → FitsNotice notice
         → FitsFields (payload_of_notice notice) × (size_of (payload_of_notice notice) ≤ 72) }
@@ -55,7 +56,8 @@ pub fn cookies_are_short()
         → length octets ≤ 64 }
 {}
 
-/// A cipher tells the length of a body by that of its plain text, under keys and with 16 fresh octets. Does nothing.
+/// A cipher tells the length of a body by that of its plain text, under keys and with 16 fresh octets. Does
+/// nothing.
 pub fn ciphers_tell_lengths<S: Sealer>(sealer: &S)
     ensures { (keys : Keys) (fresh : List ℕ) → AreKeys keys → AreOctets fresh → length fresh ≡ 16
         → TellsLength S.body_of keys fresh }
@@ -63,7 +65,8 @@ pub fn ciphers_tell_lengths<S: Sealer>(sealer: &S)
     let _ = sealer;
 }
 
-/// A message is sealed in one way, under the same keys and with the same fresh octets, where lengths are told. Does nothing.
+/// A message is sealed in one way, under the same keys and with the same fresh octets, where lengths are
+/// told. Does nothing.
 pub fn sealed_messages_are_determined()
     ensures { (body_of : Keys → List ℕ → List ℕ → List ℕ → List ℕ) (keys : Keys) (fresh : List ℕ)
         (m : Message) (a b : List ℕ)

@@ -1,7 +1,7 @@
 //! Notices (RFC 7296, section 3.10).
 ghost use Rattle.std.specs.Prelude.{◌≡◌, None, Some, IfOk, MatchOption};
 ghost use Rattle.std.specs.List.{list_any};
-ghost use Rattle.exchange.specs.Notices.{type_of_notice, data_of_notice, payload_of_notice, returned_cookie, cookie_in, leading_cookie, asked_cookie, is_invalid_syntax, FitsNotice};
+ghost use Rattle.exchange.specs.Notices.{type_of_notice, data_of_notice, payload_of_notice, returned_cookie, cookie_in, error_in, first_error, leading_cookie, asked_cookie, is_invalid_syntax, FitsNotice};
 ghost use Rattle.base.specs.Octets.{AreOctets};
 
 use base::Items;
@@ -15,12 +15,16 @@ use wire::numbers::{
 // The most octets of a cookie (section 2.6).
 const COOKIE_LIMIT: usize = 64;
 
+// The first type of a notice that tells a status; those below it tell errors (section 3.10.1).
+const FIRST_STATUS: u16 = 16384;
+
 /// A notice that is sent.
 #[derive(Clone, Copy, Debug, PartialEq, Eq)]
 pub enum Notice {
     /// A payload of this type is marked as critical and not known (RFC 7296, section 2.5).
     UnsupportedCriticalPayload { kind: u8 },
-    /// A request is not in the grammar, or a payload is missing in it or one too many (sections 2.21.2 and 2.21.3).
+    /// A request is not in the grammar, or a payload is missing in it or one too many (sections 2.21.2 and
+    /// 2.21.3).
     InvalidSyntax,
     /// No proposal is acceptable (section 2.7).
     NoProposalChosen,
@@ -82,8 +86,8 @@ impl Notice {
     }
 }
 
-/// The notice with which a request brings back the cookie that it was asked for (RFC 7296, section 2.6). An error is for want of
-/// memory alone.
+/// The notice with which a request brings back the cookie that it was asked for (RFC 7296, section 2.6). An
+/// error is for want of memory alone.
 pub fn returned_cookie(alloc: Global, octets: &[u8]) -> Result<Payload, AllocError>
     ensures { IfOk result (λ payload. payload ≡ returned_cookie octets.now) }
 {
@@ -103,7 +107,8 @@ pub fn leading_cookie(payloads: &[Payload]) -> Option<&[u8]>
     cookie_in(payloads.first()?)
 }
 
-/// The cookie that an answer asks for, as its only payload (RFC 7296, section 2.6), `None` where it is not just that.
+/// The cookie that an answer asks for, as its only payload (RFC 7296, section 2.6), `None` where it is not
+/// just that.
 pub fn asked_cookie(payloads: &[Payload]) -> Option<&[u8]>
     ensures { MatchOption result (asked_cookie payloads.now ≡ None)
         (λ octets. asked_cookie payloads.now ≡ Some octets.now) }
@@ -126,6 +131,20 @@ pub fn has_invalid_syntax(payloads: &[Payload]) -> bool
     false
 }
 
+/// The type of the first notice among the payloads that tells an error: one below 16384 (RFC 7296, section 3.10.1). `None` where there is
+/// none. Notices of other types tell a status, and are passed over.
+pub fn first_error(payloads: &[Payload]) -> Option<u16>
+    ensures { result ≡ first_error payloads.now }
+{
+    for payload in payloads {
+        let error = error_in(payload);
+        if error.is_some() {
+            return error;
+        }
+    }
+    None
+}
+
 // Whatever protocol and SPI a notice names, its type and its data tell whether it is a cookie.
 fn cookie_in(payload: &Payload) -> Option<&[u8]>
     ensures { MatchOption result (cookie_in payload.now ≡ None)
@@ -137,6 +156,15 @@ fn cookie_in(payload: &Payload) -> Option<&[u8]>
             data,
             ..
         } if !data.is_empty() && data.len() <= COOKIE_LIMIT => Some(data.as_slice()),
+        _ => None,
+    }
+}
+
+fn error_in(payload: &Payload) -> Option<u16>
+    ensures { result ≡ error_in payload.now }
+{
+    match payload {
+        Payload::Notify { kind, .. } if *kind < FIRST_STATUS => Some(*kind),
         _ => None,
     }
 }

@@ -13,9 +13,10 @@ use wire::numbers::{
 };
 use wire::{Payload, Proposal};
 
-/// The type of the first payload that is not known and is marked as critical (RFC 7296, section 2.5), `None` where there is
-/// none. A request that has it is refused. Here an answer is not: its critical payloads are passed over, a rule of this
-/// implementation against that section, which has the initiator ignore such an answer.
+/// The type of the first payload that is not known and is marked as critical (RFC 7296, section 2.5),
+/// `None` where there is none. A request that has it is refused. Here an answer is not: its critical
+/// payloads are passed over, a rule of this implementation against that section, which has the initiator
+/// ignore such an answer.
 pub fn unknown_critical(payloads: &[Payload]) -> Option<u8>
     ensures { result ≡ unknown_critical payloads.now }
 {
@@ -92,7 +93,8 @@ pub fn only(payloads: &[Payload], kind: u8) -> Option<&Payload>
     found
 }
 
-/// The proposals of the only security association payload (RFC 7296, section 3.3), `None` where there is not just one.
+/// The proposals of the only security association payload (RFC 7296, section 3.3), `None` where there is
+/// not just one.
 pub fn only_sa(payloads: &[Payload]) -> Option<&[Proposal]>
     ensures { MatchOption result (only_sa payloads.now ≡ None)
         (λ found. only_sa payloads.now ≡ Some found.now) }
@@ -103,7 +105,8 @@ pub fn only_sa(payloads: &[Payload]) -> Option<&[Proposal]>
     }
 }
 
-/// The group and the public value of the only key exchange payload (section 3.4), `None` where there is not just one.
+/// The group and the public value of the only key exchange payload (section 3.4), `None` where there is not
+/// just one.
 pub fn only_ke(payloads: &[Payload]) -> Option<(u16, &[u8])>
     ensures { MatchOption result (only_ke payloads.now ≡ None)
         (λ found. only_ke payloads.now ≡ Some (found.0, found.1.now)) }
@@ -114,7 +117,8 @@ pub fn only_ke(payloads: &[Payload]) -> Option<(u16, &[u8])>
     }
 }
 
-/// The type and the data of the only identity of an initiator (section 3.5), `None` where there is not just one.
+/// The type and the data of the only identity of an initiator (section 3.5), `None` where there is not just
+/// one.
 pub fn only_id_i(payloads: &[Payload]) -> Option<(u8, &[u8])>
     ensures { MatchOption result (only_id_i payloads.now ≡ None)
         (λ found. only_id_i payloads.now ≡ Some (found.0, found.1.now)) }
@@ -125,7 +129,8 @@ pub fn only_id_i(payloads: &[Payload]) -> Option<(u8, &[u8])>
     }
 }
 
-/// The type and the data of the only identity of a responder (section 3.5), `None` where there is not just one.
+/// The type and the data of the only identity of a responder (section 3.5), `None` where there is not just
+/// one.
 pub fn only_id_r(payloads: &[Payload]) -> Option<(u8, &[u8])>
     ensures { MatchOption result (only_id_r payloads.now ≡ None)
         (λ found. only_id_r payloads.now ≡ Some (found.0, found.1.now)) }
@@ -136,7 +141,8 @@ pub fn only_id_r(payloads: &[Payload]) -> Option<(u8, &[u8])>
     }
 }
 
-/// The method and the data of the only authentication payload (section 3.8), `None` where there is not just one.
+/// The method and the data of the only authentication payload (section 3.8), `None` where there is not just
+/// one.
 pub fn only_auth(payloads: &[Payload]) -> Option<(u8, &[u8])>
     ensures { MatchOption result (only_auth payloads.now ≡ None)
         (λ found. only_auth payloads.now ≡ Some (found.0, found.1.now)) }
@@ -158,7 +164,8 @@ pub fn only_nonce(payloads: &[Payload]) -> Option<&[u8]>
     }
 }
 
-/// The selectors of the only payload for the initiator's side (section 3.13), `None` where there is not just one.
+/// The selectors of the only payload for the initiator's side (section 3.13), `None` where there is not
+/// just one.
 pub fn only_ts_i(payloads: &[Payload]) -> Option<&[Selector]>
     ensures { MatchOption result (only_ts_i payloads.now ≡ None)
         (λ found. only_ts_i payloads.now ≡ Some found.now) }
@@ -169,7 +176,8 @@ pub fn only_ts_i(payloads: &[Payload]) -> Option<&[Selector]>
     }
 }
 
-/// The selectors of the only payload for the responder's side (section 3.13), `None` where there is not just one.
+/// The selectors of the only payload for the responder's side (section 3.13), `None` where there is not
+/// just one.
 pub fn only_ts_r(payloads: &[Payload]) -> Option<&[Selector]>
     ensures { MatchOption result (only_ts_r payloads.now ≡ None)
         (λ found. only_ts_r payloads.now ≡ Some found.now) }

@@ -25,12 +25,13 @@ pub struct Plain {
     pub octets: Items<u8>,
 }
 
-/// Appends a message with its payloads encrypted under the sender's keys: its header, and one payload, whose body the
-/// cipher makes of them with 16 fresh octets (RFC 7296, section 3.14).
+/// Appends a message with its payloads encrypted under the sender's keys: its header, and one payload,
+/// whose body the cipher makes of them with 16 fresh octets (RFC 7296, section 3.14).
 ///
-/// Refused as [`encode_message`] refuses the message in clear, with offsets as there; and [`WireFault::TooLong`] where it has
-/// more than 3000 octets once it is sealed. A message that has at most 2868 octets in clear is refused for memory alone. After
-/// a refusal `out` is as it was. A payload that is encrypted itself is sealed as it stands, but no end reads it there.
+/// Refused as [`encode_message`] refuses the message in clear, with offsets as there; and
+/// [`WireFault::TooLong`] where it has more than 3000 octets once it is sealed. A message that has at most
+/// 2868 octets in clear is refused for memory alone. After a refusal `out` is as it was. A payload that is
+/// encrypted itself is sealed as it stands, but no end reads it there.
 pub fn seal_message<S: Sealer>(
     sealer: &S,
     keys: &Keys,
@@ -44,7 +45,8 @@ pub fn seal_message<S: Sealer>(
     ensures memory { CanBeSealed message.now → IfErr result (λ f. f ≡ WireFault.Memory) }
     ensures refused { OnErr result (out.new.items ≡ out.old.items) }
 {
-    // Brings that both keys have 32 octets, which the laws of a sealer ask for, and what the laws of the format say of lengths.
+    // Brings that both keys have 32 octets, which the laws of a sealer ask for, and what the laws of the
+    // format say of lengths.
     let _ = keys.as_slices();
     plain_spellings_are_spellings();
     spellings_have_their_size();
@@ -83,8 +85,8 @@ fn sealed_octets<S: Sealer>(
     Ok(whole)
 }
 
-// What stands before a body of so many octets: the header of the message in clear, with another type of the first payload and
-// another length, and the header of the encrypted payload.
+// What stands before a body of so many octets: the header of the message in clear, with another type of the
+// first payload and another length, and the header of the encrypted payload.
 fn sealed_head(alloc: Global, clear: &[u8], body: usize) -> Result<Vec<u8>, AllocError>
     requires header { HEADER_LENGTH ≤ length clear.now }
     requires short { HEAD_LENGTH + body ≤ MESSAGE_LIMIT }
@@ -101,9 +103,9 @@ fn sealed_head(alloc: Global, clear: &[u8], body: usize) -> Result<Vec<u8>, Allo
     Ok(head)
 }
 
-/// What a datagram's encrypted payload opens to under the sender's keys, where it is the message's only payload and its body
-/// opens (RFC 7296, section 3.14); `None` otherwise. An error is for want of memory alone. `message` is what the datagram
-/// spells.
+/// What a datagram's encrypted payload opens to under the sender's keys, where it is the message's only
+/// payload and its body opens (RFC 7296, section 3.14); `None` otherwise. An error is for want of memory
+/// alone. `message` is what the datagram spells.
 pub fn open_message<S: Sealer>(
     alloc: Global,
     sealer: &S,

@@ -110,7 +110,8 @@ further_mirrored law keys request reply proposal a b one is also =
     (subst (λ (n : Octets). IsChild Initiator (child_keys keys.sk_d is.nonce_i n) request reply a) same_r is.child) in
     law (child_keys keys.sk_d also.nonce_i also.nonce_r) request reply proposal a b one child also.child
 
--- what was decided about octets that spell these payloads was decided about them; so it is with what was concluded
+-- what was decided about octets that spell these payloads was decided about them; so it is with what was
+-- concluded
 pub decided_as_sent : OneChain → (setup : Setup) (ike : ℕ) (keys : KeyRecord) (table : Database) (deleting : Bool) (plain : Plain) (payloads : List Payload) (made : Made)
     → SpellsChain plain.first payloads plain.octets → DecidesFurther setup ike keys table deleting plain (decision.Made made)
     → DecidesFurtherOn setup ike keys table deleting payloads (decision.Made made)

@@ -1,4 +1,5 @@
--- What an initiator makes of the answer to its request for a further child (RFC 7296 sections 1.3.1, 2.7, 2.9, 2.17 and 2.21.3).
+-- What an initiator makes of the answer to its request for a further child (RFC 7296 sections 1.3.1, 2.7,
+-- 2.9, 2.17 and 2.21.3).
 use Rattle.std.specs.Prelude.{◌≡◌, ◌⊎◌, ℕ, true, false, Option, Some, None, List}
 use Rattle.std.specs.List.{list_any}
 use Rattle.base.specs.Octets.{Octets}
@@ -15,7 +16,8 @@ use Rattle.further.specs.Deciding.{further_setting}
 use Rattle.further.specs.declared.concluding.Conclusion.{Conclusion}
 use Rattle.further.specs.declared.concluding.Conclusion.TheVariants as conclusion
 
--- the answer doesn't tell that the request was not in the grammar; it has one nonce, and an acceptable child under the keys that come of it
+-- the answer doesn't tell that the request was not in the grammar; it has one nonce, and an acceptable
+-- child under the keys that come of it
 pub record AcceptsFurtherChild (blocks ike : ℕ) (keys : KeyRecord) (asked : Asked) (own_nonce : Octets) (answer : List Payload) (pair : Pair) : Type 0 where
   pub stands : list_any is_invalid_syntax answer ≡ false
   pub nonce : Octets
@@ -28,8 +30,8 @@ pub record HasNoChild (asked : Asked) (answer : List Payload) : Type 0 where
   pub none : (only_nonce answer ≡ None) ⊎ IsUnacceptable asked answer
 
 -- By what is read: what is not in the grammar says nothing, and a notice INVALID_SYNTAX ends the association, also beside a complete child.
--- That any other notice and a critical payload that is not known are passed over are rules of this implementation, the latter against
--- section 2.5.
+-- That any other notice brings about nothing, and that a critical payload which is not known is passed over, are rules of this
+-- implementation, the latter against section 2.5.
 abbrev pub IsConclusion : ℕ → ℕ → KeyRecord → Asked → Octets → Option (List Payload) → Conclusion → Type 0
 IsConclusion blocks ike keys asked own_nonce None conclusion.Closes = ⊥
 IsConclusion blocks ike keys asked own_nonce None (conclusion.Made pair) = ⊥

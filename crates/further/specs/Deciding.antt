@@ -1,4 +1,5 @@
--- What a responder decides about a request for a further child (RFC 7296 sections 1.3.1, 2.9, 2.17 and 2.21.3).
+-- What a responder decides about a request for a further child (RFC 7296 sections 1.3.1, 2.9, 2.17 and
+-- 2.21.3).
 use Rattle.std.specs.Prelude.{◌≡◌, ℕ, Bool, true, false, Option, Some, None, List}
 use Rattle.base.specs.Octets.{Octets}
 use Rattle.wire.specs.declared.payload.Payload.{Payload}
@@ -19,8 +20,8 @@ use Rattle.further.specs.Judging.{Admitted, FurtherJudgement, FurtherRequestView
 use Rattle.further.specs.declared.deciding.Decision.{Decision}
 use Rattle.further.specs.declared.deciding.Decision.TheVariants as decision
 
--- What a further child is made on: keys come from the association's SK_d and the nonces of the exchange, its initiator's first
--- (section 2.17).
+-- What a further child is made on: keys come from the association's SK_d and the nonces of the exchange,
+-- its initiator's first (section 2.17).
 abbrev pub further_setting : ℕ → ℕ → KeyRecord → Octets → Octets → Setting
 further_setting blocks ike keys ni nr = record { ike = ike; keys = child_keys keys.sk_d ni nr; blocks = blocks }
 
@@ -33,7 +34,8 @@ abbrev pub response_of : Decision → Response
 response_of (decision.Refused notice) = response.Refused notice
 response_of (decision.Made made) = response.Made made
 
--- by a judgement: what it refuses is refused so, and what is asked for is answered as the first child of an association is
+-- by a judgement: what it refuses is refused so, and what is asked for is answered as the first child of an
+-- association is
 abbrev pub DecidesFurtherBy : Setup → ℕ → KeyRecord → Database → FurtherJudgement → Decision → Type 0
 DecidesFurtherBy setup ike keys table (Refused notice) (decision.Refused told) = told ≡ notice
 DecidesFurtherBy setup ike keys table (Refused notice) (decision.Made made) = ⊥

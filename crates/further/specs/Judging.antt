@@ -30,9 +30,9 @@ abbrev pub judgement_view : Judgement → FurtherJudgement
 judgement_view (judged.Refused notice) = Refused notice
 judgement_view (judged.Asked request) = Admitted (further_request_view request)
 
--- An end may refuse to make any further Child SA, or to rekey the IKE SA (section 1.3). Here it does, by a rule of this implementation,
--- where a key exchange is asked for, or another IKE association in place of this one, or while its own request to delete this one is
--- outstanding (section 1.4.1).
+-- An end may refuse to make any further Child SA, or to rekey the IKE SA (section 1.3). Here it does, by a
+-- rule of this implementation, where a key exchange is asked for, or another IKE association in place of
+-- this one, or while its own request to delete this one is outstanding (section 1.4.1).
 abbrev pub is_declined : List Payload → Bool → Bool
 is_declined payloads deleting = has_ke payloads || list_any (offers_protocol IKE_PROTOCOL) payloads || deleting
 

@@ -9,8 +9,9 @@ use Rattle.exchange.specs.declared.headers.Role.{Role}
 use Rattle.sadb.specs.declared.pair.Pair.{Pair}
 use Rattle.children.specs.Pairs.{IsChild}
 
--- The pair is what the end of this role in the exchange has of the child that a request and its reply made. Its keys come from the
--- association's SK_d and the only nonce in each, since no key exchange took place (section 2.17).
+-- The pair is what the end of this role in the exchange has of the child that a request and its reply made.
+-- Its keys come from the association's SK_d and the only nonce in each, since no key exchange took place
+-- (section 2.17).
 pub record IsFurtherChild (role : Role) (keys : KeyRecord) (request reply : List Payload) (pair : Pair) : Type 0 where
   pub no_exchange : has_ke request ≡ false
   pub nonce_i : Octets

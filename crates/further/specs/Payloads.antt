@@ -1,4 +1,5 @@
--- The payloads of CREATE_CHILD_SA for a further child (RFC 7296 section 1.3.1), without the key exchange that is optional there.
+-- The payloads of CREATE_CHILD_SA for a further child (RFC 7296 section 1.3.1), without the key exchange
+-- that is optional there.
 use Rattle.std.specs.Prelude.{List, [], ◌∷◌}
 use Rattle.base.specs.Octets.{Octets}
 use Rattle.wire.specs.declared.payload.Payload.{Payload}

@@ -11,11 +11,12 @@ use exchange::laws::notices_fit;
 use std::alloc::{AllocError, Global};
 use wire::Payload;
 
-/// The payloads of the answer to a request for a further child (RFC 7296, section 1.3.1): SA, Nonce, TSi, TSr, with the nonce by which
-/// [`decide`](crate::decide) made the child, the step's fresh one; or one notice. They can be sealed.
+/// The payloads of the answer to a request for a further child (RFC 7296, section 1.3.1): SA, Nonce, TSi,
+/// TSr, with the nonce by which [`decide`](crate::decide) made the child, the step's fresh one; or one
+/// notice. They can be sealed.
 ///
-/// The caller gives an answer that can be sent, as [`Decision::into_parts`](crate::Decision::into_parts) does. An error is for want of
-/// memory alone.
+/// The caller gives an answer that can be sent, as [`Decision::into_parts`](crate::Decision::into_parts)
+/// does. An error is for want of memory alone.
 pub fn answer_payloads(
     alloc: Global,
     answer: ChildAnswer,

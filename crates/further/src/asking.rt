@@ -13,9 +13,9 @@ use children::laws::payloads_fit;
 use std::alloc::{AllocError, Global};
 use wire::Payload;
 
-/// The payloads of a request for a further child (RFC 7296, section 1.3.1): SA, Nonce, TSi, TSr, with what [`children::ask`] asks for, and
-/// this end's nonce of 32 octets, which [`conclude_response`](crate::conclude_response) is to be given again (section 2.17). They can be
-/// sealed.
+/// The payloads of a request for a further child (RFC 7296, section 1.3.1): SA, Nonce, TSi, TSr, with what
+/// [`children::ask`] asks for, and this end's nonce of 32 octets, which
+/// [`conclude_response`](crate::conclude_response) is to be given again (section 2.17). They can be sealed.
 ///
 /// The caller gives selectors that a message can carry. An error is for want of memory alone.
 pub fn ask(alloc: Global, asked: &Asked, nonce: &[u8; 32]) -> Result<Items<Payload>, AllocError>

@@ -1,42 +1,57 @@
 //! What an initiator makes of the answer to its request for a further child.
 ghost use Rattle.std.specs.Prelude.{◌≡◌, ◌≢◌, Some, IfErr, IfOk};
 ghost use Rattle.replay.specs.Window.{IsBlockCount};
+ghost use Rattle.exchange.specs.Chains.{TellsError};
 ghost use Rattle.children.specs.declared.fault.MemoryFault.TheVariants.{Table};
 ghost use Rattle.further.specs.Concluding.{Concludes, IsConclusion, KeepsTo};
 
 use crate::deciding::further_setting;
 use children::laws::what_is_accepted_was_asked;
 use children::{Asked, MemoryFault, accept};
-use exchange::{Plain, has_invalid_syntax, only_nonce, read_chain};
+use exchange::{Plain, first_error, has_invalid_syntax, only_nonce, read_chain};
 use sadb::Pair;
 use std::alloc::Global;
 use suite::KeyRecord;
 use wire::Payload;
 
+/// What an answer says.
+#[derive(Drop)]
+pub struct Concluded {
+    /// What comes of it.
+    pub conclusion: Conclusion,
+    /// The error that it tells ([`first_error`]), also where a child is made. `None` where it tells none, or is not in the grammar.
+    pub error: Option<u16>,
+}
+
 /// What comes of an answer.
 #[derive(Drop)]
 pub enum Conclusion {
-    /// The responder told INVALID_SYNTAX, by which the IKE association is over at both ends. The SPI that was reserved goes back to the
-    /// table.
+    /// The responder told INVALID_SYNTAX, by which the IKE association is over at both ends. The SPI that
+    /// was reserved goes back to the table.
     Closes,
     /// The child is made, and this is the initiator's pair.
     Made(Pair),
-    /// No child is made here, and the association stands. The SPI that was reserved goes back to the table. Nothing is told to the
-    /// responder, which has its pair where it took the child for made.
+    /// No child is made here, and the association stands. The SPI that was reserved goes back to the table.
+    /// Nothing is told to the responder, which has its pair where it took the child for made.
     NoChild,
 }
 
-/// What an initiator makes of the answer to what it asked by [`ask`](crate::ask) with its nonce (RFC 7296, section 1.3.1), by the payloads
-/// that the answer opened to, under the association of this serial and these keys. The first that applies, in this order:
+/// What an initiator makes of the answer to what it asked by [`ask`](crate::ask) with its nonce (RFC 7296,
+/// section 1.3.1), by the payloads that the answer opened to, under the association of this serial and
+/// these keys. The first that applies, in this order:
 ///
 /// 1. The payloads are not in the grammar: [`Conclusion::NoChild`], a rule of this implementation.
-/// 2. A notice INVALID_SYNTAX is there, also beside a complete child: [`Conclusion::Closes`] (section 2.21.3).
-/// 3. There is not exactly one Nonce, or [`children::accept`] doesn't accept the answer: [`Conclusion::NoChild`].
-/// 4. [`Conclusion::Made`], under the keys that come of this end's nonce and of the answer's (section 2.17), with a replay window of so
-///    many blocks, a count that [`replay::is_block_count`] allows. The pair receives under the SPI that was asked with.
+/// 2. A notice INVALID_SYNTAX is there, also beside a complete child: [`Conclusion::Closes`] (section
+///    2.21.3).
+/// 3. There is not exactly one Nonce, or [`children::accept`] doesn't accept the answer:
+///    [`Conclusion::NoChild`].
+/// 4. [`Conclusion::Made`], under the keys that come of this end's nonce and of the answer's (section
+///    2.17), with a replay window of so many blocks, a count that [`replay::is_block_count`] allows. The
+///    pair receives under the SPI that was asked with.
 ///
-/// By rules of this implementation any other notice is passed over, and so is a critical payload that is not known, against section 2.5. An
-/// error is for want of memory alone, for the message or the pair and not for its place in the table.
+/// By rules of this implementation any other notice brings about nothing, and a critical payload that is not known is passed over, against
+/// section 2.5. The first error notice is told beside the conclusion, whatever that is. An error is for want of memory alone, for the message
+/// or the pair and not for its place in the table.
 pub fn conclude_response(
     alloc: Global,
     plain: &Plain,
@@ -45,24 +60,26 @@ pub fn conclude_response(
     ike: u32,
     keys: &KeyRecord,
     blocks: u32,
-) -> Result<Conclusion, MemoryFault>
+) -> Result<Concluded, MemoryFault>
     requires { IsBlockCount blocks }
-    ensures concluded { IfOk result (Concludes blocks ike keys.now asked.now own_nonce.now plain.now) }
-    ensures keeps { IfOk result (KeepsTo asked.now) }
+    ensures concluded { IfOk result
+        (λ said. Concludes blocks ike keys.now asked.now own_nonce.now plain.now said.conclusion) }
+    ensures told { IfOk result (λ said. TellsError plain.now said.error) }
+    ensures keeps { IfOk result (λ said. KeepsTo asked.now said.conclusion) }
     ensures wanted { IfErr result (λ fault. fault ≢ Table) }
 {
     match read_chain(alloc, plain)? {
-        None => Ok(Conclusion::NoChild),
+        None => Ok(Concluded {
+            conclusion: Conclusion::NoChild,
+            error: None,
+        }),
         Some(answer) => {
-            conclude_on(
-                alloc,
-                answer.as_slice(),
-                asked,
-                own_nonce,
-                ike,
-                keys,
-                blocks,
-            )
+            let answer = answer.as_slice();
+            let conclusion = conclude_on(alloc, answer, asked, own_nonce, ike, keys, blocks)?;
+            Ok(Concluded {
+                conclusion,
+                error: first_error(answer),
+            })
         }
     }
 }

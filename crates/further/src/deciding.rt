@@ -42,7 +42,8 @@ impl Decision {
         }
     }
 
-    /// What the answer says, for [`answer_payloads`](crate::answer_payloads), and the responder's pair, for [`children::install`].
+    /// What the answer says, for [`answer_payloads`](crate::answer_payloads), and the responder's pair, for
+    /// [`children::install`].
     pub fn into_parts(self) -> (ChildAnswer, Option<Pair>)
         ensures answer { result.0 ≡ answer_to_further self }
         ensures pair { result.1 ≡ further_pair self }
@@ -55,21 +56,24 @@ impl Decision {
     }
 }
 
-/// What is decided about a request for a further child (RFC 7296, sections 1.3 and 1.3.1), by the payloads that it opened to, under the
-/// association of this serial and these keys; `deleting` tells whether a request of this end to delete it is outstanding.
+/// What is decided about a request for a further child (RFC 7296, sections 1.3 and 1.3.1), by the payloads
+/// that it opened to, under the association of this serial and these keys; `deleting` tells whether a
+/// request of this end to delete it is outstanding.
 ///
 /// Refused, in this order:
 ///
 /// 1. INVALID_SYNTAX where the payloads are not in the grammar (section 2.21.3).
-/// 2. UNSUPPORTED_CRITICAL_PAYLOAD (section 2.5), NO_ADDITIONAL_SAS (section 1.3) and INVALID_SYNTAX (section 3.10.1), as [`judge`] tells.
-/// 3. NO_PROPOSAL_CHOSEN (section 2.7), TS_UNACCEPTABLE (section 2.9) and NO_ADDITIONAL_SAS, the table being full or its SPIs spent, as
-///    [`children::respond`] tells.
+/// 2. UNSUPPORTED_CRITICAL_PAYLOAD (section 2.5), NO_ADDITIONAL_SAS (section 1.3) and INVALID_SYNTAX
+///    (section 3.10.1), as [`judge`] tells.
+/// 3. NO_PROPOSAL_CHOSEN (section 2.7), TS_UNACCEPTABLE (section 2.9) and NO_ADDITIONAL_SAS, the table
+///    being full or its SPIs spent, as [`children::respond`] tells.
 ///
-/// Otherwise a child is made, under the keys that come of the request's nonce and of this end's, the step's fresh one (section 2.17).
-/// What is decided can be sent.
+/// Otherwise a child is made, under the keys that come of the request's nonce and of this end's, the step's
+/// fresh one (section 2.17). What is decided can be sent.
 ///
-/// Of the table its room alone changes, also after an error, and not even that where 1 or 2 applies; where a child is made, the table can
-/// take its pair, as [`children::install`] wants it. An error is for want of memory alone.
+/// Of the table its room alone changes, also after an error, and not even that where 1 or 2 applies; where
+/// a child is made, the table can take its pair, as [`children::install`] wants it. An error is for want of
+/// memory alone.
 pub fn decide<C>(
     alloc: Global,
     setup: &Setup<'_, C>,

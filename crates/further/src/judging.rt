@@ -26,17 +26,18 @@ pub enum Judgement<'a> {
     Asked(FurtherRequest<'a>),
 }
 
-/// What a responder makes of the payloads of a request; `deleting` tells whether its own request to delete the IKE association is
-/// outstanding (RFC 7296, section 1.4.1). The first that applies, in this order:
+/// What a responder makes of the payloads of a request; `deleting` tells whether its own request to delete
+/// the IKE association is outstanding (RFC 7296, section 1.4.1). The first that applies, in this order:
 ///
-/// 1. An unknown payload is marked as critical: the notice UNSUPPORTED_CRITICAL_PAYLOAD, for the first (section 2.5).
-/// 2. A key exchange payload is there, or a proposal for an IKE association, or this end is `deleting`: NO_ADDITIONAL_SAS (section 1.3, in
-///    these cases a rule of this implementation).
+/// 1. An unknown payload is marked as critical: the notice UNSUPPORTED_CRITICAL_PAYLOAD, for the first
+///    (section 2.5).
+/// 2. A key exchange payload is there, or a proposal for an IKE association, or this end is `deleting`:
+///    NO_ADDITIONAL_SAS (section 1.3, in these cases a rule of this implementation).
 /// 3. There is not exactly one SA, Nonce, TSi and TSr each: INVALID_SYNTAX (section 3.10.1).
 /// 4. [`Judgement::Asked`].
 ///
-/// Notices are passed over, REKEY_SA (section 1.3.3) among them: no child is replaced by another, a further one is made, a rule of this
-/// implementation. Takes no memory.
+/// Notices are passed over, REKEY_SA (section 1.3.3) among them: no child is replaced by another, a further
+/// one is made, a rule of this implementation. Takes no memory.
 pub fn judge(payloads: &[Payload], deleting: bool) -> Judgement<'_>
     ensures { IsFurtherJudgement payloads.now deleting (judgement_view result) }
 {

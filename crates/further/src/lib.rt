@@ -1,14 +1,17 @@
-//! A further child of an IKE association that is established (RFC 7296, sections 1.3 and 1.3.1): what the messages of CREATE_CHILD_SA
-//! say of it, and what either end makes of them. Initiator and responder are those of this exchange: either end of the association may
-//! ask, whatever its role in the first one. Request numbers, repeats and retransmission stand in the crate `requests`.
+//! A further child of an IKE association that is established (RFC 7296, sections 1.3 and 1.3.1): what the
+//! messages of CREATE_CHILD_SA say of it, and what either end makes of them. Initiator and responder are
+//! those of this exchange: either end of the association may ask, whatever its role in the first one.
+//! Request numbers, repeats and retransmission stand in the crate `requests`.
 //!
-//! An initiator sends the payloads of [`ask`], with an SPI that its table reserved and a fresh nonce. A responder tells by [`decide`] what
-//! becomes of the request, which changes the table's room alone, sends the payloads of [`answer_payloads`], and adds its pair by
-//! [`children::install`] once nothing can fail any more. The initiator takes the answer by [`conclude_response`]. The keys come from the
-//! association's and the nonces of this exchange (section 2.17). No key exchange takes place in it, and no IKE association is made in
-//! place of another: a request for either is refused. A notice in a request is passed over, REKEY_SA among them, so no child is replaced.
-//! What a request asks for, or why it is refused before policy and table are asked, [`judge`] tells alone. That the two ends' pairs
-//! mirror each other, and what else follows from the definitions alone, stands in [`laws`].
+//! An initiator sends the payloads of [`ask`], with an SPI that its table reserved and a fresh nonce. A
+//! responder tells by [`decide`] what becomes of the request, which changes the table's room alone, sends
+//! the payloads of [`answer_payloads`], and adds its pair by [`children::install`] once nothing can fail
+//! any more. The initiator takes the answer by [`conclude_response`]. The keys come from the association's
+//! and the nonces of this exchange (section 2.17). No key exchange takes place in it, and no IKE
+//! association is made in place of another: a request for either is refused. A notice in a request is
+//! passed over, REKEY_SA among them, so no child is replaced. What a request asks for, or why it is refused
+//! before policy and table are asked, [`judge`] tells alone. That the two ends' pairs mirror each other,
+//! and what else follows from the definitions alone, stands in [`laws`].
 //!
 //! ```text
 //! let payloads = ask(alloc, &asked, &fresh.nonce)?;
@@ -18,12 +21,22 @@
 //! let (answer, pair) = decision.into_parts();
 //! let payloads = answer_payloads(alloc, answer, &step.fresh.nonce)?;
 //!
-//! match conclude_response(alloc, &plain, &asked, &nonce, ike, &keys, blocks)? {
+//! match conclude_response(alloc, &plain, &asked, &nonce, ike, &keys, blocks)?.conclusion {
 //!     Conclusion::Made(pair) => { table.install(spi, pair); }
 //!     Conclusion::NoChild => table.release(spi),
 //!     Conclusion::Closes => { table.release(spi); .. }
 //! }
 //! ```
+//!
+//! # How it is proved
+//!
+//! A request is judged in one way (`proofs/JudgementLemmas`), and a decision is made of that judgement,
+//! policy and table (`DeterminedFurther`). The pair itself is a child as in [`children`], under keys of the
+//! two nonces of this exchange. `PairLemmas` shows this for either end, and takes the mirroring from
+//! `children_mirror`. For messages that come as they were sent it adds that octets spell one list of
+//! payloads (`ReadingLemmas`). So pairs mirror each other by what [`ask`] and [`decide`] return alone
+//! (`ends_mirrored`). `OfferLemmas` and `RefusalLemmas` say what either answer brings about at the end that
+//! asked.
 #![tactic(auto)]
 
 mod answering;
@@ -36,6 +49,6 @@ mod payloads;
 
 pub use answering::answer_payloads;
 pub use asking::ask;
-pub use concluding::{Conclusion, conclude_response};
+pub use concluding::{Concluded, Conclusion, conclude_response};
 pub use deciding::{Decision, decide};
 pub use judging::{FurtherRequest, Judgement, judge};

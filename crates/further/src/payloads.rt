@@ -13,7 +13,8 @@ use exchange::ChildPayloads;
 use std::alloc::{AllocError, Global};
 use wire::Payload;
 
-/// SA, Nonce, TSi and TSr (RFC 7296, section 1.3.1), by what a request or its answer says of the child, and its sender's nonce.
+/// SA, Nonce, TSi and TSr (RFC 7296, section 1.3.1), by what a request or its answer says of the child, and
+/// its sender's nonce.
 pub fn further_payloads(
     alloc: Global,
     child: ChildPayloads,

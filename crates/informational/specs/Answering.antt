@@ -1,5 +1,5 @@
--- The answer to a request of INFORMATIONAL, and what becomes of the association and of its pairs (RFC 7296 sections 1.4, 1.4.1, 2.5 and
--- 2.21.3).
+-- The answer to a request of INFORMATIONAL, and what becomes of the association and of its pairs (RFC 7296
+-- sections 1.4, 1.4.1, 2.5 and 2.21.3).
 use Rattle.std.specs.Prelude.{◌≡◌, ℕ, Option, Some, None, List, []}
 use Rattle.base.specs.Octets.{Octets}
 use Rattle.wire.specs.Numbers.{INFORMATIONAL}
@@ -32,7 +32,8 @@ gone_by (verdict.Unsupported kind) = []
 gone_by verdict.Closes = []
 gone_by (verdict.Deletes deleted) = deleted.serials
 
--- The request takes effect: it is answered, the answer is kept, and the association is closed, or the pairs that are named go.
+-- The request takes effect: it is answered, the answer is kept, and the association is closed, or the pairs
+-- that are named go.
 pub record AnswersInformational (body_of : Keys → Octets → Octets → Octets → Octets) (setup : Setup) (old : Association) (table : Database) (number : ℕ) (plain : Plain) (answer : Answered) (new : Association) (new_table : Database) : Type 0 where
   pub keys : KeyRecord
   pub established : old.phase ≡ phase.Established keys

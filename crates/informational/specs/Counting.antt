@@ -7,6 +7,7 @@ use Rattle.exchange.specs.declared.sealed.Plain.{Plain}
 use Rattle.requests.specs.Outgoing.{CountsAnswer, OwnRequests}
 use Rattle.sadb.specs.Database.{pair_at, Database, PairMap}
 use Rattle.sadb.specs.declared.pair.Pair.{Pair}
+use Rattle.association.specs.Outcomes.{IsDeclinedBy}
 use Rattle.association.specs.Purposes.{asks_to_end}
 use Rattle.association.specs.Phases.{IsEstablished}
 use Rattle.association.specs.declared.phase.Association.{Association}
@@ -15,21 +16,22 @@ use Rattle.association.specs.declared.purpose.Purpose.{Purpose}
 use Rattle.association.specs.declared.purpose.Purpose.TheVariants as purpose
 use Rattle.association.specs.Issuing.{with_outgoing}
 use Rattle.setup.specs.Configs.{Setup}
-use Rattle.exchange.specs.Chains.{IsRead}
+use Rattle.exchange.specs.Chains.{error_of, IsRead}
 use Rattle.association.specs.declared.outcome.Ended.{Ended}
 use Rattle.informational.specs.Orders.{ClosesIf}
 
--- The peer tells that a request was not in its grammar: that ends the association, whatever else the response says. What is not in the
--- grammar itself says nothing.
+-- The peer tells that a request was not in its grammar: that ends the association, whatever else the
+-- response says. What is not in the grammar itself says nothing.
 abbrev pub is_rejected : Option (List Payload) → Bool
 is_rejected None = false
 is_rejected (Some payloads) = list_any is_invalid_syntax payloads
 
--- what is read so; only private contracts cite this
-pub record IsRejectedBy (plain : Plain) (rejected : Bool) : Type 0 where
+-- what is read so, and the error that it tells; only private contracts cite this
+pub record IsRejectedBy (plain : Plain) (rejected : Bool) (error : Option ℕ) : Type 0 where
   pub payloads : Option (List Payload)
   pub read : IsRead plain payloads
   pub told : rejected ≡ is_rejected payloads
+  pub error_is : error ≡ error_of payloads
 
 -- The association ends by it, or by the answer to this end's request to delete it (section 1.4.1).
 abbrev pub is_ended : Option (List Payload) → Purpose → Bool
@@ -58,6 +60,7 @@ pub record CountsInformational (setup : Setup) (old : Association) (table : Data
   pub counted : CountsAnswer old.outgoing number request outgoing
   pub child : ended.child ≡ None
   pub closed : ended.closed ≡ is_ended payloads request.purpose
+  pub declined : IsDeclinedBy plain ended.child ended.declined
   pub concluded : ClosesIf (is_ended payloads request.purpose) (gone_with table.pairs old.serial request.purpose) (with_outgoing old outgoing) table setup.moment new new_table
 
 -- It is counted at an established association; else nothing is done.

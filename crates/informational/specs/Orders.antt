@@ -1,5 +1,5 @@
--- What is asked of an association before a request of INFORMATIONAL goes out under its keys, and after one was answered (RFC 7296
--- sections 1.4, 2.2 and 2.3).
+-- What is asked of an association before a request of INFORMATIONAL goes out under its keys, and after one
+-- was answered (RFC 7296 sections 1.4, 2.2 and 2.3).
 use Rattle.std.specs.Prelude.{◌≡◌, ◌⊎◌, ℕ, Bool, true, false, List, All}
 use Rattle.requests.specs.Outgoing.{AreNumbersSpent, IsBusy, MayIssue}
 use Rattle.suite.specs.declared.key_record.KeyRecord.{KeyRecord}
@@ -18,7 +18,8 @@ pub record RemovesOwn (ike : ℕ) (serials : List ℕ) (old new : Database) : Ty
   pub its_own : All (BelongsTo old.pairs ike) serials
   pub removed : RemovesNamed old serials new
 
--- the association is closed at this moment, with all its pairs; or it stays as it is, and of its pairs those with these serials go
+-- the association is closed at this moment, with all its pairs; or it stays as it is, and of its pairs
+-- those with these serials go
 abbrev pub ClosesIf : Bool → List ℕ → Association → Database → ℕ → Association → Database → Type 0
 ClosesIf true serials old table moment new new_table = Closes old table moment new new_table
 ClosesIf false serials old table moment new new_table = (new ≡ old) × RemovesOwn old.serial serials table new_table

@@ -25,12 +25,14 @@ use suite::Sealer;
 use wire::Message;
 use wire::numbers::INFORMATIONAL;
 
-/// Makes a request of INFORMATIONAL (RFC 7296, sections 1.4, 1.4.1 and 2.4), which waits for its answer from then on. The pair of a child
-/// that is to be deleted is Deleting from then on, and goes with the answer.
+/// Makes a request of INFORMATIONAL (RFC 7296, sections 1.4, 1.4.1 and 2.4), which waits for its answer
+/// from then on. The pair of a child that is to be deleted is Deleting from then on, and goes with the
+/// answer.
 ///
-/// Refused, in this order: [`OrderFault::WrongPhase`] where the association is not established, [`OrderFault::Busy`] where a request to
-/// delete it waits for its answer or the peer takes no more requests at once, [`OrderFault::NumbersSpent`] where no number is left,
-/// [`OrderFault::Memory`]. What is refused changes nothing.
+/// Refused, in this order: [`OrderFault::WrongPhase`] where the association is not established,
+/// [`OrderFault::Busy`] where a request to delete it waits for its answer or the peer takes no more
+/// requests at once, [`OrderFault::NumbersSpent`] where no number is left, [`OrderFault::Memory`]. What is
+/// refused changes nothing.
 ///
 /// The caller asks to delete a child only where its pair is there, and Live.
 pub fn ask<C: Sealer>(

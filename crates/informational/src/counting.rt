@@ -10,18 +10,19 @@ ghost use Rattle.association.specs.Purposes.{AsksForNoFurtherChild};
 use association::laws::spis_stay_held;
 use association::{Association, Ended, Phase, Purpose};
 use deletions::remove_named;
-use exchange::{Plain, has_invalid_syntax, read_chain};
+use exchange::{Plain, first_error, has_invalid_syntax, read_chain};
 use sadb::Table;
 use setup::Setup;
 use std::alloc::{AllocError, Global};
 
 /// Counts the response to a request of INFORMATIONAL (RFC 7296, sections 1.4 and 1.4.1), by the payloads that it opened to. The association
 /// is closed where it has a notice INVALID_SYNTAX (section 2.21.3), or answers a request to delete it; the pair of a child goes whose
-/// deletion it answers. What else it says is nothing to that. It is `None`, and nothing is changed, where the association is not
-/// established.
+/// deletion it answers. What else it says is nothing to that; the first error notice in it is told ([`Ended::declined`]). It is `None`, and
+/// nothing is changed, where the association is not established.
 ///
-/// The caller asks only where a request of this number is outstanding, which asks for no child, and the SPIs that the association holds are
-/// reserved in the table. An error is for want of memory alone, and changes nothing.
+/// The caller asks only where a request of this number is outstanding, which asks for no child, and the
+/// SPIs that the association holds are reserved in the table. An error is for want of memory alone, and
+/// changes nothing.
 pub fn count<C>(
     alloc: Global,
     setup: &Setup<'_, C>,
@@ -41,7 +42,8 @@ pub fn count<C>(
         return Ok(None);
     };
     spis_stay_held();
-    let rejected = is_rejected(alloc, plain)?;
+    let told = read_answer(alloc, plain)?;
+    let Told { rejected, error } = told;
     // From here on nothing can be refused.
     let request = association.outgoing.count(number);
     let closed = rejected || request.purpose.asks_to_end();
@@ -49,16 +51,33 @@ pub fn count<C>(
     Ok(Some(Ended {
         child: None,
         closed,
+        declined: error,
     }))
 }
 
-// Whether the peer tells that it could not read the request.
-fn is_rejected(alloc: Global, plain: &Plain) -> Result<bool, AllocError>
-    ensures { IfOk result (IsRejectedBy plain.now) }
+// What the peer tells by its notices.
+#[derive(Clone, Copy)]
+struct Told {
+    // Whether it could not read the request.
+    rejected: bool,
+    error: Option<u16>,
+}
+
+fn read_answer(alloc: Global, plain: &Plain) -> Result<Told, AllocError>
+    ensures { IfOk result (λ told. IsRejectedBy plain.now told.rejected told.error) }
 {
     match read_chain(alloc, plain)? {
-        None => Ok(false),
-        Some(payloads) => Ok(has_invalid_syntax(payloads.as_slice())),
+        None => Ok(Told {
+            rejected: false,
+            error: None,
+        }),
+        Some(payloads) => {
+            let payloads = payloads.as_slice();
+            Ok(Told {
+                rejected: has_invalid_syntax(payloads),
+                error: first_error(payloads),
+            })
+        }
     }
 }
 

@@ -38,7 +38,8 @@ impl Order {
     }
 }
 
-// The payloads of the request: none, or one Delete (RFC 7296, section 3.11). They fit a message that is sealed.
+// The payloads of the request: none, or one Delete (RFC 7296, section 3.11). They fit a message that is
+// sealed.
 pub(crate) fn payloads_of(alloc: Global, order: Order) -> Result<Items<Payload>, AllocError>
     ensures payloads { IfOk result (λ payloads. payloads ≡ payloads_of_order order) }
     ensures fits { IfOk result CanBeSent }

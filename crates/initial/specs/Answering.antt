@@ -1,4 +1,5 @@
--- The answer to IKE_AUTH, and what becomes of the association and of the table (RFC 7296 sections 1.2, 2.3 and 2.21.2).
+-- The answer to IKE_AUTH, and what becomes of the association and of the table (RFC 7296 sections 1.2, 2.3
+-- and 2.21.2).
 use Rattle.std.specs.Prelude.{◌≡◌, ℕ, true, Option, Some, None, List, [], ◌∷◌}
 use Rattle.base.specs.Octets.{Octets}
 use Rattle.wire.specs.Numbers.{IKE_AUTH}

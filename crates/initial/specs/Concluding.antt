@@ -1,4 +1,5 @@
--- What becomes of an association when IKE_AUTH is done, and of the table (RFC 7296 sections 1.2, 2.3 and 2.21.2).
+-- What becomes of an association when IKE_AUTH is done, and of the table (RFC 7296 sections 1.2, 2.3 and
+-- 2.21.2).
 use Rattle.std.specs.Prelude.{◌≡◌, ℕ, Bool, true, false, Option, Some, None, max}
 use Rattle.requests.specs.Incoming.{PeerRequests}
 use Rattle.requests.specs.Outgoing.{OwnRequests}
@@ -14,7 +15,8 @@ use Rattle.setup.specs.Configs.{Setup}
 use Rattle.initial.specs.declared.concluding.Outcome.{Outcome}
 use Rattle.initial.specs.declared.concluding.Outcome.TheVariants as outcome
 
--- A child is added, if there is one: for the SPI that was reserved for it, which is given up otherwise, or for the next one.
+-- A child is added, if there is one: for the SPI that was reserved for it, which is given up otherwise, or
+-- for the next one.
 abbrev pub AddsChild : Database → Option ℕ → Option Pair → Option ℕ → Database → Type 0
 AddsChild old None None None new = new ≡ old
 AddsChild old None (Some pair) (Some serial) new = AddsNext old pair serial new

@@ -8,6 +8,7 @@ use Rattle.requests.specs.Outgoing.{CountsAnswer, OwnRequests}
 use Rattle.sadb.specs.Database.{Database}
 use Rattle.sadb.specs.declared.pair.Pair.{Pair}
 use Rattle.association.specs.AskedChildren.{asked_of}
+use Rattle.association.specs.Outcomes.{IsDeclinedBy}
 use Rattle.association.specs.Purposes.{asks_for_child}
 use Rattle.association.specs.declared.phase.Association.{Association}
 use Rattle.association.specs.declared.phase.AuthSent.{AuthSent}
@@ -63,6 +64,7 @@ pub record EndsAuth (accepts : Accepts) (setup : Setup) (old : Association) (tab
   pub outgoing : OwnRequests Request
   pub counted : CountsAnswer old.outgoing number request outgoing
   pub closed : ended.closed ≡ is_closing verdict
+  pub declined : IsDeclinedBy plain ended.child ended.declined
   pub concluded : ConcludesBy setup (with_outgoing old outgoing) table verdict ended.child new new_table
 
 -- this end waits for the response to IKE_AUTH

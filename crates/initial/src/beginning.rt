@@ -29,8 +29,9 @@ pub struct Beginning {
     pub nonce: [u8; 32],
 }
 
-/// Makes the first request of an initiator (RFC 7296, section 1.2), with the SPI, the secret and the nonce that are fresh. That the
-/// SPI is not zero and no SPI of this end in use is the caller's to see to. An error is for want of memory alone.
+/// Makes the first request of an initiator (RFC 7296, section 1.2), with the SPI, the secret and the nonce
+/// that are fresh. That the SPI is not zero and no SPI of this end in use is the caller's to see to. An
+/// error is for want of memory alone.
 pub fn begin<C: Sealer + Agreement>(
     alloc: Global,
     setup: &Setup<'_, C>,
@@ -106,10 +107,11 @@ pub struct Admitted {
     pub octets: Items<u8>,
 }
 
-/// Answers an offer that was accepted ([`sa_init::judge`]), with the SPI, the secret and the nonce that are fresh: the association is half
-/// open from then on. `request` is the very datagram that brought the offer, over which the initiator's AUTH is computed. That the fresh
-/// SPI is not zero and no SPI of this end in use is the caller's to see to. `None` (E32) exactly where the agreement refuses the
-/// initiator's public value. An error is for want of memory alone.
+/// Answers an offer that was accepted ([`sa_init::judge`]), with the SPI, the secret and the nonce that are
+/// fresh: the association is half open from then on. `request` is the very datagram that brought the offer,
+/// over which the initiator's AUTH is computed. That the fresh SPI is not zero and no SPI of this end in
+/// use is the caller's to see to. `None` (E32) exactly where the agreement refuses the initiator's public
+/// value. An error is for want of memory alone.
 pub fn admit<C: Sealer + Agreement>(
     alloc: Global,
     setup: &Setup<'_, C>,

@@ -36,7 +36,8 @@ impl Outcome {
     }
 }
 
-/// Brings an association and the table to an outcome. The serial of the child is answered, if there is one. Takes no memory.
+/// Brings an association and the table to an outcome. The serial of the child is answered, if there is one.
+/// Takes no memory.
 pub fn conclude<C>(
     setup: &Setup<'_, C>,
     association: &mut Association,
@@ -94,7 +95,8 @@ fn widen(association: &mut Association, own: u8, peers: u8)
     association.outgoing.set_window(window);
 }
 
-// A child takes the SPI that was reserved for it, which is given up where there is none; or the next one, where none was.
+// A child takes the SPI that was reserved for it, which is given up where there is none; or the next one,
+// where none was.
 fn add(table: &mut Table, spi: Option<Spi>, pair: Option<Pair>) -> Option<u32>
     requires { CanAdd table.old spi pair }
     ensures { AddsChild table.old spi pair result table.new }

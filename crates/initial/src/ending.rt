@@ -3,6 +3,7 @@ ghost use Rattle.std.specs.Prelude.{◌≡◌, ◌≢◌, Some, IfOk, IfErr};
 ghost use Rattle.requests.specs.Outgoing.{IsOutstanding};
 ghost use Rattle.association.specs.Closing.{HoldsReserved};
 ghost use Rattle.children.specs.declared.fault.MemoryFault.TheVariants as child;
+ghost use Rattle.exchange.specs.Chains.{TellsError};
 ghost use Rattle.setup.specs.Configs.{setup_of};
 ghost use Rattle.initial.specs.Concluding.{is_closing, CanConclude};
 ghost use Rattle.initial.specs.Ending.{EndsWhereSent, FitsVerdict, IsVerdict, Judges};
@@ -10,11 +11,11 @@ ghost use Rattle.association.specs.Purposes.{AsksForNoFurtherChild};
 
 use crate::concluding::{Outcome, conclude};
 use association::laws::spis_stay_held;
-use association::{Association, AuthSent, Ended, Phase};
+use association::{Association, AuthSent, Ended, Phase, unless_made};
 use auth::laws::windows_are_read_again;
 use auth::{Proving, is_accepted, peer_window};
 use children::{MemoryFault, Setting, accept};
-use exchange::{Plain, Role, read_chain};
+use exchange::{Plain, Role, first_error, read_chain};
 use sadb::Table;
 use setup::Setup;
 use std::alloc::Global;
@@ -25,12 +26,14 @@ use wire::Payload;
 ///
 /// The association is closed where the payloads are not in the grammar, or the peer is refused by [`auth::is_accepted`]. Otherwise it is
 /// established, with the child that [`children::accept`] makes of the answer, or without one: then its SPI is given up. From then
-/// on both windows count (section 2.3): this end's as configured, the peer's as it told, 1 where it told none. It is `None`, and nothing is
-/// changed, where this end doesn't wait for the response to IKE_AUTH.
+/// on both windows count (section 2.3): this end's as configured, the peer's as it told, 1 where it told none. Where no child is made, the
+/// first error notice of the response is told ([`Ended::declined`]). It is `None`, and nothing is changed, where this end doesn't wait for the
+/// response to IKE_AUTH.
 ///
-/// The caller asks only where a request of this number is outstanding, which asks for no child but the first, and the SPIs that the
-/// association holds are reserved in the table. An error is for want of memory alone, for the message or the pair: its place in
-/// the table stands since its SPI was reserved. It changes nothing.
+/// The caller asks only where a request of this number is outstanding, which asks for no child but the
+/// first, and the SPIs that the association holds are reserved in the table. An error is for want of memory
+/// alone, for the message or the pair: its place in the table stands since its SPI was reserved. It changes
+/// nothing.
 pub fn end_auth<C: Proof>(
     alloc: Global,
     setup: &Setup<'_, C>,
@@ -51,12 +54,25 @@ pub fn end_auth<C: Proof>(
         return Ok(None);
     };
     spis_stay_held();
-    let verdict = judge_response(alloc, setup, association.serial, sent, plain)?;
+    let judged = judge_response(alloc, setup, association.serial, sent, plain)?;
+    let Judged { verdict, error } = judged;
     // From here on nothing can be refused.
     let _ = association.outgoing.count(number);
     let closed = verdict.is_closing();
     let child = conclude(setup, association, table, verdict);
-    Ok(Some(Ended { child, closed }))
+    let declined = unless_made(child, error);
+    Ok(Some(Ended {
+        child,
+        closed,
+        declined,
+    }))
+}
+
+// How the response ends IKE_AUTH, and the error that it tells.
+#[derive(Drop)]
+struct Judged {
+    verdict: Outcome,
+    error: Option<u16>,
 }
 
 fn judge_response<C: Proof>(
@@ -65,15 +81,25 @@ fn judge_response<C: Proof>(
     ike: u32,
     sent: &AuthSent,
     plain: &Plain,
-) -> Result<Outcome, MemoryFault>
-    ensures judged { IfOk result
-        (Judges (C.accepts setup.now.caller.now) (setup_of setup.now) ike sent.now plain.now) }
-    ensures fits { IfOk result (FitsVerdict sent.now) }
+) -> Result<Judged, MemoryFault>
+    ensures judged { IfOk result (λ judged. Judges (C.accepts setup.now.caller.now) (setup_of setup.now) ike
+        sent.now plain.now judged.verdict) }
+    ensures told { IfOk result (λ judged. TellsError plain.now judged.error) }
+    ensures fits { IfOk result (λ judged. FitsVerdict sent.now judged.verdict) }
     ensures wanted { IfErr result (λ fault. fault ≢ child.Table) }
 {
     match read_chain(alloc, plain)? {
-        None => Ok(Outcome::Closes),
-        Some(payloads) => judge_payloads(alloc, setup, ike, sent, payloads.as_slice()),
+        None => Ok(Judged {
+            verdict: Outcome::Closes,
+            error: None,
+        }),
+        Some(payloads) => {
+            let payloads = payloads.as_slice();
+            Ok(Judged {
+                verdict: judge_payloads(alloc, setup, ike, sent, payloads)?,
+                error: first_error(payloads),
+            })
+        }
     }
 }
 

@@ -1,10 +1,11 @@
-//! The initial exchanges (RFC 7296, section 1.2): what the messages of IKE_SA_INIT and IKE_AUTH do to one association, to the
-//! table of associations for ESP, and what is sent back.
+//! The initial exchanges (RFC 7296, section 1.2): what the messages of IKE_SA_INIT and IKE_AUTH do to one
+//! association, to the table of associations for ESP, and what is sent back.
 //!
-//! An initiator's association is [`begin`]'s, and a responder's [`admit`]'s. [`read_response`] makes of the response to
-//! IKE_SA_INIT the next request, and [`end_auth`] of the response to IKE_AUTH an association that is established, with its first
-//! child, or closed; so does [`answer_auth`] of the request, at a responder. Which association a message is for, whether its
-//! number is fresh and what it opens to, [`association`] tells; each call here makes all that it needs before it changes anything.
+//! An initiator's association is [`begin`]'s, and a responder's [`admit`]'s. [`read_response`] makes of the
+//! response to IKE_SA_INIT the next request, and [`end_auth`] of the response to IKE_AUTH an association
+//! that is established, with its first child, or closed; so does [`answer_auth`] of the request, at a
+//! responder. Which association a message is for, whether its number is fresh and what it opens to,
+//! [`association`] tells; each call here makes all that it needs before it changes anything.
 //!
 //! ```text
 //! let beginning = begin(alloc, &step)?;
@@ -17,6 +18,15 @@
 //!     Continued::Unfit => ..,
 //! }
 //! ```
+//!
+//! # How it is proved
+//!
+//! There are no laws here: what holds over a message is proved in the crate `effects`. Each call is a row
+//! of calls of [`sa_init`], [`auth`], [`children`] and [`association`], and its contract is their relations
+//! in that order (`specs/Beginning`, `Reading`, `Deciding`, `Answering`, `Ending`). The answers in
+//! `proofs/` say for each exit which part refused, and that the outcome of IKE_AUTH is one of few
+//! (`ConcludingLemmas`). An initiator's first child is said in two ways, by its payloads and by the pair
+//! that was made, and `ChildLemmas` goes between these.
 #![tactic(auto)]
 
 mod answering;

@@ -46,13 +46,14 @@ pub enum Continued {
     Unfit,
 }
 
-/// Goes on by the response to IKE_SA_INIT (RFC 7296, sections 1.2 and 2.6), as [`sa_init::read`] reads it. Where it asks for a
-/// cookie, the request goes out again with it, and its timer runs anew. Where it gives keys, the association has them and the
-/// responder's SPI from now on, and IKE_AUTH goes out as the request of number 1: this end's identity and its proof, what it asks for
-/// its first child, and its window where that is above 1. Where this end doesn't wait for the response, it is [`Continued::Unfit`].
+/// Goes on by the response to IKE_SA_INIT (RFC 7296, sections 1.2 and 2.6), as [`sa_init::read`] reads it.
+/// Where it asks for a cookie, the request goes out again with it, and its timer runs anew. Where it gives
+/// keys, the association has them and the responder's SPI from now on, and IKE_AUTH goes out as the request
+/// of number 1: this end's identity and its proof, what it asks for its first child, and its window where
+/// that is above 1. Where this end doesn't wait for the response, it is [`Continued::Unfit`].
 ///
-/// The caller asks only where a request of this number is outstanding, and the octets are those that the message was decoded from. An error
-/// is for want of memory alone, and changes nothing.
+/// The caller asks only where a request of this number is outstanding, and the octets are those that the
+/// message was decoded from. An error is for want of memory alone, and changes nothing.
 pub fn read_response<C: Sealer + Agreement + Proof>(
     alloc: Global,
     setup: &Setup<'_, C>,

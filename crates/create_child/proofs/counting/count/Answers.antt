@@ -5,7 +5,7 @@ use Rattle.association.specs.declared.phase.Request.{Request}
 use Rattle.association.specs.declared.purpose.Purpose.TheVariants.{CreateChild}
 use Rattle.association.specs.Issuing.{with_outgoing}
 use Rattle.setup.specs.Configs.{setup_of}
-use Rattle.further.specs.declared.concluding.Conclusion.{Conclusion}
+use Rattle.further.specs.declared.concluding.Concluded.{Concluded}
 use Rattle.create_child.specs.Counting.{ConcludesAt, ConcludesWhereAwaited, EndsFurther}
 use Rattle.create_child.proofs.CountingLemmas.{given_back, same_request, same_spi}
 use Rattle.create_child.proofs.counting.count.Goals as goal
@@ -22,8 +22,8 @@ conclude-child-requires-clause-apart g c =
 pub returns-clause-counted : goal.returns-clause-counted
 returns-clause-counted g c =
     let a : Association = c.args.association.now in
-    let told : ConcludesAt (setup_of c.args.setup.now) a c.args.number c.args.plain.now c.in-Some.conclusion =
-    subst (λ (o : Option Conclusion). ConcludesWhereAwaited (setup_of c.args.setup.now) a c.args.number c.args.plain.now o) c.in-Some.is c.in_ok-conclusion.ensures.concluded in
+    let told : ConcludesAt (setup_of c.args.setup.now) a c.args.number c.args.plain.now c.in-Some.concluded =
+    subst (λ (o : Option Concluded). ConcludesWhereAwaited (setup_of c.args.setup.now) a c.args.number c.args.plain.now o) c.in-Some.is c.in_ok-concluded.ensures.concluded in
     let request : Request = c.count-request.result in
     let asked : request.purpose ≡ CreateChild told.at.further = ap (λ (r : Request). r.purpose) (same_request request told.at.request (sym c.count-request.ensures.there ∙ told.at.outstanding)) ∙ told.at.asked in
     let spi : c.unwrap-spi.result ≡ told.at.further.child.spi = same_spi c.unwrap-spi.result told.at.further.child.spi (sym c.unwrap-spi.ensures ∙ c.into_spi.ensures ∙ ap spi_asked asked) in
@@ -35,9 +35,10 @@ returns-clause-counted g c =
       asked = asked;
       outgoing = c.count-request.new.self;
       counted = c.count-request.ensures;
-      conclusion = c.in-Some.conclusion;
+      conclusion = c.in-Some.concluded.conclusion;
       concluded = told.due;
       closed = c.is_closing-closed.ensures;
-      ends = subst (λ (s : ℕ). EndsFurther c.in-Some.conclusion s (with_outgoing a c.count-request.new.self) c.args.table.now c.args.setup.now.moment c.conclude-child.result c.conclude-child.new.association c.conclude-child.new.table)
+      declined = record { error = c.in-Some.concluded.error; told = told.told; due = c.unless_made-declined.ensures };
+      ends = subst (λ (s : ℕ). EndsFurther c.in-Some.concluded.conclusion s (with_outgoing a c.count-request.new.self) c.args.table.now c.args.setup.now.moment c.conclude-child.result c.conclude-child.new.association c.conclude-child.new.table)
           spi c.conclude-child.ensures;
     }

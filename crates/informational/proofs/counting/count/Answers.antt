@@ -8,7 +8,7 @@ use Rattle.informational.proofs.counting.count.Goals as goal
 
 pub returns-clause-counted : goal.returns-clause-counted
 returns-clause-counted g c =
-    let told = c.in_ok-rejected.ensures in
+    let told = c.in_ok-told.ensures in
     let asked = c.count-request.result.purpose in
     let a = with_outgoing c.args.association.now c.count-request.new.self in
     let closed : c.if-rejected.closed ≡ is_ended told.payloads asked = elim c.if-rejected.branch [
@@ -24,6 +24,7 @@ returns-clause-counted g c =
         counted = c.count-request.ensures;
         child = refl;
         closed = closed;
+        declined = record { error = c.in_ok-told.told.error; told = record { payloads = told.payloads; read = told.read; told = told.error_is }; due = refl };
         concluded = subst (λ b. ClosesIf b (gone_with c.args.table.now.pairs c.args.association.now.serial asked) a c.args.table.now c.args.setup.now.moment c.conclude.new.association c.conclude.new.table)
             closed c.conclude.ensures;
       },

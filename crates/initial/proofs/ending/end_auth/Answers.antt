@@ -7,6 +7,6 @@ pub conclude-child-requires : goal.conclude-child-requires
 conclude-child-requires g c =
     let a : Association = c.args.association.now in
     record {
-      ready = can_end (with_outgoing a c.count.new.self) c.args.table.now c.in-AuthSent.sent c.in_ok-verdict.verdict c.in-AuthSent.is
-          (c.spis_stay_held.ensures.counting a c.args.table.now c.args.number c.count.result c.count.new.self c.count.ensures c.requires.reserved) c.in_ok-verdict.ensures.fits;
+      ready = can_end (with_outgoing a c.count.new.self) c.args.table.now c.in-AuthSent.sent c.in_ok-judged.judged.verdict c.in-AuthSent.is
+          (c.spis_stay_held.ensures.counting a c.args.table.now c.args.number c.count.result c.count.new.self c.count.ensures c.requires.reserved) c.in_ok-judged.ensures.fits;
     }
