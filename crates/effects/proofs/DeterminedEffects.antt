@@ -6,6 +6,7 @@ use Rattle.wire.specs.Numbers.{CREATE_CHILD_SA, IKE_AUTH, INFORMATIONAL}
 use Rattle.wire.specs.declared.message.Message.{Message}
 use Rattle.wire.specs.declared.payload.Payload.{Payload}
 use Rattle.suite.specs.declared.key_record.KeyRecord.{KeyRecord}
+use Rattle.exchange.specs.Chains.{error_of}
 use Rattle.exchange.specs.Headers.{keys_of}
 use Rattle.exchange.specs.Sealed.{IsSealed}
 use Rattle.exchange.specs.declared.sealed.Plain.{Plain}
@@ -16,6 +17,7 @@ use Rattle.sadb.specs.Contents.{table_content}
 use Rattle.sadb.specs.Database.{Database, PairMap}
 use Rattle.association.specs.AskedChildren.{asked_of}
 use Rattle.association.specs.Contents.{association_content}
+use Rattle.association.specs.Outcomes.{unless_made, IsDeclinedBy}
 use Rattle.association.specs.Phases.{keys_in}
 use Rattle.association.specs.Purposes.{AwaitsDeletion}
 use Rattle.association.specs.Receiving.{Answers, AnswersInitial, IsReceived, Reception, Refused, Repeat, TakesEffect}
@@ -90,8 +92,8 @@ same_keys p one other is also = cc
 answered_alike : (a b : Answered) → a.octets ≡ b.octets → a.child ≡ b.child → a.closed ≡ b.closed → a ≡ b
 answered_alike a b octets child closed = λ i. record { octets = octets i; child = child i; closed = closed i }
 
-ended_alike : (a b : Ended) → a.child ≡ b.child → a.closed ≡ b.closed → a ≡ b
-ended_alike a b child closed = λ i. record { child = child i; closed = closed i }
+ended_alike : (a b : Ended) → a.child ≡ b.child → a.closed ≡ b.closed → a.declined ≡ b.declined → a ≡ b
+ended_alike a b child closed declined = λ i. record { child = child i; closed = closed i; declined = declined i }
 
 module _ (laws : Laws) (meaning : Meaning) (setup : Setup) (old other : Association) (same : association_content old ≡ association_content other) (table another : Database) (alike : table_content table ≡ table_content another) where
   -- ---- what all exchanges do
@@ -120,6 +122,12 @@ module _ (laws : Laws) (meaning : Meaning) (setup : Setup) (old other : Associat
       let outgoing : outgoing_content one ≡ outgoing_content another =
       (laws.outgoing.counted old.outgoing other.outgoing one another number request asked (ap (λ (z : Association). z.outgoing) same) is also).1 in
       ap (λ (z : Association). record z { outgoing = outgoing_content one }) same ∙ ap (λ (r : OwnRequests Request). record (association_content other) { outgoing = r }) outgoing
+
+  one_declined : (plain : Plain) (x y : Ended) → x.child ≡ y.child → IsDeclinedBy plain x.child x.declined → IsDeclinedBy plain y.child y.declined → x.declined ≡ y.declined
+  one_declined plain x y child is also =
+      let payloads : also.told.payloads ≡ is.told.payloads = one_read laws.messages plain also.told.payloads is.told.payloads also.told.read is.told.read in
+      let error : also.error ≡ is.error = also.told.told ∙ ap error_of payloads ∙ sym is.told.told in
+      is.due ∙ ap (λ (c : Option ℕ). unless_made c is.error) child ∙ ap (λ (e : Option ℕ). unless_made y.child e) (sym error) ∙ sym also.due
 
   -- ---- IKE_AUTH at the responder
 
@@ -169,8 +177,9 @@ module _ (laws : Laws) (meaning : Meaning) (setup : Setup) (old other : Associat
       subst (λ (o : Outcome). ConcludesBy setup (with_outgoing other also.outgoing) another o y.child b b_table) verdict also.concluded in
       let over = one_conclusion laws.tables setup is.verdict x.child y.child (with_outgoing old is.outgoing) (with_outgoing other also.outgoing) a b table another a_table b_table before alike is.concluded concluded in
       let closed : x.closed ≡ y.closed = is.closed ∙ ap (λ (o : Outcome). is_closing o) (sym verdict) ∙ sym also.closed in
+      let declined : x.declined ≡ y.declined = one_declined plain x y over.child_is is.declined also.declined in
       record {
-        effect_is = ap (λ (z : Ended). effect.Counted z) (ended_alike x y over.child_is closed);
+        effect_is = ap (λ (z : Ended). effect.Counted z) (ended_alike x y over.child_is closed declined);
         association = over.association;
         table = over.table;
       }
@@ -224,8 +233,10 @@ module _ (laws : Laws) (meaning : Meaning) (setup : Setup) (old other : Associat
       (subst (λ (g : List ℕ). ClosesIf (is_ended also.payloads also.request.purpose) g (with_outgoing other also.outgoing) another setup.moment b b_table) gone also.concluded) in
       let over = one_closing laws.tables (is_ended is.payloads is.request.purpose) (gone_with table.pairs old.serial is.request.purpose) setup.moment (with_outgoing old is.outgoing) (with_outgoing other also.outgoing) a b table another a_table b_table before alike is.concluded concluded in
       let closed : x.closed ≡ y.closed = is.closed ∙ sym ends ∙ sym also.closed in
+      let child : x.child ≡ y.child = is.child ∙ sym also.child in
+      let declined : x.declined ≡ y.declined = one_declined plain x y child is.declined also.declined in
       record {
-        effect_is = ap (λ (z : Ended). effect.Counted z) (ended_alike x y (is.child ∙ sym also.child) closed);
+        effect_is = ap (λ (z : Ended). effect.Counted z) (ended_alike x y child closed declined);
         association = over.0;
         table = over.1;
       }
@@ -307,8 +318,9 @@ module _ (laws : Laws) (meaning : Meaning) (setup : Setup) (old other : Associat
       (counted_further is.conclusion is.further.child.spi (with_outgoing old is.outgoing) table setup.moment x.child a a_table is.ends)
       (counted_further is.conclusion is.further.child.spi (with_outgoing other also.outgoing) another setup.moment y.child b b_table ends) in
       let closed : x.closed ≡ y.closed = is.closed ∙ ap is_closing_conclusion (sym conclusion) ∙ sym also.closed in
+      let declined : x.declined ≡ y.declined = one_declined plain x y over.child_is is.declined also.declined in
       record {
-        effect_is = ap (λ (z : Ended). effect.Counted z) (ended_alike x y over.child_is closed);
+        effect_is = ap (λ (z : Ended). effect.Counted z) (ended_alike x y over.child_is closed declined);
         association = over.association;
         table = over.table;
       }
@@ -392,7 +404,8 @@ module _ (meaning : Meaning) (setup : Setup) (number : ℕ) (plain : Plain) (old
   further_is false (effect.Replied s) is = record { answered = s; is = refl; answers = is }
   further_is false e is = absurd is
 
-  -- by the phase: a half-open association answers, an established one goes by the exchange, any other passes the request over
+  -- by the phase: a half-open association answers, an established one goes by the exchange, any other
+  -- passes the request over
   abbrev pub RequestDone : Phase → ℕ → Effect → Type 0
   RequestDone (phase.HalfOpen opened) exchange e = Replies meaning setup number plain e old table new new_table
   RequestDone (phase.Established keys) exchange e = FurtherDone (exchange == INFORMATIONAL) e

@@ -1,4 +1,5 @@
--- How an initiator goes on by the response to IKE_SA_INIT is determined, and how associations begin, but for room.
+-- How an initiator goes on by the response to IKE_SA_INIT is determined, and how associations begin, but
+-- for room.
 use Rattle.std.proofs.Common.{◌≡◌, ◌+◌, ℕ, Option, Some, None, refl, sym, ap, subst, ◌∙◌}
 use Rattle.std.specs.Borrow.{Bor}
 use Rattle.std.specs.FinMap as map

@@ -1,4 +1,5 @@
--- A message leaves nothing of its association due that was not due before: what it makes is of its own moment.
+-- A message leaves nothing of its association due that was not due before: what it makes is of its own
+-- moment.
 use Rattle.std.proofs.Common.{◌≡◌, ◌+◌, ◌<◌, ◌≤◌, ℕ, nat_le, length, Bool, true, false, Option, arith, ap, inl, inr, refl, subst, sym, ◌∙◌, List}
 use Rattle.std.proofs.lemmas.Bool.Decides.{nat_tests}
 use Rattle.std.specs.FinMap as map

@@ -171,7 +171,8 @@ same_leaves laws own old new same = record {
   sound = λ held. subst (λ (x : Association). IsSoundlyHeld x) (sym same) held;
 }
 
--- what is left of an association when its exchange is done: its requests or wider ones, in a phase that is concluded
+-- what is left of an association when its exchange is done: its requests or wider ones, in a phase that is
+-- concluded
 record Concludes (a new : Association) : Type 0 where
   follows : FollowsIncoming a.incoming new.incoming
   in_effect : new.incoming.in_effect ≡ a.incoming.in_effect

@@ -192,7 +192,8 @@ way_of meaning setup old table octets m e new new_table is = does_way meaning se
 
 -- ---- what an exchange of CREATE_CHILD_SA comes to
 
--- The association ends, and an SPI is given up with those that it holds; or it stays as it is, and a child is added or none.
+-- The association ends, and an SPI is given up with those that it holds; or it stays as it is, and a child
+-- is added or none.
 pub record EndsHolding (spi : Option ℕ) (a : Association) (table : Database) (moment : ℕ) (child : Option ℕ) (new : Association) (new_table : Database) : Type 0 where
   pub none : child ≡ None
   pub between : Database

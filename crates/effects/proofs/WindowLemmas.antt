@@ -1,4 +1,5 @@
--- The window for this end's requests stays, or is widened to the one that the message tells by which IKE_AUTH is done.
+-- The window for this end's requests stays, or is widened to the one that the message tells by which
+-- IKE_AUTH is done.
 use Rattle.std.proofs.Common.{◌≡◌, ◌⊎◌, inl, inr, ℕ, Bool, true, false, List, Option, Some, None, ap, refl, subst, sym, ◌∙◌, max}
 use Rattle.base.specs.Octets.{Octets}
 use Rattle.wire.specs.declared.message.Message.{Message}

@@ -1,4 +1,4 @@
--- What an association keeps to send again, what goes out of it, and under which keys (RFC 7296 sections 2.1 and 2.14).
+-- What an IKE SA keeps to send again, what it sends, and under which keys (RFC 7296 sections 2.1 and 2.14).
 use Rattle.std.specs.Prelude.{◌≡◌, ◌≤◌, ℕ, Option, Some, None, length}
 use Rattle.std.specs.FinMap as map
 use Rattle.base.specs.Octets.{Octets}
@@ -16,18 +16,19 @@ use Rattle.effects.specs.declared.taking.Effect.TheVariants as effect
 abbrev pub IsShort : Octets → Type 0
 IsShort octets = length octets ≤ MESSAGE_LIMIT
 
--- the reply that a half-open association keeps
+-- the response that a half-open IKE SA keeps
 abbrev pub kept_reply : Phase → Option Octets
 kept_reply (phase.HalfOpen opened) = Some opened.reply
 kept_reply _ = None
 
--- all that can go out again is short: the replies that are kept, the requests that wait for an answer, and the reply to IKE_SA_INIT
+-- all that can be sent again is short: the kept responses, the outstanding requests, and the response to
+-- IKE_SA_INIT
 pub record KeepsShort (a : Association) : Type 0 where
   pub replies : (number : ℕ) (reply : Octets) → map.get a.incoming.kept number ≡ Some reply → IsShort reply
   pub requests : (number : ℕ) (request : Request) → map.get a.outgoing.outstanding number ≡ Some request → IsShort request.octets
   pub first : (reply : Octets) → kept_reply a.phase ≡ Some reply → IsShort reply
 
--- what goes out by an effect
+-- the octets that an effect sends
 abbrev pub octets_of_effect : Effect → Option Octets
 octets_of_effect (effect.Refused fault) = None
 octets_of_effect (effect.Repeated octets) = Some octets
@@ -50,7 +51,7 @@ pub record HasKeys (p : Phase) : Type 0 where
   pub keys : KeyRecord
   pub are : keys_in p ≡ Some keys
 
--- what goes out under the association's keys asks that it has them
+-- what is sent under an IKE SA's keys supposes that it has them
 abbrev pub KeyedBy : Effect → Phase → Type 0
 KeyedBy (effect.Refused fault) p = Unit {0}
 KeyedBy (effect.Repeated octets) p = HasKeys p

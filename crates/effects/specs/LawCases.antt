@@ -1,9 +1,10 @@
--- What the laws range over. A case is one record of all that a law speaks of: what the caller means, the setup, what
--- is held before and after, the message and what comes of it. `EachMessage P` says P of every case, whether it can
--- happen or not: that the message is taken is a premise of its own, `IsTaken it`. The record's fields are quantified
--- one by one, so that a proof applies a law to them one by one. So it is with the associations that begin (`IsBegun`),
--- those that are admitted (`IsAdmission`), requests that go out (`IsSent`) and orders (`IsOrdered`). The sentence of
--- each law stands above the function of its name in src/laws/.
+-- What the lemmas quantify over. A case is one record of all that a lemma speaks of: what the provider
+-- means, the configuration, the state before and after, the message and its effect. `EachMessage P` says P
+-- of every case, possible or not: that the message is taken is an assumption of its own, `IsTaken it`. The
+-- record's fields are quantified one by one, so a proof applies a lemma to them one by one. The same holds
+-- of IKE SAs that begin (`IsBegun`), of those that are admitted (`IsAdmission`), of requests that are sent
+-- (`IsSent`) and of commands (`IsOrdered`). The words of each lemma stand above the function of its name in
+-- src/laws/.
 use Rattle.std.specs.Prelude.{ℕ, Option}
 use Rattle.base.specs.Octets.{Octets}
 use Rattle.wire.specs.declared.message.Message.{Message}
@@ -24,7 +25,7 @@ use Rattle.effects.specs.Sending.{SendsRequest}
 use Rattle.effects.specs.Taking.{Meaning, TakesMessage}
 use Rattle.effects.specs.declared.taking.Effect.{Effect}
 
--- ---- a message that an association takes
+-- ---- a message that an IKE SA takes
 pub record MessageCase : Type 0 where
   pub meaning : Meaning
   pub setup : Setup
@@ -73,7 +74,7 @@ EachMessageWith {A} form P =
       new_table = new_table;
     })
 
--- ---- an association that this end begins
+-- ---- an IKE SA that this end begins
 pub record BeginningCase : Type 0 where
   pub cipher : Cipher
   pub group : ℕ
@@ -105,7 +106,7 @@ EachBeginning P =
       child = child;
     })
 
--- ---- an association that this end admits
+-- ---- an IKE SA that this end admits
 pub record AdmissionCase : Type 0 where
   pub cipher : Cipher
   pub group : ℕ
@@ -143,7 +144,7 @@ EachAdmission P =
       admitted = admitted;
     })
 
--- ---- a request that this end sends at an established association
+-- ---- a request that this end sends at an established IKE SA
 pub record RequestCase : Type 0 where
   pub body_of : Keys → Octets → Octets → Octets → Octets
   pub setup : Setup
@@ -160,7 +161,7 @@ EachRequest P =
     (new : Association)
     → P (record { body_of = body_of; setup = setup; old = old; octets = octets; new = new })
 
--- ---- an order of this end, to ask whether the peer is there or for a deletion
+-- ---- a command to this end: a liveness check, or a deletion
 pub record OrderCase : Type 0 where
   pub body_of : Keys → Octets → Octets → Octets → Octets
   pub setup : Setup

@@ -1,4 +1,4 @@
--- What is done in one way alone, and how long the requests are that are kept.
+-- That results are determined, and how long the requests are that are kept.
 use Rattle.std.specs.Prelude.{◌≡◌, ℕ, Option}
 use Rattle.base.specs.Octets.{Octets}
 use Rattle.base.specs.declared.selector.Selector.{Selector}

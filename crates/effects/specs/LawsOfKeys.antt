@@ -1,4 +1,4 @@
--- The keys of an association, and what goes out under them.
+-- The keys of an IKE SA, and what is sent under them.
 use Rattle.std.specs.Prelude.{◌≡◌, ◌⊎◌, false, length, true, None, Some}
 use Rattle.base.specs.Octets.{AreOctets, Octets}
 use Rattle.wire.specs.Messages.{Spells}

@@ -1,4 +1,4 @@
--- How long what is kept, sent and sealed is, and the keys.
+-- Lengths of what is kept, sent and sealed, and of keys.
 use Rattle.std.specs.Prelude.{◌≡◌, length, Some}
 use Rattle.base.specs.Octets.{AreOctets, Octets}
 use Rattle.suite.specs.declared.keys.Keys.{Keys}

@@ -1,4 +1,4 @@
--- What becomes of an association that has keys, as moves.
+-- What becomes of an IKE SA with keys, as moves: events of its Message IDs, without payloads.
 use Rattle.std.specs.FinMap as map
 use Rattle.std.specs.Prelude.{◌==◌, ◌∷◌, ◌≡◌, ◌≤◌, [], false, length, true, ℕ, None, Option, Some}
 use Rattle.wire.specs.Numbers.{IKE_SA_INIT}

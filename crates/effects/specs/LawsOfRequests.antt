@@ -1,4 +1,5 @@
--- The requests of either end: which take effect, what is remembered of them, and what comes again.
+-- The requests of either end: which take effect, what is remembered of them, and how retransmissions are
+-- answered.
 use Rattle.std.specs.FinMap as map
 use Rattle.std.specs.Prelude.{◌≡◌, ◌⊎◌, false, true, ℕ, None, Some}
 use Rattle.base.specs.Octets.{Octets}

@@ -1,4 +1,4 @@
--- What waits, and since when.
+-- Which requests are outstanding, and since when.
 use Rattle.std.specs.FinMap as map
 use Rattle.std.specs.Prelude.{◌≡◌, ◌⊎◌, ℕ, Option, Some}
 use Rattle.suite.specs.declared.key_record.KeyRecord.{KeyRecord}

@@ -1,4 +1,5 @@
--- What becomes of an association that has keys, as moves, which know keys, numbers and octets and no payload (RFC 7296 sections 2.1 to 2.4).
+-- What becomes of an IKE SA with keys, as moves: events that know keys, Message IDs and octets, and no
+-- payload (RFC 7296 sections 2.1 to 2.4).
 use Rattle.std.specs.Prelude.{◌≡◌, ◌==◌, ◌⊎◌, ◌↔◌, ◌+◌, ◌<◌, ◌≤◌, ◌^◌, ◌∷◌, ℕ, Bool, true, false, Option, Some, None, List, [], if◌then◌else◌}
 use Rattle.std.specs.FinMap as map
 use Rattle.std.specs.FinSet as set
@@ -22,25 +23,26 @@ use Rattle.effects.specs.declared.taking.Effect.TheVariants as effect
 pub data Move : Type 0 where
   -- this end has come to these keys (section 2.14)
   Make : KeyRecord → Move
-  -- a request of this number goes out for the first time
+  -- a request with this Message ID is sent for the first time
   Issue : ℕ → Octets → Move
-  -- the response to the request of this number is counted
+  -- the response to the request with this Message ID is matched
   Count : ℕ → Move
-  -- the peer's request of this number takes effect, and this is its reply
+  -- the peer's request with this Message ID takes effect, and this is its response
   TakeEffect : ℕ → Octets → Move
   Close : Move
   Remove : Move
 
--- what moves speak of
+-- the Message-ID state of an IKE SA: what moves speak of
 pub record Ledger : Type 0 where
   pub keys : KeyRecord
   pub role : Role
   pub is_closed : Bool
-  -- the peer's requests: those in effect, this end's window, and the replies that are kept
+  -- the peer's requests: the Message IDs in effect, this end's window, and the kept responses
   pub in_effect : NumberSet
   pub size : ℕ
   pub kept : map.FinMap nat_cmp Octets
-  -- this end's: the least number never issued, those answered, the peer's window, and the octets of those that wait for an answer
+  -- this end's: the next Message ID, those answered, the peer's window, and the octets of the outstanding
+  -- ones
   pub next : ℕ
   pub answered : NumberSet
   pub window : ℕ
@@ -73,8 +75,8 @@ ledger a = option_map (ledger_of a) (keys_in a.phase)
 abbrev pub put : (ℕ → Option Octets) → ℕ → Option Octets → ℕ → Option Octets
 put outstanding number value other = if other == number then value else outstanding other
 
--- As an association comes to keys, it is open, and IKE_SA_INIT is all that was: its request, of number 0, was answered to the initiator,
--- and took effect at the responder.
+-- As an IKE SA gets its keys, it is open, and only IKE_SA_INIT was done: its request, with Message ID 0, is
+-- answered at the initiator, and in effect at the responder.
 abbrev pub first_ledger : KeyRecord → Role → Ledger
 first_ledger keys Initiator = ledger_with keys Initiator false no_requests number_0_answered
 first_ledger keys Responder = ledger_with keys Responder false after_number_0 none_issued
@@ -82,8 +84,8 @@ first_ledger keys Responder = ledger_with keys Responder false after_number_0 no
 pub record Makes (keys : KeyRecord) (new : Ledger) : Type 0 where
   pub content : new ≡ first_ledger keys new.role
 
--- An open association issues the least number never issued, which lies in the peer's window and has 32 bits. (That none
--- goes out while one to delete the association waits is not seen here: moves know no payload.)
+-- An open IKE SA issues the next Message ID, which lies in the peer's window and has 32 bits. (That none is
+-- issued while a deletion of the IKE SA is outstanding is not seen here: moves know no payload.)
 pub record Issues (number : ℕ) (octets : Octets) (old new : Ledger) : Type 0 where
   pub least : number ≡ old.next
   pub in_window : (gap : ℕ) → IsGap old.answered gap → old.next < gap + old.window
@@ -91,8 +93,9 @@ pub record Issues (number : ℕ) (octets : Octets) (old new : Ledger) : Type 0 w
   pub is_open : old.is_closed ≡ false
   pub content : new ≡ record old { next = old.next + 1; outstanding = put old.outstanding number (Some octets) }
 
--- IKE_AUTH is done, by its number, at the end that has this role: the initiator counts it, and the responder takes it. Each window is at
--- least as wide from then on, and 16 at most (section 2.3).
+-- IKE_AUTH is done, by its Message ID, at the end that has this role: the initiator matches the response,
+-- and the responder takes the request. From then on each window is at least as wide as before, and 16 at
+-- most (section 2.3).
 pub record WidensWindows (role : Role) (number : ℕ) (old new : Ledger) : Type 0 where
   pub role_is : old.role ≡ role
   pub number_is : number ≡ 1
@@ -101,7 +104,7 @@ pub record WidensWindows (role : Role) (number : ℕ) (old new : Ledger) : Type 
   pub peers_wider : old.window ≤ new.window
   pub peers_most : new.window ≤ WINDOW_LIMIT
 
--- both windows stay as they are but for that
+-- but for that, both windows stay as they are
 abbrev pub KeepWindows : Role → ℕ → Ledger → Ledger → Type 0
 KeepWindows role number old new = ((new.size ≡ old.size) × (new.window ≡ old.window)) ⊎ WidensWindows role number old new
 
@@ -113,8 +116,8 @@ pub record Counts (number : ℕ) (old new : Ledger) : Type 0 where
   pub windows : KeepWindows Initiator number old new
   pub content : new ≡ record old { answered = set.insert old.answered number; outstanding = put old.outstanding number None; size = new.size; window = new.window }
 
--- A request that did not take effect yet, inside the window. Its reply is kept, and of those kept before all but those a window below a
--- number in effect, which are given up (section 2.3).
+-- A request takes effect that did not yet, inside the window. Its response is kept. Of those kept before,
+-- only those a window below a Message ID in effect are given up (section 2.3).
 pub record TakesEffectOnce (number : ℕ) (reply : Octets) (old new : Ledger) : Type 0 where
   pub is_open : old.is_closed ≡ false
   pub not_yet : LacksNumber old.in_effect number
@@ -127,12 +130,13 @@ pub record TakesEffectOnce (number : ℕ) (reply : Octets) (old new : Ledger) : 
   pub windows : KeepWindows Responder number old new
   pub content : new ≡ record old { in_effect = set.insert old.in_effect number; kept = new.kept; size = new.size; window = new.window }
 
--- it waits for no answer, and takes no request, from now on
+-- it is closed: it waits for no response and takes no request from now on
 pub record ClosesLedger (old new : Ledger) : Type 0 where
   pub is_open : old.is_closed ≡ false
   pub content : new ≡ record old { is_closed = true; outstanding = λ number. None }
 
--- It is held no longer, and waits for no answer: it is closed, or the responder's as it was made.
+-- It is held no longer, and waits for no response: it is closed, or the responder's that is still half
+-- open.
 pub record RemovesLedger (old : Ledger) : Type 0 where
   pub waits : (number : ℕ) → old.outstanding number ≡ None
   pub over : (old.is_closed ≡ true) ⊎ (old ≡ first_ledger old.keys Responder)
@@ -159,7 +163,8 @@ abbrev pub makes_and_issues : Option KeyRecord → Octets → List Move
 makes_and_issues (Some keys) octets = Make keys ∷ Issue 1 octets ∷ []
 makes_and_issues None octets = []
 
--- the moves of what came of a message of this number, by the keys that there are afterwards: two at most
+-- the moves of the effect of a message with this Message ID, by the keys that there are afterwards: two at
+-- most
 abbrev pub moves_of : ℕ → Option KeyRecord → Effect → List Move
 moves_of number keys (effect.Refused fault) = []
 moves_of number keys (effect.Repeated octets) = []
@@ -168,12 +173,12 @@ moves_of number keys (effect.AsksAuth octets) = makes_and_issues keys octets
 moves_of number keys (effect.Replied answered) = and_closes (TakeEffect number answered.octets) answered.closed
 moves_of number keys (effect.Counted ended) = and_closes (Count number) ended.closed
 
--- a reply that is kept of the request of this number
+-- a kept response to the request with this Message ID
 abbrev pub KeepsReply : Option Ledger → ℕ → Octets → Type 0
 KeepsReply None number reply = ⊥
 KeepsReply (Some l) number reply = map.get l.kept number ≡ Some reply
 
--- a request of this number that waits for its answer
+-- an outstanding request with this Message ID
 abbrev pub WaitsWith : Option Ledger → ℕ → Octets → Type 0
 WaitsWith None number request = ⊥
 WaitsWith (Some l) number request = l.outstanding number ≡ Some request

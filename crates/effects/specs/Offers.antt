@@ -21,8 +21,8 @@ use Rattle.association.specs.Sending.{reply_message}
 use Rattle.setup.specs.Configs.{Setup}
 use Rattle.effects.specs.Taking.{Meaning}
 
--- One proposal answers: it has the number and the protocol of one that was offered, and of each type of transform that this one has a
--- single one, taken from it.
+-- One proposal answers: it has the number and the protocol of one that was offered, and one transform of
+-- each of its types, taken from it.
 pub record AnswersOneOf (offered answered : List Proposal) : Type 0 where
   pub answer : Proposal
   pub lone : answered ≡ answer ∷ []
@@ -34,13 +34,13 @@ pub record AnswersOneOf (offered answered : List Proposal) : Type 0 where
   pub taken : All (λ transform. Contains proposal.transforms transform) answer.transforms
   pub one_each : All (λ transform. count_of_kind answer.transforms transform.kind ≡ 1) proposal.transforms
 
--- these proposals answer the only SA of a request
+-- these proposals answer the only SA payload of a request
 pub record AnswersSa (request : List Payload) (answered : List Proposal) : Type 0 where
   pub offered : List Proposal
   pub sa : only_sa request ≡ Some offered
   pub one : AnswersOneOf offered answered
 
--- the answer to IKE_SA_INIT has an SA that answers the request's
+-- the answer to IKE_SA_INIT has an SA payload that answers the request's
 pub record AnswersInitialSa (request : List Payload) (octets : Octets) : Type 0 where
   pub reply : Message
   pub spelled : SpellsPlainly reply octets
@@ -48,13 +48,13 @@ pub record AnswersInitialSa (request : List Payload) (octets : Octets) : Type 0 
   pub sa : only_sa reply.payloads ≡ Some answered
   pub answers : AnswersSa request answered
 
--- the proposals answer the SA of what a request opened to
+-- the proposals answer the SA payload of what a request opened to
 pub record AnswersPlain (plain : Plain) (answered : List Proposal) : Type 0 where
   pub request : List Payload
   pub read : SpellsChain plain.first request plain.octets
   pub answers : AnswersSa request answered
 
--- each SA in the answer to a request of this exchange under keys answers the request's
+-- each SA payload in the answer to a request of this exchange under keys answers the request's
 pub record AnswersSealedSa (exchange : ℕ) (body_of : Keys → Octets → Octets → Octets → Octets) (setup : Setup) (old : Association) (number : ℕ) (plain : Plain) (octets : Octets) : Type 0 where
   pub keys : KeyRecord
   pub are : keys_in old.phase ≡ Some keys
@@ -62,7 +62,7 @@ pub record AnswersSealedSa (exchange : ℕ) (body_of : Keys → Octets → Octet
   pub sealed : IsSealed body_of (keys_of old.role keys) setup.fresh.seal (reply_message old exchange number reply) octets
   pub answers : (answered : List Proposal) → Contains reply (Sa answered) → AnswersPlain plain answered
 
--- each SA in the answer to a message under keys answers that of what the message opened to
+-- each SA payload in the answer to a message under keys answers that of what the message opened to
 pub record AnswersMessageSa (meaning : Meaning) (setup : Setup) (old : Association) (octets : Octets) (m : Message) (said : Octets) : Type 0 where
   pub plain : Plain
   pub opened : opened_by meaning.plain_of old octets m.payloads ≡ Some plain

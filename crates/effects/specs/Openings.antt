@@ -1,5 +1,5 @@
--- What goes out under an association's keys, and what comes under its peer's, opens as the message that it is (RFC 7296 sections 3.1
--- and 3.14).
+-- What is sent under an IKE SA's keys, and what comes under its peer's, opens as the message that it is
+-- (RFC 7296 sections 3.1 and 3.14).
 use Rattle.std.specs.Prelude.{◌≡◌, ℕ, Bool, true, Some}
 use Rattle.std.specs.List.{AllByRecursion}
 use Rattle.base.specs.Octets.{Octets}
@@ -18,12 +18,14 @@ use Rattle.association.specs.Phases.{keys_in}
 use Rattle.association.specs.Receiving.{Opening}
 use Rattle.association.specs.declared.phase.Association.{Association}
 
--- What is sealed with these fresh octets under keys of 32 octets opens to what was sealed, as the law of a cipher says.
+-- What is sealed with these fresh octets under keys of 32 octets opens to what was sealed, as the law of a
+-- cipher says.
 pub record OpensWhatItSeals (body_of : Keys → Octets → Octets → Octets → Octets) (plain_of : Opening) (fresh : Octets) : Type 0 where
   pub again : (keys : Keys) (m : Message) (octets : Octets) → AreKeys keys → AllByRecursion IsClear m.payloads → IsSealed body_of keys fresh m octets → OpensAgain plain_of keys m octets
 
--- The octets open as this request or response of the end that has this role: they spell a message with the association's SPIs, whose
--- flags I and R say so, and whose only payload is an encrypted one that opens under that end's keys.
+-- The octets open as this request or response of the end that has this role. They spell a message with the
+-- IKE SA's SPIs, whose flags I and R say so, and whose only payload is an encrypted one that opens under
+-- that end's keys.
 pub record OpensAsMessage (plain_of : Opening) (a : Association) (sender : Role) (response : Bool) (number : ℕ) (octets : Octets) : Type 0 where
   pub message : Message
   pub spelled : Spells message octets

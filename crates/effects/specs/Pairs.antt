@@ -5,7 +5,7 @@ use Rattle.sadb.specs.Database.{pair_at, Database}
 use Rattle.sadb.specs.declared.pair.Pair.{Pair}
 use Rattle.sadb.specs.declared.pair.State.TheVariants.{Live}
 
--- a pair of this IKE association by which no number was sent or taken
+-- a pair of this IKE SA by which no number was sent or taken
 pub record IsUnused (ike : ℕ) (pair : Pair) : Type 0 where
   pub its : pair.ike ≡ ike
   pub live : pair.state ≡ Live
@@ -13,12 +13,12 @@ pub record IsUnused (ike : ℕ) (pair : Pair) : Type 0 where
   pub blocks : ℕ
   pub window : pair.inbound.window ≡ unused_window blocks
 
--- it comes under the next serial
+-- it is new, under the next serial
 pub record ComesNext (old : Database) (ike serial : ℕ) (pair : Pair) : Type 0 where
   pub in_order : serial ≡ old.next
   pub unused : IsUnused ike pair
 
--- Each pair is as it was, or comes now; and those of other IKE associations stay.
+-- Each pair is as it was, or is new; and those of other IKE SAs stay.
 pub record LeavesPairs (old : Database) (ike : ℕ) (new : Database) : Type 0 where
   pub start : new.start ≡ old.start
   pub given : old.given ≤ new.given

@@ -1,4 +1,4 @@
--- How a peer came to be known (RFC 7296 sections 1.2 and 2.15).
+-- How a peer was authenticated (RFC 7296 sections 1.2 and 2.15).
 use Rattle.std.specs.Prelude.{◌≡◌, ◌⊎◌, List, Some}
 use Rattle.base.specs.Octets.{Octets}
 use Rattle.wire.specs.Payloads.{SpellsChain}
@@ -18,7 +18,8 @@ use Rattle.initial.specs.Deciding.{peer_proving}
 use Rattle.initial.specs.Ending.{responder_proving}
 use Rattle.effects.specs.Taking.{Meaning}
 
--- the payloads of a request prove the configured peer, over what the initiator of this half-open association has to prove
+-- the payloads of a request prove the configured peer, over what the initiator of this half-open IKE SA has
+-- to prove
 pub record ProvesByRequest (accepts : Accepts) (setup : Setup) (p : Phase) (plain : Plain) : Type 0 where
   pub opened : HalfOpen
   pub was : p ≡ phase.HalfOpen opened
@@ -34,7 +35,7 @@ pub record ProvesByResponse (accepts : Accepts) (setup : Setup) (p : Phase) (pla
   pub read : SpellsChain plain.first payloads plain.octets
   pub proved : ProvesItself accepts setup.config.peer.identity (responder_proving sent) (only_id_r payloads) (only_auth payloads)
 
--- what a message opens to under the association's keys proves the configured peer, by a request or by a response
+-- what a message opens to under the IKE SA's keys proves the configured peer, by a request or by a response
 pub record ProvesByMessage (meaning : Meaning) (setup : Setup) (old : Association) (octets : Octets) (m : Message) : Type 0 where
   pub plain : Plain
   pub opened : opened_by meaning.plain_of old octets m.payloads ≡ Some plain

@@ -1,5 +1,5 @@
--- The peer's requests of one association: which octets are one, which take effect, and what holds of the replies that are kept
--- (RFC 7296 sections 2.1 to 2.3 and 3.1).
+-- The peer's requests of one IKE SA: which octets are one, which take effect, and what holds of the kept
+-- responses (RFC 7296 sections 2.1 to 2.3 and 3.1).
 use Rattle.std.specs.Prelude.{◌≡◌, ◌≢◌, ◌⊎◌, ◌≤◌, ℕ, Bool, true, false, Some, List, max}
 use Rattle.std.specs.FinMap as map
 use Rattle.base.specs.Octets.{Octets}
@@ -27,8 +27,8 @@ use Rattle.effects.specs.Waiting.{AreIssued, TookFirstRequest, TookNoRequest, Su
 use Rattle.effects.specs.declared.taking.Effect.{Effect}
 use Rattle.effects.specs.declared.taking.Effect.TheVariants as effect
 
--- The octets open as this request of the association: they spell a message with its SPIs, from the peer by the flag I, with R clear, whose
--- only payload is an encrypted one that opens under the peer's keys.
+-- The octets open as this request of the IKE SA: they spell a message with its SPIs, from the peer by the
+-- flag I, with R clear, whose only payload is an encrypted one that opens under the peer's keys.
 pub record OpensAs (plain_of : Opening) (a : Association) (octets : Octets) (exchange number : ℕ) : Type 0 where
   pub message : Message
   pub spelled : Spells message octets
@@ -40,14 +40,16 @@ pub record OpensAs (plain_of : Opening) (a : Association) (octets : Octets) (exc
   pub plain : Plain
   pub opened : opened_by plain_of a octets message.payloads ≡ Some plain
 
--- it takes effect if it comes: its number did not yet and lies in the window, and its exchange belongs to the phase
+-- it takes effect if it comes: its Message ID is not in effect and lies in the window, and its exchange
+-- belongs to the phase
 pub record IsNew (plain_of : Opening) (a : Association) (octets : Octets) (number : ℕ) : Type 0 where
   pub exchange : ℕ
   pub opens : OpensAs plain_of a octets exchange number
   pub fresh : IsFreshRequest a.incoming number
   pub admitted : admits a.phase exchange ≡ true
 
--- a message that put this number into effect: a new request, which was answered, and its reply is kept
+-- a message that put this Message ID into effect: a new request, which was answered, and its response is
+-- kept
 pub record PutsIntoEffect (plain_of : Opening) (old : Association) (octets : Octets) (m : Message) (e : Effect) (new : Association) (number : ℕ) : Type 0 where
   pub request : m.header.flags.response ≡ false
   pub number_is : m.header.id ≡ number
@@ -59,7 +61,7 @@ pub record PutsIntoEffect (plain_of : Opening) (old : Association) (octets : Oct
   pub said : e ≡ effect.Replied answered
   pub kept : map.get new.incoming.kept number ≡ Some answered.octets
 
--- a message that is passed over, or whose reply goes out again
+-- a message that is dropped, or a retransmission, which gets the kept response
 abbrev pub IsPassing : Effect → Type 0
 IsPassing (effect.Refused fault) = Unit {0}
 IsPassing (effect.Repeated reply) = Unit {0}
@@ -68,16 +70,17 @@ IsPassing (effect.Again octets) = ⊥
 IsPassing (effect.AsksAuth octets) = ⊥
 IsPassing (effect.Counted ended) = ⊥
 
--- IKE_AUTH is done, or the association is closed
+-- IKE_AUTH is done, or the IKE SA is closed
 abbrev pub is_concluded : Phase → Bool
 is_concluded (Established keys) = true
 is_concluded (Closed keys at) = true
 is_concluded _ = false
 
--- What holds of an association, always: replies are kept of numbers in effect that are not left behind, and of none before IKE_AUTH is
--- done; an initiator that has keys knows the responder's SPI; what waits for an answer belongs to the phase, and was issued; who waits for
--- the response to IKE_SA_INIT or to IKE_AUTH took no request yet, and who waits for IKE_AUTH took that of IKE_SA_INIT alone; and the peer's
--- window is 16 at most.
+-- The invariant of an IKE SA's requests. Responses are kept of Message IDs in effect that are not below the
+-- window, and of none before IKE_AUTH is done. An initiator that has keys knows the responder's SPI. What
+-- is outstanding belongs to the phase, and was issued. One that waits for the response to IKE_SA_INIT or to
+-- IKE_AUTH took no request yet, and one that waits for the request of IKE_AUTH took that of IKE_SA_INIT
+-- alone. The peer's window is 16 at most.
 pub record IsSoundlyHeld (a : Association) : Type 0 where
   pub in_effect : (number : ℕ) (reply : Octets) → map.get a.incoming.kept number ≡ Some reply → HasNumber a.incoming.in_effect number
   pub near : (number : ℕ) (reply : Octets) → map.get a.incoming.kept number ≡ Some reply → ¬ IsLeftBehind a.incoming number
@@ -94,23 +97,25 @@ pub record StaysConcluded (old new : Association) : Type 0 where
   pub concluded : is_concluded new.phase ≡ true
   pub size : new.incoming.size ≡ old.incoming.size
 
--- when IKE_AUTH establishes the association, their window is widened to the one that this end tells (section 2.3)
+-- when IKE_AUTH establishes the IKE SA, their window widens to the one that this end announces (section
+-- 2.3)
 pub record WidensWindow (own : ℕ) (old new : Association) : Type 0 where
   pub before : is_concluded old.phase ≡ false
   pub after : IsEstablished new.phase
   pub size : new.incoming.size ≡ max own old.incoming.size
 
--- the window changes then alone
+-- the window changes only then
 abbrev pub KeepsWindow : ℕ → Association → Association → Type 0
 KeepsWindow own old new = (new.incoming.size ≡ old.incoming.size) ⊎ WidensWindow own old new
 
--- the message opens to these payloads under the association's keys
+-- the message opens to these payloads under the IKE SA's keys
 pub record OpensToPayloads (plain_of : Opening) (a : Association) (octets : Octets) (m : Message) (payloads : List Payload) : Type 0 where
   pub plain : Plain
   pub opened : opened_by plain_of a octets m.payloads ≡ Some plain
   pub read : SpellsChain plain.first payloads plain.octets
 
--- The window for this end's requests is widened then too, to the one that the peer's message tells, and changes then alone.
+-- The window for this end's requests then widens too, to the one that the peer's message announces, and
+-- changes only then.
 pub record WidensPeersWindow (plain_of : Opening) (octets : Octets) (m : Message) (old new : Association) : Type 0 where
   pub before : is_concluded old.phase ≡ false
   pub after : IsEstablished new.phase

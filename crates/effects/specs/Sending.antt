@@ -1,4 +1,5 @@
--- A request of this end at an established association, whatever it asks for (RFC 7296 sections 1.3, 1.4 and 2.1 to 2.3).
+-- A request of this end at an established IKE SA, whatever it asks for (RFC 7296 sections 1.3, 1.4 and 2.1
+-- to 2.3).
 use Rattle.std.specs.Prelude.{◌≡◌, List}
 use Rattle.std.specs.List.{AllByRecursion}
 use Rattle.base.specs.Octets.{Octets}
@@ -19,8 +20,8 @@ use Rattle.setup.specs.Configs.{Setup}
 use Rattle.association.specs.Sending.{request_message}
 use Rattle.effects.specs.Waiting.{IsAskedLater}
 
--- It is sealed under the association's keys, goes out under the next number, and waits for its answer from then on. None of its payloads is
--- encrypted itself.
+-- It is sealed under the IKE SA's keys, is sent under the next Message ID, and waits for its response from
+-- then on. None of its payloads is an encrypted one.
 pub record SendsRequest (body_of : Keys → Octets → Octets → Octets → Octets) (setup : Setup) (old : Association) (octets : Octets) (new : Association) : Type 0 where
   pub keys : KeyRecord
   pub established : old.phase ≡ phase.Established keys

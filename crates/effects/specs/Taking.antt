@@ -1,4 +1,4 @@
--- What a message does to the association that it is for (RFC 7296 sections 1.2, 1.3.1, 1.4, 2.1 to 2.4).
+-- What a message does to its IKE SA (RFC 7296 sections 1.2, 1.3.1, 1.4, 2.1 to 2.4).
 use Rattle.std.specs.Prelude.{◌≡◌, ◌==◌, ◌⊎◌, ℕ, Bool, true, false, Option, Some, None}
 use Rattle.base.specs.Octets.{Octets}
 use Rattle.std.specs.FinMap as map
@@ -38,7 +38,7 @@ use Rattle.initial.specs.declared.reading.Continued.TheVariants as continued
 use Rattle.effects.specs.declared.taking.Effect.{Effect}
 use Rattle.effects.specs.declared.taking.Effect.TheVariants as effect
 
--- what the caller means by its traits
+-- what a crypto provider means by its traits: functions from octets to octets
 pub record Meaning : Type 0 where
   pub cipher : Cipher
   pub body_of : Keys → Octets → Octets → Octets → Octets
@@ -50,7 +50,7 @@ pub record Meaning : Type 0 where
   pub proof_of : Octets → Octets
   pub accepts : Accepts
 
--- what a caller of this type and value means by them
+-- what a provider of this type and value means by them
 abbrev pub meaning_of : {C : Type 0} → Sealer.Ghosts C → Agreement.Ghosts C → Proof.Ghosts C → C → Meaning
 meaning_of sealer agreement proof caller = record {
   cipher = sealer.cipher;
@@ -78,22 +78,22 @@ asker_of m = record {
   proof_of = m.proof_of;
 }
 
--- association and table are as they were
+-- IKE SA and table are as they were
 pub record IsPassedOver (old : Association) (table : Database) (new : Association) (new_table : Database) : Type 0 where
   pub association : new ≡ old
   pub pairs : new_table ≡ table
 
--- the request of IKE_AUTH is waited for, or the response to it
+-- this end waits for the request of IKE_AUTH, or for the response to it
 abbrev pub AwaitsAuth : Bool → Phase → Type 0
 AwaitsAuth false p = IsHalfOpen p
 AwaitsAuth true p = IsAuthSent p
 
--- IKE_AUTH where it is waited for: by it a first child is made
+-- IKE_AUTH where it is waited for: it makes a first child
 pub record IsForFirst (p : Phase) (response : Bool) (exchange : ℕ) : Type 0 where
   pub awaited : AwaitsAuth response p
   pub exchange_is : exchange ≡ IKE_AUTH
 
--- CREATE_CHILD_SA at an established association: by it a further child is made
+-- CREATE_CHILD_SA at an established IKE SA: it makes an additional child
 pub record IsForFurther (p : Phase) (exchange : ℕ) : Type 0 where
   pub established : IsEstablished p
   pub exchange_is : exchange ≡ CREATE_CHILD_SA
@@ -101,35 +101,36 @@ pub record IsForFurther (p : Phase) (exchange : ℕ) : Type 0 where
 abbrev pub IsForChild : Phase → Bool → ℕ → Type 0
 IsForChild p response exchange = IsForFirst p response exchange ⊎ IsForFurther p exchange
 
--- What a child takes: a replay window and selectors, and at the end that answers a place in the table, where that takes more pairs and has no
--- room; the end that asked has its place since it did.
+-- What making a child takes memory for: a replay window and selectors, and at the end that answers a place
+-- in the table, where that has no spare one and could take more pairs. The end that asked reserved its
+-- place as it asked.
 abbrev pub CanTakeOf : Bool → Database → MemoryFault → Type 0
 CanTakeOf response d child.Message = ⊥
 CanTakeOf response d child.Window = Unit {0}
 CanTakeOf response d child.Narrowing = Unit {0}
 CanTakeOf response d child.Table = (response ≡ false) × IsTableRefusal d table.Memory
 
--- a request that takes effect, or a response that is counted
+-- a request that takes effect, or a response that is matched
 abbrev pub HasItsEffect : Bool → Opening → Association → Octets → Message → Plain → Type 0
 HasItsEffect false plain_of a octets m plain = IsEffective plain_of a octets m plain
 HasItsEffect true plain_of a octets m plain = IsAnswering plain_of a octets m plain
 
--- a child may be made of the message: it counts, and its exchange is one by which a child is made
+-- a child may be made of the message: it takes effect or is matched, and its exchange can make a child
 pub record CanMakeChild (plain_of : Opening) (a : Association) (octets : Octets) (m : Message) : Type 0 where
   pub plain : Plain
   pub counts : HasItsEffect m.header.flags.response plain_of a octets m plain
   pub kind : IsForChild a.phase m.header.flags.response m.header.exchange
 
--- what memory can be wanted for: the message; where a child may be made of it, also what that takes
+-- what there may be no memory for: the message, and what a child takes where one may be made of it
 abbrev pub CanWant : Opening → Association → Database → Octets → Message → MemoryFault → Type 0
 CanWant plain_of a d octets m f = (f ≡ child.Message) ⊎ (CanMakeChild plain_of a octets m × CanTakeOf m.header.flags.response d f)
 
--- so by the phase and the exchange alone; only private contracts cite this
+-- the same, by the phase and the exchange alone; only private contracts cite this
 abbrev pub CanWantIn : Phase → Bool → ℕ → Database → MemoryFault → Type 0
 CanWantIn p response exchange d f = (f ≡ child.Message) ⊎ (IsForChild p response exchange × CanTakeOf response d f)
 
--- what a request of these payloads does at an established association: that of INFORMATIONAL, or else of CREATE_CHILD_SA, since no other
--- belongs there
+-- What a request of these payloads does at an established IKE SA: that of INFORMATIONAL, or else of
+-- CREATE_CHILD_SA, since no other belongs there.
 abbrev pub DoesAtEstablished : Bool → Meaning → Setup → Association → Database → ℕ → Plain → Effect → Association → Database → Type 0
 DoesAtEstablished true meaning setup old table number plain (effect.Replied answered) new new_table =
     AnswersInformational meaning.body_of setup old table number plain answered new new_table
@@ -138,7 +139,8 @@ DoesAtEstablished false meaning setup old table number plain (effect.Replied ans
     AnswersFurther meaning.body_of setup old table number plain answered new new_table
 DoesAtEstablished false meaning setup old table number plain e new new_table = ⊥
 
--- what a request of this exchange and these payloads does: IKE_AUTH to a half-open association, and others to an established one
+-- what a request of this exchange and these payloads does: IKE_AUTH to a half-open IKE SA, and others to an
+-- established one
 abbrev pub DoesRequest : Meaning → Setup → Phase → ℕ → Association → Database → ℕ → Plain → Effect → Association → Database → Type 0
 DoesRequest meaning setup (phase.HalfOpen opened) exchange old table number plain (effect.Replied answered) new new_table =
     AnswersAuth (prover_of meaning) setup old table number plain answered new new_table
@@ -148,7 +150,7 @@ DoesRequest meaning setup (phase.Established keys) exchange old table number pla
 DoesRequest meaning setup p exchange old table number plain (effect.Refused fault) new new_table = (fault ≡ WrongPhase) × IsPassedOver old table new new_table
 DoesRequest meaning setup p exchange old table number plain e new new_table = ⊥
 
--- whether the request of this number that waits for its answer asked for a further child
+-- whether the outstanding request with this Message ID asked for an additional child
 abbrev pub has_asked : Option Request → Bool
 has_asked None = false
 has_asked (Some request) = asks_for_child request.purpose
@@ -156,14 +158,15 @@ has_asked (Some request) = asks_for_child request.purpose
 abbrev pub asked_further : Association → ℕ → Bool
 asked_further a number = has_asked (map.get a.outgoing.outstanding number)
 
--- what a response of these payloads does at an established association, by whether its request asked for a further child
+-- what a response of these payloads does at an established IKE SA, by whether its request asked for an
+-- additional child
 abbrev pub DoesAnswer : Bool → Setup → Association → Database → ℕ → Plain → Effect → Association → Database → Type 0
 DoesAnswer true setup old table number plain (effect.Counted ended) new new_table = CountsFurther setup old table number plain ended new new_table
 DoesAnswer true setup old table number plain e new new_table = ⊥
 DoesAnswer false setup old table number plain (effect.Counted ended) new new_table = CountsInformational setup old table number plain ended new new_table
 DoesAnswer false setup old table number plain e new new_table = ⊥
 
--- what a response of these payloads does: that to IKE_AUTH, and others at an established association
+-- what a response of these payloads does: that to IKE_AUTH, and others at an established IKE SA
 abbrev pub DoesResponse : Meaning → Setup → Phase → Association → Database → ℕ → Plain → Effect → Association → Database → Type 0
 DoesResponse meaning setup (phase.AuthSent sent) old table number plain (effect.Counted ended) new new_table =
     EndsAuth meaning.accepts setup old table number plain ended new new_table
@@ -173,8 +176,9 @@ DoesResponse meaning setup (phase.Established keys) old table number plain e new
 DoesResponse meaning setup p old table number plain (effect.Refused fault) new new_table = (fault ≡ WrongPhase) × IsPassedOver old table new new_table
 DoesResponse meaning setup p old table number plain e new new_table = ⊥
 
--- What comes of a request by its answer, and of a response by how it is counted. Neither is there in another phase than the exchange's, nor
--- how a response is counted of which no request waits. Only private contracts cite these.
+-- What comes of a request by its answer, and of a response by how it is matched. There is neither in a
+-- phase to which the exchange doesn't belong, and no match where no request is outstanding. Only private
+-- contracts cite these.
 abbrev pub replied_by : Option Answered → Effect
 replied_by None = effect.Refused WrongPhase
 replied_by (Some answered) = effect.Replied answered
@@ -183,7 +187,7 @@ abbrev pub counted_by : Option Ended → Effect
 counted_by None = effect.Refused WrongPhase
 counted_by (Some ended) = effect.Counted ended
 
--- what is done about the response to IKE_SA_INIT, by how it is gone on
+-- what the response to IKE_SA_INIT does, by how the exchange continues
 abbrev pub Says : Effect → Continued → Type 0
 Says (effect.Again octets) (continued.Again next) = octets ≡ next
 Says (effect.AsksAuth octets) (continued.AsksAuth next) = octets ≡ next
@@ -210,9 +214,9 @@ pub record TakesMessage (meaning : Meaning) (setup : Setup) (old : Association) 
   pub received : IsReceived meaning.plain_of old octets m reception
   pub done : Does meaning setup old table octets m reception e new new_table
 
--- A message leaves an association its serial, its role and its SPIs, but that an initiator learns the responder's from the response to
--- IKE_SA_INIT; none comes back to a phase in which an association begins, and who waits for the response to IKE_AUTH waited for that
--- one or for the response to IKE_SA_INIT before.
+-- A message leaves an IKE SA its serial, its role and its SPIs, but that an initiator learns the
+-- responder's from the response to IKE_SA_INIT. None goes back to a phase in which an IKE SA begins. One
+-- that waits for the response to IKE_AUTH waited for that one or for the response to IKE_SA_INIT before.
 pub record KeepsIdentity (old new : Association) : Type 0 where
   pub serial : new.serial ≡ old.serial
   pub role : new.role ≡ old.role

@@ -1,4 +1,5 @@
--- What an end waits for in each phase, and what it took of the peer's requests before IKE_AUTH is done (RFC 7296 sections 1.2, 1.4 and 2.2).
+-- What an end waits for in each phase, and which requests of the peer it took before IKE_AUTH is done (RFC
+-- 7296 sections 1.2, 1.4 and 2.2).
 use Rattle.std.specs.Prelude.{◌≡◌, ◌⊎◌, ◌<◌, ◌+◌, ℕ, true, Option, Some, None}
 use Rattle.std.specs.FinMap as map
 use Rattle.std.specs.FinSet as set
@@ -19,11 +20,11 @@ use Rattle.association.specs.declared.purpose.Purpose.TheVariants.{Begin, Identi
 use Rattle.effects.specs.declared.taking.Effect.{Effect}
 use Rattle.effects.specs.declared.taking.Effect.TheVariants as effect
 
--- by an exchange of an established association: INFORMATIONAL, or CREATE_CHILD_SA
+-- by an exchange of an established IKE SA: INFORMATIONAL, or CREATE_CHILD_SA
 abbrev pub IsAskedLater : Purpose → Type 0
 IsAskedLater asked = (exchange_of asked ≡ INFORMATIONAL) ⊎ (exchange_of asked ≡ CREATE_CHILD_SA)
 
--- a request of this number, which asks this, may wait for its answer in the phase
+-- a request with this Message ID, which asks this, may be outstanding in the phase
 abbrev pub MayBeOutstanding : Phase → ℕ → Purpose → Type 0
 MayBeOutstanding (InitSent sent) number asked = (number ≡ 0) × (asked ≡ Begin)
 MayBeOutstanding (AuthSent sent) number asked = (number ≡ 1) × (asked ≡ Identify)
@@ -31,17 +32,17 @@ MayBeOutstanding (HalfOpen opened) number asked = ⊥
 MayBeOutstanding (Established keys) number asked = IsAskedLater asked
 MayBeOutstanding (Closed keys at) number asked = ⊥
 
--- no other waits
+-- no other is outstanding
 abbrev pub SuitPhase : Phase → map.FinMap nat_cmp Request → Type 0
 SuitPhase p outstanding = (number : ℕ) (request : Request) → map.get outstanding number ≡ Some request → MayBeOutstanding p number request.purpose
 
--- this end began the association, took no request under it yet, and makes one at a time
+-- this end began the IKE SA, took no request under it yet, and sends one at a time
 pub record TookNoRequest (a : Association) : Type 0 where
   pub role : a.role ≡ Initiator
   pub incoming : a.incoming ≡ record no_requests { room = a.incoming.room }
   pub window : a.outgoing.window ≡ 1
 
--- this end answered the request of IKE_SA_INIT, took no other under the association yet, and made none
+-- this end answered the request of IKE_SA_INIT, took no other under the IKE SA yet, and sent none
 pub record TookFirstRequest (a : Association) : Type 0 where
   pub role : a.role ≡ Responder
   pub incoming : a.incoming ≡ record after_number_0 { room = a.incoming.room }
@@ -49,13 +50,13 @@ pub record TookFirstRequest (a : Association) : Type 0 where
   pub answered : a.outgoing.answered ≡ set.empty
   pub window : a.outgoing.window ≡ 1
 
--- the request that goes out by an effect: again with a cookie, or for the first time
+-- the request that an effect sends: again with a cookie, or for the first time
 abbrev pub asked_by : Effect → Option Octets
 asked_by (effect.Again octets) = Some octets
 asked_by (effect.AsksAuth octets) = Some octets
 asked_by _ = None
 
--- what waits was issued
+-- what is outstanding was issued
 abbrev pub AreIssued : OwnRequests Request → Type 0
 AreIssued r = (number : ℕ) (request : Request) → map.get r.outstanding number ≡ Some request → number < r.next
 
@@ -67,25 +68,26 @@ pub record TakesCookie (old new : Association) : Type 0 where
   pub is : new.phase ≡ InitSent after
   pub taken : after.cookies_taken ≡ before.cookies_taken + 1
 
--- It goes out at this moment, and waits from then on: for the first time, or anew with a cookie.
+-- It is sent at this time, and waits from then on: for the first time, or anew with a cookie.
 pub record StartsWaiting (moment : ℕ) (sent : Option Octets) (old new : Association) (number : ℕ) (request : Request) : Type 0 where
   pub said : sent ≡ Some request.octets
   pub timer : request.timer ≡ record { sent = moment; repeats = 0 }
   pub fresh : (map.get old.outgoing.outstanding number ≡ None) ⊎ TakesCookie old new
 
--- What waits for its answer waited before, since the same moment and as often sent; or it goes out now.
+-- What is outstanding was so before, since the same time and sent as often; or it is sent now.
 abbrev pub KeepTimers : ℕ → Option Octets → Association → Association → Type 0
 KeepTimers moment sent old new =
     (number : ℕ) (request : Request) → map.get new.outgoing.outstanding number ≡ Some request → (map.get old.outgoing.outstanding number ≡ Some request) ⊎ StartsWaiting moment sent old new number request
 
--- the association ends by this
+-- this ends the IKE SA
 abbrev pub ClosesAssociation : Effect → Type 0
 ClosesAssociation (effect.Replied answered) = answered.closed ≡ true
 ClosesAssociation (effect.Counted ended) = ended.closed ≡ true
 ClosesAssociation _ = ⊥
 
--- A request of this number waits no more by a message of that one: it is answered, or the association ends; or it is the request of
--- IKE_SA_INIT, which goes out anew with a cookie, or whose answer brought the keys.
+-- A request with this Message ID waits no more, by a message with that one. It is answered, or the IKE SA
+-- ends. Or it is the request of IKE_SA_INIT, which is sent anew with a cookie, or whose answer brought the
+-- keys.
 abbrev pub WaitsNoMore : ℕ → Effect → ℕ → Type 0
 WaitsNoMore id (effect.Refused fault) number = ⊥
 WaitsNoMore id (effect.Repeated octets) number = ⊥
@@ -94,6 +96,6 @@ WaitsNoMore id (effect.Again octets) number = number ≡ 0
 WaitsNoMore id (effect.AsksAuth octets) number = number ≡ 0
 WaitsNoMore id (effect.Counted ended) number = (number ≡ id) ⊎ (ended.closed ≡ true)
 
--- what waited waits on, unless it stops so
+-- what was outstanding still is, unless it stops so
 abbrev pub WaitUntil : ℕ → Effect → OwnRequests Request → OwnRequests Request → Type 0
 WaitUntil id e old new = (number : ℕ) (request : Request) → map.get old.outstanding number ≡ Some request → (map.get new.outstanding number ≡ Some request) ⊎ WaitsNoMore id e number

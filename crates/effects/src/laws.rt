@@ -1,5 +1,5 @@
-//! What follows from the definitions alone. A law is a function that does nothing: its contract is the statement, which stands in
-//! `specs/LawsOf..` under a name of its own, and its sentence stands above it.
+//! Lemmas on the definitions. Each function here does nothing: its contract is the statement, which stands
+//! in `specs/LawsOf..` under a name of its own. The comment above the function says it in words.
 
 mod determined;
 mod keyed;

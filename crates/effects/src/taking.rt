@@ -1,4 +1,4 @@
-//! What a message does to the association that it is for.
+//! What a message does to its IKE SA.
 ghost use Rattle.std.specs.Prelude.{◌≡◌, true, false, IfOk, IfErr};
 ghost use Rattle.wire.specs.Messages.{Spells};
 ghost use Rattle.requests.specs.Incoming.{IsFreshRequest};
@@ -25,29 +25,35 @@ use wire::numbers::{CREATE_CHILD_SA, IKE_AUTH, INFORMATIONAL};
 /// What came of a message.
 #[derive(Debug, Drop)]
 pub enum Effect {
-    /// It is passed over, and nothing is changed.
+    /// It is dropped for this reason, and nothing changes.
     Refused(MessageFault),
-    /// A request that took effect before is answered by the same octets again; nothing is changed.
+    /// A retransmitted request gets the octets of the first response; nothing changes.
     Repeated(Items<u8>),
     /// A request took effect, and is answered.
     Replied(Answered),
-    /// The response to IKE_SA_INIT asks for a cookie, and this request goes out again with it.
+    /// The response to IKE_SA_INIT asks for a cookie: this request is to be sent with it.
     Again(Items<u8>),
-    /// The response to IKE_SA_INIT was taken: the keys are there, and IKE_AUTH goes out.
+    /// The response to IKE_SA_INIT was taken: the keys are made, and this request of IKE_AUTH is to be
+    /// sent.
     AsksAuth(Items<u8>),
-    /// The response to a request of another exchange was counted.
+    /// The response to a request of another exchange was matched.
     Counted(Ended),
 }
 
-/// Takes a message for the association that [`association::find`] found for it. What it is, [`association::receive`] tells; a
-/// response to IKE_SA_INIT is taken by [`read_response`], IKE_AUTH by [`answer_auth`], and its response by [`end_auth`]; INFORMATIONAL is
-/// taken by [`informational::answer`], and its response by [`informational::count`]; CREATE_CHILD_SA by [`create_child::answer`], and its
-/// response by [`create_child::count`]. In another phase than its exchange's a message is refused as [`MessageFault::WrongPhase`].
+/// Takes a message for the IKE SA that [`association::find`] found for it. [`association::receive`] says
+/// what the message is. Then a response to IKE_SA_INIT goes to [`read_response`], IKE_AUTH to
+/// [`answer_auth`] and its response to [`end_auth`]; INFORMATIONAL to [`informational::answer`], its
+/// response to [`informational::count`]; CREATE_CHILD_SA to [`create_child::answer`], its response to
+/// [`create_child::count`]. In a phase to which its exchange doesn't belong, a message is dropped as
+/// [`MessageFault::WrongPhase`].
 ///
-/// The octets are those that the message was decoded from, the SPIs that the association holds for children are reserved in the table, and
-/// what waits for an answer belongs to its phase. An error is for want of memory alone, and changes nothing but the table's room:
-/// [`MemoryFault::Message`], or where the message counts and IKE_AUTH or CREATE_CHILD_SA makes a child also one of the other three,
-/// [`MemoryFault::Table`] only at the end that answers, of a table that takes more pairs and has no room.
+/// The octets must be those from which the message was decoded, the SPIs that the IKE SA holds for children
+/// must be reserved in the table, and what is outstanding must belong to its phase.
+///
+/// An error is for want of memory alone, and changes nothing but the table's spare capacity. It is
+/// [`MemoryFault::Message`], or one of the other three where the message counts and IKE_AUTH or
+/// CREATE_CHILD_SA makes a child. [`MemoryFault::Table`] comes only at the end that answers, of a table
+/// without a spare place that could take more pairs.
 pub fn take_message<C: Sealer + Agreement + Proof>(
     alloc: Global,
     setup: &Setup<'_, C>,
@@ -152,7 +158,7 @@ fn take_request<C: Sealer + Agreement + Proof>(
     }
 }
 
-// What came of a request by its answer, of which there is none in another phase than its exchange's.
+// What came of a request, by its answer. There is none in a phase to which its exchange doesn't belong.
 fn replied(answered: Option<Answered>) -> Effect
     ensures { result ≡ replied_by answered }
 {
@@ -195,7 +201,8 @@ fn take_response<C: Sealer + Agreement + Proof>(
     }
 }
 
-// What came of a response by how it was counted, which it was not in another phase than its exchange's, or where no request asked for it.
+// What came of a response, by how it was matched. It was not, in a phase to which its exchange doesn't
+// belong, or where no request asked for it.
 fn counted(ended: Option<Ended>) -> Effect
     ensures { result ≡ counted_by ended }
 {

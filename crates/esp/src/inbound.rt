@@ -247,21 +247,21 @@ impl<W: Window> Inbound<W> {
     ///
     /// Whatever was delivered, no number is judged twice. If nothing but what was sent passes the integrity
     /// check, a packet is judged exactly at its first delivery at which its number is rightly recovered and
-    /// lies inside or above the window; at every other delivery nothing is handed up and no number is taken.
-    /// A packet that is refused for memory counts as not delivered.
+    /// lies inside or above the window; at every other delivery nothing is handed up and no number is
+    /// taken. A packet that is refused for memory counts as not delivered.
     ///
-    /// Stopped by [`ListFault::NoRoom`], after so many packets as the refusal says, where there was no memory
-    /// for the next answer. The place of an answer is reserved before its packet is opened: none is opened
-    /// without its answer.
+    /// Stopped by [`ListFault::NoRoom`], after so many packets as the refusal says, where there was no
+    /// memory for the next answer. The place of an answer is reserved before its packet is opened: none is
+    /// opened without its answer.
     ///
-    /// Check values are computed side by side, for at most 64 packets at a time, where that gains time: those
-    /// of the packets that pass length, number and window as they are at the head of the group. Packets are
-    /// judged one after the other all the same, and where another number is recovered when a packet's turn
-    /// comes its check value is computed again, alone.
+    /// Check values are computed side by side, for at most 64 packets at a time, where that gains time:
+    /// those of the packets that pass length, number and window as they are at the head of the group.
+    /// Packets are judged one after the other all the same, and where another number is recovered when a
+    /// packet's turn comes its check value is computed again, alone.
     ///
-    /// No value is computed ahead of a packet that is refused before its check value at the head of its group;
-    /// one that an earlier packet of its group makes old or replayed costs its own. No memory is taken but for
-    /// `out` and the window.
+    /// No value is computed ahead of a packet that is refused before its check value at the head of its
+    /// group; one that an earlier packet of its group makes old or replayed costs its own. No memory is
+    /// taken but for `out` and the window.
     pub fn open_all<'a>(
         &mut self,
         packets: &[&'a [u8]],

@@ -1,9 +1,9 @@
-//! ESP in tunnel mode, one association at a time: packets are sealed and opened (RFC 4303 sections 2 and 3),
-//! with NULL encryption (RFC 2410) and HMAC-SHA-256-128 (RFC 4868).
+//! ESP in tunnel mode, one association at a time: packets are sealed and opened (RFC 4303 sections 2 and
+//! 3), with NULL encryption (RFC 2410) and HMAC-SHA-256-128 (RFC 4868).
 //!
-//! An [`Outbound`] seals payloads into packets with rising numbers. An [`Inbound`] opens packets: each number
-//! is judged at most once, and a packet only if its check value is right. It is generic in the replay window,
-//! and over a `BlockWindow` opening takes no memory.
+//! An [`Outbound`] seals payloads into packets with rising numbers. An [`Inbound`] opens packets: each
+//! number is judged at most once, and a packet only if its check value is right. It is generic in the
+//! replay window, and over a `BlockWindow` opening takes no memory.
 //!
 //! Lists are sealed by [`Outbound::seal_all`] and opened by [`Inbound::open_all`], with the outcome of as
 //! many calls for one packet in order. Only their check values are computed side by side, by crate `lanes`,
@@ -18,6 +18,18 @@
 //! let opened = receiver.open(&packet)?;       // number 7, next header 4, the payload as a slice of the packet
 //! receiver.open(&packet)                      // Err(EspFault::Replayed)
 //! ```
+//!
+//! # How it is proved
+//!
+//! `Step` says what one call does to one packet, in the window's terms, and `open` is proved against it. A
+//! run is a list of steps (`Run`). `proofs/Runs` goes, by induction on the packets, from a run at a window
+//! to the same list at the set of all numbers taken so far. Of that set the window shows the part in its
+//! span (`Shows`). `proofs/HistoryLemmas` goes from there to `AtMostOnce` and `ExactlyAtFirst`: what is
+//! taken stays taken, by induction on the list. Both files know no code.
+//!
+//! Lists are shown to be as many calls in order: `LayingLemmas` and `GroupLemmas` for sealing,
+//! `AheadLemmas` and `PrecomputedLemmas` for ICVs that were computed ahead. `WorkedLemmas` shows that the
+//! assumption of no forgery can be met.
 #![tactic(auto)]
 
 mod ahead;

@@ -96,18 +96,7 @@ impl Outbound {
         // A packet is its payload and 26 to 29 octets more.
         ensures room { vec_len out.old + (length payload.now + 29) ≤ vec_capacity out.old
             → IfErr result (λ fault. fault ≢ EspFault.Memory) }
-    {
-        self.seal_one(next, payload, out)
-    }
-
-    // Seals a payload as [`Outbound::seal`] does, in no more memory than its packet has room in.
-    fn seal_one(&mut self, next: u8, payload: &[u8], out: &mut Vec<u8>) -> Result<u64, EspFault>
-        ensures sealed { IfOk result (λ number.
-            Seals self.old next payload.now out.old.items number self.new out.new.items) }
-        ensures refused { IfErr result (λ fault. IsSealRefusal self.old payload.now fault
-            × (self.new ≡ self.old) × (out.new.items ≡ out.old.items)) }
-        ensures room { vec_len out.old + (length payload.now + 29) ≤ vec_capacity out.old
-            → IfErr result (λ fault. fault ≢ EspFault.Memory) }
+        // No memory is given back, and no more than such a packet is written.
         ensures capacity { vec_capacity out.old ≤ vec_capacity out.new }
         ensures growth { vec_len out.new ≤ vec_len out.old + (length payload.now + 29) }
     {
@@ -180,7 +169,7 @@ impl Outbound {
             (vec_len out.old) (vec_capacity out.old) (vec_len out.new) (vec_capacity out.new) }
     {
         for (done, payload) in payloads.iter().enumerate() {
-            if let Err(fault) = self.seal_one(next, payload, out) {
+            if let Err(fault) = self.seal(next, payload, out) {
                 return Progress {
                     done,
                     refusal: Some(fault),

@@ -1,4 +1,5 @@
--- A step does one thing: what comes of it, and what is held of associations and in the table then, but for room.
+-- A step does one thing: what comes of it, and what is held of associations and in the table then, but for
+-- room.
 use Rattle.std.proofs.Common.{◌≡◌, inl, inr, ℕ, Bool, true, false, List, length, Option, Some, None, Result, Ok, Err, sym, ap, subst, ◌∙◌, max}
 use Rattle.std.specs.List.{position, slice_get}
 use Rattle.std.specs.Prelude.{slice_set}

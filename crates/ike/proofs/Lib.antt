@@ -1,5 +1,6 @@
 mod ListLemmas
 mod EntryLemmas
+mod DatagramLemmas
 mod RepeatLemmas
 mod CountLemmas
 mod SoundLemmas
@@ -37,3 +38,4 @@ mod FurtherLemmas
 mod AllowedLemmas
 mod OfferLemmas
 mod NextLemmas
+mod LawfulLemmas

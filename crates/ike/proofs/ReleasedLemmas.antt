@@ -40,7 +40,8 @@ use Rattle.ike.specs.declared.output.Stepped.{Stepped}
 use Rattle.ike.proofs.MarkLemmas.{marked_but}
 use Rattle.ike.proofs.WayLemmas.{datagram_came, joined, stood, taken, AdmitsOne, Came, Takes}
 
--- what is known of a message, of a request that goes out, of an SPI that is given, and of who is held no longer
+-- what is known of a message, of a request that goes out, of an SPI that is given, and of who is held no
+-- longer
 pub record ReleaseLaws : Type 0 where
   pub message : (meaning : Meaning) (setup : Setup) (old : Association) (table : Database) (octets : Octets) (m : Message) (effect : Effect) (new : Association) (new_table : Database) (spi : ℕ)
       → IsSoundlyHeld old → TakesMessage meaning setup old table octets m effect new new_table → IsReserved new_table spi → IsReserved table spi × (HoldsSpi old spi → HoldsSpi new spi)

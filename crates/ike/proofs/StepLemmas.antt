@@ -413,7 +413,8 @@ start_sound laws meaning setup place old table stepped new new_table sound_table
 
 -- ---- a request of an association that stands
 
--- what becomes of the SPIs that an association holds as it asks: each stays reserved, and those that come were not
+-- what becomes of the SPIs that an association holds as it asks: each stays reserved, and those that come
+-- were not
 record AskedSpis (a : Association) (table : Database) (b : Association) (new_table : Database) : Type 0 where
   reserved : HoldsReserved b new_table
   others : (spi : ℕ) → IsReserved table spi → IsReserved new_table spi

@@ -1,5 +1,5 @@
--- The orders that ask the peer something under an association that stands: whether it is there, that a child or the association is deleted, or
--- for a further child (RFC 7296 sections 1.3.1, 1.4, 1.4.1 and 2.4).
+-- The commands that ask the peer something under an established IKE SA: a liveness check, a deletion of a
+-- child or of the IKE SA, or an additional child (RFC 7296 sections 1.3.1, 1.4, 1.4.1 and 2.4).
 use Rattle.std.specs.Prelude.{◌≡◌, ℕ, Option, Some, None, slice_get, slice_set}
 use Rattle.std.specs.List.{position}
 use Rattle.base.specs.Octets.{Octets}
@@ -30,7 +30,7 @@ use Rattle.ike.specs.declared.fault.IkeFault.{IkeFault}
 use Rattle.ike.specs.declared.fault.IkeFault.TheVariants as fault
 use Rattle.ike.specs.declared.output.Stepped.{Stepped}
 
--- the association with this serial sends a request to its peer, and no other is changed
+-- the IKE SA with this serial sends a request to its peer, and no other changes
 pub record AsksAt (body_of : Keys → Octets → Octets → Octets → Octets) (setup : Setup) (ike : ℕ) (old : Held) (stepped : Stepped) (new : Held) : Type 0 where
   pub place : ℕ
   pub first : position (has_serial ike) old.associations ≡ Some place
@@ -48,14 +48,16 @@ pub record AsksThat (body_of : Keys → Octets → Octets → Octets → Octets)
   pub ordered : Asks body_of setup order asks.association asks.octets asks.changed
   pub marked : MarksFor order table new_table
 
--- the association of a child that is there, and Live, asks that it is deleted, by the SPI under which this end receives
+-- The IKE SA of a child that is Live asks that the child be deleted, by the SPI under which this end
+-- receives.
 pub record DeletesChild (body_of : Keys → Octets → Octets → Octets → Octets) (setup : Setup) (serial : ℕ) (old : Held) (table : Database) (stepped : Stepped) (new : Held) (new_table : Database) : Type 0 where
   pub pair : Pair
   pub there : pair_at table.pairs serial ≡ Some pair
   pub live : pair.state ≡ Live
   pub asks : AsksThat body_of setup pair.ike (asked.DeleteChild serial pair.inbound.association.spi) old table stepped new new_table
 
--- it asks for a further child with these selectors of this end's side and of the peer's, whose SPI the table gives
+-- It asks for an additional child with these selectors of this end's side and of the peer's, under an SPI
+-- that the table gives.
 pub record AsksFurther (body_of : Keys → Octets → Octets → Octets → Octets) (setup : Setup) (ike : ℕ) (local remote : Selector) (old : Held) (table : Database) (stepped : Stepped) (new : Held) (new_table : Database) : Type 0 where
   pub asks : AsksAt body_of setup ike old stepped new
   pub further : AsksForFurther body_of setup local remote asks.association table asks.octets asks.changed new_table
@@ -65,7 +67,7 @@ AsksFor body_of setup (Probe ike) old table stepped new new_table = AsksThat bod
 AsksFor body_of setup (DeleteChild serial) old table stepped new new_table = DeletesChild body_of setup serial old table stepped new new_table
 AsksFor body_of setup (DeleteIke ike) old table stepped new new_table = AsksThat body_of setup ike asked.DeleteAssociation old table stepped new new_table
 
--- the association at this place asks this, and no other is changed; only private contracts cite this and the next
+-- The IKE SA at this place asks this, and no other changes. Only private contracts cite this and the next.
 pub record AsksThere (body_of : Keys → Octets → Octets → Octets → Octets) (setup : Setup) (place : ℕ) (order : Order) (old : Held) (table : Database) (issued : Issued) (new : Held) (new_table : Database) : Type 0 where
   pub association : Association
   pub there : slice_get old.associations place ≡ Some association
@@ -80,7 +82,7 @@ pub record RefusesThere (place : ℕ) (old : Held) (o : OrderFault) : Type 0 whe
   pub there : slice_get old.associations place ≡ Some association
   pub refuses : RefusesOrder association o
 
--- so with a further child
+-- the same for an additional child
 pub record AsksFurtherThere (body_of : Keys → Octets → Octets → Octets → Octets) (setup : Setup) (place : ℕ) (local remote : Selector) (old : Held) (table : Database) (issued : Issued) (new : Held) (new_table : Database) : Type 0 where
   pub association : Association
   pub there : slice_get old.associations place ≡ Some association
@@ -103,22 +105,22 @@ fault_of_order order.SpisSpent = fault.SpisSpent
 fault_of_order order.TableMemory = fault.Memory child.Table
 fault_of_order order.Memory = fault.Memory child.Message
 
--- there is no such association, or no further child can be asked for under it
+-- there is no such IKE SA, or no additional child can be asked for under it
 abbrev pub RefusesFurtherAt : Option Association → Database → IkeFault → Type 0
 RefusesFurtherAt None table reason = reason ≡ fault.Message UnknownAssociation
 RefusesFurtherAt (Some a) table reason = (f : OrderFault) × (RefusesFurther a table f) × (reason ≡ fault_of_order f)
 
--- there is no such association, or it refuses the order
+-- there is no such IKE SA, or its state refuses the command
 abbrev pub RefusesAskingAt : Option Association → IkeFault → Type 0
 RefusesAskingAt None reason = reason ≡ fault.Message UnknownAssociation
 RefusesAskingAt (Some a) reason = (o : OrderFault) × (RefusesOrder a o) × (reason ≡ fault_of_order o)
 
--- by the state of the child's pair: what is being deleted is not deleted again
+-- by the state of the child's pair: one that is being deleted is not deleted again
 abbrev pub RefusesChildBy : State → Option Association → IkeFault → Type 0
 RefusesChildBy Live a reason = RefusesAskingAt a reason
 RefusesChildBy Deleting a reason = reason ≡ fault.Message WrongPhase
 
--- there is no such child, or the order on its association is refused
+-- there is no such child, or the state of its IKE SA refuses the command
 abbrev pub RefusesChild : Option Pair → Held → IkeFault → Type 0
 RefusesChild None old reason = reason ≡ fault.Message UnknownAssociation
 RefusesChild (Some pair) old reason = RefusesChildBy pair.state (association_of pair.ike old.associations) reason

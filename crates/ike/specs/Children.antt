@@ -23,7 +23,7 @@ use Rattle.ike.specs.declared.output.IkeOutput.TheVariants as output
 use Rattle.ike.specs.declared.output.MadeChild.{MadeChild}
 use Rattle.ike.specs.declared.output.Stepped.{Stepped}
 
--- the datagram is a message that made this child, of the association with its serial
+-- the datagram is a message that made this child, of the IKE SA with its serial
 pub record MakesChildOf (meaning : Meaning) (setup : Setup) (octets : Octets) (old : Held) (table : Database) (stepped : Stepped) (made : MadeChild) (new : Held) (new_table : Database) : Type 0 where
   pub message : Message
   pub spelled : Spells message octets
@@ -37,25 +37,25 @@ pub record MakesChildOf (meaning : Meaning) (setup : Setup) (octets : Octets) (o
   pub said : stepped ≡ stepped_of made.ike message.header.id effect
   pub makes : MakesChild meaning setup was table octets message effect made.serial is new_table
 
--- the association with this serial asks for its first child by these octets
+-- the IKE SA with this serial asks for its first child by these octets
 pub record AsksFirstChild (meaning : Meaning) (setup : Setup) (ike : ℕ) (next : Octets) (new : Held) : Type 0 where
   pub is : Association
   pub stands : association_of ike new.associations ≡ Some is
   pub asks : AsksForChild meaning setup next is
 
--- it waited for the response of IKE_AUTH before, with the same content
+-- it waited for the response of IKE_AUTH before, and asked for the same
 pub record WaitedBefore (ike : ℕ) (sent : AuthSent) (old : Held) : Type 0 where
   pub was : Association
   pub stood : association_of ike old.associations ≡ Some was
   pub waited : was.phase ≡ phase.AuthSent sent
 
--- or its keys are made, and its request goes out, now
+-- or its keys are made now, and its request is sent
 pub record AsksNow (ike : ℕ) (stepped : Stepped) : Type 0 where
   pub next : Octets
   pub said : stepped.output ≡ output.Request ike next
   pub keyed : stepped.trace.keyed ≡ Some ike
 
--- the association with this serial asks for a further child: its request goes out, and waits for its answer
+-- the IKE SA with this serial asks for an additional child: its request is sent, and waits for its answer
 pub record AsksForFurtherNow (body_of : Keys → Octets → Octets → Octets → Octets) (setup : Setup) (ike : ℕ) (stepped : Stepped) (new : Held) : Type 0 where
   pub number : ℕ
   pub octets : Octets
@@ -64,13 +64,13 @@ pub record AsksForFurtherNow (body_of : Keys → Octets → Octets → Octets �
   pub stands : association_of ike new.associations ≡ Some is
   pub asks : AsksForFurtherChild body_of setup number octets is
 
--- a request of these octets and of this purpose waited for its answer before
+-- a request of these octets and for this purpose was outstanding before
 pub record FurtherWaited (ike number : ℕ) (request : Request) (old : Held) : Type 0 where
   pub was : Association
   pub stood : association_of ike old.associations ≡ Some was
   pub waited : WasOutstanding was number request
 
--- or it is ordered, and goes out under a number at which none waited, now
+-- or it is asked for now, by a request whose Message ID was not outstanding
 pub record FurtherOrdered (input : InputView) (old : Held) (ike number : ℕ) (request : Request) (stepped : Stepped) : Type 0 where
   pub place : ℕ
   pub fresh : Fresh

@@ -1,4 +1,4 @@
--- What an end holds of all its IKE associations. For how many more replies and requests there is room is no part of it.
+-- What an end holds of all its IKE SAs, without spare capacity for more responses and requests.
 use Rattle.std.specs.Prelude.{map}
 use Rattle.association.specs.Contents.{association_content}
 use Rattle.ike.specs.Machines.{Held, Machine}

@@ -1,4 +1,4 @@
--- The numbers of this crate's refusals.
+-- The error codes of this crate's refusals.
 use Rattle.std.specs.Prelude.{ℕ, Bool, true, false}
 use Rattle.wire.specs.Fault.{fault_number}
 use Rattle.association.specs.Faults.{code_of_message_fault}
@@ -28,7 +28,7 @@ fault_of_table table.Full = fault.TableFull
 fault_of_table table.Spent = fault.SpisSpent
 fault_of_table table.Memory = fault.Memory child.Table
 
--- there was no memory, of which nothing else tells
+-- There was no memory. No contract says when that is so.
 abbrev pub is_want_of_memory : IkeFault → Bool
 is_want_of_memory (fault.Memory f) = true
 is_want_of_memory f = false

@@ -1,9 +1,9 @@
--- What the laws range over. A case is one record of all that a law speaks of: what the caller means, the policy's
--- entries, the input, what is held before and after, and what comes of it. `EachStep P` says P of every case, whether
--- it can happen or not: that the step is done is a premise of its own, `IsStep it`. The record's fields are quantified
--- one by one, so that a proof applies a law to them one by one. `EachDatagram P` says P of each case whose input is a
--- datagram, and gives it the address, the octets and the fresh ones too. The sentence of each law stands above the
--- function of its name in src/laws/.
+-- What the lemmas quantify over. A case is one record of all that a lemma speaks of: what the provider
+-- means, the policy's entries, the input, the state before and after, and the output. `EachStep P` says P
+-- of every case, possible or not: that the step takes place is an assumption of its own, `IsStep it`. The
+-- record's fields are quantified one by one, so a proof applies a lemma to them one by one. `EachDatagram
+-- P` says P of each case whose input is a datagram, and also gives its address, its octets and the fresh
+-- octets. The words of each lemma stand above the function of its name in src/laws/.
 use Rattle.std.specs.Prelude.{List}
 use Rattle.base.specs.Octets.{Octets}
 use Rattle.policy.specs.declared.entry.Entry.{Entry}

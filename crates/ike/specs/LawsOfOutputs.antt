@@ -1,4 +1,4 @@
--- What goes out of a step, what its trace names, and that keys stay.
+-- What a step sends, what its trace names, and that keys stay.
 use Rattle.std.specs.Prelude.{◌≡◌, ◌≤◌, length, true, ℕ, All, Contains, None, Some}
 use Rattle.base.specs.Octets.{Octets}
 use Rattle.suite.specs.declared.key_record.KeyRecord.{KeyRecord}

@@ -1,4 +1,4 @@
--- What is known of the peer before it is served.
+-- What a peer has to show before it is served.
 use Rattle.std.specs.Prelude.{◌<◌, ◌≡◌, ◌≤◌, ℕ, Some}
 use Rattle.suite.specs.declared.key_record.KeyRecord.{KeyRecord}
 use Rattle.sa_init.specs.Judging.{COOKIE_THRESHOLD}

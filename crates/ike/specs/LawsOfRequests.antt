@@ -1,4 +1,5 @@
--- The requests of the peer: which take effect, what is remembered of them, and what comes again; serials.
+-- The peer's requests: which take effect, what is remembered of them, and how retransmissions are answered;
+-- serials.
 use Rattle.std.specs.FinMap as map
 use Rattle.std.specs.Prelude.{◌<◌, ◌≡◌, ◌≤◌, ◌⊎◌, true, ℕ, List, None, Option, Some}
 use Rattle.base.specs.Octets.{Octets}

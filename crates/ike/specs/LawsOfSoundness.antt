@@ -1,4 +1,4 @@
--- What holds of a machine and its table, whatever is done.
+-- The invariant of a machine and its table.
 use Rattle.std.specs.Prelude.{ℕ}
 use Rattle.sadb.specs.Database.{Database, IsReserved, IsSoundTable}
 use Rattle.setup.specs.declared.config.Config.{Config}

@@ -1,10 +1,11 @@
--- What a step does to what the machine holds: one thing, by few moves, and but for a moment to one association.
+-- What a step changes of what the machine holds: its result is determined, it is at most two moves, and
+-- only a `Tick` touches more than one IKE SA.
 use Rattle.std.specs.Prelude.{◌≡◌, false, true, ℕ, List}
 use Rattle.base.specs.Octets.{Octets}
 use Rattle.policy.specs.declared.entry.Entry.{Entry}
 use Rattle.suite.specs.declared.keys.Keys.{Keys}
 use Rattle.sadb.specs.Contents.{table_content}
-use Rattle.sadb.specs.Database.{Database}
+use Rattle.sadb.specs.Database.{Database, IsSoundTable}
 use Rattle.association.specs.Receiving.{Opening}
 use Rattle.effects.specs.Taking.{Meaning}
 use Rattle.ike.specs.Contents.{machine_content}
@@ -16,6 +17,7 @@ use Rattle.ike.specs.Moves.{HasFresh, MovesAt, OpensFresh}
 use Rattle.ike.specs.Outputs.{IsQuiet}
 use Rattle.ike.specs.Pairs.{ChangesOne}
 use Rattle.ike.specs.Soundness.{IsSoundMachine}
+use Rattle.ike.specs.StepLaws.{KeepsLaws}
 use Rattle.ike.specs.Steps.{is_tick, InputView, Refuses, Steps}
 use Rattle.ike.specs.declared.fault.IkeFault.{IkeFault}
 use Rattle.ike.specs.declared.output.Stepped.{Stepped}
@@ -80,3 +82,11 @@ FreshOctetsOpen body_of plain_of = (meaning : Meaning) (input : InputView)
     → meaning.plain_of ≡ plain_of
     → HasFresh input
     → OpensFresh meaning input
+
+-- ---- steps_keep_their_laws
+abbrev pub StepsKeepTheirLaws : Type 0
+StepsKeepTheirLaws = EachStep (λ it.
+    IsSoundTable it.table
+    → IsSoundMachine it.old it.table
+    → IsStep it
+    → KeepsLaws it)

@@ -1,10 +1,10 @@
 -- What is due, and when it comes.
-use Rattle.std.specs.Prelude.{◌≡◌, ◌<◌, ◌^◌, [], false, max, true, ℕ, List, Option}
+use Rattle.std.specs.Prelude.{◌≡◌, ◌<◌, ◌^◌, [], false, length, max, true, ℕ, List, Option}
 use Rattle.policy.specs.declared.entry.Entry.{Entry}
 use Rattle.sadb.specs.Database.{Database}
 use Rattle.setup.specs.declared.config.Config.{Config}
 use Rattle.moments.specs.Due.{SomethingComes}
-use Rattle.moments.specs.Next.{IsBefore, NothingIsDueBefore}
+use Rattle.moments.specs.Next.{IsBefore, NothingIsDueBefore, SomethingIsDue}
 use Rattle.effects.specs.Taking.{Meaning}
 use Rattle.ike.specs.Faults.{is_want_of_memory}
 use Rattle.ike.specs.LawCases.{EachStep, IsStep}
@@ -65,3 +65,21 @@ NothingComesBeforeTheNextMoment = (next : Option ℕ) (moment : ℕ) (old : Mach
     → (stepped ≡ plain_step (output.Ticked (record { requests = []; closed = [] })))
     × (new ≡ record old { moment = max old.moment moment })
     × (new_table ≡ table)
+
+abbrev pub MomentsBeforeTheNextAreNotRefused : Type 0
+MomentsBeforeTheNextAreNotRefused = (meaning : Meaning) (entries : List Entry) (next : Option ℕ) (moment : ℕ)
+    (machine : Machine) (table : Database) (reason : IkeFault)
+    → IsTimely machine
+    → NothingIsDueBefore next machine.held.associations
+    → moment < 2 ^ 64
+    → IsBefore moment next
+    → ¬ Refuses meaning entries (Tick moment) machine table reason
+
+-- ---- the_next_moment_brings_something
+abbrev pub TheNextMomentBringsSomething : Type 0
+TheNextMomentBringsSomething = (moment : ℕ) (old : Machine) (table : Database) (stepped : Stepped) (new : Machine)
+    (new_table : Database)
+    → SomethingIsDue (max old.moment moment) old.held.associations
+    → TakesMoment moment old table stepped new new_table
+    → ¬ ((stepped ≡ plain_step (output.Ticked (record { requests = []; closed = [] })))
+      × (length new.held.associations ≡ length old.held.associations))

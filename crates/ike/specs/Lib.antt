@@ -19,6 +19,7 @@ pub mod Requests
 pub mod Moments
 pub mod Moves
 pub mod LawCases
+pub mod StepLaws
 pub mod LawsOfSoundness
 pub mod LawsOfSteps
 pub mod LawsOfOutputs
@@ -27,3 +28,4 @@ pub mod LawsOfPeers
 pub mod LawsOfRequests
 pub mod LawsOfTimes
 pub mod Orders
+pub mod Datagrams

@@ -1,4 +1,4 @@
--- What an end holds of all its IKE associations (RFC 7296 sections 1.2, 2.6 and 3.1).
+-- What an end holds of all its IKE SAs (RFC 7296 sections 1.2, 2.6 and 3.1).
 use Rattle.std.specs.Prelude.{◌==◌, ◌||◌, ◌^◌, ℕ, Bool, true, false, not, Option, List, [], option_and_then}
 use Rattle.std.specs.List.{count_by, filter, find, list_any}
 use Rattle.policy.specs.declared.entry.Entry.{Entry}
@@ -14,7 +14,7 @@ use Rattle.association.specs.declared.phase.Phase.TheVariants.{HalfOpen}
 use Rattle.setup.specs.Configs.{Setup}
 use Rattle.setup.specs.declared.config.Config.{Config}
 
--- The associations that an end holds, and the serial of the next one.
+-- The IKE SAs that an end holds, and the serial of the next one.
 pub record Held : Type 0 where
   pub next : ℕ
   -- in the order in which they were made
@@ -24,7 +24,7 @@ pub record Machine : Type 0 where
   pub config : Config
   -- the secrets of its cookies
   pub cookies : CookieSecrets
-  -- the greatest moment so far, in milliseconds
+  -- the greatest time so far, in milliseconds
   pub moment : ℕ
   pub held : Held
 
@@ -34,7 +34,7 @@ none_held = record { next = 1; associations = [] }
 abbrev pub new_machine : Config → Machine
 new_machine config = record { config = config; cookies = first_secret config.cookie_secret; moment = 0; held = none_held }
 
--- the first serial that there is not, one past 32 bits
+-- one past the greatest serial, which has 32 bits
 abbrev pub SERIAL_END : ℕ
 SERIAL_END = 2 ^ 32
 
@@ -49,14 +49,14 @@ own_spi a = spi_by_role a.role a.spi_i a.spi_r
 abbrev pub has_own_spi : ℕ → Association → Bool
 has_own_spi spi a = own_spi a == spi
 
--- no new association can have the SPI: it is zero (section 3.1), or this end uses it
+-- no new IKE SA can have the SPI: it is zero (section 3.1), or this end uses it
 abbrev pub is_bad_spi : ℕ → List Association → Bool
 is_bad_spi spi associations = spi == 0 || list_any (has_own_spi spi) associations
 
 abbrev pub has_serial : ℕ → Association → Bool
 has_serial serial a = a.serial == serial
 
--- the association with this serial; serials rise, so there is one at most
+-- the IKE SA with this serial; serials rise, so there is one at most
 abbrev pub association_of : ℕ → List Association → Option Association
 association_of serial associations = find (has_serial serial) associations
 
@@ -75,10 +75,10 @@ is_half_open_phase _ = false
 abbrev pub is_half_open : Association → Bool
 is_half_open a = is_half_open_phase a.phase
 
--- how many wait for IKE_AUTH
+-- how many are half open
 abbrev pub half_open_count : List Association → ℕ
 half_open_count associations = count_by is_half_open associations
 
--- what a step of this machine has to hand
+-- what a step of this machine works with: configuration, fresh octets and time
 abbrev pub setup_at : Machine → List Entry → Fresh → Setup
 setup_at machine entries fresh = record { config = machine.config; entries = entries; fresh = fresh; moment = machine.moment }

@@ -1,4 +1,5 @@
--- Moments at the machine: what comes with one, and that nothing is left that it has reached (RFC 7296 sections 2.1 and 2.4).
+-- Time at the machine: what a `Tick` brings, and that nothing is left overdue (RFC 7296 sections 2.1 and
+-- 2.4).
 use Rattle.std.specs.Prelude.{◌≡◌, ◌⊎◌, ℕ, Bool, true, false, Option, Some, All}
 use Rattle.std.specs.FinMap as map
 use Rattle.std.specs.List.{flat_map, AllZip}
@@ -19,21 +20,21 @@ use Rattle.ike.specs.declared.output.IkeOutput.{IkeOutput}
 use Rattle.ike.specs.declared.output.IkeOutput.TheVariants as output
 use Rattle.ike.specs.declared.output.Stepped.{Stepped}
 
--- All that the greatest moment so far has reached was done: no request is due, and no association is to be closed or over. And nothing
--- waits from a later one on.
+-- Nothing is overdue at the greatest time so far: no request is due, and no IKE SA is to be closed or
+-- removed. And no timer starts later than that.
 abbrev pub IsTimely : Machine → Type 0
 IsTimely machine = All (IsInTime machine.moment) machine.held.associations
 
--- All that is due at this moment comes, and nothing else: of each association in its order the requests that are due, by rising number,
--- and the serials of those that are closed. Those that are not over are held on, as they were but for timers, or closed, and the pairs of
--- those that are closed go, and no others.
+-- All that is due at this time comes, and nothing else: the requests that are due, of each IKE SA in its
+-- order by rising Message ID, and the serials of the IKE SAs that are closed. Those that do not expire are
+-- held on, unchanged but for timers, or closed. The pairs of those that are closed go, and no others.
 pub record BringsDue (now : ℕ) (old : Held) (table : Database) (ticked : Ticked) (new : Held) (new_table : Database) : Type 0 where
   pub requests : ticked.requests ≡ flat_map (sent_of now) old.associations
   pub closed : ticked.closed ≡ flat_map (closed_of now) old.associations
   pub held : AllZip (StaysItself now ticked.closed) (held_of now old.associations) new.associations
   pub pairs : LeavesPairsBut ticked.closed table new_table
 
--- a step to this moment
+-- a step with this time
 pub record ComesTo (now : ℕ) (old : Machine) (table : Database) (stepped : Stepped) (new : Machine) (new_table : Database) : Type 0 where
   pub ticked : Ticked
   pub said : stepped.output ≡ output.Ticked ticked
@@ -44,13 +45,13 @@ abbrev pub tells_moment : IkeOutput → Bool
 tells_moment (output.Ticked ticked) = true
 tells_moment _ = false
 
--- a request of this number waits for its answer, at the association with this serial
+-- a request with this Message ID is outstanding at the IKE SA with this serial
 pub record WaitsAt (held : Held) (serial number : ℕ) (request : Request) : Type 0 where
   pub association : Association
   pub there : association_of serial held.associations ≡ Some association
   pub waits : map.get association.outgoing.outstanding number ≡ Some request
 
--- its association takes one more cookie by this step
+-- its IKE SA takes one more cookie by this step
 pub record TakesCookieAt (old new : Held) (serial : ℕ) : Type 0 where
   pub before : Association
   pub after : Association
@@ -58,34 +59,34 @@ pub record TakesCookieAt (old new : Held) (serial : ℕ) : Type 0 where
   pub stands : association_of serial new.associations ≡ Some after
   pub takes : TakesCookie before after
 
--- It goes out by this step, and waits from this moment on: for the first time, or anew with a cookie.
+-- It is sent by this step, and waits from this time on: for the first time, or anew with a cookie.
 pub record StartsToWait (moment : ℕ) (old : Held) (stepped : Stepped) (new : Held) (serial number : ℕ) (request : Request) : Type 0 where
   pub said : stepped.output ≡ output.Request serial request.octets
   pub timer : request.timer ≡ record { sent = moment; repeats = 0 }
   pub fresh : ((before : Request) → WaitsAt old serial number before → ⊥) ⊎ TakesCookieAt old new serial
 
--- A request of this number waits no more, by what a step says as a response of the first number comes: its association ends by a reply; it is
--- the one that is answered, or its association ends with that answer; or it is that of IKE_SA_INIT, which goes out anew with a cookie, or whose
--- answer brought the keys.
+-- A request with this Message ID waits no more, by a step whose output matches a response with the first
+-- number. Either its IKE SA ends by a response of this end. Or the response answers it, or ends its IKE SA.
+-- Or it is that of IKE_SA_INIT, which is sent anew with a cookie, or whose answer brought the keys.
 abbrev pub StopsWaiting : ℕ → IkeOutput → ℕ → ℕ → Type 0
 StopsWaiting answered (output.Reply octets (Some closed)) serial number = closed ≡ serial
 StopsWaiting answered (output.Counted ike child closed) serial number = (ike ≡ serial) × ((number ≡ answered) ⊎ (closed ≡ Some serial))
 StopsWaiting answered (output.Request ike octets) serial number = (ike ≡ serial) × (number ≡ 0)
 StopsWaiting answered o serial number = ⊥
 
--- an association with this serial is held in this phase
+-- an IKE SA with this serial is held in this phase
 pub record StandsIn (held : Held) (serial : ℕ) (p : Phase) : Type 0 where
   pub association : Association
   pub there : association_of serial held.associations ≡ Some association
   pub is : association.phase ≡ p
 
--- A step at which the time stands still. What waits for its answer waited before, since the same moment and as often sent, or goes out now;
--- and what waited waits on, unless it stops. An association that is closed, or half open, was so before since the same moment, or is so from
--- this moment on.
+-- A step at which no time passes. What is outstanding after it was so before, since the same time and sent
+-- as often, or is sent now. What was outstanding before still is, unless it stops. An IKE SA that is closed
+-- or half open was so before, since the same time, or is so from this time on.
 pub record StaysAt (old : Machine) (stepped : Stepped) (new : Machine) : Type 0 where
   pub moment : new.moment ≡ old.moment
   pub said : tells_moment stepped.output ≡ false
-  -- the number of the request that is answered, if one is
+  -- the Message ID of the request that is answered, if one is
   pub answered : ℕ
   pub waits : (serial number : ℕ) (request : Request) → WaitsAt new.held serial number request → WaitsAt old.held serial number request ⊎ StartsToWait old.moment old.held stepped new.held serial number request
   pub waited : (serial number : ℕ) (request : Request) → WaitsAt old.held serial number request → WaitsAt new.held serial number request ⊎ StopsWaiting answered stepped.output serial number

@@ -1,5 +1,5 @@
--- What a step does to each association that has keys, as moves, what it says of them, and what their octets open as (RFC 7296 sections 2.1
--- to 2.4, 3.1 and 3.14).
+-- What a step does to each IKE SA with keys as moves (events of its Message IDs), which outputs name them,
+-- and as what their octets open (RFC 7296 sections 2.1 to 2.4, 3.1 and 3.14).
 use Rattle.std.specs.Prelude.{◌≡◌, ◌≤◌, ◌⊎◌, ℕ, Bool, true, false, Option, Some, None, List, [], Contains, length, option_and_then}
 use Rattle.std.specs.List.{AllByRecursion}
 use Rattle.base.specs.Octets.{AreOctets, Octets}
@@ -26,24 +26,24 @@ use Rattle.ike.specs.declared.output.MadeChild.{MadeChild}
 use Rattle.ike.specs.declared.output.Mark.{Mark}
 use Rattle.ike.specs.declared.output.Stepped.{Stepped}
 
--- what moves speak of, by the serial of the association: none where none with it is held, or it has no keys
+-- the ledger of the IKE SA with this serial: none where it is not held, or has no keys
 abbrev pub ledger_at : Held → ℕ → Option Ledger
 ledger_at held serial = option_and_then ledger (association_of serial held.associations)
 
--- the output tells that the association with this serial is closed
+-- the output says that the IKE SA with this serial is closed
 abbrev pub TellsClosed : ℕ → IkeOutput → Type 0
 TellsClosed serial (output.Reply octets (Some closed)) = closed ≡ serial
 TellsClosed serial (output.Counted ike child (Some closed)) = closed ≡ serial
 TellsClosed serial (output.Ticked ticked) = Contains ticked.closed serial
 TellsClosed serial o = ⊥
 
--- a request of the association with this serial goes out again
+-- a request of the IKE SA with this serial is retransmitted
 abbrev pub TellsAgain : ℕ → IkeOutput → Type 0
 TellsAgain serial (output.Ticked ticked) = (r : Resent) × Contains ticked.requests r × (r.ike ≡ serial)
 TellsAgain serial o = ⊥
 
--- What a step says of a move: keys that come are in its trace, a request and a reply are its output, with their number in its trace, and so
--- on; an association is let go at a moment alone.
+-- What names a move: new keys the trace; a request or a response the output, with its Message ID in the
+-- trace; and so on. An IKE SA is removed by a `Tick` alone.
 abbrev pub Tells : InputView → Stepped → ℕ → Move → Type 0
 Tells input stepped serial (Make keys) = (stepped.trace.keyed ≡ Some serial) × (is_tick input ≡ false)
 Tells input stepped serial (Issue number octets) = (stepped.output ≡ output.Request serial octets) × (stepped.trace.sent ≡ request_mark serial number)
@@ -53,19 +53,20 @@ Tells input stepped serial (TakeEffect number reply) =
 Tells input stepped serial Close = TellsClosed serial stepped.output
 Tells input stepped serial Remove = is_tick input ≡ true
 
--- a reply goes out again: it is kept of a request that took effect before, and nothing is done beside it
+-- a response is sent again: it is kept of a request that took effect before, and there is no move beside it
 pub record RepeatsReply (moves : List Move) (old : Option Ledger) (said : IkeOutput) (number : ℕ) (octets : Octets) : Type 0 where
   pub kept : KeepsReply old number octets
   pub repeated : said ≡ output.Repeat octets
   pub none : moves ≡ []
 
--- What goes out under this mark is a request that is issued, a reply by which a request takes effect, or a reply that goes out again.
+-- What is sent under this mark is a request that is issued, a response by which a request takes effect, or
+-- a response that is sent again.
 abbrev pub IsSentBy : List Move → Option Ledger → IkeOutput → Mark → Octets → Type 0
 IsSentBy moves old said mark octets =
     ((mark.response ≡ false) × Contains moves (Issue mark.number octets))
     ⊎ ((mark.response ≡ true) × (Contains moves (TakeEffect mark.number octets) ⊎ RepeatsReply moves old said mark.number octets))
 
--- this end asked for the child, and counts the answer; or the peer did, and its request takes effect
+-- this end asked for the child, and matches the response; or the peer did, and its request takes effect
 abbrev pub IsMadeBy : List Move → MadeChild → Type 0
 IsMadeBy moves made = ((made.asked ≡ true) × Contains moves (Count made.number)) ⊎ ((made.asked ≡ false) × ((reply : Octets) × Contains moves (TakeEffect made.number reply)))
 
@@ -74,9 +75,10 @@ abbrev pub IsKeyless : Option Association → Type 0
 IsKeyless None = ⊥
 IsKeyless (Some a) = keys_in a.phase ≡ None
 
--- Nothing that a step says of an association, as it was before it, is missing among these moves: what is sent under its keys, the keys that
--- come, a response that is counted, the child that is made, and its end, but for one that has no keys yet. Beside what goes out again with a
--- moment there are none, and under keys it is what waits.
+-- These moves are complete: they have all that output and trace say of an IKE SA, as it was before the
+-- step. That is what is sent under its keys, new keys, a matched response, a child that is made, and its
+-- end unless it has no keys yet. Beside retransmissions there are no moves, and what is retransmitted under
+-- keys was outstanding.
 pub record SaysNoMore (old : Option Association) (stepped : Stepped) (serial : ℕ) (moves : List Move) : Type 0 where
   pub sent : (mark : Mark) (octets : Octets) → stepped.trace.sent ≡ Some mark → mark.ike ≡ serial → octets_in stepped.output ≡ Some octets
       → IsSentBy moves (option_and_then ledger old) stepped.output mark octets
@@ -86,10 +88,10 @@ pub record SaysNoMore (old : Option Association) (stepped : Stepped) (serial : �
   pub keyed : stepped.trace.keyed ≡ Some serial → (keys : KeyRecord) × Contains moves (Make keys)
   pub counted : (child closed : Option ℕ) → stepped.output ≡ output.Counted serial child closed → (number : ℕ) × Contains moves (Count number)
   pub closed : TellsClosed serial stepped.output → IsKeyless old ⊎ Contains moves Close
-  -- a child is made with the answer that is counted, or with the request that takes effect
+  -- a child is made with the response that is matched, or with the request that takes effect
   pub child : (made : MadeChild) → stepped.trace.child ≡ Some made → made.ike ≡ serial → IsMadeBy moves made
 
--- What is asked of a cipher: it opens what it seals with the octets that are fresh, as its law says of 16 of them.
+-- What is asked of a cipher: it opens what it seals with 16 fresh octets, as its law says.
 abbrev pub OpensFresh : Meaning → InputView → Type 0
 OpensFresh meaning (Message from octets fresh) = OpensWhatItSeals meaning.body_of meaning.plain_of fresh.seal
 OpensFresh meaning (Start ike place fresh) = OpensWhatItSeals meaning.body_of meaning.plain_of fresh.seal
@@ -97,7 +99,7 @@ OpensFresh meaning (Order what fresh) = OpensWhatItSeals meaning.body_of meaning
 OpensFresh meaning (Secret secret) = Unit {0}
 OpensFresh meaning (Tick moment) = Unit {0}
 
--- those octets are 16, as every value of their type has them
+-- the fresh octets are 16, as for every value of their type
 pub record HasSeal (fresh : Fresh) : Type 0 where
   pub octets : AreOctets fresh.seal
   pub many : length fresh.seal ≡ 16
@@ -109,12 +111,12 @@ HasFresh (Order what fresh) = HasSeal fresh
 HasFresh (Secret secret) = Unit {0}
 HasFresh (Tick moment) = Unit {0}
 
--- the input is a datagram that opens as this request or response of the association's peer
+-- the input is a datagram that opens as this request or response of the IKE SA's peer
 abbrev pub Comes : Meaning → InputView → Association → Bool → ℕ → Type 0
 Comes meaning (Message from octets fresh) a response number = OpensAsMessage meaning.plain_of a (other_role a.role) response number octets
 Comes meaning input a response number = ⊥
 
--- the peer's message at this association, as it was before the step
+-- the same, at this IKE SA as it was before the step
 pub record ComesFor (meaning : Meaning) (input : InputView) (old : Held) (serial : ℕ) (response : Bool) (number : ℕ) : Type 0 where
   pub association : Association
   pub there : association_of serial old.associations ≡ Some association
@@ -131,12 +133,13 @@ abbrev pub IsResponseDatagram : InputView → Type 0
 IsResponseDatagram (Message from octets fresh) = IsInitialResponse octets
 IsResponseDatagram input = ⊥
 
--- Keys come by a datagram of IKE_SA_INIT: to an association that is held before by the response, to a new one by the request.
+-- Keys come by a datagram of IKE_SA_INIT: to the initiator by the response, to a new IKE SA by the request.
 abbrev pub KeysCome : InputView → Option Association → Type 0
 KeysCome input (Some a) = IsResponseDatagram input
 KeysCome input None = IsInitialDatagram input
 
--- what is counted comes as the peer's response, what takes effect as its request, and keys by IKE_SA_INIT
+-- what is matched came as the peer's response, what takes effect as its request, and keys come by
+-- IKE_SA_INIT
 abbrev pub MoveComes : Meaning → InputView → Held → ℕ → Move → Type 0
 MoveComes meaning input old serial (Make keys) = KeysCome input (association_of serial old.associations)
 MoveComes meaning input old serial (Count number) = ComesFor meaning input old serial true number
@@ -160,9 +163,9 @@ MoveOpens meaning old new serial (Issue number octets) = IssuesOpenly meaning ne
 MoveOpens meaning old new serial (TakeEffect number reply) = RepliesOpenly meaning old serial number reply
 MoveOpens meaning old new serial move = Unit {0}
 
--- The moves of one step at the association with this serial: two at most, which lead from what they speak of before to what they speak of
--- after. Each is told, and nothing else is; what it takes of the peer's comes as that. Where the cipher opens what it seals, what goes out
--- opens as what it is.
+-- The moves of one step at the IKE SA with this serial: two at most, which lead from the ledger before to
+-- the ledger after. Each is named, and nothing else is. What it takes from the peer came as that message.
+-- Where the cipher opens what it seals, what is sent opens as what it is.
 pub record MovesAt (meaning : Meaning) (input : InputView) (old : Held) (stepped : Stepped) (new : Held) (serial : ℕ) : Type 0 where
   pub moves : List Move
   pub few : length moves ≤ 2

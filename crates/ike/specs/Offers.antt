@@ -12,13 +12,14 @@ use Rattle.effects.specs.Offers.{AnswersInitialSa, AnswersMessageSa}
 use Rattle.effects.specs.Taking.{Meaning}
 use Rattle.ike.specs.Machines.{association_of, Held}
 
--- the octets are a message, and these answer the SA that it has
+-- the octets are a message, and these proposals answer its SA payload
 pub record AnswersFirstOffer (octets reply : Octets) : Type 0 where
   pub message : Message
   pub spelled : Spells message octets
   pub answers : AnswersInitialSa message.payloads reply
 
--- the octets are a message for the association with this serial, and each SA in these answers that of what it opens to
+-- the octets are a message for the IKE SA with this serial, and each SA payload in these answers that of
+-- what it opens to
 pub record AnswersSealedOffer (meaning : Meaning) (setup : Setup) (ike : ℕ) (octets reply : Octets) (old : Held) : Type 0 where
   pub message : Message
   pub spelled : Spells message octets
@@ -27,7 +28,7 @@ pub record AnswersSealedOffer (meaning : Meaning) (setup : Setup) (ike : ℕ) (o
   pub meant : is_meant message.header was ≡ true
   pub answers : AnswersMessageSa meaning setup was octets message reply
 
--- these are a message without an SA
+-- these octets are a message without an SA payload
 pub record AnswersNoOffer (reply : Octets) : Type 0 where
   pub message : Message
   pub spelled : SpellsPlainly message reply

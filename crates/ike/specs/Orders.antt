@@ -1,10 +1,11 @@
--- What is asked of the peer under an association that stands (RFC 7296 sections 1.4, 1.4.1 and 2.4), as plain data.
+-- What a command asks of the peer under an established IKE SA (RFC 7296 sections 1.4, 1.4.1 and 2.4), as
+-- plain data.
 use Rattle.std.specs.Prelude.{ℕ}
 
 pub data OrderView : Type 0 where
-  -- whether it is there, under the association with this serial
+  -- a liveness check, under the IKE SA with this serial
   Probe : ℕ → OrderView
-  -- that the child with this serial is deleted
+  -- a deletion of the child with this serial
   DeleteChild : ℕ → OrderView
-  -- that the association with this serial is
+  -- a deletion of the IKE SA with this serial
   DeleteIke : ℕ → OrderView

@@ -1,4 +1,5 @@
--- What comes of a step: its output, and which messages were sent under which keys, which keys and which child were made.
+-- What comes of a step: its output, which messages were sent under which keys, which keys and which child were made, and by which
+-- notice the peer declined what was asked.
 use Rattle.std.specs.Prelude.{ℕ, Bool, true, false, Option, Some, None}
 use Rattle.base.specs.Octets.{Octets}
 use Rattle.effects.specs.declared.taking.Effect.{Effect}
@@ -12,7 +13,7 @@ use Rattle.ike.specs.declared.output.Mark.{Mark}
 use Rattle.ike.specs.declared.output.Stepped.{Stepped}
 use Rattle.ike.specs.declared.output.Trace.{Trace}
 
--- the octets that go out, but for requests that go out again with a moment
+-- the octets that are sent, but for requests that a `Tick` retransmits
 abbrev pub octets_in : IkeOutput → Option Octets
 octets_in (Reply octets closed) = Some octets
 octets_in (Repeat octets) = Some octets
@@ -23,7 +24,7 @@ octets_in Done = None
 octets_in (Dropped f) = None
 
 abbrev pub no_trace : Trace
-no_trace = record { sent = None; keyed = None; child = None }
+no_trace = record { sent = None; keyed = None; child = None; declined = None }
 
 abbrev pub plain_step : IkeOutput → Stepped
 plain_step output = record { output = output; trace = no_trace }
@@ -35,7 +36,7 @@ abbrev pub closed_serial : ℕ → Bool → Option ℕ
 closed_serial ike true = Some ike
 closed_serial ike false = None
 
--- the child that a request of this number asked for, at this end or at the other
+-- the child that a request with this Message ID asked for, at this end or at the other
 abbrev pub child_of : ℕ → ℕ → Bool → Option ℕ → Option MadeChild
 child_of ike number asked (Some serial) = Some (record { serial = serial; ike = ike; number = number; asked = asked })
 child_of ike number asked None = None
@@ -46,35 +47,35 @@ reply_mark ike number = Some (record { ike = ike; response = true; number = numb
 abbrev pub request_mark : ℕ → ℕ → Option Mark
 request_mark ike number = Some (record { ike = ike; response = false; number = number })
 
--- what a message of this number did to the association with this serial
+-- what a message with this Message ID did to the IKE SA with this serial
 abbrev pub stepped_of : ℕ → ℕ → Effect → Stepped
 stepped_of ike number (effect.Refused f) = passed_over (fault.Message f)
 stepped_of ike number (effect.Repeated octets) = record {
   output = Repeat octets;
-  trace = record { sent = reply_mark ike number; keyed = None; child = None };
+  trace = record { sent = reply_mark ike number; keyed = None; child = None; declined = None };
 }
 stepped_of ike number (effect.Replied answered) = record {
   output = Reply answered.octets (closed_serial ike answered.closed);
-  trace = record { sent = reply_mark ike number; keyed = None; child = child_of ike number false answered.child };
+  trace = record { sent = reply_mark ike number; keyed = None; child = child_of ike number false answered.child; declined = None };
 }
 stepped_of ike number (effect.Again octets) = plain_step (Request ike octets)
 stepped_of ike number (effect.AsksAuth octets) = record {
   output = Request ike octets;
-  trace = record { sent = request_mark ike 1; keyed = Some ike; child = None };
+  trace = record { sent = request_mark ike 1; keyed = Some ike; child = None; declined = None };
 }
 stepped_of ike number (effect.Counted ended) = record {
   output = Counted ike ended.child (closed_serial ike ended.closed);
-  trace = record { sent = None; keyed = None; child = child_of ike number true ended.child };
+  trace = record { sent = None; keyed = None; child = child_of ike number true ended.child; declined = ended.declined };
 }
 
--- a request under keys goes out for the first time
+-- a request under keys is sent for the first time
 abbrev pub asking_step : ℕ → ℕ → Octets → Stepped
-asking_step ike number octets = record { output = Request ike octets; trace = record { sent = request_mark ike number; keyed = None; child = None } }
+asking_step ike number octets = record { output = Request ike octets; trace = record { sent = request_mark ike number; keyed = None; child = None; declined = None } }
 
 abbrev pub half_open_step : ℕ → Octets → Stepped
-half_open_step ike octets = record { output = Reply octets None; trace = record { sent = None; keyed = Some ike; child = None } }
+half_open_step ike octets = record { output = Reply octets None; trace = record { sent = None; keyed = Some ike; child = None; declined = None } }
 
--- what comes of a datagram that is passed over, or that took effect before
+-- the output for a datagram that is dropped, or that is a retransmission
 abbrev pub IsQuiet : IkeOutput → Type 0
 IsQuiet (Dropped f) = Unit {0}
 IsQuiet (Repeat octets) = Unit {0}

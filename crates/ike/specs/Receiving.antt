@@ -1,4 +1,4 @@
--- What a datagram that came does (RFC 7296 sections 1.2, 2.1, 2.6 and 3.1).
+-- What a datagram does (RFC 7296 sections 1.2, 2.1, 2.6 and 3.1).
 use Rattle.std.specs.Prelude.{◌≡◌, ◌≢◌, ◌==◌, ◌&&◌, ◌<◌, ◌+◌, ◌++◌, ◌∷◌, ◌⊎◌, ℕ, Bool, true, false, not, Option, Some, None, List, [], Result, Ok, Err, length, nat_eq, slice_get, slice_set}
 use Rattle.std.specs.Cmp.Lexicographic.{pointwise}
 use Rattle.std.specs.List.{position}
@@ -38,12 +38,12 @@ use Rattle.ike.specs.declared.fault.IkeFault.TheVariants as fault
 use Rattle.ike.specs.declared.output.IkeOutput.TheVariants.{Reply, Repeat}
 use Rattle.ike.specs.declared.output.Stepped.{Stepped}
 
--- what came is passed over, for this reason
+-- what came is dropped, for this reason
 pub record PassesOver (reason : IkeFault) (old : Held) (stepped : Stepped) (new : Held) : Type 0 where
   pub said : stepped ≡ passed_over reason
   pub unchanged : new ≡ old
 
--- A request of IKE_SA_INIT is told by the responder's SPI, the flag R and the exchange alone.
+-- A request of IKE_SA_INIT is known by the responder's SPI of zero, the flag R and the exchange alone.
 abbrev pub is_initial_request : Header → Bool
 is_initial_request h = h.spi_r == 0 && not h.flags.response && h.exchange == IKE_SA_INIT
 
@@ -58,11 +58,11 @@ abbrev pub is_answered_phase : Octets → Phase → Bool
 is_answered_phase octets (HalfOpen opened) = same_octets opened.request octets
 is_answered_phase octets _ = false
 
--- the octets are those of the request that made a half-open association
+-- the octets are those of the request that made this half-open IKE SA
 abbrev pub is_answered : Octets → Association → Bool
 is_answered octets a = is_answered_phase octets a.phase
 
--- the reply of the association at this place goes out again
+-- the kept response of the IKE SA at this place is sent again
 pub record Repeats (place : ℕ) (associations : List Association) (stepped : Stepped) : Type 0 where
   pub association : Association
   pub there : slice_get associations place ≡ Some association
@@ -81,18 +81,18 @@ pub record CanMake (old : Held) (spi : ℕ) : Type 0 where
   pub serial : old.next < SERIAL_END
   pub usable : is_bad_spi spi old.associations ≡ false
 
--- one more association, under the next serial
+-- with one more IKE SA, under the next serial
 abbrev pub with_next : Held → Association → Held
 with_next held association = record { next = held.next + 1; associations = held.associations ++ association ∷ [] }
 
--- an association is half open from then on
+-- an IKE SA is half open from then on
 pub record AdmitsNext (meaning : Meaning) (setup : Setup) (offer : OfferView) (spi_i : ℕ) (octets : Octets) (old : Held) (stepped : Stepped) (new : Held) : Type 0 where
   pub admitted : Admitted
   pub admits : Admits meaning.cipher meaning.group meaning.public_value meaning.shared_secret setup.fresh setup.moment old.next offer spi_i octets admitted
   pub said : stepped ≡ half_open_step old.next admitted.octets
   pub content : new ≡ with_next old admitted.association
 
--- an offer that is accepted makes an association, unless the agreement refuses the public value (section 2.14)
+-- an accepted offer makes an IKE SA, unless the agreement refuses the public value (section 2.14)
 pub record TakesOffer (meaning : Meaning) (setup : Setup) (offer : OfferView) (spi_i : ℕ) (octets : Octets) (old : Held) (stepped : Stepped) (new : Held) : Type 0 where
   pub can : CanMake old setup.fresh.spi
   pub done :
@@ -112,31 +112,31 @@ DoesJudgement meaning setup spi_i octets Incomplete old stepped new = PassesOver
 DoesJudgement meaning setup spi_i octets Full old stepped new = PassesOver fault.HalfOpenFull old stepped new
 DoesJudgement meaning setup spi_i octets (Accepted offer) old stepped new = TakesOffer meaning setup offer spi_i octets old stepped new
 
--- a request that no half-open association answered before
+-- a request that made no IKE SA which is still half open
 pub record TakesNew (meaning : Meaning) (setup : Setup) (cookies : CookieSecrets) (from octets : Octets) (m : Message) (old : Held) (stepped : Stepped) (new : Held) : Type 0 where
   pub judgement : JudgementView
   pub judged : IsJudged meaning cookies old from m judgement
   pub done : DoesJudgement meaning setup m.header.spi_i octets judgement old stepped new
 
--- by the place of the association that answered it, if one did
+-- by the place of the half-open IKE SA that it made, if it did
 abbrev pub TakesRequestAt : Option ℕ → Meaning → Setup → CookieSecrets → Octets → Octets → Message → Held → Stepped → Held → Type 0
 TakesRequestAt (Some place) meaning setup cookies from octets m old stepped new = Repeats place old.associations stepped × (new ≡ old)
 TakesRequestAt None meaning setup cookies from octets m old stepped new = TakesNew meaning setup cookies from octets m old stepped new
 
--- the octets are a request of IKE_SA_INIT with a sound header
+-- the octets are a request of IKE_SA_INIT with a right header
 pub record IsInitialRequest (octets : Octets) : Type 0 where
   pub message : Message
   pub spelled : Spells message octets
   pub initial : is_initial_request message.header ≡ true
   pub sound : is_sound_initial message.header ≡ true
 
--- by whether its header is sound
+-- by whether its header is right
 abbrev pub TakesSound : Bool → Meaning → Setup → CookieSecrets → Octets → Octets → Message → Held → Stepped → Held → Type 0
 TakesSound true meaning setup cookies from octets m old stepped new =
     TakesRequestAt (position (is_answered octets) old.associations) meaning setup cookies from octets m old stepped new
 TakesSound false meaning setup cookies from octets m old stepped new = PassesOver (fault.Message WrongPhase) old stepped new
 
--- the association at this place takes the message, and no other is changed
+-- the IKE SA at this place takes the message, and no other changes
 pub record TakesAt (place : ℕ) (meaning : Meaning) (setup : Setup) (octets : Octets) (m : Message) (old : Held) (table : Database) (stepped : Stepped) (new : Held) (new_table : Database) : Type 0 where
   pub association : Association
   pub there : slice_get old.associations place ≡ Some association
@@ -146,7 +146,7 @@ pub record TakesAt (place : ℕ) (meaning : Meaning) (setup : Setup) (octets : O
   pub said : stepped ≡ stepped_of association.serial m.header.id effect
   pub content : new ≡ record old { associations = slice_set old.associations place changed }
 
--- by what is found for it
+-- by the IKE SA that is found for it
 abbrev pub TakesFound : Result ℕ MessageFault → Meaning → Setup → Octets → Message → Held → Database → Stepped → Held → Database → Type 0
 TakesFound (Ok place) meaning setup octets m old table stepped new new_table = TakesAt place meaning setup octets m old table stepped new new_table
 TakesFound (Err f) meaning setup octets m old table stepped new new_table = PassesOver (fault.Message f) old stepped new × (new_table ≡ table)
@@ -175,7 +175,8 @@ abbrev pub TakesDatagram : Meaning → Setup → CookieSecrets → Octets → Oc
 TakesDatagram meaning setup cookies from octets old table stepped new new_table =
     FailsToRead octets old table stepped new new_table ⊎ ReadsDatagram meaning setup cookies from octets old table stepped new new_table
 
--- An offer is accepted, but no association can be made of it: no serial is left, or the fresh SPI can't be this end's.
+-- An offer is accepted, but no IKE SA can be made of it: no serial is left, or the fresh SPI can't be this
+-- end's.
 abbrev pub CannotMake : Held → ℕ → IkeFault → Type 0
 CannotMake old spi fault.NumbersSpent = old.next ≡ SERIAL_END
 CannotMake old spi fault.BadFresh = (old.next < SERIAL_END) × (is_bad_spi spi old.associations ≡ true)
@@ -192,7 +193,7 @@ abbrev pub RefusesNew : Meaning → Setup → CookieSecrets → Octets → Messa
 RefusesNew meaning setup cookies from m old (fault.Memory f) = f ≡ child.Message
 RefusesNew meaning setup cookies from m old reason = RefusesOffer meaning setup cookies from m old reason
 
--- the datagram is a request that made no association which is half open, with an offer
+-- the datagram is a request that made no IKE SA which is still half open, with an offer
 pub record RefusesInitial (meaning : Meaning) (setup : Setup) (cookies : CookieSecrets) (from octets : Octets) (old : Held) (reason : IkeFault) : Type 0 where
   pub message : Message
   pub spelled : Spells message octets
@@ -201,23 +202,25 @@ pub record RefusesInitial (meaning : Meaning) (setup : Setup) (cookies : CookieS
   pub first : position (is_answered octets) old.associations ≡ None
   pub refused : RefusesOffer meaning setup cookies from message old reason
 
--- Memory is wanted for no datagram whose length, length field or version is at fault.
+-- A datagram whose length, length field or version is wrong takes no memory.
 abbrev pub CanWantMemory : Octets → Type 0
 CanWantMemory octets = (f : WireFault) → IsFaultOf octets f → fault_offset f ≢ None
 
--- a child may be made of the message at the association at this place, and that takes this
+-- a child may be made of the message at the IKE SA at this place, and this is what making it may have no
+-- memory for
 pub record MakesChildAt (plain_of : Opening) (place : ℕ) (octets : Octets) (m : Message) (old : Held) (table : Database) (f : MemoryFault) : Type 0 where
   pub association : Association
   pub there : slice_get old.associations place ≡ Some association
   pub makes : CanMakeChild plain_of association octets m
   pub takes : CanTakeOf m.header.flags.response table f
 
--- for what a message can want memory, by what is found for it
+-- what there may be no memory for, by the IKE SA that is found for the message
 abbrev pub WantsFound : Opening → Result ℕ MessageFault → Octets → Message → Held → Database → MemoryFault → Type 0
 WantsFound plain_of (Ok place) octets m old table f = (f ≡ child.Message) ⊎ MakesChildAt plain_of place octets m old table f
 WantsFound plain_of (Err fault) octets m old table f = ⊥
 
--- the octets are a message of which an association may make a child, and that takes this
+-- the octets are a message of which an IKE SA may make a child, and this is what that may have no memory
+-- for
 pub record WantsForChild (plain_of : Opening) (octets : Octets) (old : Held) (table : Database) (f : MemoryFault) : Type 0 where
   pub message : Message
   pub spelled : Spells message octets
@@ -226,7 +229,8 @@ pub record WantsForChild (plain_of : Opening) (octets : Octets) (old : Held) (ta
   pub finds : place_meant message.header old.associations ≡ Ok place
   pub makes : MakesChildAt plain_of place octets message old table f
 
--- why a datagram is refused: for want of memory, for a message or for what a child takes; or as an offer
+-- why a datagram is refused: no memory for the message or for a child, or an offer of which no IKE SA can
+-- be made
 abbrev pub RefusesDatagram : Meaning → Setup → CookieSecrets → Octets → Octets → Held → Database → IkeFault → Type 0
 RefusesDatagram meaning setup cookies from octets old table (fault.Memory f) = CanWantMemory octets × ((f ≡ child.Message) ⊎ WantsForChild meaning.plain_of octets old table f)
 RefusesDatagram meaning setup cookies from octets old table reason = RefusesInitial meaning setup cookies from octets old reason

@@ -1,4 +1,4 @@
--- What holds of every machine and the table that goes with it.
+-- The invariant of every machine and the table that goes with it.
 use Rattle.std.specs.Prelude.{◌≡◌, ◌≢◌, ◌⊎◌, ◌<◌, ◌≤◌, ℕ, Bool, true, List, Some, length, slice_get}
 use Rattle.std.specs.FinMap as map
 use Rattle.exchange.specs.declared.headers.Role.TheVariants.{Initiator, Responder}
@@ -23,14 +23,16 @@ use Rattle.initial.specs.Reading.{IsInitSent}
 use Rattle.ike.specs.Machines.{association_of, half_open_count, own_spi, Held, Machine, SERIAL_END}
 use Rattle.ike.specs.Receiving.{IsInitialRequest}
 
--- an association stands at a place of the list
+-- an IKE SA stands at a place of the list
 abbrev pub At : Held → ℕ → Association → Type 0
 At held place a = slice_get held.associations place ≡ Some a
 
--- what holds of each association: its serial was given, the SPI of this end is not zero, who waits for the response to IKE_SA_INIT or to
--- IKE_AUTH is the initiator, who waits for IKE_AUTH is the responder, the SPIs that are held for children are reserved, each for one child, all that can go
--- out again has at most 3000 octets, what is kept of the peer's requests is sound and what waits for an answer belongs to the phase, a
--- half-open one was asked for by IKE_SA_INIT, and its keys have 32 octets each
+-- What holds of each IKE SA. Its serial was given, and this end's SPI is not zero. One that waits for a
+-- response to IKE_SA_INIT or to IKE_AUTH has this end as initiator, one that waits for the request of
+-- IKE_AUTH as responder. The SPIs that it holds for children are reserved, each for one child. All that it
+-- can send again has at most 3000 octets. What is kept of the peer's requests satisfies its invariant, and
+-- what is outstanding belongs to the phase. A half-open one was asked for by IKE_SA_INIT. Its keys have 32
+-- octets each.
 pub record IsSound (a : Association) (next : ℕ) (table : Database) : Type 0 where
   pub serial_least : 1 ≤ a.serial
   pub serial_given : a.serial < next
@@ -43,12 +45,12 @@ pub record IsSound (a : Association) (next : ℕ) (table : Database) : Type 0 wh
   pub asked : (opened : HalfOpen) → a.phase ≡ phase.HalfOpen opened → IsInitialRequest opened.request
   pub whole : HoldsWholeKeys a.phase
 
--- what holds of two associations, of which the other was made later
+-- what holds of two IKE SAs, of which the other was made later
 pub record AreApart (a other : Association) : Type 0 where
   pub rising : a.serial < other.serial
   pub own : own_spi a ≢ own_spi other
   pub held : (spi : ℕ) → HoldsSpi a spi → ¬ HoldsSpi other spi
-  -- no request of IKE_SA_INIT makes a second one that is half open
+  -- no request of IKE_SA_INIT makes a second half-open one
   pub asked : (one two : HalfOpen) → a.phase ≡ phase.HalfOpen one → other.phase ≡ phase.HalfOpen two → one.request ≢ two.request
 
 pub record AreSound (held : Held) (table : Database) : Type 0 where
@@ -59,8 +61,8 @@ pub record AreSound (held : Held) (table : Database) : Type 0 where
   pub each : (place : ℕ) (a : Association) → At held place a → IsSound a held.next table
   pub apart : (place later : ℕ) (a other : Association) → place < later → At held place a → At held later other → AreApart a other
 
--- an association asked for the children that it waits for, the first one and further ones, with extended sequence numbers only where that is
--- configured
+-- an IKE SA asked for the children that it waits for, first and additional ones, with ESN only where that
+-- is configured
 pub record AsksAsAllowed (extended : Bool) (a : Association) : Type 0 where
   pub first : (child : AskedChildView) → first_asked a.phase ≡ Some child → child.extended ≡ true → extended ≡ true
   pub further : (number : ℕ) (request : Request) (further : FurtherChild) → map.get a.outgoing.outstanding number ≡ Some request → request.purpose ≡ CreateChild further
@@ -69,13 +71,13 @@ pub record AsksAsAllowed (extended : Bool) (a : Association) : Type 0 where
 abbrev pub AskAsAllowed : Bool → Held → Type 0
 AskAsAllowed extended held = (serial : ℕ) (a : Association) → association_of serial held.associations ≡ Some a → AsksAsAllowed extended a
 
--- and the configuration is one that a machine is made with, by which all ask
+-- and the configuration is a valid one, under which all children were asked for
 pub record IsSoundMachine (machine : Machine) (table : Database) : Type 0 where
   pub held : AreSound machine.held table
   pub config : IsConfig machine.config
   pub asks : AskAsAllowed machine.config.extended machine.held
 
--- an association holds the SPI, for a child that it asked for
+-- an IKE SA holds the SPI, for a child that it asked for
 pub record HoldsReservation (associations : List Association) (spi : ℕ) : Type 0 where
   pub place : ℕ
   pub association : Association

@@ -1,4 +1,4 @@
--- One step: what a datagram or an order does, and why it is refused.
+-- One step: what a datagram or a command does, and why it is refused.
 use Rattle.std.specs.Prelude.{◌≡◌, ◌+◌, ◌<◌, ◌^◌, ℕ, Bool, true, false, Option, List, max}
 use Rattle.base.specs.Octets.{Octets}
 use Rattle.policy.specs.declared.entry.Entry.{Entry}
@@ -38,23 +38,23 @@ input_view (input.DeleteIke ike fresh) = Order (orders.DeleteIke ike) fresh.now
 input_view (input.Secret secret) = Secret secret.now
 input_view (input.Tick moment) = Tick moment
 
--- the input is a moment
+-- the input is a `Tick`
 abbrev pub is_tick : InputView → Bool
 is_tick (Tick moment) = true
 is_tick _ = false
 
--- what is held may change, and nothing else
+-- the list of IKE SAs may change, and nothing else
 abbrev pub KeepsRest : Machine → Machine → Type 0
 KeepsRest old new = new ≡ record old { held = new.held }
 
--- another secret counts from now on (section 2.6)
+-- cookies are made under another secret from now on (section 2.6)
 pub record ChangesSecret (secret : Octets) (old : Machine) (table : Database) (stepped : Stepped) (new : Machine) (new_table : Database) : Type 0 where
   pub left : old.cookies.version + 1 < 2 ^ 32
   pub said : stepped ≡ plain_step Done
   pub content : new ≡ record old { cookies = changed old.cookies secret }
   pub unchanged : new_table ≡ table
 
--- no version is left
+-- no version of the secrets is left
 abbrev pub RefusesSecret : Machine → IkeFault → Type 0
 RefusesSecret old NumbersSpent = ¬ (old.cookies.version + 1 < 2 ^ 32)
 RefusesSecret old reason = ⊥

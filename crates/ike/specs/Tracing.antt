@@ -17,19 +17,20 @@ use Rattle.ike.specs.declared.output.MadeChild.{MadeChild}
 use Rattle.ike.specs.declared.output.Mark.{Mark}
 use Rattle.ike.specs.declared.output.Stepped.{Stepped}
 
--- an association with this serial is held, and has keys
+-- an IKE SA with this serial is held, and has keys
 pub record HoldsKeys (held : Held) (serial : ℕ) : Type 0 where
   pub association : Association
   pub there : association_of serial held.associations ≡ Some association
   pub keys : KeyRecord
   pub are : keys_in association.phase ≡ Some keys
 
--- keys came: the association had none, and holds them from then on
+-- keys are new: the IKE SA had none, and has these from then on
 pub record GetsKeys (old new : Held) (serial : ℕ) : Type 0 where
   pub none : keys_of_serial serial old.associations ≡ None
   pub holds : HoldsKeys new serial
 
--- a child came, of an association that is held and has keys: its pair, with no number sent or taken, stands under the next serial
+-- a child is new, of an IKE SA that is held and has keys: its pair, with no number sent or taken, has the
+-- next serial
 pub record HoldsChild (table : Database) (made : MadeChild) (held : Held) (new_table : Database) : Type 0 where
   pub keyed : HoldsKeys held made.ike
   pub pair : Pair
@@ -44,8 +45,9 @@ pub record NamesChild (stepped : Stepped) (serial : ℕ) : Type 0 where
   pub named : stepped.trace.child ≡ Some made
   pub same : made.serial ≡ serial
 
--- what was sent under keys has octets and is of an association that has them; what keys and which child are named came now; and all
--- that came is named: keys that an association did not have, and a pair that was not there; one that was there may be Deleting now
+-- The trace is right and complete. What was sent under keys has octets, and is of an IKE SA that has them.
+-- The keys and the child that are named are new. All that is new is named: keys that an IKE SA did not
+-- have, and a pair that was not in the table. A pair that was there may be Deleting now.
 pub record IsTraced (old : Held) (table : Database) (stepped : Stepped) (new : Held) (new_table : Database) : Type 0 where
   pub octets : (mark : Mark) → stepped.trace.sent ≡ Some mark → IsSome (octets_in stepped.output)
   pub sent : (mark : Mark) → stepped.trace.sent ≡ Some mark → HoldsKeys new mark.ike
@@ -54,15 +56,16 @@ pub record IsTraced (old : Held) (table : Database) (stepped : Stepped) (new : H
   pub keys : (serial : ℕ) (keys : KeyRecord) → keys_of_serial serial new.associations ≡ Some keys → (keys_of_serial serial old.associations ≡ Some keys) ⊎ (stepped.trace.keyed ≡ Some serial)
   pub pairs : (serial : ℕ) (pair : Pair) → pair_at new_table.pairs serial ≡ Some pair → (pair_at table.pairs serial ≡ Some pair) ⊎ NamesChild stepped serial ⊎ BecameDeleting table serial pair
 
--- a half-open association keeps this reply
+-- a half-open IKE SA keeps this response
 pub record KeepsFirstReply (held : Held) (octets : Octets) : Type 0 where
   pub place : ℕ
   pub association : Association
   pub there : slice_get held.associations place ≡ Some association
   pub kept : kept_reply association.phase ≡ Some octets
 
--- What goes out in clear: a request of an association that has no keys yet, the reply that a half-open one keeps, or an answer to
--- IKE_SA_INIT, by which keys come or nothing changes (RFC 7296 sections 1.2 and 2.6).
+-- What is sent in clear: a request of an IKE SA that has no keys yet, the response that a half-open one
+-- keeps, or an answer to IKE_SA_INIT. By the last keys are made, or nothing changes (RFC 7296 sections 1.2
+-- and 2.6).
 abbrev pub IsInClear : Held → Option ℕ → Held → IkeOutput → Type 0
 IsInClear old keyed new (Reply octets closed) = (closed ≡ None) × ((new ≡ old) ⊎ IsSome keyed)
 IsInClear old keyed new (Repeat octets) = KeepsFirstReply old octets

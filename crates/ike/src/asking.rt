@@ -1,4 +1,4 @@
-//! The orders that ask the peer something under an association that stands.
+//! The commands that ask the peer something under an established IKE SA.
 ghost use Rattle.std.specs.Prelude.{◌≡◌, ◌<◌, Some, IfOk, IfErr, length};
 ghost use Rattle.std.specs.List.{position};
 ghost use Rattle.policy.specs.Narrowing.{IsSendableSelector};
@@ -21,7 +21,8 @@ use setup::Setup;
 use std::alloc::Global;
 use suite::Sealer;
 
-// Asks the peer to delete a child: its pair carries nothing outward any more, and goes with the peer's answer (RFC 7296, section 1.4.1).
+// Asks the peer to delete a child. Its pair stops sending at once, and is removed when the peer answers
+// (RFC 7296, section 1.4.1).
 pub(crate) fn delete_child<C: Sealer>(
     alloc: Global,
     setup: &Setup<'_, C>,
@@ -50,7 +51,7 @@ pub(crate) fn delete_child<C: Sealer>(
     }
 }
 
-// Asks the peer of the association with this serial what is ordered.
+// Sends the peer of the IKE SA with this serial the request of a command.
 pub(crate) fn ask_by<C: Sealer>(
     alloc: Global,
     setup: &Setup<'_, C>,
@@ -94,7 +95,8 @@ fn ask_at<C: Sealer>(
     Ok(issued)
 }
 
-// Asks the peer of the association with this serial for a further child, with these selectors of this end's side and of the peer's.
+// Asks the peer of the IKE SA with this serial for an additional child, with these selectors of this end's
+// side and of the peer's.
 pub(crate) fn ask_further<C: Sealer>(
     alloc: Global,
     setup: &Setup<'_, C>,
@@ -146,7 +148,7 @@ fn ask_further_at<C: Sealer>(
     Ok(issued)
 }
 
-// The place of the association with this serial.
+// The place of the IKE SA with this serial.
 fn place_of(serial: u32, associations: &[Association]) -> Option<usize>
     ensures { result ≡ position (has_serial serial) associations.now }
 {
@@ -164,8 +166,7 @@ fn asking(ike: u32, number: u32, octets: Items<u8>) -> Stepped
                 response: false,
                 number,
             }),
-            keyed: None,
-            child: None,
+            ..Trace::NONE
         },
     }
 }

@@ -1,4 +1,4 @@
-//! Why a step is refused, or what came is passed over.
+//! Why a step is refused, or what came is dropped.
 ghost use Rattle.std.specs.Prelude.{◌≡◌};
 ghost use Rattle.ike.specs.Faults.{code_of_ike_fault};
 
@@ -9,38 +9,38 @@ use std::alloc::AllocError;
 use thiserror::Error;
 use wire::WireFault;
 
-/// Why a step is refused, or why what came is passed over. Nothing is changed then.
+/// Why a step is refused, or what came is dropped. Then nothing changes.
 #[derive(Clone, Copy, Debug, PartialEq, Eq, Error)]
 pub enum IkeFault {
-    /// A datagram is no message of IKE.
+    /// A datagram is no well-formed message of IKE.
     #[error("{0}")]
     Unread(WireFault),
-    /// A message is for no association, or not due.
+    /// A message is for no IKE SA that is held, or isn't allowed there in its present state.
     #[error("{0}")]
     Message(MessageFault),
     /// No entry of the policy that protects has this number.
     #[error("E23: no entry that protects")]
     Unprotected,
-    /// 128 associations are held, a limit of this implementation.
+    /// 128 IKE SAs are held, a limit of this implementation.
     #[error("E25: 128 IKE associations are held")]
     Crowded,
-    /// The table of associations for ESP is full.
+    /// The table of SA pairs for ESP is full.
     #[error("E25: the table is full")]
     TableFull,
-    /// All SPIs of that table were given.
+    /// All inbound SPIs of that table were given.
     #[error("E26: the inbound SPIs are spent")]
     SpisSpent,
-    /// 32 associations are half open, or 128 are held; limits of this implementation.
+    /// 32 IKE SAs are half open, or 128 are held; limits of this implementation.
     #[error("E34: too many associations are half open or held")]
     HalfOpenFull,
-    /// The association has as many requests waiting for an answer as the peer takes at once (RFC 7296, section 2.3), or one to delete
-    /// it.
+    /// As many requests of the IKE SA are outstanding as the peer's window allows (RFC 7296, section 2.3),
+    /// or one that deletes it.
     #[error("E35: the peer's window is full, or the association is being deleted")]
     Busy,
-    /// No serial, no version of the cookies' secrets, or no request number of the association is left.
+    /// No serial, no version of the cookies' secrets, or no Message ID of the IKE SA is left.
     #[error("E36: the numbers are spent")]
     NumbersSpent,
-    /// The fresh SPI is zero, or one of this end that is in use.
+    /// The fresh SPI is zero, or this end uses it already.
     #[error("E37: the fresh SPI is zero or in use")]
     BadFresh,
     /// There was no memory.
@@ -49,7 +49,7 @@ pub enum IkeFault {
 }
 
 impl IkeFault {
-    /// The refusal's number, as programs print it behind `E`.
+    /// The error code: the number that programs print behind `E`.
     pub fn code(self) -> u8
         ensures { result ≡ code_of_ike_fault self }
     {

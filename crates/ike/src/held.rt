@@ -1,4 +1,4 @@
-//! The associations that an end holds.
+//! The IKE SAs that an end holds.
 ghost use Rattle.std.specs.Prelude.{◌≡◌, ◌<◌, ◌++◌, ◌∷◌, [], ◌+◌, IfOk, IfErr, MatchOption};
 ghost use Rattle.std.specs.List.{list_any, position};
 ghost use Rattle.std.specs.Option.{option_copied};
@@ -10,10 +10,10 @@ use exchange::Role;
 use std::alloc::{AllocError, Global};
 use std::marker::Model;
 
-// Associations in the order in which they were made, and the serial of the next one.
+// The IKE SAs in the order in which they were made, and the serial of the next one.
 #[derive(Drop)]
 pub(crate) struct Held {
-    // One past the greatest serial that there is where all are used up.
+    // The next serial where all are used up: one past the greatest.
     pub next: u64,
     pub associations: Vec<Association>,
 }
@@ -49,7 +49,7 @@ impl Held {
         self.associations.as_slice()
     }
 
-    /// The serial of the next association, if there is one.
+    /// The serial of the next IKE SA, if one is left.
     pub fn next_serial(&self) -> Option<u32>
         ensures { MatchOption result (self.now.next ≡ SERIAL_END)
             (λ serial. (serial ≡ self.now.next) × (self.now.next < SERIAL_END)) }
@@ -57,7 +57,7 @@ impl Held {
         u32::try_from(self.next).ok()
     }
 
-    /// Adds the association that has the next serial. An error is for want of memory, and changes nothing.
+    /// Adds the IKE SA that has the next serial. An error is for want of memory, and changes nothing.
     pub fn push(&mut self, association: Association) -> Result<(), AllocError>
         requires { self.old.next < SERIAL_END }
         ensures pushed { IfOk result (λ _. self.new ≡ with_next self.old association) }
@@ -70,7 +70,7 @@ impl Held {
     }
 }
 
-// Whether no new association can have the SPI: it is zero, or this end uses it.
+// Whether no new IKE SA can have the SPI: it is zero, or this end uses it.
 pub(crate) fn is_bad_spi(spi: u64, associations: &[Association]) -> bool
     ensures { result ≡ is_bad_spi spi associations.now }
 {
@@ -99,21 +99,21 @@ fn spi_by_role(role: Role, spi_i: u64, spi_r: u64) -> u64
     }
 }
 
-// Whether an association with this serial is held.
+// Whether an IKE SA with this serial is held.
 pub(crate) fn has_serial(serial: u32, associations: &[Association]) -> bool
     ensures { result ≡ list_any (has_serial serial) associations.now }
 {
     associations.iter().any(|a| a.serial == serial)
 }
 
-// The association with this serial.
+// The IKE SA with this serial.
 pub(crate) fn association_of(serial: u32, associations: &[Association]) -> Option<&Association>
     ensures { option_copied result ≡ association_of serial associations.now }
 {
     associations.iter().find(|a| a.serial == serial)
 }
 
-// How many associations are half open.
+// How many IKE SAs are half open.
 pub(crate) fn half_open_count(associations: &[Association]) -> usize
     ensures { result ≡ half_open_count associations.now }
 {
@@ -135,7 +135,7 @@ fn is_half_open(association: &Association) -> bool
     }
 }
 
-// The place of the half-open association that these octets made, if there is one.
+// The place of the half-open IKE SA that these octets made, if there is one.
 pub(crate) fn answered_place(associations: &[Association], octets: &[u8]) -> Option<usize>
     ensures { result ≡ position (is_answered octets.now) associations.now }
 {

@@ -1,5 +1,5 @@
-//! What follows from the definitions alone. A law is a function that does nothing: its contract is the statement, which stands in
-//! `specs/LawsOf..` under a name of its own, and its sentence stands above it.
+//! Lemmas on the definitions. Each function here does nothing: its contract is the statement, which stands
+//! in `specs/LawsOf..` under a name of its own. The comment above the function says it in words.
 
 mod made_children;
 mod outputs;
@@ -21,7 +21,10 @@ pub use soundness::{
 };
 pub use steps::{
     fresh_octets_open, one_association_is_changed, steps_are_determined, steps_are_moves,
-    what_is_quiet_changes_nothing,
+    steps_keep_their_laws, what_is_quiet_changes_nothing,
 };
 pub use taking_effect::{repeats_are_answered, requests_are_remembered, requests_take_effect};
-pub use times::{nothing_comes_before_the_next_moment, what_is_due_comes_in_time};
+pub use times::{
+    nothing_comes_before_the_next_moment, the_next_moment_brings_something,
+    what_is_due_comes_in_time,
+};

@@ -1,4 +1,4 @@
-//! The machine, and one step of it.
+//! The IKE machine, and one step of it.
 ghost use Rattle.std.specs.Prelude.{◌≡◌, ◌+◌, ◌<◌, ◌^◌, IfOk, IfErr, IfSome};
 ghost use Rattle.std.specs.Option.{option_copied};
 ghost use Rattle.sadb.specs.Database.{Database, IsAsBefore};
@@ -8,13 +8,14 @@ ghost use Rattle.ike.specs.Moments.{IsTimely};
 ghost use Rattle.ike.specs.Outputs.{plain_step};
 ghost use Rattle.sa_init.specs.Cookies.{changed};
 ghost use Rattle.ike.specs.Soundness.{IsSoundMachine};
+ghost use Rattle.ike.specs.StepLaws.{StepsByLaws};
 ghost use Rattle.ike.specs.Steps.{input_view, Refuses, Steps};
 ghost use Rattle.effects.specs.Taking.{meaning_of};
 ghost use Rattle.moments.specs.Next.{NothingIsDueBefore, SomethingIsDue};
 
 use crate::asking::{ask_by, delete_child};
 use crate::held::{Held, association_of};
-use crate::laws::soundness_stays;
+use crate::laws::{soundness_stays, steps_keep_their_laws};
 use crate::receiving::take_datagram;
 use crate::starting::start;
 use crate::ticking::take_moment;
@@ -31,10 +32,10 @@ use std::alloc::Global;
 use std::marker::Model;
 use suite::{Agreement, KeyRecord, Proof, Sealer};
 
-/// The IKE machine of one end: its associations with one peer, of which at most 128 are held.
+/// The IKE machine of one end: its IKE SAs with one peer, of which it holds at most 128.
 ///
-/// The SPIs that an association holds for children that it asked for are reserved in the table that every step is given; it is always the
-/// same table.
+/// The SPIs that an IKE SA holds for children that it asked for are reserved in the table that every step
+/// gets. It must always be the same table.
 #[derive(Drop)]
 pub struct Ike {
     config: Config,
@@ -59,7 +60,7 @@ impl Model for Ike {
 }
 
 impl Ike {
-    /// A machine with no association, at the moment 0. Takes no memory.
+    /// A machine without IKE SAs, at time 0. Takes no memory.
     pub fn new(alloc: Global, config: Config) -> Ike
         ensures content { result ≡ new_machine config }
         ensures sound { (table : Database) → IsSoundMachine result table }
@@ -73,25 +74,27 @@ impl Ike {
         }
     }
 
-    /// The associations that are held, by rising serial.
+    /// The IKE SAs that are held, by rising serial.
     pub fn associations(&self) -> &[Association]
         ensures { result.now ≡ self.now.held.associations }
     {
         self.held.associations()
     }
 
-    /// The keys of the association with this serial, where both ends have come to them.
+    /// The key record of the IKE SA with this serial. None where it is not held, or has no keys yet.
     pub fn keys_of(&self, serial: u32) -> Option<&KeyRecord>
         ensures { option_copied result ≡ keys_of_serial serial self.now.held.associations }
     {
         association_of(serial, self.held.associations())?.keys()
     }
 
-    /// The least moment at which [`IkeInput::Tick`] sends, closes or removes anything, in its milliseconds: a request goes out again, one
-    /// has failed, or an association is over. None where no moment of 64 bits does. Takes no memory.
+    /// The earliest time, in milliseconds, at which [`IkeInput::Tick`] does anything: retransmits a
+    /// request, gives one up, or removes an IKE SA that expires. None where no time of 64 bits does. Takes
+    /// no memory.
     ///
-    /// Before it a moment changes nothing ([`nothing_comes_before_the_next_moment`](crate::laws::nothing_comes_before_the_next_moment)). It
-    /// lies after the greatest moment so far, where nothing is due that this one has reached
+    /// Before it a moment changes nothing ([`nothing_comes_before_the_next_moment`](crate::laws::nothing_comes_before_the_next_moment)), and
+    /// this one does something, where memory doesn't run out
+    /// ([`the_next_moment_brings_something`](crate::laws::the_next_moment_brings_something)). It lies after the greatest moment so far, where nothing is due that this one has reached
     /// ([`what_is_due_comes_in_time`](crate::laws::what_is_due_comes_in_time)).
     pub fn next_moment(&self) -> Option<u64>
         ensures early { NothingIsDueBefore result self.now.held.associations }
@@ -102,21 +105,18 @@ impl Ike {
         next_due(self.held.associations())
     }
 
-    /// One step: what a datagram or an order does, and what goes out.
+    /// One step: takes a datagram, a command or the time, and says what to send.
     ///
-    /// A datagram from outside is passed over ([`IkeOutput::Dropped`]) by E1 to E9, where it is no message, by E28 to E33, or by E34. It
-    /// is refused (`Err`) by [`IkeFault::NumbersSpent`] or [`IkeFault::BadFresh`], where it would make an association, and for want
-    /// of memory, but for a datagram whose length, length field or version is at fault.
+    /// A datagram is dropped ([`IkeOutput::Dropped`]) by E1 to E9 where it is no well-formed message, by
+    /// E28 to E33, or by E34. It is refused (`Err`) by [`IkeFault::NumbersSpent`] or [`IkeFault::BadFresh`]
+    /// where it would make an IKE SA, and for want of memory. A datagram whose length, length field or
+    /// version is wrong is never refused.
     ///
-    /// An order to ask for a child is refused, in this order: [`IkeFault::Unprotected`] (E23); with a new association E25 where 128
-    /// associations are held, E36, E37; for a further child E28 where no association has the serial, E32 where it is not established, E35
-    /// where the peer's window is full or the association is being deleted, E36; then E25 or E26 by the table; and for want of memory. The
-    /// orders to ask whether the peer is there, and to delete a child or an association, are refused, in this order: E28 where no child
-    /// or association has the serial, E32 where the association is not established or the child is being deleted, E35 and E36 as for a
-    /// further child, and for want of memory. Another secret is refused by E36. A moment is refused for want of memory alone, and only where a
-    /// request is due to go out again or an association to be closed.
+    /// A command to ask for a child is refused by the first of these:
     ///
-    /// What is refused changes nothing but the table's room.
+    /// What is refused changes nothing but the table's room. Beside what each input does (`stepped`), `laws` says what every step keeps to: its
+    /// moves, who is established, what the trace names and what goes in clear, of what a child is made, what an answer may hold, that one
+    /// association is changed but for a moment, and that under load no datagram makes a half-open one without a right cookie.
     pub fn step<C: Sealer + Agreement + Proof>(
         &mut self,
         alloc: Global,
@@ -133,14 +133,18 @@ impl Ike {
             (meaning_of C.Sealer C.Agreement C.Proof caller.now)
             policy.now (input_view input.now) self.old table.old reason
             × (self.new ≡ self.old) × IsAsBefore table.old table.new) }
+        ensures laws { IfOk result (λ stepped. StepsByLaws
+            (meaning_of C.Sealer C.Agreement C.Proof caller.now)
+            policy.now (input_view input.now) self.old table.old stepped self.new table.new) }
         ensures sound { IsSoundMachine self.new table.new }
     {
         table.invariants_hold();
         soundness_stays();
+        steps_keep_their_laws();
         self.take(alloc, input, table, policy, caller)
     }
 
-    // The step, of which it isn't said yet that it keeps what holds of every machine.
+    // The step itself. That it keeps the machine's invariant is proved in `step`, which calls it.
     fn take<C: Sealer + Agreement + Proof>(
         &mut self,
         alloc: Global,
@@ -158,75 +162,46 @@ impl Ike {
             policy.now (input_view input.now) self.old table.old reason
             × (self.new ≡ self.old) × IsAsBefore table.old table.new) }
     {
+        let with = |fresh| Setup {
+            caller,
+            config: &self.config,
+            policy,
+            fresh,
+            moment: self.moment,
+        };
         match input {
             IkeInput::Message {
                 from,
                 octets,
                 fresh,
-            } => {
-                let setup = Setup {
-                    caller,
-                    config: &self.config,
-                    policy,
-                    fresh,
-                    moment: self.moment,
-                };
-                take_datagram(
-                    alloc,
-                    &setup,
-                    &self.cookies,
-                    &mut self.held,
-                    table,
-                    from,
-                    octets,
-                )
-            }
+            } => take_datagram(
+                alloc,
+                &with(fresh),
+                &self.cookies,
+                &mut self.held,
+                table,
+                from,
+                octets,
+            ),
             IkeInput::Start { ike, entry, fresh } => {
-                let setup = Setup {
-                    caller,
-                    config: &self.config,
-                    policy,
-                    fresh,
-                    moment: self.moment,
-                };
-                start(alloc, &setup, &mut self.held, table, *ike, *entry)
+                start(alloc, &with(fresh), &mut self.held, table, *ike, *entry)
             }
             IkeInput::Probe { ike, fresh } => {
-                let setup = Setup {
-                    caller,
-                    config: &self.config,
-                    policy,
-                    fresh,
-                    moment: self.moment,
-                };
-                ask_by(alloc, &setup, &mut self.held, table, *ike, Order::Probe)
-            }
-            IkeInput::DeleteChild { child, fresh } => {
-                let setup = Setup {
-                    caller,
-                    config: &self.config,
-                    policy,
-                    fresh,
-                    moment: self.moment,
-                };
-                delete_child(alloc, &setup, &mut self.held, table, *child)
-            }
-            IkeInput::DeleteIke { ike, fresh } => {
-                let setup = Setup {
-                    caller,
-                    config: &self.config,
-                    policy,
-                    fresh,
-                    moment: self.moment,
-                };
                 ask_by(
                     alloc,
-                    &setup,
+                    &with(fresh),
                     &mut self.held,
                     table,
                     *ike,
-                    Order::DeleteAssociation,
+                    Order::Probe,
                 )
+            }
+            IkeInput::DeleteChild { child, fresh } => {
+                delete_child(alloc, &with(fresh), &mut self.held, table, *child)
+            }
+            IkeInput::DeleteIke { ike, fresh } => {
+                let order = Order::DeleteAssociation;
+                ask_by(alloc, &with(fresh), &mut self.held, table, *ike, order)
             }
             IkeInput::Secret(secret) => change_secret(&mut self.cookies, secret),
             IkeInput::Tick(moment) => {

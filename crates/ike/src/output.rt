@@ -1,4 +1,4 @@
-//! What comes of a step.
+//! The outputs of a step.
 ghost use Rattle.std.specs.Prelude.{◌≡◌};
 ghost use Rattle.ike.specs.Outputs.{child_of, closed_serial, passed_over, plain_step, stepped_of};
 
@@ -7,44 +7,46 @@ use base::Items;
 use effects::Effect;
 use moments::Ticked;
 
-/// What comes of a step. Associations and children are named by their serials.
+/// What comes of a step. IKE SAs and children are named by their serials.
 #[derive(Debug, Drop, PartialEq, Eq)]
 pub enum IkeOutput {
-    /// A request took effect, and these octets answer it.
+    /// A request of the peer is answered for the first time, by these octets. It took effect, or it is one
+    /// of IKE_SA_INIT that gets a notice alone, such as a cookie.
     Reply {
         octets: Items<u8>,
-        /// The association that it closed.
+        /// The IKE SA that the request closed, if it did.
         closed: Option<u32>,
     },
-    /// A request that took effect before is answered by the same octets again.
+    /// The peer retransmitted a request that took effect before; these are the octets of the first
+    /// response.
     Repeat(Items<u8>),
-    /// A request of this end goes out.
+    /// A request of this end is to be sent: for the first time, or that of IKE_SA_INIT again with a cookie.
     Request {
         ike: u32,
         octets: Items<u8>,
     },
-    /// A response was counted.
+    /// A response was matched to its request, which waits no more.
     Counted {
         ike: u32,
-        /// The child that it made.
+        /// The child that it made, if one.
         child: Option<u32>,
-        /// The association that it closed.
+        /// The IKE SA that it closed, if it did.
         closed: Option<u32>,
     },
-    /// What a moment brought.
+    /// What a `Tick` brought.
     Ticked(Ticked),
-    /// An order was carried out.
+    /// The cookies are made under the new secret from now on.
     Done,
-    /// What came is passed over.
+    /// What came is dropped for this reason.
     Dropped(IkeFault),
 }
 
-/// A message that was sent encrypted, under the keys of an association.
+/// A message that was sent encrypted, under the keys of an IKE SA.
 #[derive(Clone, Copy, Debug, PartialEq, Eq)]
 pub struct Mark {
     pub ike: u32,
     pub response: bool,
-    /// The number of the request that it is or answers.
+    /// The Message ID: of the request that it is or answers.
     pub number: u32,
 }
 
@@ -53,20 +55,25 @@ pub struct Mark {
 pub struct MadeChild {
     pub serial: u32,
     pub ike: u32,
-    /// The number of the request that asked for it.
+    /// The Message ID of the request that asked for it.
     pub number: u32,
     /// Whether this end asked.
     pub asked: bool,
 }
 
-/// What a step sent and made, beside what its output says.
+/// What a step sent and made, and what the peer declined, beside what its output says.
 #[derive(Clone, Copy, Debug, PartialEq, Eq)]
 pub struct Trace {
     /// The message that it sent, where that is encrypted.
     pub sent: Option<Mark>,
-    /// The association whose keys it made.
+    /// The IKE SA whose keys it made.
     pub keyed: Option<u32>,
     pub child: Option<MadeChild>,
+    /// The notice by which the peer declined what this end had asked of it: the type of the first error notice, one below 16384, in a
+    /// response that was counted (RFC 7296, section 3.10.1), where no child was made of that. So it is 38 for TS_UNACCEPTABLE, 35 for
+    /// NO_ADDITIONAL_SAS, 14 for NO_PROPOSAL_CHOSEN, 7 for INVALID_SYNTAX, and 24 for AUTHENTICATION_FAILED. `None` where the response
+    /// has no such notice or is not in the grammar, and in every other step.
+    pub declined: Option<u16>,
 }
 
 /// The output of a step, and its trace.
@@ -77,11 +84,12 @@ pub struct Stepped {
 }
 
 impl Trace {
-    /// Nothing was sent under keys, and nothing made.
+    /// Nothing was sent under keys, nothing made, and nothing declined.
     pub const NONE: Trace = Trace {
         sent: None,
         keyed: None,
         child: None,
+        declined: None,
     };
 }
 
@@ -92,7 +100,7 @@ impl Stepped {
         Stepped::plain(IkeOutput::Dropped(fault))
     }
 
-    // An output without a trace.
+    // An output with an empty trace.
     pub(crate) fn plain(output: IkeOutput) -> Stepped
         ensures { result ≡ plain_step output }
     {
@@ -102,7 +110,7 @@ impl Stepped {
         }
     }
 
-    // What came of a message for an association that is held, of this number.
+    // What came of a message with this Message ID, for an IKE SA that is held.
     pub(crate) fn of_effect(ike: u32, number: u32, effect: Effect) -> Stepped
         ensures { result ≡ stepped_of ike number effect }
     {
@@ -116,8 +124,7 @@ impl Stepped {
                         response: true,
                         number,
                     }),
-                    keyed: None,
-                    child: None,
+                    ..Trace::NONE
                 },
             },
             Effect::Replied(answered) => Stepped {
@@ -131,8 +138,8 @@ impl Stepped {
                         response: true,
                         number,
                     }),
-                    keyed: None,
                     child: child_of(ike, number, false, answered.child),
+                    ..Trace::NONE
                 },
             },
             Effect::Again(octets) => Stepped::plain(IkeOutput::Request { ike, octets }),
@@ -145,7 +152,7 @@ impl Stepped {
                         number: 1,
                     }),
                     keyed: Some(ike),
-                    child: None,
+                    ..Trace::NONE
                 },
             },
             Effect::Counted(ended) => Stepped {
@@ -155,9 +162,9 @@ impl Stepped {
                     closed: closed_serial(ike, ended.closed),
                 },
                 trace: Trace {
-                    sent: None,
-                    keyed: None,
                     child: child_of(ike, number, true, ended.child),
+                    declined: ended.declined,
+                    ..Trace::NONE
                 },
             },
         }

@@ -1,18 +1,18 @@
-//! What a datagram that came does.
+//! What a datagram does.
 ghost use Rattle.std.specs.Prelude.{◌≡◌, ◌<◌, true, Some, Ok, IfOk, IfErr, length};
 ghost use Rattle.std.specs.List.{position};
-ghost use Rattle.wire.specs.Messages.{Spells};
 ghost use Rattle.sadb.specs.Database.{Database, IsAsBefore};
 ghost use Rattle.sa_init.specs.Fitting.{FitsOffer};
-ghost use Rattle.sa_init.specs.Judging.{judgement_view, offer_view, IsJudgement};
+ghost use Rattle.sa_init.specs.Judging.{offer_view};
 ghost use Rattle.association.specs.Finding.{place_meant};
 ghost use Rattle.setup.specs.Configs.{setup_of};
-ghost use Rattle.ike.specs.Machines.{half_open_count, SERIAL_END};
+ghost use Rattle.ike.specs.Machines.{SERIAL_END};
 ghost use Rattle.ike.specs.Outputs.{half_open_step};
-ghost use Rattle.ike.specs.Receiving.{is_answered, is_initial_request, is_sound_initial, sender_of, with_next, CannotMake, CanWantMemory, RefusesDatagram, RefusesNew, Repeats, SaysNotice, TakesAt, TakesDatagram, TakesFound, TakesNew, TakesOffer, TakesRead, TakesSound, WantsFound};
+ghost use Rattle.ike.specs.Receiving.{is_answered, is_initial_request, is_sound_initial, with_next, CannotMake, RefusesDatagram, RefusesNew, Repeats, SaysNotice, TakesAt, TakesDatagram, TakesFound, TakesNew, TakesOffer, TakesSound, WantsFound};
 ghost use Rattle.ike.specs.Soundness.{AreSound};
 ghost use Rattle.effects.specs.Taking.{meaning_of};
 
+use crate::datagram::Datagram;
 use crate::held::{Held, answered_place, half_open_count, is_bad_spi};
 use crate::{IkeFault, IkeOutput, Stepped, Trace};
 use association::{Association, MessageFault, Phase, find};
@@ -22,14 +22,12 @@ use effects::take_message;
 use exchange::Notice;
 use initial::{Admitted, admit};
 use sa_init::laws::accepted_offers_fit;
-use sa_init::{Cookies, Judgement, Offer, Sender, judge, refuse};
+use sa_init::{Cookies, Judgement, Offer, judge, refuse};
 use sadb::Table;
 use setup::Setup;
 use std::alloc::{AllocError, Global};
 use suite::{Agreement, Proof, Sealer};
-use wire::laws::what_is_spelled_has_no_fault;
-use wire::numbers::IKE_SA_INIT;
-use wire::{Header, Message, WireFault, decode_message};
+use wire::{WireFault, decode_message};
 
 // Takes a datagram from an IPv4 address.
 pub(crate) fn take_datagram<C: Sealer + Agreement + Proof>(
@@ -50,54 +48,22 @@ pub(crate) fn take_datagram<C: Sealer + Agreement + Proof>(
         (setup_of setup.now) cookies.now from.now octets.now held.old table.old reason
         × (held.new ≡ held.old) × IsAsBefore table.old table.new) }
 {
-    what_is_spelled_has_no_fault();
-    match decode_message(alloc, octets) {
-        Ok(message) => take_read(alloc, setup, cookies, held, table, from, octets, &message),
-        Err(WireFault::Memory) => Err(IkeFault::Memory(MemoryFault::Message)),
-        Err(fault) => Ok(Stepped::dropped(IkeFault::Unread(fault))),
-    }
-}
-
-// What the datagram spells.
-fn take_read<C: Sealer + Agreement + Proof>(
-    alloc: Global,
-    setup: &Setup<'_, C>,
-    cookies: &Cookies,
-    held: &mut Held,
-    table: &mut Table,
-    from: &[u8; 4],
-    octets: &[u8],
-    message: &Message,
-) -> Result<Stepped, IkeFault>
-    requires sound { AreSound held.old table.old }
-    requires spelled { Spells message.now octets.now }
-    requires sound_header { CanWantMemory octets.now }
-    ensures taken { IfOk result (λ stepped. TakesRead (is_initial_request message.now.header)
-        (meaning_of C.Sealer C.Agreement C.Proof setup.now.caller.now)
-        (setup_of setup.now) cookies.now from.now octets.now message.now held.old table.old stepped
-        held.new table.new) }
-    ensures refused { IfErr result (λ reason. RefusesDatagram
-        (meaning_of C.Sealer C.Agreement C.Proof setup.now.caller.now)
-        (setup_of setup.now) cookies.now from.now octets.now held.old table.old reason
-        × (held.new ≡ held.old) × IsAsBefore table.old table.new) }
-{
-    if is_initial_request(&message.header) {
-        take_initial(alloc, setup, cookies, held, from, octets, message)
+    let message = match decode_message(alloc, octets) {
+        Ok(message) => message,
+        Err(WireFault::Memory) => return Err(IkeFault::Memory(MemoryFault::Message)),
+        Err(fault) => return Ok(Stepped::dropped(IkeFault::Unread(fault))),
+    };
+    let datagram = Datagram {
+        from: *from,
+        octets,
+        message,
+    };
+    if datagram.is_initial_request() {
+        take_initial(alloc, setup, cookies, held, &datagram)
     } else {
-        Ok(take_found(alloc, setup, held, table, octets, message)?)
+        datagram.is_whole();
+        Ok(take_found(alloc, setup, held, table, &datagram)?)
     }
-}
-
-fn is_initial_request(header: &Header) -> bool
-    ensures { result ≡ is_initial_request header.now }
-{
-    header.spi_r == 0 && !header.flags.response && header.exchange == IKE_SA_INIT
-}
-
-fn is_sound_initial(header: &Header) -> bool
-    ensures { result ≡ is_sound_initial header.now }
-{
-    header.flags.initiator && header.id == 0 && !(header.spi_i == 0)
 }
 
 // The message is for an association that is held, or for none.
@@ -106,21 +72,19 @@ fn take_found<C: Sealer + Agreement + Proof>(
     setup: &Setup<'_, C>,
     held: &mut Held,
     table: &mut Table,
-    octets: &[u8],
-    message: &Message,
+    datagram: &Datagram<'_>,
 ) -> Result<Stepped, MemoryFault>
     requires sound { AreSound held.old table.old }
-    requires spelled { Spells message.now octets.now }
-    ensures taken { IfOk result (λ stepped. TakesFound (place_meant message.now.header held.old.associations)
+    ensures taken { IfOk result (λ stepped. TakesFound (place_meant datagram.now.message.header held.old.associations)
         (meaning_of C.Sealer C.Agreement C.Proof setup.now.caller.now)
-        (setup_of setup.now) octets.now message.now held.old table.old stepped held.new table.new) }
+        (setup_of setup.now) datagram.now.octets datagram.now.message held.old table.old stepped held.new table.new) }
     ensures refused { IfErr result (λ _. (held.new ≡ held.old) × IsAsBefore table.old table.new) }
     ensures wanted { IfErr result
         (WantsFound C.plain_of
-        (place_meant message.now.header held.old.associations) octets.now message.now held.old table.old) }
+        (place_meant datagram.now.message.header held.old.associations) datagram.now.octets datagram.now.message held.old table.old) }
 {
-    match find(held.associations(), &message.header) {
-        Ok(place) => take_at(alloc, setup, held, place, table, octets, message),
+    match find(held.associations(), datagram.header()) {
+        Ok(place) => take_at(alloc, setup, held, place, table, datagram),
         Err(fault) => Ok(Stepped::dropped(IkeFault::Message(fault))),
     }
 }
@@ -131,55 +95,59 @@ fn take_at<C: Sealer + Agreement + Proof>(
     held: &mut Held,
     place: usize,
     table: &mut Table,
-    octets: &[u8],
-    message: &Message,
+    datagram: &Datagram<'_>,
 ) -> Result<Stepped, MemoryFault>
     requires there { place < length held.old.associations }
     requires sound { AreSound held.old table.old }
-    requires spelled { Spells message.now octets.now }
     ensures taken { IfOk result (λ stepped. TakesAt place
         (meaning_of C.Sealer C.Agreement C.Proof setup.now.caller.now)
-        (setup_of setup.now) octets.now message.now held.old table.old stepped held.new table.new) }
+        (setup_of setup.now) datagram.now.octets datagram.now.message held.old table.old stepped held.new table.new) }
     ensures refused { IfErr result (λ _. (held.new ≡ held.old) × IsAsBefore table.old table.new) }
     ensures wanted { IfErr result
-        (WantsFound C.plain_of (Ok place) octets.now message.now held.old table.old) }
+        (WantsFound C.plain_of (Ok place) datagram.now.octets datagram.now.message held.old table.old) }
 {
     let association = &mut held.associations[place];
     let ike = association.serial;
-    let effect = take_message(alloc, setup, association, table, octets, message)?;
-    Ok(Stepped::of_effect(ike, message.header.id, effect))
+    let effect = take_message(
+        alloc,
+        setup,
+        association,
+        table,
+        datagram.octets(),
+        datagram.message(),
+    )?;
+    Ok(Stepped::of_effect(ike, datagram.header().id, effect))
 }
 
-// The request of IKE_SA_INIT is taken: by the association that it made, or as a new one.
+// Takes a request of IKE_SA_INIT: a retransmission at the IKE SA that it made, or a new one.
 fn take_initial<C: Sealer + Agreement + Proof>(
     alloc: Global,
     setup: &Setup<'_, C>,
     cookies: &Cookies,
     held: &mut Held,
-    from: &[u8; 4],
-    octets: &[u8],
-    message: &Message,
+    datagram: &Datagram<'_>,
 ) -> Result<Stepped, IkeFault>
-    requires spelled { Spells message.now octets.now }
-    requires initial { is_initial_request message.now.header ≡ true }
-    requires sound_header { CanWantMemory octets.now }
-    ensures taken { IfOk result (λ stepped. TakesSound (is_sound_initial message.now.header)
+    requires initial { is_initial_request datagram.now.message.header ≡ true }
+    ensures taken { IfOk result (λ stepped. TakesSound (is_sound_initial datagram.now.message.header)
         (meaning_of C.Sealer C.Agreement C.Proof setup.now.caller.now)
-        (setup_of setup.now) cookies.now from.now octets.now message.now held.old stepped held.new) }
+        (setup_of setup.now) cookies.now datagram.now.from datagram.now.octets datagram.now.message held.old
+        stepped held.new) }
     ensures refused { IfErr result (λ reason. ((table : Database) → RefusesDatagram
         (meaning_of C.Sealer C.Agreement C.Proof setup.now.caller.now)
-        (setup_of setup.now) cookies.now from.now octets.now held.old table reason) × (held.new ≡ held.old)) }
+        (setup_of setup.now) cookies.now datagram.now.from datagram.now.octets held.old table reason)
+        × (held.new ≡ held.old)) }
 {
-    if !is_sound_initial(&message.header) {
+    datagram.is_whole();
+    if !datagram.is_sound_initial() {
         return Ok(Stepped::dropped(IkeFault::Message(MessageFault::WrongPhase)));
     }
-    match answered_place(held.associations(), octets) {
-        Some(place) => Ok(repeat(alloc, octets, held.associations(), place)?),
-        None => take_new(alloc, setup, cookies, held, from, octets, message),
+    match answered_place(held.associations(), datagram.octets()) {
+        Some(place) => Ok(repeat(alloc, datagram.octets(), held.associations(), place)?),
+        None => take_new(alloc, setup, cookies, held, datagram),
     }
 }
 
-// The reply that the association at this place keeps goes out again.
+// Sends the kept response of the IKE SA at this place again.
 fn repeat(
     alloc: Global,
     request: &[u8],
@@ -198,61 +166,42 @@ fn repeat(
     }
 }
 
-// A request that made no association that is half open.
+// Takes a request of IKE_SA_INIT that made no IKE SA which is still half open.
 fn take_new<C: Sealer + Agreement + Proof>(
     alloc: Global,
     setup: &Setup<'_, C>,
     cookies: &Cookies,
     held: &mut Held,
-    from: &[u8; 4],
-    octets: &[u8],
-    message: &Message,
+    datagram: &Datagram<'_>,
 ) -> Result<Stepped, IkeFault>
-    requires spelled { Spells message.now octets.now }
     ensures taken { IfOk result (λ stepped. TakesNew
         (meaning_of C.Sealer C.Agreement C.Proof setup.now.caller.now)
-        (setup_of setup.now) cookies.now from.now octets.now message.now held.old stepped held.new) }
+        (setup_of setup.now) cookies.now datagram.now.from datagram.now.octets datagram.now.message held.old
+        stepped held.new) }
     ensures refused { IfErr result (λ reason. RefusesNew
         (meaning_of C.Sealer C.Agreement C.Proof setup.now.caller.now)
-        (setup_of setup.now) cookies.now from.now message.now held.old reason × (held.new ≡ held.old)) }
+        (setup_of setup.now) cookies.now datagram.now.from datagram.now.message held.old reason
+        × (held.new ≡ held.old)) }
 {
     accepted_offers_fit();
-    let spi_i = message.header.spi_i;
-    match judge_new(setup.caller, cookies, held.associations(), from, message) {
-        Judgement::Answered(notice) => Ok(decline(alloc, spi_i, &notice)?),
-        Judgement::Incomplete => Ok(Stepped::dropped(IkeFault::Message(MessageFault::WrongPhase))),
-        Judgement::Full => Ok(Stepped::dropped(IkeFault::HalfOpenFull)),
-        Judgement::Accepted(offer) => Ok(take_offer(alloc, setup, held, &offer, spi_i, octets)?),
-    }
-}
-
-// What is made of the request, with so many associations.
-fn judge_new<'a, C: Sealer + Agreement>(
-    caller: &C,
-    cookies: &Cookies,
-    associations: &[Association],
-    from: &[u8; 4],
-    message: &'a Message,
-) -> Judgement<'a>
-    ensures { IsJudgement C.cipher C.group_number cookies.now (sender_of from.now message.now.header)
-        (half_open_count associations.now) (length associations.now) message.now.payloads
-        (judgement_view result) }
-{
-    let sender = Sender {
-        address: *from,
-        spi_i: message.header.spi_i,
-    };
-    judge(
-        caller,
-        message.payloads.as_slice(),
+    let sender = datagram.sender();
+    let associations = held.associations();
+    match judge(
+        setup.caller,
+        datagram.message().payloads.as_slice(),
         &sender,
         cookies,
         half_open_count(associations),
         associations.len(),
-    )
+    ) {
+        Judgement::Answered(notice) => Ok(decline(alloc, sender.spi_i, &notice)?),
+        Judgement::Incomplete => Ok(Stepped::dropped(IkeFault::Message(MessageFault::WrongPhase))),
+        Judgement::Full => Ok(Stepped::dropped(IkeFault::HalfOpenFull)),
+        Judgement::Accepted(offer) => Ok(take_offer(alloc, setup, held, &offer, datagram)?),
+    }
 }
 
-// A notice goes out, and nothing is kept.
+// Answers by a notice, and keeps nothing.
 fn decline(alloc: Global, spi_i: u64, notice: &Notice) -> Result<Stepped, AllocError>
     ensures { IfOk result (SaysNotice spi_i notice.now) }
 {
@@ -263,19 +212,19 @@ fn decline(alloc: Global, spi_i: u64, notice: &Notice) -> Result<Stepped, AllocE
     }))
 }
 
-// An offer that is accepted makes an association, unless its public value is refused.
+// Makes an IKE SA of an accepted offer, unless the agreement refuses its public value.
 fn take_offer<C: Sealer + Agreement + Proof>(
     alloc: Global,
     setup: &Setup<'_, C>,
     held: &mut Held,
     offer: &Offer<'_>,
-    spi_i: u64,
-    octets: &[u8],
+    datagram: &Datagram<'_>,
 ) -> Result<Stepped, IkeFault>
     requires fits { FitsOffer (offer_view offer.now) }
     ensures taken { IfOk result (λ stepped. TakesOffer
         (meaning_of C.Sealer C.Agreement C.Proof setup.now.caller.now)
-        (setup_of setup.now) (offer_view offer.now) spi_i octets.now held.old stepped held.new) }
+        (setup_of setup.now) (offer_view offer.now) datagram.now.message.header.spi_i datagram.now.octets held.old
+        stepped held.new) }
     ensures refused { IfErr result
         (λ reason. CannotMake held.old setup.now.fresh.now.spi reason × (held.new ≡ held.old)) }
 {
@@ -285,7 +234,14 @@ fn take_offer<C: Sealer + Agreement + Proof>(
     if is_bad_spi(setup.fresh.spi, held.associations()) {
         return Err(IkeFault::BadFresh);
     }
-    match admit(alloc, setup, serial, offer, spi_i, octets)? {
+    match admit(
+        alloc,
+        setup,
+        serial,
+        offer,
+        datagram.header().spi_i,
+        datagram.octets(),
+    )? {
         Some(admitted) => Ok(hold_admitted(held, serial, admitted)?),
         None => Ok(Stepped::dropped(IkeFault::Message(MessageFault::WrongPhase))),
     }
@@ -308,9 +264,8 @@ fn hold_admitted(held: &mut Held, ike: u32, admitted: Admitted) -> Result<Steppe
             closed: None,
         },
         trace: Trace {
-            sent: None,
             keyed: Some(ike),
-            child: None,
+            ..Trace::NONE
         },
     })
 }

@@ -1,4 +1,4 @@
-//! The order to ask for a child, with a new association or under one that stands.
+//! The command to ask for a child, with a new IKE SA or under one that is established.
 ghost use Rattle.std.specs.Prelude.{◌≡◌, ◌<◌, Some, None, IfOk, IfErr};
 ghost use Rattle.policy.specs.Decisions.{local_side, remote_side};
 ghost use Rattle.policy.specs.Entries.{IsSoundEntry};
@@ -22,7 +22,8 @@ use setup::Setup;
 use std::alloc::{AllocError, Global};
 use suite::{Agreement, Proof, Sealer};
 
-// Asks for the child of an entry of the policy, by its number: with a new association, or under the one with this serial.
+// Asks for the child of an entry of the policy, by its number: with a new IKE SA, or under the one with
+// this serial.
 pub(crate) fn start<C: Sealer + Agreement + Proof>(
     alloc: Global,
     setup: &Setup<'_, C>,
@@ -44,7 +45,7 @@ pub(crate) fn start<C: Sealer + Agreement + Proof>(
     }
 }
 
-// Begins an association whose first child is that of an entry.
+// Begins an IKE SA whose first child is that of an entry.
 fn begin_by<C: Sealer + Agreement + Proof>(
     alloc: Global,
     setup: &Setup<'_, C>,
@@ -72,7 +73,7 @@ fn begin_by<C: Sealer + Agreement + Proof>(
     )?)
 }
 
-// Asks for the child of an entry under the association with this serial.
+// Asks for the child of an entry under the IKE SA with this serial.
 fn further_by<C: Sealer + Agreement + Proof>(
     alloc: Global,
     setup: &Setup<'_, C>,
@@ -94,7 +95,7 @@ fn further_by<C: Sealer + Agreement + Proof>(
     ask_further(alloc, setup, held, table, ike, &local, &remote)
 }
 
-// What may be begun: an association of this serial, by this entry.
+// An IKE SA that may be begun: its serial, and the entry of its first child.
 #[derive(Clone, Copy)]
 struct Allowed {
     serial: u32,
@@ -113,7 +114,7 @@ fn check_beginning<C>(setup: &Setup<'_, C>, held: &Held, place: u32) -> Result<A
     Ok(Allowed { serial, entry })
 }
 
-// The entry of this number that protects, which is as entries of a policy are.
+// The entry of this number, if it protects. It satisfies the invariant of policy entries.
 fn sound_entry<C>(setup: &Setup<'_, C>, place: u32) -> Result<Entry, IkeFault>
     ensures entry { IfOk result (λ entry. protecting_entry setup.now.policy.now place ≡ Some entry) }
     ensures sound { IfOk result IsSoundEntry }
@@ -145,7 +146,7 @@ fn if_protects(entry: &Entry) -> Option<Entry>
     }
 }
 
-// The serial of an association that is begun with this SPI.
+// The serial of an IKE SA that is begun with this SPI.
 fn new_serial(held: &Held, spi: u64) -> Result<u32, IkeFault>
     ensures serial { IfOk result
         (λ serial. (new_association_fault held.now spi ≡ None) × (serial ≡ held.now.next)
@@ -164,7 +165,7 @@ fn new_serial(held: &Held, spi: u64) -> Result<u32, IkeFault>
     Ok(serial)
 }
 
-// Makes room for the child.
+// Makes room in the table for the child.
 #[tactic(auto, using(crate::proofs::WantLemmas::withheld))]
 fn prepare(table: &mut Table) -> Result<(), IkeFault>
     ensures ready { IfOk result (λ _. IsReady table.new) }
@@ -176,7 +177,7 @@ fn prepare(table: &mut Table) -> Result<(), IkeFault>
     Ok(())
 }
 
-// Reserves the child's SPI, and holds the association. An error is for want of memory, and changes nothing.
+// Reserves the child's SPI, and stores the IKE SA. An error is for want of memory, and changes nothing.
 fn begin_next(
     alloc: Global,
     held: &mut Held,

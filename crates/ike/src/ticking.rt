@@ -1,4 +1,4 @@
-//! What a moment brings.
+//! What a `Tick` brings.
 ghost use Rattle.std.specs.Prelude.{◌≡◌, IfOk, IfErr, OnErr};
 ghost use Rattle.moments.specs.Due.{SomethingComes};
 ghost use Rattle.moments.specs.Ticking.{HoldTheirSpis, Ticks};
@@ -11,7 +11,7 @@ use moments::tick;
 use sadb::Table;
 use std::alloc::{AllocError, Global};
 
-// Does what is due at a moment.
+// Does what is due at this time.
 pub(crate) fn take_moment(
     alloc: Global,
     held: &mut Held,

@@ -3,7 +3,7 @@ use Rattle.std.proofs.Common.{◌≡◌, ◌+◌, ◌<◌, ◌++◌, ◌∷◌, 
 use Rattle.std.proofs.lemmas.Bool.Decides.{nat_tests}
 use Rattle.std.proofs.lemmas.List.{length-map}
 use Rattle.std.proofs.lemmas.List.Sums.{sum_by-cons}
-use Rattle.std.proofs.lemmas.List.Elements.{All-from_recursion, recursion_from_All, Contains-append_left, Contains-append_right}
+use Rattle.std.proofs.lemmas.List.Elements.{All-contains, All-from_recursion, recursion_from_All, Contains-append_left, Contains-append_right}
 use Rattle.std.specs.FinMap as numbers
 use Rattle.std.specs.List.{filter, AllByRecursion, AllZip}
 use Rattle.std.specs.Option.{option_map}
@@ -13,7 +13,7 @@ use Rattle.sadb.specs.Database.{Database}
 use Rattle.association.specs.Phases.{keys_in}
 use Rattle.association.specs.declared.phase.Association.{Association}
 use Rattle.association.specs.declared.phase.Request.{Request}
-use Rattle.moments.specs.Due.{after_sending, due_of, has_failed, held_of, is_due, is_over, is_unanswered, outstanding_count, outstanding_of, resent, SendsAgain}
+use Rattle.moments.specs.Due.{after_sending, closed_by, closed_of, due_of, has_failed, held_of, is_due, is_over, is_unanswered, outstanding_count, outstanding_of, resent, sent_by, sent_of, SendsAgain, SomethingComes}
 use Rattle.moments.specs.Held.{HasNothingDue, IsOutstandingOf, StaysItself}
 use Rattle.moments.specs.Ticking.{PassAll, Passes, PassesBy, Ticks}
 use Rattle.moments.specs.declared.resent.Resent.{Resent}
@@ -180,6 +180,18 @@ pub untouched : (now : ℕ) (old new : List Association) (table new_table : Data
 untouched now old new table new_table ticked nothing is =
     let none = all_untouched now old table ticked.requests ticked.closed new new_table (recursion_from_All (HasNothingDue now) old nothing) is in
     (λ i. record { requests = none.0 i; closed = none.1 i }, none.2, none.3)
+
+-- of an association of which nothing is due nothing comes
+sends_none : (now : ℕ) (a : Association) → HasNothingDue now a → sent_of now a ≡ []
+sends_none now a nothing = ap (λ (over : Bool). sent_by over (has_failed now a) now a) nothing.held ∙ ap (λ (failed : Bool). sent_by false failed now a) (has_not_failed now a nothing) ∙ sends_nothing now a nothing
+
+closes_none : (now : ℕ) (a : Association) → HasNothingDue now a → closed_of now a ≡ []
+closes_none now a nothing = ap (λ (over : Bool). closed_by over (has_failed now a) a) nothing.held ∙ ap (λ (failed : Bool). closed_by false failed a) (has_not_failed now a nothing)
+
+pub none_comes : (now : ℕ) (associations : List Association) → All (HasNothingDue now) associations → SomethingComes now associations → ⊥
+none_comes now associations nothing some =
+    let none = All-contains (HasNothingDue now) associations some.association nothing some.held in
+    some.comes (sends_none now some.association none, closes_none now some.association none)
 
 -- ---- how many go out again
 

@@ -53,8 +53,8 @@ resent a e = record { ike = a.serial; number = e.0; encrypted = not (exchange_of
 abbrev pub due_of : ℕ → Association → List Resent
 due_of now a = map (resent a) (filter (λ e. is_due now e.1) (outstanding_of a))
 
--- what comes of one association with a moment, by whether it is over and has failed: the requests that go out again, and its serial where
--- it is closed
+-- what comes of one association with a moment, by whether it is over and has failed: the requests that go
+-- out again, and its serial where it is closed
 abbrev pub sent_by : Bool → Bool → ℕ → Association → List Resent
 sent_by true failed now a = []
 sent_by false true now a = []
@@ -84,7 +84,8 @@ pub record SendsAgain (now : ℕ) (old new : Association) : Type 0 where
 abbrev pub outstanding_count : List Association → ℕ
 outstanding_count associations = sum_by (λ a. length (outstanding_of a)) associations
 
--- something comes of one of these associations with the moment: a request goes out again, or the association is closed
+-- something comes of one of these associations with the moment: a request goes out again, or the
+-- association is closed
 pub record SomethingComes (now : ℕ) (associations : List Association) : Type 0 where
   pub association : Association
   pub held : Contains associations association

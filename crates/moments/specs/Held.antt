@@ -13,13 +13,15 @@ use Rattle.association.specs.declared.phase.Request.{Request}
 use Rattle.moments.specs.Due.{after_sending, has_failed, is_due, is_over, resent, SendsAgain}
 use Rattle.moments.specs.declared.resent.Resent.{Resent}
 
--- this moment closed it, since its peer is gone: it waits for no answer, and what the peer may ask for again stays
+-- this moment closed it, since its peer is gone: it waits for no answer, and what the peer may ask for
+-- again stays
 pub record IsClosedAt (now : ℕ) (old new : Association) : Type 0 where
   pub failed : has_failed now old ≡ true
   pub requests : GivesUpRequests old.outgoing new.outgoing
   pub content : new ≡ record old { outgoing = new.outgoing; phase = Closed (keys_in old.phase) now }
 
--- it is itself, with the keys that it had; it is as it was but for timers, where its peer is not gone, or this moment closed it
+-- it is itself, with the keys that it had; it is as it was but for timers, where its peer is not gone, or
+-- this moment closed it
 pub record StaysItself (now : ℕ) (closed : List ℕ) (old new : Association) : Type 0 where
   pub serial : new.serial ≡ old.serial
   pub role : new.role ≡ old.role
@@ -28,7 +30,8 @@ pub record StaysItself (now : ℕ) (closed : List ℕ) (old new : Association) :
   pub keys : keys_in new.phase ≡ keys_in old.phase
   pub stays : ((has_failed now old ≡ false) × SendsAgain now old new) ⊎ (IsClosedAt now old new × Contains closed old.serial)
 
--- what goes out again is a request that waits for an answer, due now, of an association that is held before and after; it waits still
+-- what goes out again is a request that waits for an answer, due now, of an association that is held before
+-- and after; it waits still
 pub record IsOutstandingOf (now : ℕ) (old new : List Association) (r : Resent) : Type 0 where
   pub before : Association
   pub after : Association
@@ -52,8 +55,8 @@ began (HalfOpen opened) = opened.made
 began (Closed keys at) = at
 began _ = 0
 
--- it waits by this moment: it is not half open or closed since a later one, and none of its requests was sent later, or more often than
--- a request may go out
+-- it waits by this moment: it is not half open or closed since a later one, and none of its requests was
+-- sent later, or more often than a request may go out
 pub record HasBegun (now : ℕ) (a : Association) : Type 0 where
   pub since : began a.phase ≤ now
   pub sent : (number : ℕ) (r : Request) → numbers.get a.outgoing.outstanding number ≡ Some r → r.timer.sent ≤ now

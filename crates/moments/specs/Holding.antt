@@ -1,4 +1,5 @@
--- What a moment leaves of the associations and of the table (RFC 7296 sections 2.1 and 2.4; RFC 4301 section 4.4.2).
+-- What a moment leaves of the associations and of the table (RFC 7296 sections 2.1 and 2.4; RFC 4301
+-- section 4.4.2).
 use Rattle.std.specs.Prelude.{◌≡◌, ◌⊎◌, ◌∷◌, ℕ, false, Some, List, [], slice_get}
 use Rattle.std.specs.FinMap as map
 use Rattle.sadb.specs.Database.{pair_at, Database}

@@ -1,4 +1,5 @@
--- What a moment makes of each association where it stands, before those that are over are taken out. Private contracts alone cite this.
+-- What a moment makes of each association where it stands, before those that are over are taken out.
+-- Private contracts alone cite this.
 use Rattle.std.specs.Prelude.{◌≡◌, ℕ, Bool, true, false, List, [], ◌∷◌, if◌then◌else◌}
 use Rattle.requests.specs.Outgoing.{OwnRequests, ReplacesRequest}
 use Rattle.sadb.specs.Database.{Database}

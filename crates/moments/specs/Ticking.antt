@@ -1,5 +1,5 @@
--- What comes with a moment, at all associations (RFC 7296 sections 2.1 and 2.4): requests go out again, associations whose peer is gone
--- are closed, and those that are over are held no longer.
+-- What comes with a moment, at all associations (RFC 7296 sections 2.1 and 2.4): requests go out again,
+-- associations whose peer is gone are closed, and those that are over are held no longer.
 use Rattle.std.specs.Prelude.{◌≡◌, ◌++◌, ◌∷◌, ◌<◌, ℕ, Bool, true, false, Some, List, [], slice_get}
 use Rattle.sadb.specs.Database.{Database}
 use Rattle.association.specs.Closing.{Closes, HoldsReserved, HoldsSpi}
@@ -16,11 +16,13 @@ PassesBy false true now old table sent closed held new_table =
 PassesBy false false now old table sent closed held new_table =
     (new : Association) × (SendsAgain now old new) × (sent ≡ due_of now old) × (closed ≡ []) × (held ≡ new ∷ []) × (new_table ≡ table)
 
--- of one association: what is sent again, the serial that is closed, and the association as it is held then, if it is
+-- of one association: what is sent again, the serial that is closed, and the association as it is held
+-- then, if it is
 pub record Passes (now : ℕ) (old : Association) (table : Database) (sent : List Resent) (closed : List ℕ) (held : List Association) (new_table : Database) : Type 0 where
   pub done : PassesBy (is_over now old.phase) (has_failed now old) now old table sent closed held new_table
 
--- what becomes of several associations: what is sent again, the serials that are closed, those that are held then, and the table
+-- what becomes of several associations: what is sent again, the serials that are closed, those that are
+-- held then, and the table
 abbrev pub Passing : Type 1
 Passing = Database → List Resent → List ℕ → List Association → Database → Type 0
 

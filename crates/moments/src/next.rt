@@ -10,12 +10,13 @@ ghost use Rattle.moments.specs.Next.{earlier, HasSomethingDue, IsBefore, Nothing
 use crate::due::{CLOSED_TIME, HALF_OPEN_TIME};
 use association::{Association, Phase};
 
-/// The least moment at which something is due of these associations, in milliseconds: a request goes out again, one has failed, or an
-/// association is over. None where nothing is due at any moment of 64 bits. Takes no memory.
+/// The least moment at which something is due of these associations, in milliseconds: a request goes out
+/// again, one has failed, or an association is over. None where nothing is due at any moment of 64 bits.
+/// Takes no memory.
 ///
 /// Before that moment [`tick`](crate::tick) changes nothing and sends nothing
-/// ([`nothing_comes_before_the_next_moment`](crate::laws::nothing_comes_before_the_next_moment)), and at it something comes
-/// ([`what_is_due_comes`](crate::laws::what_is_due_comes)).
+/// ([`nothing_comes_before_the_next_moment`](crate::laws::nothing_comes_before_the_next_moment)), and at it
+/// something comes ([`what_is_due_comes`](crate::laws::what_is_due_comes)).
 pub fn next_due(associations: &[Association]) -> Option<u64>
     ensures early { NothingIsDueBefore result associations.now }
     ensures due { IfSome result (λ moment. SomethingIsDue moment associations.now) }

@@ -22,13 +22,13 @@ pub struct Ticked {
     pub closed: Items<u32>,
 }
 
-/// Does what is due at a moment, in milliseconds. An association that is over is held no longer; one with a request that was sent for the
-/// last time and not answered in time is closed, and sends nothing; of each other one the requests that are due go out once more,
-/// however late it is.
+/// Does what is due at a moment, in milliseconds. An association that is over is held no longer; one with a
+/// request that was sent for the last time and not answered in time is closed, and sends nothing; of each
+/// other one the requests that are due go out once more, however late it is.
 ///
-/// The caller gives associations whose SPIs are reserved in the table, each for one of them alone. An error is for want of memory alone,
-/// and changes nothing. It comes only where a request is due to go out again or an association to be closed: to let go of what is over
-/// takes no memory.
+/// The caller gives associations whose SPIs are reserved in the table, each for one of them alone. An error
+/// is for want of memory alone, and changes nothing. It comes only where a request is due to go out again
+/// or an association to be closed: to let go of what is over takes no memory.
 pub fn tick(
     alloc: Global,
     associations: &mut Vec<Association>,

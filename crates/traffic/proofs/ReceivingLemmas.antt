@@ -1,5 +1,5 @@
 -- Finding the pair of a packet, and finding it again once it was opened.
-use Rattle.std.proofs.Common.{◌≡◌, ◌≢◌, ℕ, ◌<◌, ◌≤◌, Bool, cond, length, take, get_or, Option, Some, Bor, Result, Ok, Err, IfErr, IsErr, IsErrAnd, IsSome, None, refl, sym, ap, ◌∙◌, subst, arith, inl, inr}
+use Rattle.std.proofs.Common.{◌≡◌, ◌≢◌, ℕ, ◌<◌, ◌≤◌, Bool, cond, length, take, get_or, Option, Some, Bor, Result, Ok, Err, IsErr, IsErrAnd, IsSome, None, refl, sym, ap, ◌∙◌, subst, arith, inl, inr}
 use Rattle.std.proofs.lemmas.List.{get_or-take, get_or_past, length-take-le}
 use Rattle.std.proofs.lemmas.Nat.{be_bytes_4}
 use Rattle.std.proofs.lemmas.Bool.{cases_lt, eq-eqb}
@@ -9,7 +9,7 @@ use Rattle.std.specs.Option.{option_copied}
 use Rattle.byteorder.specs.Endian.{big_bytes}
 use Rattle.base.specs.Octets.{Octets}
 use Rattle.esp.specs.Views.{Receiving}
-use Rattle.sadb.specs.Database.{Database, HasInbound, IsForPair, IsInbound, OpensAt, PairMap, RefusesAt, pair_at}
+use Rattle.sadb.specs.Database.{Database, IsForPair, IsInbound, OpensAt, PairMap, RefusesAt, pair_at}
 use Rattle.sadb.specs.declared.pair.Pair.{Pair}
 use Rattle.traffic.specs.Receiving.{HasAddressee, HasPair, IsAddressedTo, IsAddressedToNone, IsNotOpened, IsOpened, IsVerdictAt, Receives, reception_of, spi_of}
 use Rattle.traffic.specs.Verdicts.{IsVerdict, Verdict}

@@ -1,4 +1,5 @@
--- What becomes of a packet that came in unprotected (RFC 4301 section 5.2, step 3b): it goes in only where the policy bypasses it.
+-- What becomes of a packet that came in unprotected (RFC 4301 section 5.2, step 3b): it goes in only where
+-- the policy bypasses it.
 use Rattle.std.specs.Prelude.{◌≡◌, ◌⊎◌, List}
 use Rattle.base.specs.Octets.{Octets}
 use Rattle.policy.specs.Packets.{IsInnerRefusal}

@@ -28,7 +28,8 @@ pub record IsTreated (policy : List Entry) (direction : Direction) (packet : Oct
   pub flow : Flow
   pub decided : IsDecided policy direction packet flow action
 
--- of the pairs that carry the flow one seals the whole packet, and nothing else, as the payload of a packet of its family
+-- of the pairs that carry the flow one seals the whole packet, and nothing else, as the payload of a packet
+-- of its family
 pub record IsSealed (old : Database) (flow : Flow) (packet : Octets) (child number : ℕ) (octets : Octets) (new : Database) : Type 0 where
   pub carrier : IsOutbound old.pairs flow child
   pub sealed : SealsAt old child (next_header_of (family_of flow.source)) packet [] number new octets

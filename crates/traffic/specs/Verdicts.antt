@@ -1,5 +1,5 @@
--- The verdict on what an association opened: by its next header, by what it is as a packet, and by the selectors of the association
--- (RFC 4301 section 5.2, step 4).
+-- The verdict on what an association opened: by its next header, by what it is as a packet, and by the
+-- selectors of the association (RFC 4301 section 5.2, step 4).
 use Rattle.std.specs.Prelude.{◌≡◌, ◌≢◌, ◌⊎◌, ℕ, List, Option, Result, Ok, Err, Some, None}
 use Rattle.std.specs.Borrow.{Bor}
 use Rattle.base.specs.Octets.{Octets}
@@ -19,8 +19,8 @@ pub data Verdict : Type 0 where
   Nothing : Verdict
   Refused : PacketFault → Verdict
 
--- The payload is of the family of packets that its next header names. That the family is the one in its first octet is all that is
--- asked of it here, before anything else of it is judged.
+-- The payload is of the family of packets that its next header names. That the family is the one in its
+-- first octet is all that is asked of it here, before anything else of it is judged.
 pub record IsNamedPacket (next : ℕ) (payload : Octets) : Type 0 where
   pub family : Family
   pub named : next ≡ next_header_of family
@@ -31,7 +31,8 @@ pub record IsInnerPacket (next : ℕ) (payload : Octets) (flow : Flow) : Type 0 
   pub named : IsNamedPacket next payload
   pub flow_is : IsFlowOf payload flow
 
--- a packet of the traffic that an association carries inward: its source is on the peer's side, its target on this end's
+-- a packet of the traffic that an association carries inward: its source is on the peer's side, its target
+-- on this end's
 pub record IsTraffic (next : ℕ) (payload : Octets) (remote local : List Selector) : Type 0 where
   pub flow : Flow
   pub packet : IsInnerPacket next payload flow
@@ -43,8 +44,8 @@ pub record IsOtherTraffic (next : ℕ) (payload : Octets) (remote local : List S
   pub packet : IsInnerPacket next payload flow
   pub not_covered : ¬ Covers remote local flow
 
--- why a payload is not passed on: E21 for a next header that names no packet or not this one; then the refusals of the packet itself;
--- then E23
+-- why a payload is not passed on: E21 for a next header that names no packet or not this one; then the
+-- refusals of the packet itself; then E23
 abbrev pub IsContentRefusal : ℕ → Octets → List Selector → List Selector → PacketFault → Type 0
 IsContentRefusal next payload remote local (Inner BadInner) =
     (next ≢ no_next_header) × ((¬ IsNamedPacket next payload) ⊎ IsInnerRefusal payload BadInner)

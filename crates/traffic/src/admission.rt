@@ -16,8 +16,8 @@ pub enum Admission<'a> {
     Dropped(PacketFault),
 }
 
-/// Judges a packet that came in unprotected: it goes in only where the policy bypasses its flow. Dropped with the refusals of
-/// [`inner`] (E21, E22, E39). Takes no memory.
+/// Judges a packet that came in unprotected: it goes in only where the policy bypasses its flow. Dropped
+/// with the refusals of [`inner`] (E21, E22, E39). Takes no memory.
 pub fn admit<'a>(policy: &Policy, packet: &'a [u8]) -> Admission<'a>
     ensures { Admits policy.now packet.now (outcome_of_admission result) }
 {

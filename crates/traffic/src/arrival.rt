@@ -3,13 +3,12 @@ ghost use Rattle.std.specs.Prelude.{IfErr, IfOk, IfSome};
 ghost use Rattle.esp.specs.Precomputed.{IsPrecomputed, IsQuestion};
 ghost use Rattle.sadb.specs.Database.{IsForPair};
 ghost use Rattle.traffic.specs.Outcomes.{outcome_of_arrival};
-ghost use Rattle.traffic.specs.Receiving.{HasPair, IsAddressedTo, IsAddressedToNone, IsVerdictAt, Receives, reception_of};
-ghost use Rattle.traffic.specs.Verdicts.{verdict_of};
+ghost use Rattle.traffic.specs.Receiving.{IsAddressedTo, IsAddressedToNone, Receives, reception_of};
 
 use crate::PacketFault;
 use crate::verdict::judge;
 use byteorder::{BigEndian, ByteOrder};
-use esp::{EspFault, Opened, Precomputed, Question};
+use esp::{EspFault, Precomputed, Question};
 use sadb::{Pair, Table};
 
 /// What came of an ESP packet. A child is told by the serial of its pair.
@@ -38,13 +37,14 @@ pub enum Arrival<'a> {
 // The octets of an SPI, with which a packet begins (RFC 4303, section 2.1).
 const SPI: usize = 4;
 
-/// Takes an ESP packet that came: finds the pair that it is addressed to, opens the packet by its inbound association, and hands
-/// up what it carried. Takes no memory.
+/// Takes an ESP packet that came: finds the pair that it is addressed to, opens the packet by its inbound
+/// association, and hands up what it carried. Takes no memory.
 ///
-/// Dropped, in this order: [`EspFault::BadLength`] (E14) with fewer than 4 octets; [`PacketFault::UnknownAssociation`] (E28) where
-/// no pair, Live or Deleting, has the SPI; the refusals of [`Table::open`]; and, with the number taken, E21 for a next header
-/// other than 4, 41 and 59 and for a packet of another family than 4 (IPv4) or 41 (IPv6) names, the refusals of
-/// [`policy::inner`], and [`PacketFault::OutsideSelectors`] (E23) where the pair's remote selectors don't hold the source or its
+/// Dropped, in this order: [`EspFault::BadLength`] (E14) with fewer than 4 octets;
+/// [`PacketFault::UnknownAssociation`] (E28) where no pair, Live or Deleting, has the SPI; the refusals of
+/// [`Table::open`]; and, with the number taken, E21 for a next header other than 4, 41 and 59 and for a
+/// packet of another family than 4 (IPv4) or 41 (IPv6) names, the refusals of [`policy::inner`], and
+/// [`PacketFault::OutsideSelectors`] (E23) where the pair's remote selectors don't hold the source or its
 /// local ones the target.
 pub fn receive<'a>(table: &mut Table, packet: &'a [u8]) -> Arrival<'a>
     ensures { Receives table.old packet.now (outcome_of_arrival result) table.new }
@@ -52,9 +52,9 @@ pub fn receive<'a>(table: &mut Table, packet: &'a [u8]) -> Arrival<'a>
     receive_ahead(table, packet, None)
 }
 
-/// Takes an ESP packet that came as [`receive`] does, with its check value where that was computed before ([`question`]). However the
-/// table changed meanwhile: the value is used where it was computed with the key of the pair that the packet is addressed to now, and for
-/// the number that it has there now.
+/// Takes an ESP packet that came as [`receive`] does, with its check value where that was computed before
+/// ([`question`]). However the table changed meanwhile: the value is used where it was computed with the
+/// key of the pair that the packet is addressed to now, and for the number that it has there now.
 pub fn receive_ahead<'a>(
     table: &mut Table,
     packet: &'a [u8],
@@ -69,8 +69,8 @@ pub fn receive_ahead<'a>(
     }
 }
 
-/// What the check value of an ESP packet is computed from, where the packet is addressed to a pair and has a number there that was not
-/// taken. For [`esp::precompute`].
+/// What the check value of an ESP packet is computed from, where the packet is addressed to a pair and has
+/// a number there that was not taken. For [`esp::precompute`].
 pub fn question<'a>(table: &'a Table, packet: &'a [u8]) -> Option<Question<'a>>
     ensures { IfSome result (IsQuestion packet.now) }
 {
@@ -91,7 +91,9 @@ fn open<'a>(
     let child = addressee(table, packet)?.serial;
     let opened = table.open_ahead(child, packet, ahead)?;
     let number = opened.number;
-    match carried(table, child, opened)? {
+    // Opening takes no pair out.
+    let pair = table.get(child).unwrap();
+    match judge(pair, opened)? {
         Some(packet) => Ok(Arrival::Up {
             child,
             number,
@@ -114,17 +116,4 @@ fn addressee<'a>(table: &'a Table, packet: &[u8]) -> Result<&'a Pair, PacketFaul
         Some(pair) => Ok(pair),
         None => Err(PacketFault::UnknownAssociation),
     }
-}
-
-// Judges what was opened by the pair with this serial, which is there still.
-fn carried<'a>(
-    table: &Table,
-    child: u32,
-    opened: Opened<'a>,
-) -> Result<Option<&'a [u8]>, PacketFault>
-    requires { HasPair table.now child }
-    ensures { IsVerdictAt table.now child opened.entry.next opened.entry.payload.now
-        (verdict_of result) }
-{
-    judge(table.get(child).unwrap(), opened)
 }

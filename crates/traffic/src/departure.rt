@@ -37,19 +37,21 @@ pub enum Departure<'a> {
     Dropped(PacketFault),
 }
 
-// The most octets that an ESP packet has beside its payload: SPI, number, padding, its length, next header and check value.
+// The most octets that an ESP packet has beside its payload: SPI, number, padding, its length, next header
+// and check value.
 const OVERHEAD_LIMIT: usize = 29;
 
-/// Sends a packet by the policy's decision about its flow: sealed by the pair that carries the flow, in the clear, or not at all.
-/// What is to be protected never goes in the clear. A gateway calls [`send_remembering`], which is this with a memory of flows; this plain
-/// form stays as what that one is measured and tested against.
+/// Sends a packet by the policy's decision about its flow: sealed by the pair that carries the flow, in the
+/// clear, or not at all. What is to be protected never goes in the clear. A gateway calls
+/// [`send_remembering`], which is this with a memory of flows; this plain form stays as what that one is
+/// measured and tested against.
 ///
-/// Dropped, in this order and with nothing changed: the refusals of [`inner`] (E21, E22, E39); for a flow that is to be
-/// protected [`PacketFault::UnknownAssociation`] (E28) where no Live pair carries it, and
+/// Dropped, in this order and with nothing changed: the refusals of [`inner`] (E21, E22, E39); for a flow
+/// that is to be protected [`PacketFault::UnknownAssociation`] (E28) where no Live pair carries it, and
 /// [`EspFault::Exhausted`](esp::EspFault::Exhausted) (E12) where that pair has no number left.
 ///
-/// An error is for want of memory alone, with nothing changed. Only a packet that a pair carries takes memory: once, for the ESP
-/// packet.
+/// An error is for want of memory alone, with nothing changed. Only a packet that a pair carries takes
+/// memory: once, for the ESP packet.
 pub fn send<'a>(
     alloc: Global,
     table: &mut Table,
@@ -69,11 +71,12 @@ pub fn send<'a>(
     depart(alloc, table, treatment, &flow, packet)
 }
 
-/// Sends a packet as [`send`] does, and asks a memory what is done with its flow: at a flow that is remembered it costs the same
-/// however many entries and pairs there are. What is remembered is right before, as it is of a memory that holds nothing, and
-/// afterwards.
+/// Sends a packet as [`send`] does, and asks a memory what is done with its flow: at a flow that is
+/// remembered it costs the same however many entries and pairs there are. What is remembered is right
+/// before, as it is of a memory that holds nothing, and afterwards.
 ///
-/// Where the memory has no places yet, it may take memory for them as well, and does without where there is none.
+/// Where the memory has no places yet, it may take memory for them as well, and does without where there is
+/// none.
 pub fn send_remembering<'a>(
     alloc: Global,
     table: &mut Table,

@@ -57,8 +57,9 @@ pub fn only_the_bypassed_goes_in_the_clear()
     policies_are_determined();
 }
 
-/// Each ESP packet that is opened takes exactly one number, its own at the pair that it is addressed to, and nothing else is changed: also where it is dropped for its
-/// padding (E19) or for what it carried (E21, E22, E23, E39). By every other refusal nothing is changed.
+/// Each ESP packet that is opened takes exactly one number, its own at the pair that it is addressed to,
+/// and nothing else is changed: also where it is dropped for its padding (E19) or for what it carried (E21,
+/// E22, E23, E39). By every other refusal nothing is changed.
 pub fn a_packet_takes_one_number()
     ensures up { (old new : Database) (packet inner : Octets) (child number : ℕ)
         → Receives old packet (Up child number inner) new → TakesNumberAt old packet child number new }
@@ -71,8 +72,8 @@ pub fn a_packet_takes_one_number()
         → Receives old packet (Dropped fault) new → is_after_judging fault ≡ false → new ≡ old }
 {}
 
-/// A table after a packet follows the one before: no number that was taken is fresh again, no number is sealed twice, and no pair
-/// comes, goes or gets another SPI, key or selector.
+/// A table after a packet follows the one before: no number that was taken is fresh again, no number is
+/// sealed twice, and no pair comes, goes or gets another SPI, key or selector.
 pub fn later_tables_follow()
     ensures received { (old new : Database) (packet : Octets) (outcome : Outcome)
         → IsSoundTable old → Receives old packet outcome new → Follows old new }
@@ -102,8 +103,8 @@ pub fn room_stays()
     sadb::laws::room_stays();
 }
 
-/// What one end seals by a pair, the end that has the mirrored pair hands up, octet for octet, where its number is due: not below the
-/// window and not taken yet.
+/// What one end seals by a pair, the end that has the mirrored pair hands up, octet for octet, where its
+/// number is due: not below the window and not taken yet.
 pub fn what_one_end_seals_the_other_hands_up()
     ensures { (near near_new far far_new : Database) (policy : List Entry) (packet octets : Octets)
         (child number : ℕ)
@@ -115,7 +116,8 @@ pub fn what_one_end_seals_the_other_hands_up()
     flows_are_determined();
 }
 
-/// What becomes of a packet goes by what the table holds: with other room the same does, and that room is left.
+/// What becomes of a packet goes by what the table holds: with other room the same does, and that room is
+/// left.
 pub fn outcomes_go_by_content()
     ensures received { (old other new : Database) (packet : Octets) (outcome : Outcome)
         → table_content old ≡ table_content other → Receives old packet outcome new

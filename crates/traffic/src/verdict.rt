@@ -8,11 +8,12 @@ use esp::Opened;
 use policy::{InnerFault, covers, family_of_packet, inner};
 use sadb::Pair;
 
-/// Judges what was opened by a pair: by its next header, by what it is as a packet, and by the pair's selectors.
-/// The packet is answered that it carried, or none where it is a dummy.
+/// Judges what was opened by a pair: by its next header, by what it is as a packet, and by the pair's
+/// selectors. The packet is answered that it carried, or none where it is a dummy.
 ///
-/// Refused, in this order: [`InnerFault::BadInner`] (E21) for a next header that names no packet, or where the payload is not of
-/// the family that it names; the refusals of [`inner`]; [`PacketFault::OutsideSelectors`].
+/// Refused, in this order: [`InnerFault::BadInner`] (E21) for a next header that names no packet, or where
+/// the payload is not of the family that it names; the refusals of [`inner`];
+/// [`PacketFault::OutsideSelectors`].
 pub fn judge<'a>(pair: &Pair, opened: Opened<'a>) -> Result<Option<&'a [u8]>, PacketFault>
     ensures { IsVerdict opened.entry.next opened.entry.payload.now pair.now.remote pair.now.local
         (verdict_of result) }

@@ -1,4 +1,4 @@
-//! What is done in one way alone.
+//! That results are determined: each relation on messages, beginnings and commands is functional.
 ghost use Rattle.effects.specs.LawsOfDeterminism.{AdmissionsAreDetermined, BeginningsAreDetermined, EffectsAreDetermined, FurtherOrdersAreDetermined, OrdersAreDetermined, RequestsAreShort};
 
 use association::Request;
@@ -14,7 +14,7 @@ use sadb::laws::later_tables_are_determined;
 use suite::laws::derived_keys_are_keys;
 use wire::laws::{octets_spell_one_message, plain_spellings_are_determined};
 
-/// An association begins in one way, at either end, with one first message; for how many requests it has room is no part of it.
+/// An IKE SA begins in one way, at either end, with one first message. Spare capacity is left out of this.
 pub fn beginnings_are_determined()
     ensures begun { BeginningsAreDetermined }
     ensures admitted { AdmissionsAreDetermined }
@@ -24,9 +24,10 @@ pub fn beginnings_are_determined()
     later_outgoing_are_determined::<Request>();
 }
 
-/// A message has one effect on an association: what comes of it, and what is held then of the association and of the table, goes by
-/// what was held of both before, whatever room there is. Of the meaning it is asked that a cipher tells lengths, as its law says, of the
-/// association that its keys are whole, as they stay ([`super::keys_stay_whole`]).
+/// The effect of a message is functional: it and what IKE SA and table hold afterwards follow from what
+/// both held before, whatever spare capacity they have. The cipher's lengths have to follow from those of
+/// the plain text, as its law says, and the IKE SA's keys have to have 32 octets each, as they keep
+/// ([`super::keys_stay_whole`]).
 pub fn effects_are_determined()
     ensures { EffectsAreDetermined }
 {
@@ -48,10 +49,11 @@ pub fn effects_are_determined()
     sealed_messages_are_determined();
 }
 
-/// A request of this end at an established association has at most 3000 octets, as all has that its association keeps to send again; and
-/// what is ordered goes out in one way, by what is held of the association, and for a further child of the table, whatever room there is.
-/// Of the cipher it is asked that it tells lengths, as its law says, of the association that its keys are whole, as they stay
-/// ([`super::keys_stay_whole`]).
+/// A request of this end at an established IKE SA has at most 3000 octets, if all that the IKE SA keeps to
+/// send again has. A command sends one request, which follows from what the IKE SA holds, and for an
+/// additional child also from the table, whatever spare capacity they have. The cipher's lengths have to
+/// follow from those of the plain text, as its law says, and the keys have to have 32 octets each, as they
+/// keep ([`super::keys_stay_whole`]).
 pub fn orders_are_short_and_determined()
     ensures kept { RequestsAreShort }
     ensures determined { OrdersAreDetermined }

@@ -1,4 +1,4 @@
-//! What the payloads of a message bring: a child, an answer to an offer, a proof of who the peer is.
+//! What the payloads of a message bring: a child, an answer to an offer, a proof of the peer's identity.
 ghost use Rattle.effects.specs.LawsOfPayloads.{AnswersKeepToTheirOffers, AuthAnswersKeepToTheirOffers, ChildrenAreMadeOfTheirMessages, FurtherAnswersKeepToTheirOffers, InitialAnswersKeepToTheirOffers, NoMessageAsksForAFurtherChild, NoOtherOrderAsksForAFurtherChild, FurtherOrdersAskForTheirChild, TheEstablishedProvedThemselves, TheFirstChildIsTheOneAskedFor, TheRequestAsksForTheFirstChild, WhoARequestEstablishesProvedItself, WhoAResponseEstablishesProvedItself, WhoWaitsWaitedOrAsksNow};
 
 use association::laws::receptions_say_why;
@@ -16,12 +16,15 @@ use requests::laws::later_incoming_follow;
 use suite::laws::ends_agree;
 use wire::laws::what_is_read_fits;
 
-/// A child that a message made is what the payloads of its exchange say, of IKE_AUTH the first one and of CREATE_CHILD_SA a further one
-/// (RFC 7296, sections 1.2, 1.3.1, 2.9 and 2.17): at the end that answers those that the request opened to and those that were sealed in the
-/// answer, at the end that asked those that the response opened to and those that asked for the child. Its association is established,
-/// and its pair, under the association's keys, is the only one that came. An initiator that waits for its first child waited for it before,
-/// or asks for it now, and it is the child that it asked for as it began. An end that waits for a further one waited for it before, or is
-/// ordered to ask now: no message makes it ask, and no other order.
+/// A child that a message makes is what the payloads of its exchange say: IKE_AUTH for the first one,
+/// CREATE_CHILD_SA for an additional one (RFC 7296, sections 1.2, 1.3.1, 2.9 and 2.17). At the end that
+/// answers they are those that the request opened to and those that were sealed in the answer. At the end
+/// that asked they are those that the response opened to and those that asked for the child. The IKE SA is
+/// established, and the child's pair, under the IKE SA's keys, is the only new one.
+///
+/// An initiator that waits for its first child after a message waited for it before, or asks for it now; it
+/// is the child that it asked for as it began. An end that waits for an additional child waited for it
+/// before, or was told by a command to ask. No message makes it ask, and no other command.
 pub fn children_are_made_of_their_messages()
     ensures made { ChildrenAreMadeOfTheirMessages }
     ensures asked { TheRequestAsksForTheFirstChild }
@@ -45,8 +48,9 @@ pub fn children_are_made_of_their_messages()
     windows_are_read_again();
 }
 
-/// An SA in an answer has one proposal, with the number and the protocol of one that was offered and one of its transforms of each type
-/// (RFC 7296, section 3.3.1): in the answer to IKE_SA_INIT, and in each SA of that to a request under keys.
+/// An SA payload in an answer has one proposal. It has the number and the protocol of one that was offered,
+/// and one transform of each of its types (RFC 7296, section 3.3.1). This holds of the answer to
+/// IKE_SA_INIT, and of each SA payload in an answer under keys.
 pub fn answers_keep_to_their_offers()
     ensures initial { InitialAnswersKeepToTheirOffers }
     ensures auth { AuthAnswersKeepToTheirOffers }
@@ -57,9 +61,11 @@ pub fn answers_keep_to_their_offers()
     receptions_say_why();
 }
 
-/// An association is established by IKE_AUTH only where the caller accepted, of the configured peer's identity, the method and the proof
-/// in the only AUTH payload, over what the peer has to prove (RFC 7296, section 2.15): at a responder of the request's payloads, at
-/// an initiator of the response's. So whom a message leaves established was so before, or this message, as it opens, proves the peer.
+/// An IKE SA is established by IKE_AUTH only where the provider accepted the peer's proof: for the
+/// configured identity, with the method and the data of the only AUTH payload, over the octets that RFC
+/// 7296, section 2.15 demands. At a responder that is the request's payload, at an initiator the
+/// response's. So an IKE SA that is established after a message was so before, or the message, as it opens,
+/// proves the peer.
 pub fn the_established_proved_themselves()
     ensures request { WhoARequestEstablishesProvedItself }
     ensures response { WhoAResponseEstablishesProvedItself }

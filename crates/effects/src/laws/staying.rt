@@ -1,25 +1,25 @@
-//! What a message leaves as it was.
+//! What a message leaves unchanged.
 ghost use Rattle.effects.specs.LawsOfStaying.{AssociationsStayThemselves, PairsStayAsTheyWere, PairsThatComeAreTold, RefusalsChangeNothing, RepeatsChangeNothing};
 
-/// A message leaves an association its serial, its role and its SPIs, but that an initiator learns the responder's; no association
-/// comes to be half open, or to wait for the response to IKE_SA_INIT, that was not before; and who waits for the response to IKE_AUTH
-/// waited for one of the two before.
+/// A message leaves an IKE SA its serial, its role and its SPIs, but that an initiator learns the
+/// responder's. None becomes half open, or waits for the response to IKE_SA_INIT, that did not before. One
+/// that waits for the response to IKE_AUTH waited for one of the two responses before.
 pub fn associations_stay_themselves()
     ensures { AssociationsStayThemselves }
 {}
 
-/// Each pair in the table is as it was, or came by this message for its association, under the next serial and with no number sent or
-/// taken; and the pairs of other associations stay.
+/// Each pair in the table is as it was, or is new: made by this message for its IKE SA, under the next
+/// serial, with no number sent or taken. The pairs of other IKE SAs stay.
 pub fn pairs_stay_as_they_were()
     ensures { PairsStayAsTheyWere }
 {}
 
-/// A pair that comes by a message is the child that its effect tells.
+/// A pair that a message makes is the child that its effect names.
 pub fn pairs_that_come_are_told()
     ensures { PairsThatComeAreTold }
 {}
 
-/// A message that is passed over, or a request that comes again, changes nothing.
+/// A dropped message and a retransmitted request change nothing.
 pub fn what_is_passed_over_changes_nothing()
     ensures refused { RefusalsChangeNothing }
     ensures repeated { RepeatsChangeNothing }

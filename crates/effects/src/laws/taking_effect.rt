@@ -1,4 +1,5 @@
-//! The requests of either end: which take effect, what is remembered of them, and what comes again.
+//! The requests of either end: which take effect, what is remembered of them, and how retransmissions are
+//! answered.
 ghost use Rattle.effects.specs.LawsOfRequests.{FurtherOrdersSendRequests, NewRequestsTakeEffect, NumbersTakeEffectByTheirRequestAlone, OnlyRepeatsAreAnsweredAgain, OrdersSendRequests, RepeatsAreAnswered, RequestsFollowThoseBefore, RequestsLeaveItSound, RequestsPassOrTakeEffect, TheConcludedStaysConcluded, TheForgottenIsRefused, TheHalfOpenWereSoBefore, ThePeersWindowStaysOrIsWidened, TheWindowStaysOrIsWidened, WhatBeginsIsSound, WhatIsAdmittedIsSound, WhatIsHeldStaysSound, WhatIsRepliedToTakesEffect, WhoIsEstablishedWidensBothWindows};
 
 use association::laws::{
@@ -7,15 +8,16 @@ use association::laws::{
 use auth::laws::windows_are_read_again;
 use requests::laws::later_incoming_follow;
 
-/// What is ordered of an established association sends one request to the peer: whether it is there, for a deletion, or for a further child.
+/// A command at an established IKE SA sends one request to the peer: a liveness check, a deletion, or a
+/// request for an additional child.
 pub fn orders_send_requests()
     ensures ordered { OrdersSendRequests }
     ensures further { FurtherOrdersSendRequests }
 {}
 
-/// A number comes into effect by a request alone that bears it: its number did not take effect before and lies in the window, its exchange
-/// belongs to the phase, and it opens under the peer's keys; it was answered, and its reply is kept. And each such request comes into
-/// effect (RFC 7296, sections 2.1 to 2.3).
+/// A Message ID takes effect only by a request that bears it. The ID is not in effect and lies in the
+/// window, the exchange is allowed in the phase, and the request opens under the peer's keys. It is
+/// answered, and the response is kept. Each such request takes effect (RFC 7296, sections 2.1 to 2.3).
 pub fn requests_take_effect()
     ensures alone { NumbersTakeEffectByTheirRequestAlone }
     ensures always { NewRequestsTakeEffect }
@@ -28,10 +30,11 @@ pub fn requests_take_effect()
     what_is_due_is_received();
 }
 
-/// What took effect is remembered: the peer's requests after a message follow those before it, their window is widened once, when IKE_AUTH
-/// establishes the association, to the one that this end tells, and so is the window for this end's, to the one that the message tells; and an
-/// association that is half open was so before, by the same request with the same reply. What is kept stays sound, from the beginning on
-/// (RFC 7296, sections 2.1 to 2.3).
+/// What took effect is remembered (RFC 7296, sections 2.1 to 2.3). The peer's requests in effect only grow.
+/// Their window widens once, when IKE_AUTH establishes the IKE SA, to the one that this end announces; so
+/// does the window for this end's requests, to the one that the message announces. An IKE SA that is half
+/// open was so before, by the same request with the same response. What is kept satisfies its invariant
+/// from the beginning on.
 pub fn requests_are_remembered()
     ensures follows { RequestsFollowThoseBefore }
     ensures concluded { TheConcludedStaysConcluded }
@@ -49,8 +52,8 @@ pub fn requests_are_remembered()
     windows_are_read_again();
 }
 
-/// A request that took effect before is answered by the reply that is kept of it, if it opens; where none is kept any more it is refused as
-/// forgotten (E30). Nothing else is answered by a reply that is kept.
+/// A retransmitted request that opens gets the kept response. Where that is kept no more, it is dropped as
+/// forgotten (E30). Nothing else gets a kept response.
 pub fn repeats_are_answered()
     ensures repeated { RepeatsAreAnswered }
     ensures forgotten { TheForgottenIsRefused }

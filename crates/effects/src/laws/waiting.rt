@@ -1,11 +1,11 @@
-//! What waits, and since when.
+//! Which requests are outstanding, and since when.
 ghost use Rattle.effects.specs.LawsOfWaiting.{FirstRequestsWaitFromNow, NewRequestsWaitFromNow, NothingComesDueByAMessage, NothingComesDueByARequest, NothingIsDueAsOneBegins, NothingIsDueAsOneIsAdmitted, OneRequestGoesOutUnderTheNextNumber, OtherRequestsWaitOn, WhatWaitsWaitedOrGoesOutNow, RequestsWaitUntilAnswered, TheClosedWereSoOrEndNow};
 
 use moments::laws::nothing_is_due_afterwards;
 
-/// Whatever comes, and whatever is begun or asked, nothing of an association is due at that moment that was not before, and nothing waits
-/// from a later one on: a request that goes out waits from then on, and an association that comes half open or is closed is held from
-/// then on.
+/// A message or a command at some time leaves nothing overdue at that time that was not before, and no
+/// timer that starts later. A request that is sent waits from then on, and an IKE SA that becomes half open
+/// or closed is held from then on.
 pub fn nothing_comes_due()
     ensures taken { NothingComesDueByAMessage }
     ensures begun { NothingIsDueAsOneBegins }
@@ -15,10 +15,11 @@ pub fn nothing_comes_due()
     nothing_is_due_afterwards();
 }
 
-/// Whatever comes, and whatever is asked, a request that waits for its answer afterwards waited before, since the same moment and as often
-/// sent; or it goes out now, and waits from now on: for the first time, or anew with a cookie. And what waited waits on, unless it is
-/// answered, goes out anew, or the association ends (RFC 7296, sections 2.1 and 2.6). What is ordered goes out under the next number. An
-/// association that is closed afterwards was closed before, since the same moment, or ends now.
+/// After a message or a command, an outstanding request was so before, since the same time and sent as
+/// often. Or it is sent now, and waits from now on: for the first time, or anew with a cookie. What was
+/// outstanding still is, unless it is answered, sent anew, or its IKE SA ends (RFC 7296, sections 2.1 and
+/// 2.6). A command's request has the next Message ID. An IKE SA that is closed was so before, since the
+/// same time, or ends now.
 pub fn requests_wait_on()
     ensures taken { WhatWaitsWaitedOrGoesOutNow }
     ensures until { RequestsWaitUntilAnswered }

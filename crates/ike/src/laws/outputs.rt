@@ -1,4 +1,4 @@
-//! What goes out of a step, and what its trace names.
+//! What a step sends, and what its trace names.
 ghost use Rattle.ike.specs.LawsOfOutputs.{FewGoOutAgain, KeysStay, TracesNameWhatIsHeld, WhatGoesOutAgainHasKeys, WhatGoesOutAgainIsShort, WhatIsNotNamedIsInClear, WhatIsSentIsShort};
 
 use crate::laws::soundness_stays;
@@ -11,8 +11,8 @@ use moments::laws::{
     what_goes_out_again_is_outstanding,
 };
 
-/// What goes out of a step has at most 3000 octets, as a message may have: an answer, a request that goes out, or what goes out again,
-/// with a moment or without.
+/// Whatever a step sends has at most 3000 octets, the limit of a message: a response, a request, or a
+/// retransmission.
 pub fn what_is_sent_is_short()
     ensures sent { WhatIsSentIsShort }
     ensures again { WhatGoesOutAgainIsShort }
@@ -22,18 +22,20 @@ pub fn what_is_sent_is_short()
     what_goes_out_again_is_outstanding();
 }
 
-/// Requests go out again with a moment alone, and no more than wait for an answer.
+/// Only `Tick` retransmits requests, and only those that wait for an answer.
 pub fn few_go_out_again()
     ensures { FewGoOutAgain }
 {
     no_more_go_out_than_wait();
 }
 
-/// What the trace of a step names is held by the machine from then on: an association under whose keys something was sent, or whose keys
-/// were made, which had none before, with its keys, and a child that was made, with its pair. And it names all that came: keys that an
-/// association did not have, and a pair that was not in the table. An association that had keys before has them as long as it is held, and
-/// what goes out again with a moment, but for a request of IKE_SA_INIT, is of one that has keys. What is sent at no moment and not named is in
-/// clear: a request of an association without keys, the reply that a half-open one keeps, or an answer to IKE_SA_INIT.
+/// The trace is right and complete. What it names, the machine holds from then on: the IKE SA whose keys
+/// sealed a message or were made, and the pair of a child that was made. All that is new is named: keys
+/// that an IKE SA did not have before, and a pair that was not in the table.
+///
+/// An IKE SA keeps its keys as long as it is held. What a `Tick` retransmits is of an IKE SA with keys, but
+/// for requests of IKE_SA_INIT. What any other step sends without naming it goes in clear: a request of an
+/// IKE SA without keys, the response that a half-open one keeps, or an answer to IKE_SA_INIT.
 pub fn traces_name_what_is_held()
     ensures traced { TracesNameWhatIsHeld }
     ensures keys { KeysStay }

@@ -1,4 +1,4 @@
-//! What holds of a machine and its table, whatever is done.
+//! The invariant of a machine and its table.
 ghost use Rattle.ike.specs.LawsOfSoundness.{KeysStayWhole, NewMachinesHoldWholeKeys, NewMachinesLoseNoSpi, NoSpiIsLost, SoundMachinesHoldWholeKeys, SoundnessAsksForReservations, SoundnessStays, WhatReservesNoneLosesNone};
 
 use create_child::laws::a_further_spi_is_held;
@@ -9,11 +9,14 @@ use effects::laws::{
 use moments::laws::some_are_held_on;
 use sa_init::laws::acceptance_is_limited;
 
-/// Whatever a step does, the machine is sound with its table from then on: at most 128 associations, 32 of them half open, by rising
-/// serial, each under an SPI of its own that is not zero; of one that waits for a response this end is the initiator, and of one that is
-/// half open the responder; the SPIs that they hold for children are reserved in the table, each for one child alone; their keys
-/// have 32 octets each; and the configuration is one that a machine is made with, which alone allows that children are asked for with
-/// extended sequence numbers.
+/// Every step keeps the invariant of the machine and its table:
+///
+/// - at most 128 IKE SAs are held, by rising serial, and at most 32 of them are half open;
+/// - each has an SPI of its own, which is not zero;
+/// - one that waits for a response was begun by this end, and one that is half open by the peer;
+/// - the SPIs that they hold for children are reserved in the table, each for one child alone;
+/// - their keys have 32 octets each;
+/// - the configuration is a valid one, and children are asked for with ESN only where it allows that.
 pub fn soundness_stays()
     ensures { SoundnessStays }
 {
@@ -33,10 +36,10 @@ pub fn soundness_stays()
     some_are_held_on();
 }
 
-/// No SPI is lost: each that is reserved in the table is held by an association for a child that it asked for. So it is of a machine that
-/// holds no association and a table in which none is reserved; so it stays with every step, so that what was reserved for a request that is
-/// answered, refused or given up is released; and with whatever else reserves none. That it is given to nobody again,
-/// [`sadb::laws::no_spi_is_given_twice`] says.
+/// No SPI leaks: each that is reserved in the table is held by an IKE SA, for a child that it asked for.
+/// This holds of a machine without IKE SAs and a table without reservations. Every step keeps it, so an SPI
+/// is released when its request is answered, refused or given up. So does any other call on the table that
+/// reserves none. That a released SPI is never given again says [`sadb::laws::no_spi_is_given_twice`].
 pub fn no_spi_is_lost()
     ensures begun { NewMachinesLoseNoSpi }
     ensures stepped { NoSpiIsLost }
@@ -46,13 +49,14 @@ pub fn no_spi_is_lost()
     a_further_spi_is_held();
 }
 
-/// Another table does as well, in which all is reserved that was.
+/// The invariant of the machine still holds beside another table in which at least the same SPIs are
+/// reserved.
 pub fn soundness_asks_for_reservations()
     ensures { SoundnessAsksForReservations }
 {}
 
-/// The keys of all associations have 32 octets each: a new machine holds none, and whatever a step does, they stay so. So are they of every
-/// machine that is sound.
+/// The keys of all IKE SAs have 32 octets each. A new machine has none, every step keeps this, and the
+/// machine's invariant implies it.
 pub fn keys_stay_whole()
     ensures sound { SoundMachinesHoldWholeKeys }
     ensures begun { NewMachinesHoldWholeKeys }

@@ -1,6 +1,11 @@
 //! What a step does to what the machine holds: one thing, by few moves, and but for a moment to one association.
-ghost use Rattle.ike.specs.LawsOfSteps.{FreshOctetsOpen, OneAssociationIsChanged, RefusalsAreDetermined, StepsAreDetermined, StepsAreMoves, WhatIsDoneIsNotRefused, WhatIsQuietChangesNothing};
+ghost use Rattle.ike.specs.LawsOfSteps.{FreshOctetsOpen, OneAssociationIsChanged, RefusalsAreDetermined, StepsAreDetermined, StepsAreMoves, StepsKeepTheirLaws, WhatIsDoneIsNotRefused, WhatIsQuietChangesNothing};
 
+use crate::laws::{
+    answers_keep_to_their_offers, children_are_extended_where_allowed,
+    children_are_made_of_their_messages, children_have_few_selectors,
+    no_association_without_a_cookie, the_established_proved_themselves, traces_name_what_is_held,
+};
 use effects::laws::{
     associations_stay_themselves, beginnings_are_determined, effects_are_determined, keys_stay,
     messages_make_moves, messages_open, orders_are_short_and_determined,
@@ -18,7 +23,7 @@ use wire::laws::{
     what_is_spelled_has_no_fault,
 };
 
-/// A step changes one association at most, and pairs of no other, but for what a moment brings.
+/// A step that is no `Tick` changes one IKE SA at most, and no other's pairs.
 pub fn one_association_is_changed()
     ensures { OneAssociationIsChanged }
 {
@@ -26,17 +31,18 @@ pub fn one_association_is_changed()
     effects::laws::pairs_stay_as_they_were();
 }
 
-/// A datagram that is dropped, or that took effect before, changes nothing.
+/// Dropped and retransmitted datagrams leave everything unchanged.
 pub fn what_is_quiet_changes_nothing()
     ensures { WhatIsQuietChangesNothing }
 {
     what_is_passed_over_changes_nothing();
 }
 
-/// A step does one thing. What comes of it, what the machine holds then and what the table holds go by what both held before,
-/// whatever room there is; what is done is not refused, but for want of memory, and every other refusal has one reason. Of the input
-/// it is asked that a datagram is of octets and that a cipher tells lengths, as its law says; of the machine that the keys are whole,
-/// as they stay ([`super::keys_stay_whole`]).
+/// A step is functional. Output, trace, machine and table follow from the input and from what machine and
+/// table held before, whatever spare capacity they have. A step that can be done is refused for want of
+/// memory alone, and every other refusal has one reason. A datagram has to be of octets, the cipher's
+/// lengths have to follow from those of the plain text, as its law says, and keys have to have 32 octets
+/// each, as they keep ([`super::keys_stay_whole`]).
 pub fn steps_are_determined()
     ensures steps { StepsAreDetermined }
     ensures steps_or_refusals { WhatIsDoneIsNotRefused }
@@ -54,13 +60,18 @@ pub fn steps_are_determined()
     what_is_spelled_has_no_fault();
 }
 
-/// What a step does to each association that has keys is two moves at most, each of which it tells: keys come, a request goes out for the
-/// first time, a response is counted, a request of the peer takes effect, the association is closed, or is held no longer. They lead from
-/// what moves speak of before the step (keys, role, numbers, and octets that wait or are kept) to what they speak of after, so
-/// nothing else that they speak of changes; and nothing more is told: what is sent under its keys is sent by a move, or is a reply that is
-/// kept, and what goes out again with a moment waits for its answer; beside what goes out again there are no moves. What takes effect came as that request of the peer, and what is
-/// counted as that response, and keys come by a datagram of IKE_SA_INIT; where the cipher opens what it seals ([`fresh_octets_open`]), a
-/// request and a reply that go out open as this end's of that number (RFC 7296, sections 2.1 to 2.4 and 3.14).
+/// What a step does to an IKE SA with keys, seen without its payloads, is at most two *moves*. A move is
+/// one of: keys are made; a request is sent first; a response is matched; a request of the peer takes
+/// effect; the IKE SA is closed; or it is held no more. The moves lead from the *ledger* before (keys,
+/// role, Message IDs, and octets that wait or are kept) to the ledger after, so nothing else in it changes.
+///
+/// - The output names each move, and nothing that isn't one. What is sent under the IKE SA's keys is sent
+///   by a move or is a kept response. What a `Tick` retransmits waits for its answer; beside
+///   retransmissions there are no moves.
+/// - A request that takes effect, or a response that is matched, came as that message of the peer. Keys
+///   come by a datagram of IKE_SA_INIT.
+/// - Where the cipher opens what it seals ([`fresh_octets_open`]), a request or response that is sent opens
+///   as this end's message with that Message ID (RFC 7296, sections 2.1 to 2.4 and 3.14).
 pub fn steps_are_moves()
     ensures { StepsAreMoves }
 {
@@ -75,10 +86,27 @@ pub fn steps_are_moves()
     what_is_held_was_held();
 }
 
-/// What [`steps_are_moves`] asks of a cipher is so of every caller's, as the law of [`Sealer`] says: with the octets that are fresh to a step,
-/// which are 16, it opens what it seals.
+/// Every provider's cipher meets what [`steps_are_moves`] assumes: with 16 fresh octets it opens what it
+/// seals, by the law of [`Sealer`].
 pub fn fresh_octets_open<S: Sealer>(sealer: &S)
     ensures { FreshOctetsOpen S.body_of S.plain_of }
 {
     what_is_sealed_opens(sealer);
+}
+
+/// What [`Ike::step`](crate::Ike::step) promises beside what its input does: the moves, who is established, what the trace names and what goes
+/// in clear, of what a child is made and what an answer holds, that one association is changed but for a moment, and that no datagram
+/// makes a half-open one without a right cookie under load. Each is a law of its own.
+pub fn steps_keep_their_laws()
+    ensures { StepsKeepTheirLaws }
+{
+    steps_are_moves();
+    the_established_proved_themselves();
+    traces_name_what_is_held();
+    one_association_is_changed();
+    children_have_few_selectors();
+    children_are_made_of_their_messages();
+    children_are_extended_where_allowed();
+    answers_keep_to_their_offers();
+    no_association_without_a_cookie();
 }

@@ -1,18 +1,21 @@
 //! What is due, and when it comes.
-ghost use Rattle.ike.specs.LawsOfTimes.{MachinesStayTimely, MomentsAreRefusedForMemoryAlone, MomentsAreRefusedForWhatComes, NewMachinesAreTimely, NothingComesBeforeTheNextMoment, TheTimeStandsStill, WhatIsDueComes};
+ghost use Rattle.ike.specs.LawsOfTimes.{MachinesStayTimely, MomentsAreRefusedForMemoryAlone, MomentsAreRefusedForWhatComes, MomentsBeforeTheNextAreNotRefused, NewMachinesAreTimely, NothingComesBeforeTheNextMoment, TheNextMomentBringsSomething, TheTimeStandsStill, WhatIsDueComes};
 
 use effects::laws::{associations_stay_themselves, nothing_comes_due, requests_wait_on};
 use moments::laws::{
     nothing_is_due_afterwards, pairs_go_with_their_associations, what_comes_is_due,
-    what_is_held_was_held,
+    what_is_due_comes, what_is_held_was_held,
 };
 
-/// What is due comes with a moment that has reached it. A machine with no association has nothing due that its moment has reached
-/// (`first`), and a step leaves nothing due where nothing was (`timely`). With a moment all comes that is due then (`comes`). It is
-/// refused for want of memory alone (`unrefused`), and only where a request or a closing is due (`needed`). Where
-/// no moment is given, none is told and the time stands still: what waits for its answer waited before since the same moment, or goes out
-/// now, and what waited waits on, unless it is answered, goes out anew or its association ends; and a time of an association that is
-/// closed or half open begins now or began before (`stays`) (RFC 7296, sections 2.1 and 2.4).
+/// Timers come in time (RFC 7296, sections 2.1 and 2.4).
+///
+/// - A machine without IKE SAs has nothing overdue (`first`), and a step leaves nothing overdue where
+///   nothing was (`timely`).
+/// - With a `Tick` all comes that is due then (`comes`). It is refused for want of memory alone
+///   (`unrefused`), and only where a retransmission or a closing is due (`needed`).
+/// - At any other step no time passes (`stays`). A request that waits after it waited before, since the
+///   same time, or is sent now. One that waited before still does, unless it is answered, sent anew, or its
+///   IKE SA ends. The time of a closed or half-open IKE SA began before, or begins now.
 pub fn what_is_due_comes_in_time()
     ensures first { NewMachinesAreTimely }
     ensures timely { MachinesStayTimely }
@@ -33,9 +36,18 @@ pub fn what_is_due_comes_in_time()
 
 /// At a machine at which nothing is due that its moment has reached, no moment of 64 bits before the one that
 /// [`next_moment`](crate::Ike::next_moment) tells sends, closes or removes anything: the machine is as it was but for its greatest moment,
-/// and so is the table.
+/// and so is the table (`nothing`). Such a moment is never refused (`unrefused`).
 pub fn nothing_comes_before_the_next_moment()
-    ensures { NothingComesBeforeTheNextMoment }
+    ensures nothing { NothingComesBeforeTheNextMoment }
+    ensures unrefused { MomentsBeforeTheNextAreNotRefused }
 {
     moments::laws::nothing_comes_before_its_time();
+}
+
+/// And a moment at which something is due does something, where it isn't refused for want of memory: a request goes out again, an
+/// association is closed, or not as many are held from then on.
+pub fn the_next_moment_brings_something()
+    ensures { TheNextMomentBringsSomething }
+{
+    what_is_due_comes();
 }

@@ -1,7 +1,8 @@
 use Rattle.std.proofs.Common.{◌∙◌, ap, sym, subst, inr, inl, Ok}
+use Rattle.std.specs.Option.{option_copied}
 use Rattle.traffic.specs.Receiving.{IsRejected, IsUnopened, IsVerdictAt}
 use Rattle.traffic.specs.Verdicts.{verdict_of}
-use Rattle.traffic.proofs.ReceivingLemmas.{pair_stays, not_opened, opened_so, passed_on}
+use Rattle.traffic.proofs.ReceivingLemmas.{is_there, pair_stays, not_opened, opened_so, passed_on}
 use Rattle.traffic.proofs.arrival.open.Goals as goal
 
 pub returns-in_err-opened : goal.returns-in_err-opened
@@ -12,9 +13,10 @@ returns-in_err-opened c =
     (not_opened c.args.table.now c.in_ok-child.field-0.now c.args.packet.now c.in_err-opened.field-0.0 c.open_ahead.new.self
     c.in_ok-child.ensures.found c.in_err-opened.ensures.refused c.in_err-opened.ensures.unchanged))))
 
-pub carried-requires : goal.carried-requires
-carried-requires c =
-    pair_stays c.args.table.now c.in_ok-child.field-0.now c.args.packet.now _ _ _ c.open_ahead.new.self c.in_ok-child.ensures.found c.in_ok-opened.ensures.up
+pub unwrap-pair-requires : goal.unwrap-pair-requires
+unwrap-pair-requires c =
+    let stays = pair_stays c.args.table.now c.in_ok-child.field-0.now c.args.packet.now _ _ _ c.open_ahead.new.self c.in_ok-child.ensures.found c.in_ok-opened.ensures.up in
+    is_there c.get.result stays.pair (c.get.ensures ∙ stays.there)
 
 pub returns-in_err-packet : goal.returns-in_err-packet
 returns-in_err-packet c =
@@ -26,7 +28,7 @@ returns-in_err-packet c =
       opened = opened_so c.args.table.now c.in_ok-child.field-0.now c.args.packet.now _ c.in_ok-opened.opened.next c.in_ok-opened.opened.payload.now c.open_ahead.new.self _
           c.in_ok-child.ensures.found c.in_ok-opened.ensures.up
           (subst (λ r. IsVerdictAt c.open_ahead.new.self c.in_ok-child.field-0.now.serial c.in_ok-opened.opened.next c.in_ok-opened.opened.payload.now (verdict_of r))
-          c.in_err-packet.was c.carried.ensures);
+          c.in_err-packet.was (record { pair = c.unwrap-pair.result.now; there = sym c.get.ensures ∙ ap option_copied c.unwrap-pair.ensures; verdict_is = c.judge.ensures }));
     }))))
 
 pub returns-in-Some : goal.returns-in-Some
@@ -34,11 +36,11 @@ returns-in-Some c =
     opened_so c.args.table.now c.in_ok-child.field-0.now c.args.packet.now _ c.in_ok-opened.opened.next c.in_ok-opened.opened.payload.now c.open_ahead.new.self _
     c.in_ok-child.ensures.found c.in_ok-opened.ensures.up
     (subst (λ r. IsVerdictAt c.open_ahead.new.self c.in_ok-child.field-0.now.serial c.in_ok-opened.opened.next c.in_ok-opened.opened.payload.now (verdict_of r))
-    (c.in_ok-packet.was ∙ ap Ok c.in-Some.is) c.carried.ensures)
+    (c.in_ok-packet.was ∙ ap Ok c.in-Some.is) (record { pair = c.unwrap-pair.result.now; there = sym c.get.ensures ∙ ap option_copied c.unwrap-pair.ensures; verdict_is = c.judge.ensures }))
 
 pub returns-in-None : goal.returns-in-None
 returns-in-None c =
     opened_so c.args.table.now c.in_ok-child.field-0.now c.args.packet.now _ c.in_ok-opened.opened.next c.in_ok-opened.opened.payload.now c.open_ahead.new.self _
     c.in_ok-child.ensures.found c.in_ok-opened.ensures.up
     (subst (λ r. IsVerdictAt c.open_ahead.new.self c.in_ok-child.field-0.now.serial c.in_ok-opened.opened.next c.in_ok-opened.opened.payload.now (verdict_of r))
-    (c.in_ok-packet.was ∙ ap Ok c.in-None.is) c.carried.ensures)
+    (c.in_ok-packet.was ∙ ap Ok c.in-None.is) (record { pair = c.unwrap-pair.result.now; there = sym c.get.ensures ∙ ap option_copied c.unwrap-pair.ensures; verdict_is = c.judge.ensures }))
