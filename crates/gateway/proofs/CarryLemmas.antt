@@ -1,4 +1,5 @@
--- Over a list of events a world accounts for its children and its pairs, and what goes up at one end the other sealed.
+-- Over a list of events a world accounts for its children and its pairs, and what goes up at one end the
+-- other sealed.
 use Rattle.std.proofs.Common.{◌≡◌, ◌≤◌, ◌++◌, ℕ, take, zero, suc, Bool, true, false, List, [], ◌∷◌, Some, Contains, inl, inr, refl, sym, ap, subst, ◌∙◌, arith}
 use Rattle.std.specs.Prelude.{slice_get}
 use Rattle.std.proofs.lemmas.List.Elements.{Contains-append_left}

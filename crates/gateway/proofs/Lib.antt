@@ -11,6 +11,7 @@ pub mod ToldLemmas
 pub mod HistoryLemmas
 mod RequestLemmas
 mod MomentLemmas
+mod AuthenticationLemmas
 mod DeliveryLemmas
 mod LentLemmas
 mod WorkedLemmas

@@ -157,7 +157,8 @@ pub record ComesTo {C : Type 0} (meaning : Meaning) (given : Input) (old : State
   pub datagram : IsDatagram (for_ike given) octets
   pub opens : OpensAsMessage meaning.plain_of association (other_role association.role) response number octets
 
--- what a step of an end is, as a turn of its party; what it takes is genuine where what comes to it is among what the peer sent
+-- what a step of an end is, as a turn of its party; what it takes is genuine where what comes to it is
+-- among what the peer sent
 pub record IsTurn {C : Type 0} (meaning : Meaning) (given : Input) (old : State C) (before after : Party) : Type 0 where
   pub turn : Turn
   pub takes : TakesTurn turn before after

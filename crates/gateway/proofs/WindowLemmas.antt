@@ -174,7 +174,8 @@ IsFreshOf (ike.Order what given) fresh = given ≡ fresh
 IsFreshOf (ike.Secret secret) fresh = ⊥
 IsFreshOf (ike.Tick moment) fresh = ⊥
 
--- a message goes out of a step: sealed under the keys of its association, which are there before or after, with these fresh octets
+-- a message goes out of a step: sealed under the keys of its association, which are there before or after,
+-- with these fresh octets
 pub record SealsNow (body_of : Keys → Octets → Octets → Octets → Octets) (old new : Held) (window : ℕ) (fresh : Fresh) (m : marks.Mark) (octets : Octets) : Type 0 where
   pub keys : KeyRecord
   pub keyed : (keys_of_serial m.ike old.associations ≡ Some keys) ⊎ (keys_of_serial m.ike new.associations ≡ Some keys)

@@ -1,4 +1,5 @@
--- An event keeps what a world knows of the windows under a key record, so no end counts more for the other than that is set to.
+-- An event keeps what a world knows of the windows under a key record, so no end counts more for the other
+-- than that is set to.
 use Rattle.std.proofs.Common.{◌≡◌, ◌⊎◌, ◌≤◌, ℕ, suc, Bool, true, false, List, [], ◌∷◌, Option, Some, None, Contains, map, max, inl, inr, refl, sym, ap, subst, ◌∙◌, arith}
 use Rattle.std.specs.Prelude.{option_and_then}
 use Rattle.std.specs.FinMap as finite

@@ -138,7 +138,7 @@ abbrev pub empty_plain : Plain
 empty_plain = record { first = 0; octets = [] }
 
 abbrev pub nothing_ended : Ended
-nothing_ended = record { child = None; closed = false }
+nothing_ended = record { child = None; closed = false; declined = None }
 
 counts : (setup : Setup) (table : Database) → DoesAnswer false setup asking_association table 2 empty_plain (effect.Counted nothing_ended) counted_association table
 counts setup table = record {
@@ -149,6 +149,7 @@ counts setup table = record {
   counted = record { there = asked_there_two; content = refl };
   child = refl;
   closed = refl;
+  declined = record { error = None; told = record { payloads = Some []; read = record { clear = tt; payloads = (refl, refl); octets = tt }; told = refl }; due = refl };
   concluded = (
     refl,
     record {

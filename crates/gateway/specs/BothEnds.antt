@@ -1,5 +1,6 @@
--- What is promised of both ends of a world over a list of events, beside that their requests keep in step: their windows, their children and the
--- packets of these (RFC 7296 sections 1.2, 1.3.1, 2.3, 2.9 and 2.17; RFC 4301 sections 4.1, 5.1 and 5.2; RFC 4303 sections 3.3 and 3.4).
+-- What is promised of both ends of a world over a list of events, beside that their requests keep in step.
+-- It is of their windows, their children and the children's packets (RFC 7296 sections 1.2, 1.3.1, 2.3, 2.9
+-- and 2.17; RFC 4301 sections 4.1, 5.1 and 5.2; RFC 4303 sections 3.3 and 3.4).
 use Rattle.std.specs.Prelude.{◌≡◌, ◌++◌, ℕ, List, Contains, Some, slice_get, take}
 use Rattle.base.specs.Octets.{Octets}
 use Rattle.suite.specs.declared.key_record.KeyRecord.{KeyRecord}
@@ -18,16 +19,18 @@ use Rattle.gateway.specs.Worlds.{WorldState}
 use Rattle.gateway.specs.declared.output.Output.{Output}
 use Rattle.gateway.specs.declared.world.stored.Child.{Child}
 
--- A world that is sound under a key record, and accounts for its windows and its children under it and for its pairs, as a new one does.
+-- The whole invariant of a world under a key record (*wholly sound*): it is sound, and it accounts for its
+-- windows and its children under the record and for its pairs. A new world is so.
 pub record IsWhollySound {C : Type 0} (body_of : Keys → Octets → Octets → Octets → Octets) (plain_of : Opening) (keys : KeyRecord) (w : WorldState C) : Type 0 where
   pub sound : IsSoundUnder keys w
   pub windows : AccountsForWindows body_of plain_of keys w w.stored
   pub children : AccountsForChildren body_of plain_of keys w w.stored
   pub pairs : AccountsForPairs w
 
--- What is promised of the children under a key record after a list of events: the children of one request mirror each other, and so do the pairs
--- that both ends hold of it, then and after each event; and what went up from such a child in the list the other end sealed, where no packet to
--- the child was forged and the other end had no other child that sends under its inbound SPI and key.
+-- What is promised of the children under a key record after a list of events. The children of one request
+-- mirror each other. So do the pairs that both ends hold of it, at the end and after each event. What such
+-- a child delivered in the list, the other end sealed. That assumes that no packet to the child was forged,
+-- and that the other end had no other child that sends under its inbound SPI and key.
 pub record ChildrenAgree {C : Type 0} (keys : KeyRecord) (happenings : List (Happening C)) (w : WorldState C) : Type 0 where
   pub mirror : ChildrenMirror keys w
   pub held : PairsMirror keys w
@@ -35,9 +38,10 @@ pub record ChildrenAgree {C : Type 0} (keys : KeyRecord) (happenings : List (Hap
   pub carried : (child : Child) → Contains w.stored.children child → child.keys ≡ keys → IsUnforgedTo child happenings w.stored → HasOneSender child w.stored
       → HandsUpWhatWasSealed child happenings w
 
--- A world that is so sound stays so over a list of events, where no message under the record was forged and neither end came to it twice; then no
--- end counts a wider window for the other than that is set to, and the children agree. A world accounts for its pairs whatever comes, at each step
--- too; what goes up is of a child that is stored; and under no number of a child anything goes up twice.
+-- A list of events keeps the whole invariant, where no message under the record was forged and neither end
+-- came to it twice. Then neither end assumes a wider window than the other is configured with, and the
+-- children agree. Whatever comes, a world accounts for its pairs, after each step too; what is delivered is
+-- of a child that is stored; and no number of a child delivers twice.
 pub record PromisesOfBothEnds {C : Type 0} (body_of : Keys → Octets → Octets → Octets → Octets) (plain_of : Opening) (meaning_of : C → Meaning) (happenings : List (Happening C)) (old new : WorldState C) : Type 0 where
   pub stays : (keys : KeyRecord) → IsWhollySound body_of plain_of keys old → IsUnforged meaning_of keys happenings new.stored → IsNeverMadeTwice keys new.stored
       → IsWhollySound body_of plain_of keys new
@@ -50,8 +54,8 @@ pub record PromisesOfBothEnds {C : Type 0} (body_of : Keys → Octets → Octets
   pub once : (place other serial number : ℕ) (one two : Octets) (h g : Happening C) → slice_get happenings place ≡ Some h → slice_get happenings other ≡ Some g
       → h.event.end ≡ g.event.end → h.said ≡ Up serial number one → g.said ≡ Up serial number two → place ≡ other
 
--- Some number of events took place, the first ones; the outputs' length tells how many. What took place has a history, and of every history of it
--- the promises hold.
+-- Some number of events took place, the first ones, as many as there are outputs. They have a history, and
+-- the promises hold of every history of them.
 pub record KeepsBothEnds {C : Type 0} (body_of : Keys → Octets → Octets → Octets → Octets) (plain_of : Opening) (meaning_of : C → Meaning) (events : List Event) (old : WorldState C) (before : List Output) (new : WorldState C) (after : List Output) : Type 0 where
   pub count : ℕ
   pub outputs : List Output

@@ -1,4 +1,4 @@
--- What a gateway holds. How much room there is is no part of it.
+-- What a gateway holds, without its spare capacity.
 use Rattle.sadb.specs.Contents.{table_content}
 use Rattle.ike.specs.Contents.{machine_content}
 use Rattle.gateway.specs.States.{State}

@@ -18,11 +18,11 @@ abbrev pub transmit_view : declared.Transmit → TransmitView
 transmit_view (transmit.Ike octets) = Ike octets.now
 transmit_view (transmit.Esp octets) = Esp octets.now
 
--- a request that goes out again
+-- a request that is retransmitted
 abbrev pub again : Resent → TransmitView
 again request = Ike request.octets
 
--- what is to be sent of an output, in this order
+-- the datagrams of an output, in the order in which they are to be sent
 abbrev pub datagrams_of : output.OutputView → List TransmitView
 datagrams_of (output.Reply octets closed) = Ike octets ∷ []
 datagrams_of (output.Repeat octets) = Ike octets ∷ []
@@ -38,11 +38,11 @@ datagrams_of output.Discarded = []
 datagrams_of (output.Dropped why) = []
 datagrams_of (output.Refused why) = []
 
--- what an iterator has still to yield
+-- what the iterator yields from here on
 abbrev pub datagrams_left : Datagrams → List TransmitView
 datagrams_left left = map transmit_view (option_to_list left.first) ++ map again left.again.now
 
--- why what came is dropped, or the input refused
+-- why the input was dropped or refused
 abbrev pub reason_of : output.OutputView → Option Reason
 reason_of (output.Dropped why) = Some why
 reason_of (output.Refused why) = Some why

@@ -1,4 +1,4 @@
--- The numbers of this crate's refusals, and which of them leave a number taken.
+-- The error codes of this crate's refusals, and which of them come after the packet's number was taken.
 use Rattle.std.specs.Prelude.{ℕ, Bool, true, false}
 use Rattle.ike.specs.Faults as ike
 use Rattle.traffic.specs.Faults.{code_of_packet_fault, is_after_judging}
@@ -10,7 +10,7 @@ code_of_reason (Ike fault) = ike.code_of_ike_fault fault
 code_of_reason (Packet fault) = code_of_packet_fault fault
 code_of_reason Memory = 20
 
--- an ESP packet that is dropped so was judged before
+-- an ESP packet that is dropped for this reason was accepted before
 abbrev pub is_after_judging_packet : Reason → Bool
 is_after_judging_packet (Packet fault) = is_after_judging fault
 is_after_judging_packet (Ike fault) = false

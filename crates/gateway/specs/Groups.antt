@@ -1,4 +1,4 @@
--- Inputs that are taken as a group: the check values of their ESP packets are computed before any of them is taken.
+-- Inputs that are taken as a group: the ICVs of their ESP packets are computed before any of them is taken.
 use Rattle.std.specs.Prelude.{◌≡◌, ◌++◌, ◌≤◌, ℕ, List, [], Option, Some, None, length, take, slice_get}
 use Rattle.base.specs.Octets.{Octets}
 use Rattle.effects.specs.Taking.{Meaning}

@@ -1,4 +1,4 @@
--- A run as the list of its steps.
+-- A run as the list of its steps (an execution).
 use Rattle.std.specs.Prelude.{◌≡◌, List, [], ◌∷◌, map}
 use Rattle.effects.specs.Taking.{Meaning}
 use Rattle.gateway.specs.Inputs.{Input}
@@ -7,7 +7,7 @@ use Rattle.gateway.specs.States.{IsSoundState, State}
 use Rattle.gateway.specs.Steps.{Steps}
 use Rattle.gateway.specs.declared.output.Output.{Output}
 
--- the gateway before a step, its input, what came of it, and the gateway after
+-- one transition: the gateway before a step, its input, its output, and the gateway after
 pub record Passage (C : Type 0) : Type 0 where
   pub before : State C
   pub given : Input
@@ -18,7 +18,7 @@ pub record IsPassage {C : Type 0} (meaning_of : C → Meaning) (p : Passage C) :
   pub sound : IsSoundState p.before
   pub steps : Steps (meaning_of p.before.caller) p.given p.before p.said p.after
 
--- steps in a row, each from where the one before ended
+-- transitions in a row, each from where the one before ended
 abbrev pub IsTrail : {C : Type 0} → (C → Meaning) → State C → List (Passage C) → State C → Type 0
 IsTrail {C} meaning_of old [] new = new ≡ old
 IsTrail {C} meaning_of old (p ∷ ps) new = (p.before ≡ old) × IsPassage meaning_of p × IsTrail meaning_of p.after ps new

@@ -1,4 +1,4 @@
--- What a gateway is given, as plain data: what is lent to it is told by its octets.
+-- The inputs of a gateway as plain data: what is borrowed stands for its octets.
 use Rattle.std.specs.Prelude.{ℕ, Option}
 use Rattle.base.specs.Octets.{Octets}
 use Rattle.suite.specs.declared.fresh.Fresh.{Fresh}
@@ -16,18 +16,18 @@ pub data Input : Type 0 where
   Outward : Octets → Input
   -- a packet that came in unprotected
   Inward : Octets → Input
-  -- the order for a child by an entry of the policy, under an association where its serial is given
+  -- the command to ask for a child by an entry of the policy, under an IKE SA where its serial is given
   Start : Option ℕ → (entry : ℕ) → Fresh → Input
-  -- orders about an association, or a child
+  -- the commands about an IKE SA or a child
   Probe : (ike : ℕ) → Fresh → Input
   DeleteChild : (child : ℕ) → Fresh → Input
   DeleteIke : (ike : ℕ) → Fresh → Input
-  -- another secret of cookies
+  -- a new secret of cookies
   Secret : Octets → Input
-  -- the moment in milliseconds
+  -- the time in milliseconds
   Tick : ℕ → Input
 
--- what is given to one of two ends
+-- an event: an input for one of two ends
 pub record Event : Type 0 where
   pub end : End
   pub input : Input

@@ -1,4 +1,4 @@
--- What is promised of both ends together beside their requests: of children, packets and windows.
+-- What two gateways agree on beside their requests: children, packets and windows.
 use Rattle.std.specs.Prelude.{List}
 use Rattle.base.specs.Octets.{Octets}
 use Rattle.suite.specs.declared.key_record.KeyRecord.{KeyRecord}
@@ -13,7 +13,7 @@ use Rattle.gateway.specs.WorldPromises.{IsUnforged}
 use Rattle.gateway.specs.WorldWindows.{AccountsForWindows, WindowsFit}
 use Rattle.gateway.specs.Worlds.{new_world, HoldsNothing, WorldState}
 
--- of whatever type the caller is
+-- for any type of provider
 module _ (C : Type 0) where
   -- ---- new_worlds_are_wholly_sound
   abbrev pub NewWorldsAreWhollySound : Type 0

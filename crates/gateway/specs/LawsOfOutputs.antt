@@ -1,4 +1,4 @@
--- What goes out of a step, what it makes, and what its trace tells.
+-- What a step sends, what it makes, and what its trace names.
 use Rattle.std.specs.Prelude.{◌≡◌, ◌+◌, ◌≤◌, false, true, ℕ, Contains, IsSome, List, Some, length, take, drop}
 use Rattle.base.specs.Octets.{Octets}
 use Rattle.sadb.specs.Database.{IsSoundTable}
@@ -17,12 +17,13 @@ use Rattle.gateway.specs.Storing.{again_by}
 use Rattle.gateway.specs.Worlds.{child_by, ike_mark, keyed_by, mark_again, IsMarked}
 use Rattle.gateway.specs.declared.world.stored.End.{End}
 
--- the packet is a part of an ESP packet, and begins behind its SPI and its sequence number, four octets each (RFC 4303 section 2)
+-- the packet is a part of an ESP packet, and begins behind its SPI and its sequence number, four octets
+-- each (RFC 4303 section 2)
 pub record IsPartBehindHead (came packet : Octets) : Type 0 where
   pub part : packet ≡ take (length packet) (drop 8 came)
   pub within : 8 + length packet ≤ length came
 
--- of whatever type the caller is
+-- for any type of provider
 module _ (C : Type 0) where
   -- ---- what_is_sent_fits
   abbrev pub WhatIsSentFits : Type 0

@@ -1,4 +1,4 @@
--- What becomes of the packets that a gateway is given.
+-- What becomes of packets.
 use Rattle.std.specs.Prelude.{◌≡◌, false, true}
 use Rattle.base.specs.Octets.{Octets}
 use Rattle.policy.specs.declared.entry.Action.{Action}
@@ -15,7 +15,7 @@ use Rattle.gateway.specs.States.{State}
 use Rattle.gateway.specs.Steps.{GoesSealed, Steps}
 use Rattle.gateway.specs.declared.fault.Reason.{Reason}
 
--- of whatever type the caller is
+-- for any type of provider
 module _ (C : Type 0) where
   -- ---- the_protected_never_goes_in_the_clear
   abbrev pub OnlyTheBypassedGoesOutInTheClear : Type 0

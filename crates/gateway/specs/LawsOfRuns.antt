@@ -1,20 +1,23 @@
 -- What is promised of runs, over however many inputs and calls, and that what they ask for is met.
-use Rattle.std.specs.Prelude.{◌++◌, flat_map, List}
+use Rattle.std.specs.Prelude.{◌≡◌, ◌++◌, ℕ, Some, flat_map, slice_get, List}
 use Rattle.base.specs.Octets.{Octets}
+use Rattle.policy.specs.declared.entry.Entry.{Entry}
 use Rattle.suite.specs.declared.fresh.Fresh.{Fresh}
+use Rattle.suite.specs.declared.key_record.KeyRecord.{KeyRecord}
 use Rattle.setup.specs.Configs.{IsConfig}
 use Rattle.setup.specs.declared.config.Config.{Config}
 use Rattle.effects.specs.Taking.{Meaning}
+use Rattle.gateway.specs.Authentication.{IsEstablishedWith, ProvedItselfUpTo}
 use Rattle.gateway.specs.Histories.{IsHistory, Passage}
 use Rattle.gateway.specs.Inputs.{Input}
 use Rattle.gateway.specs.Promises.{KeepsPromises}
 use Rattle.gateway.specs.Runs.{CallsAs, Runs, StepsAs}
-use Rattle.gateway.specs.States.{State}
+use Rattle.gateway.specs.States.{new_gateway, State}
 use Rattle.gateway.specs.Worked.{IsWorkedRun}
 use Rattle.gateway.specs.WorkedRequests.{IsWorkedRequest}
 use Rattle.gateway.specs.declared.output.Output.{Output}
 
--- of whatever type the caller is
+-- for any type of provider
 module _ (C : Type 0) where
   -- ---- every_run_keeps_its_promises
   abbrev pub EveryRunKeepsItsPromises : Type 0
@@ -22,6 +25,16 @@ module _ (C : Type 0) where
       (old new : State C)
       → Runs (StepsAs meaning_of) inputs outputs old new
       → KeepsPromises meaning_of inputs outputs old new
+
+  -- ---- the_established_of_new_gateways_proved_themselves
+  abbrev pub TheEstablishedOfNewGatewaysProvedThemselves : Type 0
+  TheEstablishedOfNewGatewaysProvedThemselves = (meaning_of : C → Meaning) (config : Config)
+      (entries : List Entry) (start : ℕ) (caller : C) (new : State C) (inputs : List Input)
+      (outputs : List Output) (passages : List (Passage C)) (place serial : ℕ) (keys : KeyRecord) (p : Passage C)
+      → IsHistory meaning_of inputs outputs (new_gateway config entries start caller) new passages
+      → slice_get passages place ≡ Some p
+      → IsEstablishedWith p.after serial keys
+      → ProvedItselfUpTo meaning_of passages place serial keys
 
   -- ---- runs_in_a_row_are_one_run
   abbrev pub RunsInARowAreOneRun : Type 0

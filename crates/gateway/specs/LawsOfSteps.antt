@@ -1,11 +1,11 @@
--- What a step leaves as it was, and that it does one thing.
+-- What a step leaves unchanged, and that its result is determined.
 use Rattle.std.specs.List.{AllByRecursion}
-use Rattle.std.specs.Prelude.{◌≡◌, ◌<◌, ◌^◌, [], false, map, max, ℕ, List, Option}
+use Rattle.std.specs.Prelude.{◌≡◌, ◌<◌, ◌≤◌, ◌^◌, [], false, length, map, max, ℕ, List, Option}
 use Rattle.base.specs.Octets.{Octets}
 use Rattle.suite.specs.declared.fresh.Fresh.{Fresh}
 use Rattle.sadb.specs.Database.{IsAsBefore}
 use Rattle.effects.specs.Taking.{Meaning}
-use Rattle.moments.specs.Next.{IsBefore, NothingIsDueBefore}
+use Rattle.moments.specs.Next.{IsBefore, NothingIsDueBefore, SomethingIsDue}
 use Rattle.ike.specs.Lengths.{HoldWholeKeys}
 use Rattle.ike.specs.Moments.{IsTimely}
 use Rattle.ike.specs.declared.output.Trace.{Trace}
@@ -20,7 +20,7 @@ use Rattle.gateway.specs.Steps.{Steps, Traces}
 use Rattle.gateway.specs.declared.fault.Reason.{Reason}
 use Rattle.gateway.specs.declared.output.Output.{Output}
 
--- of whatever type the caller is
+-- for any type of provider
 module _ (C : Type 0) where
   -- ---- refusals_change_nothing
   abbrev pub PolicyAndCallerStay : Type 0
@@ -92,6 +92,15 @@ module _ (C : Type 0) where
       → moment < 2 ^ 64
       → IsBefore moment next
       → Steps meaning (input.Tick moment) old said new
-      → wants_memory said ≡ false
       → (said ≡ Ticked [] [])
       × (new ≡ record old { machine = record old.machine { moment = max old.machine.moment moment } })
+
+  -- ---- the_next_moment_brings_something
+  abbrev pub TheNextMomentBringsSomething : Type 0
+  TheNextMomentBringsSomething = (meaning : Meaning) (moment : ℕ) (old new : State C) (said : OutputView)
+      → old.machine.moment ≤ moment
+      → SomethingIsDue moment old.machine.held.associations
+      → Steps meaning (input.Tick moment) old said new
+      → wants_memory said ≡ false
+      → ¬ ((said ≡ Ticked [] [])
+        × (length new.machine.held.associations ≡ length old.machine.held.associations))

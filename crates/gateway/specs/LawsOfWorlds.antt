@@ -1,4 +1,4 @@
--- What is promised of two gateways, of what they store and of their requests.
+-- What holds of two gateways: what is stored of them, and their requests.
 use Rattle.std.specs.Prelude.{flat_map, ℕ, Bool, List}
 use Rattle.base.specs.Octets.{Octets}
 use Rattle.suite.specs.declared.fresh.Fresh.{Fresh}
@@ -20,7 +20,7 @@ use Rattle.gateway.specs.Worlds.{gateway_at, new_world, HoldsNothing, Stored, Wo
 use Rattle.gateway.specs.declared.output.Output.{Output}
 use Rattle.gateway.specs.declared.world.stored.End.{End}
 
--- of whatever type the caller is
+-- for any type of provider
 module _ (C : Type 0) where
   -- ---- each_end_has_its_events
   abbrev pub EachEndHasItsRun : Type 0
@@ -89,7 +89,7 @@ module _ (C : Type 0) where
       → HasSeal fresh
       → IsWorkedWorld config caller request reply from fresh
 
--- ---- every_world_stays_sound, as far as it speaks of no caller
+-- ---- every_world_stays_sound: the parts that speak of no provider
 abbrev pub WhatIsNotMadeTwiceWasNot : Type 0
 WhatIsNotMadeTwiceWasNot = (keys : KeyRecord) (now later : Stored)
     → IsLater now later

@@ -1,4 +1,4 @@
--- What is asked of an input and of a cipher, so that a step seals in one way (RFC 7296 section 3.14).
+-- What is asked of an input and of a cipher, so that a step seals in one way alone (RFC 7296 section 3.14).
 use Rattle.effects.specs.Taking.{Meaning}
 use Rattle.ike.specs.Lengths.{IsTold}
 use Rattle.ike.specs.Steps as ike
@@ -6,7 +6,8 @@ use Rattle.ike.specs.Orders as orders
 use Rattle.gateway.specs.Inputs.{Input}
 use Rattle.gateway.specs.Inputs as input
 
--- A datagram of IKE is of octets, and a cipher tells how long bodies are with the octets that are fresh.
+-- A datagram of IKE is of octets, and with the fresh octets the length of a sealed body follows from that
+-- of its plain text.
 abbrev pub IsGiven : Meaning → Input → Type 0
 IsGiven meaning (input.Ike from octets fresh) = IsTold meaning (ike.Message from octets fresh)
 IsGiven meaning (input.Start serial entry fresh) = IsTold meaning (ike.Start serial entry fresh)

@@ -20,7 +20,9 @@ pub mod Contents
 pub mod Lengths
 pub mod Histories
 pub mod Requests
+pub mod Lines
 pub mod Moments
+pub mod Authentication
 pub mod Packets
 pub mod Promises
 pub mod Worked

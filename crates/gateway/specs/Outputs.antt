@@ -1,4 +1,4 @@
--- What comes of an input, as plain data.
+-- The outputs as plain data.
 use Rattle.std.specs.Prelude.{◌≤◌, ℕ, Option, Some, None, All, List, length, Bool, false}
 use Rattle.base.specs.Octets.{Octets}
 use Rattle.wire.specs.Numbers.{MESSAGE_LIMIT}
@@ -16,15 +16,15 @@ use Rattle.gateway.specs.declared.fault.Reason.TheVariants as reason
 use Rattle.gateway.specs.declared.output.Output.{Output}
 use Rattle.gateway.specs.declared.output.Output.TheVariants as output
 
--- IKE associations and children are told by their serials
+-- IKE SAs and children are named by their serials
 pub data OutputView : Type 0 where
-  -- an answer of IKE, and the association that it closed
+  -- a response to the peer, and the IKE SA that its request closed
   Reply : Octets → Option ℕ → OutputView
   Repeat : Octets → OutputView
   Request : (ike : ℕ) → Octets → OutputView
-  -- a response of this association was counted; the child that it made, and the association that it closed
+  -- a response under this IKE SA was matched; the child that it made, and the IKE SA that it closed
   Counted : (ike : ℕ) → Option ℕ → Option ℕ → OutputView
-  -- the requests that go out again, and the associations that were closed
+  -- the requests to retransmit, and the IKE SAs that were closed
   Ticked : List Resent → List ℕ → OutputView
   Done : OutputView
   Up : (child number : ℕ) → Octets → OutputView
@@ -50,7 +50,7 @@ output_view output.Discarded = Discarded
 output_view (output.Dropped why) = Dropped why
 output_view (output.Refused why) = Refused why
 
--- what the machine of IKE answers
+-- an output of the IKE machine
 abbrev pub view_of_ike : IkeOutput → OutputView
 view_of_ike (ike.Reply octets closed) = Reply octets closed
 view_of_ike (ike.Repeat octets) = Repeat octets
@@ -60,7 +60,7 @@ view_of_ike (ike.Ticked ticked) = Ticked ticked.requests ticked.closed
 view_of_ike ike.Done = Done
 view_of_ike (ike.Dropped fault) = Dropped (reason.Ike fault)
 
--- what becomes of a packet
+-- the output for a packet
 abbrev pub view_of_outcome : traffic.Outcome → OutputView
 view_of_outcome (traffic.Up child number packet) = Up child number packet
 view_of_outcome (traffic.Dummy child number) = Dummy child number
@@ -69,17 +69,18 @@ view_of_outcome (traffic.Clear packet) = Clear packet
 view_of_outcome traffic.Discarded = Discarded
 view_of_outcome (traffic.Dropped fault) = Dropped (reason.Packet fault)
 
--- what comes of a datagram of IKE that is passed over, or that took effect before
+-- the output for a datagram of IKE that is dropped, or that is a retransmission
 abbrev pub IsQuiet : OutputView → Type 0
 IsQuiet (Dropped why) = Unit {0}
 IsQuiet (Repeat octets) = Unit {0}
 IsQuiet _ = ⊥
 
--- no datagram has more octets: a message of IKE has fewer, and no ESP packet is longer (a limit of this implementation)
+-- the longest datagram: the longest ESP packet, since messages of IKE are shorter (a limit of this
+-- implementation)
 abbrev pub DATAGRAM_LIMIT : ℕ
 DATAGRAM_LIMIT = 16664
 
--- what is sent is no longer
+-- what is sent fits that limit
 abbrev pub FitsDatagram : OutputView → Type 0
 FitsDatagram (Reply octets closed) = length octets ≤ DATAGRAM_LIMIT
 FitsDatagram (Repeat octets) = length octets ≤ DATAGRAM_LIMIT
@@ -95,22 +96,22 @@ FitsDatagram Discarded = Unit {0}
 FitsDatagram (Dropped why) = Unit {0}
 FitsDatagram (Refused why) = Unit {0}
 
--- no more requests go out again
+-- at most so many requests are retransmitted
 abbrev pub FewAgain : OutputView → ℕ → Type 0
 FewAgain (Ticked requests closed) most = length requests ≤ most
 FewAgain _ most = Unit {0}
 
--- an input was refused for want of memory
+-- the input was refused for want of memory
 abbrev pub wants_memory : OutputView → Bool
 wants_memory (Refused why) = is_want_of_memory why
 wants_memory _ = false
 
--- no more selectors on either side than a payload may carry
+-- at most as many selectors on either side as a payload may carry
 abbrev pub FewSelectors : Option Pair → Type 0
 FewSelectors None = Unit {0}
 FewSelectors (Some pair) = HasFewSelectors pair
 
--- the child that is made has few selectors on either side
+-- the child that is made has few enough selectors on either side
 abbrev pub FitsChild : Option MadeChild → PairMap → Type 0
 FitsChild None pairs = Unit {0}
 FitsChild (Some made) pairs = FewSelectors (pair_at pairs made.serial)

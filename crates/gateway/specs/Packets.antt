@@ -1,5 +1,7 @@
--- ESP packets over a run: which are judged and when, and what comes of each (RFC 4301 section 5.2, RFC 4303 section 3.4).
--- A place in the list of passages is the place of its input in the list that was given. A child is told by the serial of its pair.
+-- ESP packets over a run: which are accepted and when, and the output for each (RFC 4301 section 5.2, RFC
+-- 4303 section 3.4). A step accepts a packet as number n of a child where it *judges* it so. Its place in
+-- the list of transitions is that of its input in the list that was given. A child is named by the serial
+-- of its pair.
 use Rattle.std.specs.Prelude.{◌≡◌, ◌↔◌, ◌<◌, ◌≤◌, ℕ, false, Option, Some, None, List, map, slice_get}
 use Rattle.std.specs.FinMap as numbers
 use Rattle.std.specs.Option.{option_map}
@@ -21,7 +23,8 @@ use Rattle.gateway.specs.Inputs as input
 use Rattle.gateway.specs.Outputs.{view_of_outcome, wants_memory, Clear, Discarded, Dropped, Dummy, OutputView, Sealed, Up}
 use Rattle.gateway.specs.declared.fault.Reason.TheVariants as reason
 
--- what became of a packet, of which this is said: the other way round from `view_of_outcome`. Nothing else is said of a packet that came.
+-- The outcome of a packet at the table, from the gateway's output: the inverse of `view_of_outcome`. An ESP
+-- packet has no other output.
 abbrev pub outcome_of_said : OutputView → Option traffic.Outcome
 outcome_of_said (Up child number packet) = Some (traffic.Up child number packet)
 outcome_of_said (Dummy child number) = Some (traffic.Dummy child number)
@@ -31,7 +34,7 @@ outcome_of_said Discarded = Some traffic.Discarded
 outcome_of_said (Dropped (reason.Packet fault)) = Some (traffic.Dropped fault)
 outcome_of_said _ = None
 
--- the ESP packet that came and what became of it, where the input is one
+-- the ESP packet that came and its outcome, where the input is one
 abbrev pub reception_of : Input → OutputView → Option tables.Reception
 reception_of (input.Esp octets) s = option_map (λ outcome. record { packet = octets; outcome = outcome }) (outcome_of_said s)
 reception_of _ s = None
@@ -43,8 +46,8 @@ table_passage p = record { before = p.before.table; received = reception_of p.gi
 abbrev pub table_passages : {C : Type 0} → List (Passage C) → List tables.Passage
 table_passages passages = map table_passage passages
 
--- At this step these octets came as an ESP packet. It is a packet to the table too, with what is said of it as its outcome; it is never
--- refused for want of memory, and the machine of IKE, the policy and the caller stay as they are.
+-- At this step an ESP packet of these octets came. The table sees it with the output as its outcome. It is
+-- never refused for want of memory, and the IKE machine, the policy and the provider stay as they are.
 pub record TakesPacket {C : Type 0} (octets : Octets) (p : Passage C) : Type 0 where
   pub outcome : traffic.Outcome
   pub said : p.said ≡ view_of_outcome outcome
@@ -52,65 +55,68 @@ pub record TakesPacket {C : Type 0} (octets : Octets) (p : Passage C) : Type 0 w
   pub memory : wants_memory p.said ≡ false
   pub kept : p.after ≡ record p.before { table = p.after.table }
 
--- at this step an ESP packet of these octets came and was judged as this number of the child's, which the child's window takes; nothing else
--- of the gateway changes
+-- At this step an ESP packet of these octets came and was accepted as this number of the child. The number
+-- is marked in the child's replay window; nothing else of the gateway changes.
 pub record JudgesPacket {C : Type 0} (child number : ℕ) (octets : Octets) (p : Passage C) : Type 0 where
   pub given : p.given ≡ input.Esp octets
   pub takes : TakesNumberAt p.before.table octets child number p.after.table
   pub kept : p.after ≡ record p.before { table = p.after.table }
 
--- an ESP packet, of whatever octets, came and was judged so
+-- an ESP packet, of whatever octets, came and was accepted so
 pub record JudgesOne {C : Type 0} (child number : ℕ) (p : Passage C) : Type 0 where
   pub octets : Octets
   pub judges : JudgesPacket child number octets p
 
--- What is said is what is due to a packet of these octets that was judged so: the packet goes up that it carried, if the pair's selectors
--- hold it; it was a dummy; or it is dropped for its padding, or for what it carried.
+-- The output that an accepted packet of these octets must have. Its payload is delivered, if the pair's
+-- selectors hold it; or it is a dummy packet; or it is dropped for its padding or for its payload.
 pub record SaysDue (child number : ℕ) (pair : Pair) (octets : Octets) (s : OutputView) : Type 0 where
   pub outcome : traffic.Outcome
   pub said : s ≡ view_of_outcome outcome
   pub due : IsAnswerDue child number pair octets outcome
 
--- it is said that the packet is dropped, for a fault that is found before it is judged, and nothing changes
+-- the packet is dropped for a fault that is found before it is accepted, and nothing changes
 pub record TurnsAway {C : Type 0} (p : Passage C) : Type 0 where
   pub fault : PacketFault
   pub said : p.said ≡ Dropped (reason.Packet fault)
   pub before_judging : is_after_judging fault ≡ false
   pub unchanged : p.after ≡ p.before
 
--- No number of a child is judged twice, whatever is given, and none of a child that is gone. Each ESP packet that was sent to a child is judged exactly at its first arrival
--- while its pair stands and its number is rightly recovered and lies inside or above the window, as long as no check value is forged and
--- the number was not taken before the list; and what is said there is the verdict on what it holds. Of every other ESP packet nothing is handed up, and it changes nothing.
+-- No number of a child is accepted twice, whatever is given, and none of a child that is gone. Where no ICV
+-- is forged, each ESP packet that was sent to a child is accepted at its first arrival, and only there. Its
+-- pair must be installed, and its number rightly recovered, inside or above the window, and not taken
+-- before the list. The output there is the verdict on its payload. No other ESP packet delivers or changes
+-- anything.
 pub record PacketsAreDelivered {C : Type 0} (passages : List (Passage C)) : Type 0 where
-  -- an ESP packet is one to the table, and touches nothing but the table
+  -- the table sees each ESP packet, and an ESP packet changes nothing but the table
   pub packet : (place : ℕ) (octets : Octets) (p : Passage C) → slice_get passages place ≡ Some p → p.given ≡ input.Esp octets → TakesPacket octets p
-  -- all that is promised of the packets of a table
+  -- all that `deliveries` promises of the packets of a table
   pub judged : PacketsAreJudged (table_passages passages)
-  -- to be judged by the table is to be judged by the gateway
+  -- the gateway accepts what its table accepts
   pub judges : (place child number : ℕ) (p : Passage C) → slice_get passages place ≡ Some p
       → IsJudgedAs child number (table_passage p) ↔ JudgesOne child number p
-  -- no number of a child is judged at two steps
+  -- no number of a child is accepted at two steps
   pub once : (place other child number : ℕ) (p q : Passage C) → slice_get passages place ≡ Some p → slice_get passages other ≡ Some q
       → JudgesOne child number p → JudgesOne child number q → place ≡ other
-  -- what is judged is answered by what it holds
+  -- an accepted packet has the output that its payload demands
   pub answered : (place child number : ℕ) (octets : Octets) (p : Passage C) (pair : Pair) → slice_get passages place ≡ Some p
       → JudgesPacket child number octets p → pair_at p.before.table.pairs child ≡ Some pair → SaysDue child number pair octets p.said
-  -- and nothing else is handed up, or said to be a dummy: an unprotected packet isn't, nor is one on its way out
+  -- only an accepted packet is delivered or called a dummy: an unprotected or an outbound packet never is
   pub up : (place child number : ℕ) (inner : Octets) (p : Passage C) → slice_get passages place ≡ Some p → p.said ≡ Up child number inner
       → JudgesOne child number p
   pub dummy : (place child number : ℕ) (p : Passage C) → slice_get passages place ≡ Some p → p.said ≡ Dummy child number
       → JudgesOne child number p
   pub otherwise : (place : ℕ) (octets : Octets) (p : Passage C) → slice_get passages place ≡ Some p → p.given ≡ input.Esp octets
       → ((child number : ℕ) → ¬ JudgesOne child number p) → TurnsAway p
-  -- of a child that is gone, before the list or in it, no packet is judged any more: its serial is not given again
+  -- no packet of a child that is gone is accepted any more, whether it went before the list or in it: its
+  -- serial isn't given again
   pub gone : (first place child number : ℕ) (p q : Passage C) → first ≤ place → slice_get passages first ≡ Some p → slice_get passages place ≡ Some q
       → child < p.before.table.next → pair_at p.before.table.pairs child ≡ None → ¬ JudgesOne child number q
-  -- where no check value was forged, what was sent to a child is judged at its first arrival, and only there
+  -- where no ICV was forged, what was sent to a child is accepted at its first arrival, and only there
   pub at_first : (child : ℕ) (sent : numbers.FinMap nat_cmp Octets)
       → Unforged child (table_passages passages) (judged.children child).numbers sent
       → (place number : ℕ) (p : Passage C) → slice_get passages place ≡ Some p
       → JudgesOne child number p ↔ IsFirstArrival child (table_passages passages) (judged.children child).numbers sent number place
-  -- and answered by what the octets hold that were sent
+  -- and has the output that the payload demands which was sent
   pub as_sent : (child : ℕ) (sent : numbers.FinMap nat_cmp Octets)
       → Unforged child (table_passages passages) (judged.children child).numbers sent
       → (place number : ℕ) (octets : Octets) (p : Passage C) (pair : Pair) → slice_get passages place ≡ Some p

@@ -1,6 +1,7 @@
 -- What is promised of a list of inputs.
 use Rattle.std.specs.Prelude.{List}
 use Rattle.effects.specs.Taking.{Meaning}
+use Rattle.gateway.specs.Authentication.{OnlyTheProvedAreEstablished}
 use Rattle.gateway.specs.Histories.{IsHistory, Passage}
 use Rattle.gateway.specs.Inputs.{Input}
 use Rattle.gateway.specs.Moments.{MomentsComeInTime}
@@ -9,14 +10,15 @@ use Rattle.gateway.specs.Requests.{RepeatsAreAnswered, RequestsTakeEffect}
 use Rattle.gateway.specs.States.{State}
 use Rattle.gateway.specs.declared.output.Output.{Output}
 
--- what is promised of the peer's requests, of their repeats, of moments, and of ESP packets, over these steps
+-- what is promised of who is established, of the peer's requests, of their repeats, of moments, and of ESP packets, over these steps
 pub record AreKept {C : Type 0} (meaning_of : C → Meaning) (passages : List (Passage C)) : Type 0 where
   pub requests : RequestsTakeEffect meaning_of passages
   pub repeats : RepeatsAreAnswered meaning_of passages
   pub moments : MomentsComeInTime passages
   pub packets : PacketsAreDelivered passages
+  pub authentication : OnlyTheProvedAreEstablished meaning_of passages
 
--- What was taken has a history, of which that holds; and so it does of every history of it.
+-- The inputs that were taken have a history of which that holds, and it holds of every history of them.
 pub record KeepsPromises {C : Type 0} (meaning_of : C → Meaning) (inputs : List Input) (outputs : List Output) (old new : State C) : Type 0 where
   pub passages : List (Passage C)
   pub history : IsHistory meaning_of inputs outputs old new passages
@@ -24,4 +26,5 @@ pub record KeepsPromises {C : Type 0} (meaning_of : C → Meaning) (inputs : Lis
   pub repeats : RepeatsAreAnswered meaning_of passages
   pub moments : MomentsComeInTime passages
   pub packets : PacketsAreDelivered passages
+  pub authentication : OnlyTheProvedAreEstablished meaning_of passages
   pub every : (others : List (Passage C)) → IsHistory meaning_of inputs outputs old new others → AreKept meaning_of others

@@ -1,5 +1,6 @@
--- The peer's requests over a run: which take effect and when, and how what comes again is answered (RFC 7296 sections 2.1 to 2.3).
--- A place in the list of passages is the place of its input in the list that was given.
+-- The peer's requests over a run: which take effect and when, and how a retransmission is answered (RFC
+-- 7296 sections 2.1 to 2.3). A place in the list of transitions is that of its input in the list that was
+-- given. A request that took effect is *in effect* from then on.
 use Rattle.std.specs.Prelude.{◌≡◌, ◌⊎◌, ◌↔◌, ◌<◌, ◌≤◌, ℕ, suc, true, false, Option, Some, None, List, slice_get}
 use Rattle.std.specs.FinMap as map
 use Rattle.base.specs.Octets.{Octets}
@@ -24,7 +25,7 @@ use Rattle.gateway.specs.Outputs.{wants_memory, Dropped, IsQuiet, Repeat, Reply,
 use Rattle.gateway.specs.States.{association_in}
 use Rattle.gateway.specs.declared.fault.Reason.TheVariants.{Ike}
 
--- what the machine of IKE is given, if anything
+-- the input of the IKE machine, if this is one
 abbrev pub for_ike : Input → Option ike.InputView
 for_ike (input.Ike from octets fresh) = Some (ike.Message from octets fresh)
 for_ike (input.Start serial entry fresh) = Some (ike.Start serial entry fresh)
@@ -37,12 +38,13 @@ for_ike (input.Esp octets) = None
 for_ike (input.Outward packet) = None
 for_ike (input.Inward packet) = None
 
--- the input is a datagram that opens as this request of the association
+-- the input is a datagram that opens as this request of the IKE SA
 abbrev pub Opens : Meaning → Option ike.InputView → Association → ℕ → Type 0
 Opens meaning None a number = ⊥
 Opens meaning (Some given) a number = OpensAsRequest meaning given a number
 
--- and its number is not in effect yet, lies in the window, and its exchange belongs to the phase
+-- and the request is new: its number is not in effect and lies in the window, and its exchange belongs to
+-- the phase
 abbrev pub IsNew : Meaning → Option ike.InputView → Association → ℕ → Type 0
 IsNew meaning None a number = ⊥
 IsNew meaning (Some given) a number = IsNewRequest meaning given a number
@@ -52,24 +54,24 @@ abbrev pub IsDatagram : Option ike.InputView → Octets → Type 0
 IsDatagram None octets = ⊥
 IsDatagram (Some given) octets = IsOfOctets given octets
 
--- at this step the request of this number of an association takes effect
+-- at this step the request with this Message ID takes effect under an IKE SA
 pub record TakesEffect {C : Type 0} (serial number : ℕ) (p : Passage C) : Type 0 where
   pub old : Association
   pub new : Association
   pub held : IsHeldThrough serial p.before.machine.held p.after.machine.held old new
   pub comes : ComesIntoEffect number old new
 
--- it was answered so
+-- and this is its response
 pub record AnswersBy {C : Type 0} (p : Passage C) (reply : Octets) : Type 0 where
   pub closed : Option ℕ
   pub said : p.said ≡ Reply reply closed
 
--- this comes of a step, and nothing changes
+-- the step has this output, and changes nothing
 pub record OnlySays {C : Type 0} (s : OutputView) (p : Passage C) : Type 0 where
   pub said : p.said ≡ s
   pub unchanged : p.after ≡ p.before
 
--- it takes effect at one of these steps, from the first of these places on and before the second
+-- it takes effect at one of these steps, from the first place to before the second
 pub record TookEffect {C : Type 0} (passages : List (Passage C)) (serial number from until : ℕ) : Type 0 where
   pub place : ℕ
   pub least : from ≤ place
@@ -78,7 +80,7 @@ pub record TookEffect {C : Type 0} (passages : List (Passage C)) (serial number 
   pub there : slice_get passages place ≡ Some passage
   pub takes : TakesEffect serial number passage
 
--- it was answered, and the reply is kept
+-- it was answered, and the response is kept
 pub record IsReplied {C : Type 0} (serial number : ℕ) (p : Passage C) : Type 0 where
   pub reply : Octets
   pub answers : AnswersBy p reply
@@ -97,42 +99,43 @@ pub record TakesOne {C : Type 0} (p : Passage C) : Type 0 where
   pub number : ℕ
   pub takes : TakesEffect serial number p
 
--- A request of a keyed association takes effect at most once, and exactly where it is delivered new: it opens as a request whose number is
--- not in effect, lies below the least such number plus the window, and whose exchange belongs to the phase. An input that is refused for
--- want of memory counts as not delivered.
+-- A request of an IKE SA with keys takes effect at most once, exactly where it is delivered new. It opens
+-- as a request whose number is not in effect and lies below the least such number plus the window, and its
+-- exchange belongs to the phase. An input that is refused for want of memory counts as lost.
 pub record RequestsTakeEffect {C : Type 0} (meaning_of : C → Meaning) (passages : List (Passage C)) : Type 0 where
   pub exactly : (place serial number : ℕ) (p : Passage C) (a : Association) → slice_get passages place ≡ Some p → association_in p.before serial ≡ Some a
       → TakesEffect serial number p ↔ ((wants_memory p.said ≡ false) × IsNew (meaning_of p.before.caller) (for_ike p.given) a number)
   pub answered : (place serial number : ℕ) (p : Passage C) → slice_get passages place ≡ Some p → TakesEffect serial number p → IsReplied serial number p
   pub once : (place other serial number : ℕ) (p q : Passage C) → slice_get passages place ≡ Some p → slice_get passages other ≡ Some q
       → TakesEffect serial number p → TakesEffect serial number q → place ≡ other
-  -- what is in effect after a step was in effect before that one or an earlier one, or took effect since
+  -- what is in effect after a step was in effect before that step or an earlier one, or took effect between
   pub in_effect : (first place serial number : ℕ) (p q : Passage C) (a b : Association) → first ≤ place → slice_get passages first ≡ Some p
       → slice_get passages place ≡ Some q → association_in p.before serial ≡ Some a → association_in q.after serial ≡ Some b
       → HasNumber b.incoming.in_effect number ↔ (HasNumber a.incoming.in_effect number ⊎ TookEffect passages serial number first (suc place))
-  -- an association that comes to be held begins with none in effect, or at the responder with that of IKE_SA_INIT
+  -- a new IKE SA has no request in effect, or at the responder that of IKE_SA_INIT
   pub begun : (place serial : ℕ) (p : Passage C) (a : Association) → slice_get passages place ≡ Some p → association_in p.before serial ≡ None
       → association_in p.after serial ≡ Some a → a.incoming ≡ first_requests a.role
-  -- and its window changes only where IKE_AUTH establishes it, to the one that this end tells; that it then does, the steps say
+  -- its window changes only where IKE_AUTH establishes it, to the one that this end announces (`Steps` says
+  -- that it does)
   pub window : (place serial : ℕ) (p : Passage C) (a b : Association) → slice_get passages place ≡ Some p → association_in p.before serial ≡ Some a
       → association_in p.after serial ≡ Some b → KeepsWindow p.before.machine.config.window a b
-  -- what opens and is not new is dropped, or its reply goes out again, and nothing changes
+  -- what opens and is not new is dropped, or gets the kept response, and changes nothing
   pub otherwise : (place serial number : ℕ) (p : Passage C) (a : Association) → slice_get passages place ≡ Some p → wants_memory p.said ≡ false
       → association_in p.before serial ≡ Some a → Opens (meaning_of p.before.caller) (for_ike p.given) a number
       → ¬ IsNew (meaning_of p.before.caller) (for_ike p.given) a number → IsQuiet p.said × (p.after ≡ p.before)
   pub undelivered : (place : ℕ) (p : Passage C) → slice_get passages place ≡ Some p → wants_memory p.said ≡ true
       → (p.after ≡ record p.before { table = p.after.table }) × IsAsBefore p.before.table p.after.table
-  -- nothing else is replied to, but requests of IKE_SA_INIT
+  -- nothing else gets a response, but requests of IKE_SA_INIT
   pub replies : (place : ℕ) (p : Passage C) (reply : Octets) (closed : Option ℕ) → slice_get passages place ≡ Some p → p.said ≡ Reply reply closed
       → TakesOne p ⊎ IsInitial (for_ike p.given)
 
--- this reply went out first at this step, or was kept before it
+-- this response was sent first at this step, or was kept before it
 abbrev pub IsFirstReply : {C : Type 0} → ℕ → ℕ → Octets → Passage C → Type 0
 IsFirstReply {C} serial number reply p =
     (TakesEffect serial number p × AnswersBy p reply)
     ⊎ ((a : Association) × (association_in p.before serial ≡ Some a) × (map.get a.incoming.kept number ≡ Some reply))
 
--- at this step an association came to be half open by this request of IKE_SA_INIT, which was answered by this reply
+-- at this step this request of IKE_SA_INIT made a half-open IKE SA, and this response was sent
 pub record MakesHalfOpen {C : Type 0} (serial : ℕ) (request reply : Octets) (p : Passage C) : Type 0 where
   pub none : association_in p.before serial ≡ None
   pub a : Association
@@ -142,7 +145,7 @@ pub record MakesHalfOpen {C : Type 0} (serial : ℕ) (request reply : Octets) (p
   pub delivered : IsDatagram (for_ike p.given) request
   pub answered : p.said ≡ Reply reply None
 
--- before this step an association is half open, by this request and with this reply
+-- before this step an IKE SA is half open, made by this request, with this response
 pub record KeepsHalfOpen {C : Type 0} (serial : ℕ) (request reply : Octets) (p : Passage C) : Type 0 where
   pub a : Association
   pub there : association_in p.before serial ≡ Some a
@@ -151,7 +154,7 @@ pub record KeepsHalfOpen {C : Type 0} (serial : ℕ) (request reply : Octets) (p
   pub same_request : opened.request ≡ request
   pub same_reply : opened.reply ≡ reply
 
--- a reply that is kept goes out to a request that comes again: one under keys, or one of IKE_SA_INIT
+-- the kept response is sent to a retransmitted request: one under keys, or one of IKE_SA_INIT
 pub record RepeatsRequest {C : Type 0} (meaning_of : C → Meaning) (reply : Octets) (p : Passage C) : Type 0 where
   pub serial : ℕ
   pub number : ℕ
@@ -166,14 +169,15 @@ pub record RepeatsInitial {C : Type 0} (reply : Octets) (p : Passage C) : Type 0
   pub kept : KeepsHalfOpen serial request reply p
   pub delivered : IsDatagram (for_ike p.given) request
 
--- the input is a moment at which the time of the association is over
+-- the input is a `Tick` with a time at which the IKE SA expires
 abbrev pub IsOverAt : Option ike.InputView → Machine → Association → Type 0
 IsOverAt None machine a = ⊥
 IsOverAt (Some given) machine a = IsGivenUp given machine a
 
--- A repeat that is still remembered is answered by the octets of the first reply, and changes nothing; one under keys that is remembered
--- no longer is dropped (E30). A request is remembered while its association is held and no number at least a window above its own is in
--- effect; one of IKE_SA_INIT while the association that it made is half open.
+-- A retransmission of a request that is still remembered gets the octets of the first response, and changes
+-- nothing. One under keys that is remembered no more is dropped (E30). A request is remembered while its
+-- IKE SA is held and no number at least a window above its own is in effect; that of IKE_SA_INIT while the
+-- IKE SA that it made is half open.
 pub record RepeatsAreAnswered {C : Type 0} (meaning_of : C → Meaning) (passages : List (Passage C)) : Type 0 where
   pub remembered : (first place serial number : ℕ) (reply : Octets) (p q : Passage C) (a : Association) → first < place → slice_get passages first ≡ Some p
       → slice_get passages place ≡ Some q → wants_memory q.said ≡ false → IsFirstReply serial number reply p → association_in q.before serial ≡ Some a
@@ -190,8 +194,8 @@ pub record RepeatsAreAnswered {C : Type 0} (meaning_of : C → Meaning) (passage
       → IsDatagram (for_ike q.given) request → OnlySays (Repeat reply) q
   pub initial_kept : (place serial : ℕ) (request reply : Octets) (q : Passage C) → slice_get passages place ≡ Some q → wants_memory q.said ≡ false
       → KeepsHalfOpen serial request reply q → IsDatagram (for_ike q.given) request → OnlySays (Repeat reply) q
-  -- nothing else is answered so
+  -- nothing else gets a kept response
   pub only : (place : ℕ) (reply : Octets) (q : Passage C) → slice_get passages place ≡ Some q → q.said ≡ Repeat reply → RepeatsRequest meaning_of reply q ⊎ RepeatsInitial reply q
-  -- an association is held until a moment at which its time is over
+  -- an IKE SA is held until a `Tick` at which it expires
   pub held : (place serial : ℕ) (q : Passage C) (a : Association) → slice_get passages place ≡ Some q → association_in q.before serial ≡ Some a
       → association_in q.after serial ≡ None → IsOverAt (for_ike q.given) q.before.machine a

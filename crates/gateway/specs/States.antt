@@ -12,7 +12,7 @@ use Rattle.ike.specs.Soundness.{AreReservationsHeld, IsSoundMachine}
 pub record State (C : Type 0) : Type 0 where
   -- the machine of IKE
   pub machine : Machine
-  -- the associations for ESP
+  -- the table of SA pairs for ESP
   pub table : Database
   -- the policy
   pub entries : List Entry
@@ -25,19 +25,19 @@ state_code {C} machine table entries caller =
     (λ c. record { machine = c.0; table = c.1.0; entries = c.1.1.0; caller = c.1.1.1 })
     (λ _. refl)
 
--- What holds of every gateway: its machine is sound with its table, and so is the table; all that its moment has reached was done; and each
--- SPI that is reserved is held by an association, so none is lost.
+-- The invariant of every gateway: the machine and the table satisfy theirs; all that is due by the greatest
+-- time so far was done; and each SPI that is reserved is held by an IKE SA, so none is lost.
 pub record IsSoundState {C : Type 0} (s : State C) : Type 0 where
   pub machine : IsSoundMachine s.machine s.table
   pub table : IsSoundTable s.table
   pub timely : IsTimely s.machine
   pub reservations : AreReservationsHeld s.machine.held s.table
 
--- the IKE association with this serial, if it is held
+-- the IKE SA with this serial, if it is held
 abbrev pub association_in : {C : Type 0} → State C → ℕ → Option Association
 association_in {C} s serial = association_of serial s.machine.held.associations
 
--- no association, and no SPI given
+-- no IKE SA and no pair, and no SPI given
 abbrev pub new_gateway : {C : Type 0} → Config → List Entry → ℕ → C → State C
 new_gateway config entries start caller =
     record { machine = new_machine config; table = empty_table start; entries = entries; caller = caller }

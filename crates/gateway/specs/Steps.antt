@@ -1,4 +1,5 @@
--- One step of a gateway: which protocol an input goes to, and what stays as it was (RFC 4301 sections 5.1 and 5.2).
+-- One step of a gateway: which protocol an input goes to, and what stays unchanged (RFC 4301 sections 5.1
+-- and 5.2).
 use Rattle.std.specs.Prelude.{◌≡◌, ◌⊎◌, List}
 use Rattle.base.specs.Octets.{Octets}
 use Rattle.policy.specs.declared.entry.Entry.{Entry}
@@ -22,14 +23,14 @@ use Rattle.gateway.specs.Outputs.{OutputView, Refused, view_of_ike, view_of_outc
 use Rattle.gateway.specs.States.{State}
 use Rattle.gateway.specs.declared.fault.Reason.TheVariants as reason
 
--- the machine of IKE takes a step
+-- the IKE machine takes a step
 pub record AnswersIke (meaning : Meaning) (entries : List Entry) (given : ike.InputView) (old : Machine) (table : Database) (said : OutputView) (trace : Trace) (new : Machine) (new_table : Database) : Type 0 where
   pub stepped : Stepped
   pub steps : ike.Steps meaning entries given old table stepped new new_table
   pub output : said ≡ view_of_ike stepped.output
   pub traced : trace ≡ stepped.trace
 
--- or it refuses to: only the table's room may have grown
+-- or it refuses the input: only the table's spare capacity may have grown
 pub record RefusesIke (meaning : Meaning) (entries : List Entry) (given : ike.InputView) (old : Machine) (table : Database) (said : OutputView) (trace : Trace) (new : Machine) (new_table : Database) : Type 0 where
   pub fault : IkeFault
   pub refuses : ike.Refuses meaning entries given old table fault
@@ -49,13 +50,13 @@ pub record ReceivesPacket (old : Database) (packet : Octets) (said : OutputView)
   pub receives : Receives old packet outcome new
   pub output : said ≡ view_of_outcome outcome
 
--- a packet is on its way out, and there was memory
+-- a packet is on its way out, and there was memory for its ESP packet
 pub record SendsWithMemory (entries : List Entry) (old : Database) (packet : Octets) (said : OutputView) (new : Database) : Type 0 where
   pub outcome : Outcome
   pub sends : Sends old entries packet outcome new
   pub output : said ≡ view_of_outcome outcome
 
--- or there was none for its ESP packet
+-- or there was none
 pub record LacksMemory (entries : List Entry) (old : Database) (packet : Octets) (said : OutputView) (new : Database) : Type 0 where
   pub sealable : IsToBeSealed old entries packet
   pub output : said ≡ Refused reason.Memory
@@ -75,7 +76,7 @@ pub record LeavesIke (old : Machine) (trace : Trace) (new : Machine) : Type 0 wh
   pub machine : new ≡ old
   pub traced : trace ≡ no_trace
 
--- what an input does to the machine of IKE and to the table
+-- what an input does to the IKE machine and to the table
 abbrev pub DoesInput : Meaning → List Entry → Input → Machine → Database → OutputView → Trace → Machine → Database → Type 0
 DoesInput meaning entries (input.Ike from octets fresh) old table said trace new new_table =
     StepsIke meaning entries (ike.Message from octets fresh) old table said trace new new_table
@@ -98,7 +99,7 @@ DoesInput meaning entries (input.Outward packet) old table said trace new new_ta
 DoesInput meaning entries (input.Inward packet) old table said trace new new_table =
     LeavesIke old trace new × AdmitsPacket entries packet said × (new_table ≡ table)
 
--- One step, with what it sent and made of IKE. The policy and the caller stay as they are.
+-- One step, with its trace. The policy and the provider stay as they are.
 pub record Traces {C : Type 0} (meaning : Meaning) (given : Input) (old : State C) (said : OutputView) (trace : Trace) (new : State C) : Type 0 where
   pub kept : new ≡ record old { machine = new.machine; table = new.table }
   pub does : DoesInput meaning old.entries given old.machine old.table said trace new.machine new.table
@@ -108,7 +109,7 @@ pub record Steps {C : Type 0} (meaning : Meaning) (given : Input) (old : State C
   pub trace : Trace
   pub traces : Traces meaning given old said trace new
 
--- a packet that is to be protected goes so, or it is refused for want of memory
+-- a packet that is to be protected is sealed, or its input is refused for want of memory
 abbrev pub GoesSealed : {C : Type 0} → Flow → Octets → State C → OutputView → State C → Type 0
 GoesSealed {C} flow packet old said new =
     ((outcome : Outcome) × (Protects old.table flow packet outcome new.table) × (said ≡ view_of_outcome outcome)) ⊎ (said ≡ Refused reason.Memory)

@@ -1,4 +1,4 @@
--- What a step may send and make, and room for it. Private contracts alone cite this.
+-- What a step may send and make, and the memory for it. Private contracts alone cite this.
 use Rattle.std.specs.Prelude.{◌≡◌, ◌+◌, ◌<◌, ◌≤◌, ℕ, All, [], length, vec_len, Vec}
 use Rattle.std.specs.Vec.{vec_capacity}
 use Rattle.wire.specs.Numbers.{MESSAGE_LIMIT, SELECTOR_LIMIT}
@@ -17,7 +17,7 @@ use Rattle.gateway.specs.declared.world.log.Log.{Log}
 use Rattle.gateway.specs.declared.world.log.Spare.{Spare}
 use Rattle.gateway.specs.declared.world.stored.End.{End}
 
--- memory for the octets of one request that goes out again
+-- memory for the octets of one retransmitted request
 abbrev pub IsSpareMessage : {Z : Type 0} → Vec ℕ Z → Type 0
 IsSpareMessage v = (v.items ≡ []) × (MESSAGE_LIMIT ≤ vec_capacity v)
 
@@ -26,24 +26,24 @@ pub record AreSpare {Y Z : Type 0} (again : Vec (Vec ℕ Z) Y) (count : ℕ) : T
   pub enough : count ≤ vec_len again
   pub each : All IsSpareMessage again.items
 
--- a request that goes out again is short
+-- a retransmitted request has few enough octets
 abbrev pub IsShortResent : Resent → Type 0
 IsShortResent r = length r.octets ≤ MESSAGE_LIMIT
 
--- memory for one datagram's octets, for so many requests that go out again, and for one child's selectors
+-- memory for one datagram's octets, for so many retransmitted requests, and for one child's selectors
 pub record IsSpare (spare : Spare) (count : ℕ) : Type 0 where
   pub octets : (spare.octets.items ≡ []) × (DATAGRAM_LIMIT ≤ vec_capacity spare.octets)
   pub again : AreSpare spare.again count
   pub local : (spare.local.items ≡ []) × (SELECTOR_LIMIT ≤ vec_capacity spare.local)
   pub remote : (spare.remote.items ≡ []) × (SELECTOR_LIMIT ≤ vec_capacity spare.remote)
 
--- room for so many datagrams, one key record and one child
+-- spare capacity for so many datagrams, one key record and one child
 pub record HasRoom (log : Log) (count : ℕ) : Type 0 where
   pub sent : vec_len log.sent + count < vec_capacity log.sent
   pub keyed : vec_len log.keyed < vec_capacity log.keyed
   pub children : vec_len log.children < vec_capacity log.children
 
--- how many requests may go out again by an input: with a moment those that wait for an answer
+-- the most requests that this input may retransmit: for a `Tick` those that wait for an answer
 abbrev pub again_by : Input → Machine → ℕ
 again_by (input.Tick moment) machine = outstanding_count machine.held.associations
 again_by _ machine = 0

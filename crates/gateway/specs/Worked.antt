@@ -1,4 +1,5 @@
--- A worked run, for which the premise on ESP packets is shown to hold: a packet comes, then something else, then the packet again.
+-- A witness run for the assumption on ESP packets: a packet comes, then something else, then the packet
+-- again.
 use Rattle.std.specs.Prelude.{ℕ, false, Option, List, [], ◌∷◌}
 use Rattle.effects.specs.Taking.{Meaning}
 use Rattle.esp.specs.Worked.{repeated_sent, worked_packet, worked_payload}
@@ -17,7 +18,7 @@ use Rattle.gateway.specs.Packets.{table_passages}
 use Rattle.gateway.specs.States.{new_gateway, State}
 use Rattle.gateway.specs.declared.fault.Reason.TheVariants.{Packet}
 
--- a gateway with this table, and no IKE association
+-- a gateway with this table, and no IKE SA
 abbrev pub worked_gateway : {C : Type 0} → Config → C → Database → State C
 worked_gateway {C} config caller table = record (new_gateway config [] table.start caller) { table = table }
 
@@ -29,7 +30,7 @@ first_packet {C} config caller = record {
   after = worked_gateway config caller later_table;
 }
 
--- octets that are no packet come in unprotected
+-- octets that are no IP packet come in unprotected
 abbrev pub another_input : {C : Type 0} → Config → C → Passage C
 another_input {C} config caller = record {
   before = worked_gateway config caller later_table;
@@ -49,7 +50,7 @@ same_packet {C} config caller = record {
 abbrev pub worked_run : {C : Type 0} → Config → C → List (Passage C)
 worked_run {C} config caller = first_packet config caller ∷ another_input config caller ∷ same_packet config caller ∷ []
 
--- these are steps of a gateway in a row, and no check value in them is forged
+-- these are steps of a gateway in a row, and no ICV in them is forged
 pub record IsWorkedRun {C : Type 0} (meaning_of : C → Meaning) (config : Config) (caller : C) : Type 0 where
   pub trail : IsTrail meaning_of (worked_gateway config caller worked_table) (worked_run config caller) (worked_gateway config caller later_table)
   pub unforged : (numbers : List (Option ℕ)) → AreNumbersOf 1 (table_passages (worked_run config caller)) numbers

@@ -1,5 +1,5 @@
--- A worked run, for which the premises on requests and on repeats are shown to hold: a request comes and takes effect, and then it comes
--- again.
+-- A witness run for the assumptions on requests and on retransmissions: a request comes and takes effect,
+-- and then it comes again.
 use Rattle.std.specs.Prelude.{◌≡◌, ◌+◌, ◌≤◌, ℕ, Some, None, List, [], ◌∷◌, false, length, replicate}
 use Rattle.std.specs.FinMap as map
 use Rattle.std.specs.FinSet as set
@@ -24,8 +24,9 @@ use Rattle.gateway.specs.Outputs.{Repeat, Reply}
 use Rattle.gateway.specs.Requests.{for_ike, AnswersBy, IsNew, Opens, TakesEffect}
 use Rattle.gateway.specs.States.{association_in, new_gateway, State}
 
--- What the laws of the traits say of what a caller means by them: what is sealed opens again, and is as long as is told, at most 128 octets
--- longer than the plain text; both ends come to one secret, or both to none; and public values and proofs fit payloads.
+-- The laws of the traits, said of what a provider means. What is sealed opens again, has the length that
+-- the cipher states, and is at most 128 octets longer than the plain text. Both ends come to one shared
+-- secret, or both to none. Public values and proofs fit their payloads.
 pub record CanBeMeant (m : Meaning) : Type 0 where
   pub opens_again : (keys : Keys) (head plain fresh : Octets) → AreSealable keys head plain fresh → m.plain_of keys head (m.body_of keys head plain fresh) ≡ Some plain
   pub sealed_size : ℕ → ℕ
@@ -68,8 +69,9 @@ worked_keys = record {
   sk_pr = worked_key;
 }
 
--- INFORMATIONAL of number 2 without payloads, from the original initiator (RFC 7296, sections 1.4 and 3.1): the SPIs; an encrypted payload
--- first, version 2.0, the exchange, flag I, the number, the length; the header of the encrypted payload, whose body is empty
+-- INFORMATIONAL with Message ID 2 and no payloads, from the original initiator (RFC 7296, sections 1.4 and
+-- 3.1). In order: the SPIs; next payload encrypted, version 2.0, the exchange, flag I, the Message ID, the
+-- length; the header of the encrypted payload, whose body is empty.
 abbrev pub worked_request : Octets
 worked_request =
     0 ∷ 0 ∷ 0 ∷ 0 ∷ 0 ∷ 0 ∷ 0 ∷ 1 ∷ 0 ∷ 0 ∷ 0 ∷ 0 ∷ 0 ∷ 0 ∷ 0 ∷ 2 ∷ 46 ∷ 0x20 ∷ 37 ∷ 0x08 ∷ 0 ∷ 0 ∷ 0 ∷ 2 ∷ 0 ∷ 0 ∷ 0 ∷ 32
@@ -81,18 +83,18 @@ worked_reply =
     0 ∷ 0 ∷ 0 ∷ 0 ∷ 0 ∷ 0 ∷ 0 ∷ 1 ∷ 0 ∷ 0 ∷ 0 ∷ 0 ∷ 0 ∷ 0 ∷ 0 ∷ 2 ∷ 46 ∷ 0x20 ∷ 37 ∷ 0x20 ∷ 0 ∷ 0 ∷ 0 ∷ 2 ∷ 0 ∷ 0 ∷ 0 ∷ 32
     ∷ 0 ∷ 0 ∷ 0 ∷ 4 ∷ []
 
--- IKE_SA_INIT and IKE_AUTH took effect, no reply is kept, and the peer may have one request under way
+-- IKE_SA_INIT and IKE_AUTH are in effect, no response is kept, and the window is one
 abbrev pub first_taken : PeerRequests
 first_taken = record { in_effect = set.insert (set.insert set.empty 0) 1; size = 1; kept = map.empty; room = 0 }
 
 abbrev pub one_more_taken : PeerRequests
 one_more_taken = record first_taken { in_effect = set.insert first_taken.in_effect 2; kept = map.insert first_taken.kept 2 worked_reply }
 
--- a responder's, which was half open before, with the SPIs 1 and 2; it asked for nothing
+-- the responder's IKE SA, which was half open before, with SPIs 1 and 2; it asked for nothing
 abbrev pub worked_association : PeerRequests → Association
 worked_association incoming = with_incoming (established (half_open 1 1 2 worked_keys [] [] 0)) incoming
 
--- a gateway with this association alone, and an empty table
+-- a gateway with this IKE SA alone, and an empty table
 abbrev pub gateway_with : {C : Type 0} → Config → C → Association → State C
 gateway_with {C} config caller a = record (new_gateway config [] 256 caller) {
   machine = record (new_machine config) { held = record { next = 2; associations = a ∷ [] } };
@@ -120,13 +122,14 @@ request_comes_again {C} config caller from fresh = record {
 abbrev pub worked_requests : {C : Type 0} → Config → C → Octets → Fresh → List (Passage C)
 worked_requests {C} config caller from fresh = request_comes config caller from fresh ∷ request_comes_again config caller from fresh ∷ []
 
--- the association is held before a step, and the input opens as the request of number 2
+-- the IKE SA is held before a step, and the input opens as its request with Message ID 2
 pub record IsDelivered {C : Type 0} (p : Passage C) (a : Association) : Type 0 where
   pub held : association_in p.before 1 ≡ Some a
   pub opens : Opens worked_meaning (for_ike p.given) a 2
 
--- These are steps of a gateway in a row, for a caller that there can be. At the first a new request takes effect, and is answered. At the
--- second it opens again, its reply is kept, and it is not left behind, nor new.
+-- These are steps of a gateway in a row, under a provider whose laws hold. At the first a new request takes
+-- effect and is answered. At the second it opens again: its response is kept, and it is neither below the
+-- window nor new.
 pub record IsWorkedRequest {C : Type 0} (config : Config) (caller : C) (from : Octets) (fresh : Fresh) : Type 0 where
   pub trail : IsTrail (λ _. worked_meaning) (gateway_with config caller (worked_association first_taken)) (worked_requests config caller from fresh)
       (gateway_with config caller (worked_association one_more_taken))

@@ -1,5 +1,5 @@
--- A worked world, for which the premises on both ends of a world are shown to hold: each end holds an association under the same keys, the
--- request of one comes to the other and takes effect there, and its response comes back and is counted.
+-- A witness world for the assumptions on both ends: each end holds an IKE SA under the same keys. The
+-- request of one reaches the other and takes effect there, and its response comes back and is matched.
 use Rattle.std.specs.Prelude.{◌≡◌, ◌++◌, true, false, None, List, [], ◌∷◌}
 use Rattle.std.specs.FinMap as map
 use Rattle.std.specs.FinSet as set
@@ -26,14 +26,15 @@ use Rattle.gateway.specs.declared.world.stored.Protection.TheVariants as mark
 abbrev pub asked_request : Request
 asked_request = record { octets = worked_request; purpose = Probe; timer = record { sent = 0; repeats = 0 } }
 
--- The initiator's: its requests of number 0 and 1 are answered, and that of number 2 waits; the peer asked for nothing.
+-- The initiator's: its requests 0 and 1 are answered, request 2 waits, and the peer asked for nothing.
 abbrev pub asking_association : Association
 asking_association = record (worked_association no_requests) {
   role = Initiator;
   outgoing = record { next = 3; answered = first_taken.in_effect; window = 1; outstanding = map.insert map.empty 2 asked_request; room = 0 };
 }
 
--- Both came to the keys. The end A asked by number 1 and was answered, whatever these octets were, and asked by number 2.
+-- Both ends came to the keys. A sent request 1 and was answered, whatever these octets were, and sent
+-- request 2.
 abbrev pub asked_stored : Octets → Octets → Stored
 asked_stored request reply = record {
   sent =
@@ -65,7 +66,7 @@ answered_world {C} config caller request reply = record {
   stored = answered_stored request reply;
 }
 
--- and A counted the response
+-- and A matched the response
 abbrev pub counted_association : Association
 counted_association = record asking_association {
   outgoing = record asking_association.outgoing {
@@ -98,9 +99,10 @@ abbrev pub both_arrive : {C : Type 0} → Config → C → Octets → Octets →
 both_arrive {C} config caller request reply from fresh =
     request_arrives config caller request reply from fresh ∷ response_arrives config caller request reply from fresh ∷ []
 
--- This takes place in a world that is sound under the keys, of two gateways whose states are sound: the request comes to B and takes effect, and its
--- response comes to A and is counted. What comes under the keys was sent so by the other end before, and neither end came to them twice.
--- Both hold the association afterwards, in both directions, and each counts one place for its peer.
+-- This takes place in a world that is sound under the keys, of two gateways whose invariants hold. The
+-- request reaches B and takes effect, and its response reaches A and is matched. What comes under the keys
+-- the other end sent before, and neither end came to them twice. Both hold the IKE SA afterwards, in both
+-- directions, and each counts a window of one for its peer.
 pub record IsWorkedWorld {C : Type 0} (config : Config) (caller : C) (request reply from : Octets) (fresh : Fresh) : Type 0 where
   pub trail : IsWorldTrail (λ _. worked_meaning) (asked_world config caller request reply) (both_arrive config caller request reply from fresh)
       (counted_world config caller request reply)

@@ -1,5 +1,6 @@
--- The children that both ends of a world made: of which messages each was made, and that those of one request mirror each other (RFC 7296
--- sections 1.2, 1.3.1, 2.1, 2.9, 2.17 and 3.14; RFC 4301 sections 4.1 and 4.4.2).
+-- The children that both ends of a world made: of which messages each was made, and that those of one
+-- request mirror each other (RFC 7296 sections 1.2, 1.3.1, 2.1, 2.9, 2.17 and 3.14; RFC 4301 sections 4.1
+-- and 4.4.2).
 use Rattle.std.specs.Prelude.{◌≡◌, ◌⊎◌, ℕ, Bool, true, false, List, [], ◌∷◌, Contains, Some, length}
 use Rattle.std.specs.FinMap as map
 use Rattle.base.specs.Octets.{AreOctets, Octets}
@@ -43,8 +44,8 @@ pub record IsHeaderOf (exchange : ℕ) (response : Bool) (number : ℕ) (h : Hea
   pub response_is : h.flags.response ≡ response
   pub number_is : h.id ≡ number
 
--- The octets are such a message, and seal these payloads under the keys of the end that it is from, as its flag I tells (RFC 7296 sections 3.1
--- and 3.14).
+-- The octets are such a message, and seal these payloads under the keys of the end that sent it, as its
+-- flag I says (RFC 7296 sections 3.1 and 3.14).
 pub record SealsPayloads (body_of : Keys → Octets → Octets → Octets → Octets) (keys : KeyRecord) (exchange : ℕ) (response : Bool) (number : ℕ) (payloads : List Payload) (octets : Octets) : Type 0 where
   pub header : Header
   pub header_is : IsHeaderOf exchange response number header
@@ -56,7 +57,7 @@ pub record SealsPayloads (body_of : Keys → Octets → Octets → Octets → Oc
   pub fresh_long : length fresh ≡ 16
   pub sealed : IsSealed body_of (keys_of sender keys) fresh (record { header = header; payloads = payloads }) octets
 
--- The octets are such a message, and open to these payloads under the keys of the end that it is from.
+-- The octets are such a message, and open to these payloads under the keys of the end that sent it.
 pub record OpensToPayloads (plain_of : Opening) (keys : KeyRecord) (exchange : ℕ) (response : Bool) (number : ℕ) (payloads : List Payload) (octets : Octets) : Type 0 where
   pub message : Message
   pub spelled : Spells message octets
@@ -69,15 +70,16 @@ pub record OpensToPayloads (plain_of : Opening) (keys : KeyRecord) (exchange : �
 
 -- ---- children
 
--- this is what was stored of the pair: what of it stays as long as it stands
+-- this is what was stored of the pair: the parts that never change while it is installed
 pub record IsStoredOf (child : Child) (pair : Pair) : Type 0 where
   pub inbound : child.inbound ≡ simplex_of pair.inbound.association
   pub outbound : child.outbound ≡ simplex_of pair.outbound.association
   pub local : child.local ≡ pair.local
   pub remote : child.remote ≡ pair.remote
 
--- The end asked for the child: it sent a request of the child's number that seals an offer of one proposal, the other end sent a response to it
--- that opens, and the child is what the end that asks has by the payloads of both.
+-- The end asked for the child. It sent a request with the child's Message ID that seals an offer of one
+-- proposal, and the other end sent a response that opens. The child is what the asking end has by the
+-- payloads of both.
 pub record WasAskedFor (body_of : Keys → Octets → Octets → Octets → Octets) (plain_of : Opening) (child : Child) (stored : Stored) : Type 0 where
   pub kind : ChildKind
   pub request : Octets
@@ -94,8 +96,8 @@ pub record WasAskedFor (body_of : Keys → Octets → Octets → Octets → Octe
   pub stored_of : IsStoredOf child pair
   pub is : IsChildOf kind Initiator child.keys asks answers pair
 
--- The end answered for the child: the other end sent a request of the child's number that opens, this end sent a response to it that seals
--- payloads, and the child is what the end that answers has by the payloads of both.
+-- The end answered for the child. The other end sent a request with the child's Message ID that opens, and
+-- this end a response that seals payloads. The child is what the answering end has by the payloads of both.
 pub record WasAnsweredFor (body_of : Keys → Octets → Octets → Octets → Octets) (plain_of : Opening) (child : Child) (stored : Stored) : Type 0 where
   pub kind : ChildKind
   pub request : Octets
@@ -123,9 +125,10 @@ pub record SentRequest (body_of : Keys → Octets → Octets → Octets → Octe
   pub sent : HasSent end keys false number octets stored
   pub sealed : SealsPayloads body_of keys exchange false number payloads octets
 
--- An end that waits for the response of IKE_AUTH sent a request of number 1 that asks for the child which it waits for; and one that waits
--- for a further child sent the request of that number which asks for it. (What was asked is forgotten once the child is made, so it is said here,
--- while the answer is waited for.)
+-- An end that waits for the response of IKE_AUTH sent a request 1 that asks for the child that it waits
+-- for. One that waits for an additional child sent the request of that Message ID which asks for it. (What
+-- was asked is forgotten once the child is made, so it is recorded here, while the response is
+-- outstanding.)
 pub record AsksForItsChildren (body_of : Keys → Octets → Octets → Octets → Octets) (keys : KeyRecord) (end : End) (a : Association) (stored : Stored) : Type 0 where
   pub first : (sent : AuthSent) → a.phase ≡ phase.AuthSent sent
       → (asks : List Payload) × HasChildPayloads asks (child_request (asked_of sent.child)) × SentRequest body_of keys end (exchange_of_child First) 1 asks stored
@@ -134,14 +137,15 @@ pub record AsksForItsChildren (body_of : Keys → Octets → Octets → Octets �
 
 -- ---- both ends
 
--- What holds of the children under a key record, beside what makes a world sound under it. `stored` is what is stored of this world, or of a later
--- one: what is said to be sent is sent there. An end that holds an association asked for the children that it waits for, and each child
--- that was made was asked or answered for by its end.
+-- The invariant of the children under a key record, beside that the world is sound under it. An end that
+-- holds an IKE SA asked for the children that it waits for, and each child that was made was asked for or
+-- answered by its end. `stored` is what is stored of this world or of a later one: what counts as sent
+-- stands there.
 pub record AccountsForChildren {C : Type 0} (body_of : Keys → Octets → Octets → Octets → Octets) (plain_of : Opening) (keys : KeyRecord) (w : WorldState C) (stored : Stored) : Type 0 where
   pub asks : (end : End) (a : Association) → HoldsUnder keys end w a → AsksForItsChildren body_of keys end a stored
   pub made : (child : Child) → Contains w.stored.children child → child.keys ≡ keys → WasMade child.asked body_of plain_of child stored
 
--- one end asked for the child by a request, and the other end answered that, under one key record
+-- one end asked for the child by a request, and the other end answered it, under one key record
 pub record AreOfOneRequest (asked answered : Child) : Type 0 where
   pub keys : answered.keys ≡ asked.keys
   pub ends : answered.end ≡ other_end asked.end
@@ -153,8 +157,8 @@ pub record AreOfOneRequest (asked answered : Child) : Type 0 where
 abbrev pub AreEndsOfOneChild : Child → Child → Type 0
 AreEndsOfOneChild one other = AreOfOneRequest one other ⊎ AreOfOneRequest other one
 
--- What one end sends by the child the other receives by it, under the same SPI and key, with sequence numbers extended in both directions or in
--- none (RFC 4303 section 2.2.1), and what is local to one is remote to the other.
+-- What one end sends by the child, the other receives by it, under the same SPI and key. Both directions
+-- have ESN or neither has (RFC 4303 section 2.2.1), and what is local to one is remote to the other.
 pub record MirrorEachOther (one other : Child) : Type 0 where
   pub inward : one.inbound ≡ other.outbound
   pub outward : one.outbound ≡ other.inbound

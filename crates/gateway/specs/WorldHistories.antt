@@ -1,4 +1,4 @@
--- Events at two ends as the list of their steps.
+-- Events at two ends as the list of their steps (an execution).
 use Rattle.std.specs.Prelude.{◌≡◌, List, [], ◌∷◌, map}
 use Rattle.effects.specs.Taking.{Meaning}
 use Rattle.gateway.specs.Histories.{Passage}
@@ -8,14 +8,14 @@ use Rattle.gateway.specs.Worlds.{gateway_at, if_at, TakesEvent, WorldState}
 use Rattle.gateway.specs.declared.output.Output.{Output}
 use Rattle.gateway.specs.declared.world.stored.End.{End}
 
--- the world before an event, the event, what came of it, and the world after
+-- one transition: the world before an event, the event, its output, and the world after
 pub record Happening (C : Type 0) : Type 0 where
   pub before : WorldState C
   pub event : Event
   pub said : OutputView
   pub after : WorldState C
 
--- events in a row, each from where the one before ended
+-- transitions in a row, each from where the one before ended
 abbrev pub IsWorldTrail : {C : Type 0} → (C → Meaning) → WorldState C → List (Happening C) → WorldState C → Type 0
 IsWorldTrail {C} meaning_of old [] new = new ≡ old
 IsWorldTrail {C} meaning_of old (h ∷ hs) new = (h.before ≡ old) × TakesEvent meaning_of h.event h.before h.said h.after × IsWorldTrail meaning_of h.after hs new

@@ -14,36 +14,37 @@ use Rattle.gateway.specs.declared.fault.RunFault.TheVariants.{NoRoom}
 use Rattle.gateway.specs.declared.output.Output.{Output}
 use Rattle.gateway.specs.declared.world.stored.End.{End}
 
--- an event as the callers of both ends mean it
+-- an event, with what the providers of both ends mean
 abbrev pub HappensAs : {C : Type 0} → (C → Meaning) → Event → WorldState C → Output → WorldState C → Type 0
 HappensAs {C} meaning_of e old o new = TakesEvent meaning_of e old (output_view o) new
 
--- A call with a list of events is a run over it. Calls in a row, each from where the one before ended, are runs by this step, over the list
--- of their lists.
+-- A call with a list of events is a run over it. Calls in a row, each from where the one before ended, are
+-- a run by this step, over the list of their lists.
 abbrev pub CallsWorldAs : {C : Type 0} → (C → Meaning) → List Event → WorldState C → List Output → WorldState C → Type 0
 CallsWorldAs {C} meaning_of events old outputs new = Runs (HappensAs meaning_of) events outputs old new
 
--- what one end is given
+-- the inputs of one end
 abbrev pub inputs_at : End → List Event → List Input
 inputs_at end [] = []
 inputs_at end (e ∷ es) = if_at end e.end e.input (inputs_at end es)
 
--- and what comes of it there
+-- and their outputs there
 abbrev pub outputs_at : End → List Event → List Output → List Output
 outputs_at end [] os = []
 outputs_at end (e ∷ es) [] = []
 outputs_at end (e ∷ es) (o ∷ os) = if_at end e.end o (outputs_at end es os)
 
--- what was stored stands before what came later
+-- the log only grows at its end
 pub record IsLater (old new : Stored) : Type 0 where
   pub more : Stored
   pub sent : new.sent ≡ old.sent ++ more.sent
   pub keyed : new.keyed ≡ old.keyed ++ more.keyed
   pub children : new.children ≡ old.children ++ more.children
 
--- The first so many events took place in order, and their outputs were appended. Each end had its own events in order, whatever happened
--- at the other: what became of it is a run of its gateway alone, whose steps are those of the world at that end, and of which holds what is
--- promised of one. Of both ends together holds what is promised of a world. And what was stored is stored still.
+-- The first so many events took place in order, and their outputs were appended. Each end had its own
+-- events in order, whatever happened at the other. At that end this is a run of its gateway alone, with the
+-- world's steps at that end, and keeps what is promised of a run. Both ends together keep what is promised
+-- of a world. What was stored is still stored.
 pub record PlaysFirst {C : Type 0} (meaning_of : C → Meaning) (count : ℕ) (events : List Event) (old : WorldState C) (before : List Output) (new : WorldState C) (after : List Output) : Type 0 where
   pub outputs : List Output
   pub appended : after ≡ before ++ outputs
@@ -55,7 +56,7 @@ pub record PlaysFirst {C : Type 0} (meaning_of : C → Meaning) (count : ℕ) (e
   pub together : KeepsWorldPromises meaning_of (take count events) outputs old new
   pub stored : IsLater old.stored new.stored
 
--- there was no room for what comes of one more: the list was left after some, and not at its end
+-- there was no memory for one more event: the list was left before its end
 abbrev pub StopsPlaying : {C : Type 0} → (C → Meaning) → List Event → WorldState C → List Output → RunFault → WorldState C → List Output → Type 0
 StopsPlaying meaning_of events old before (NoRoom count) new after =
     (count < length events) × PlaysFirst meaning_of count events old before new after

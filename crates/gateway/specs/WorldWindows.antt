@@ -1,4 +1,5 @@
--- How many requests an end may have under way: no more than the other end is set to take at once (RFC 7296 section 2.3).
+-- How many requests an end may have outstanding: at most as many as the other end is configured to take at
+-- once (RFC 7296 section 2.3).
 use Rattle.std.specs.Prelude.{◌⊎◌, ◌≤◌, ℕ, Bool, List}
 use Rattle.base.specs.Octets.{Octets}
 use Rattle.wire.specs.declared.payload.Payload.{Payload}
@@ -12,18 +13,19 @@ use Rattle.gateway.specs.WorldParties.{HasSent, HoldsUnder}
 use Rattle.gateway.specs.Worlds.{gateway_at, other_end, Stored, WorldState}
 use Rattle.gateway.specs.declared.world.stored.End.{End}
 
--- the window that an end is set to
+-- the window that an end is configured with
 abbrev pub window_at : {C : Type 0} → End → WorldState C → ℕ
 window_at {C} end w = (gateway_at end w).machine.config.window
 
--- the octets seal payloads as a message under these keys, which tell no wider window than this
+-- the octets seal payloads as a message under these keys, and announce no wider window than this
 pub record TellsWindow (body_of : Keys → Octets → Octets → Octets → Octets) (keys : KeyRecord) (response : Bool) (number window : ℕ) (octets : Octets) : Type 0 where
   pub exchange : ℕ
   pub payloads : List Payload
   pub sealed : SealsPayloads body_of keys exchange response number payloads octets
   pub tells : peer_window payloads ≤ window
 
--- the other end sent a message under these keys which opens to payloads that tell as wide a window as this
+-- the other end sent a message under these keys which opens to payloads that announce a window at least as
+-- wide as this
 pub record WasToldWindow (plain_of : Opening) (keys : KeyRecord) (end : End) (window : ℕ) (stored : Stored) : Type 0 where
   pub response : Bool
   pub number : ℕ
@@ -34,13 +36,14 @@ pub record WasToldWindow (plain_of : Opening) (keys : KeyRecord) (end : End) (wi
   pub opened : OpensToPayloads plain_of keys exchange response number payloads octets
   pub within : window ≤ peer_window payloads
 
--- What holds of the windows under a key record: each end is set to take one request at least; what an end sent tells no wider window than it is set
--- to; and what an end counts for the other is one, or what the other told. `stored` is what is stored of this world, or of a later one.
+-- The invariant of the windows under a key record. Each end is configured with a window of at least one,
+-- and announced no wider one. What an end counts for the other is one, or what the other announced.
+-- `stored` is what is stored of this world, or of a later one.
 pub record AccountsForWindows {C : Type 0} (body_of : Keys → Octets → Octets → Octets → Octets) (plain_of : Opening) (keys : KeyRecord) (w : WorldState C) (stored : Stored) : Type 0 where
   pub least : (end : End) → 1 ≤ window_at end w
   pub tells : (end : End) (response : Bool) (number : ℕ) (octets : Octets) → HasSent end keys response number octets w.stored → TellsWindow body_of keys response number (window_at end w) octets
   pub counts : (end : End) (a : Association) → HoldsUnder keys end w a → (a.outgoing.window ≤ 1) ⊎ WasToldWindow plain_of keys end a.outgoing.window stored
 
--- no association counts more for the other end than that is set to take at once
+-- no IKE SA counts a wider window for the other end than that is configured with
 abbrev pub WindowsFit : {C : Type 0} → KeyRecord → WorldState C → Type 0
 WindowsFit {C} keys w = (end : End) (a : Association) → HoldsUnder keys end w a → a.outgoing.window ≤ window_at (other_end end) w

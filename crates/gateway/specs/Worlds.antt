@@ -1,4 +1,5 @@
--- Two gateways, and what is stored of them: what was sent under what, which keys and which children were made.
+-- Two gateways, and the log of them: what was sent under which keys, which keys and which children were
+-- made.
 use Rattle.std.specs.Prelude.{◌≡◌, ◌++◌, ◌∷◌, ℕ, zero, suc, List, [], false, Option, Some, None, map, slice_get, refl, if◌then◌else◌}
 use Rattle.std.specs.Coded.{Coded, code_by, coded×}
 use Rattle.std.specs.Option.{option_map, option_to_list}
@@ -30,7 +31,7 @@ use Rattle.gateway.specs.declared.world.stored.Protection.{Protection}
 use Rattle.gateway.specs.declared.world.stored.Protection.TheVariants as mark
 use Rattle.gateway.specs.declared.world.stored.Simplex.{Simplex}
 
--- all in the order in which it was sent or made
+-- each list in the order in which it was sent or made
 pub record Stored : Type 0 where
   pub sent : List Datagram
   pub keyed : List Keyed
@@ -47,7 +48,7 @@ nothing_stored = record { sent = []; keyed = []; children = [] }
 abbrev pub new_world : {C : Type 0} → State C → State C → WorldState C
 new_world {C} a b = record { a = a; b = b; stored = nothing_stored }
 
--- a gateway that holds no association, has given no SPI, and is at the moment 0
+-- a gateway that holds no IKE SA, has given no SPI, and is at time 0
 pub record HoldsNothing {C : Type 0} (s : State C) : Type 0 where
   pub associations : s.machine.held.associations ≡ []
   pub moment : s.machine.moment ≡ 0
@@ -57,7 +58,7 @@ abbrev pub other_end : End → End
 other_end A = B
 other_end B = A
 
--- with one more at the front, where it is of this end
+-- with one more at the front, if it is of this end
 abbrev pub if_at : {X : Type 0} → End → End → X → List X → List X
 if_at {X} A A x xs = x ∷ xs
 if_at {X} B B x xs = x ∷ xs
@@ -68,7 +69,7 @@ abbrev pub gateway_at : {C : Type 0} → End → WorldState C → State C
 gateway_at A w = w.a
 gateway_at B w = w.b
 
--- the gateway of this end becomes another, and more is stored
+-- the gateway of this end becomes this one, and this is stored
 abbrev pub with_gateway : {C : Type 0} → End → State C → Stored → WorldState C → WorldState C
 with_gateway A gateway stored w = record w { a = gateway; stored = stored }
 with_gateway B gateway stored w = record w { b = gateway; stored = stored }
@@ -77,7 +78,7 @@ with_gateway B gateway stored w = record w { b = gateway; stored = stored }
 abbrev pub simplex_of : Sa → Simplex
 simplex_of a = record { spi = a.spi; key = a.key; extended = a.extended }
 
--- what a message of IKE was sealed under: the keys of the association that its trace names
+-- the keys that sealed a message of IKE: those of the IKE SA that its trace names
 abbrev pub mark_under : ike.Mark → Option KeyRecord → Protection
 mark_under sent None = mark.Plain
 mark_under sent (Some keys) = mark.Ike keys sent.response sent.number
@@ -86,28 +87,28 @@ abbrev pub ike_mark : Machine → Option ike.Mark → Protection
 ike_mark machine None = mark.Plain
 ike_mark machine (Some sent) = mark_under sent (keys_of_serial sent.ike machine.held.associations)
 
--- what a packet was sealed by
+-- the outbound SA that sealed a packet
 abbrev pub mark_by : ℕ → Option Pair → Protection
 mark_by number None = mark.Plain
 mark_by number (Some pair) = mark.Esp (simplex_of pair.outbound.association) number
 
--- the pair under this serial, which a packet was sealed by
+-- the pair under this serial, which sealed a packet
 abbrev pub esp_mark : Database → ℕ → ℕ → Protection
 esp_mark table child number = mark_by number (pair_at table.pairs child)
 
 abbrev pub datagram_of : End → Protection → Octets → Datagram
 datagram_of end m octets = record { end = end; mark = m; octets = octets }
 
--- a message under SK is marked so: under some key record, as this response or request
+-- an encrypted message is stored so: under some key record, as this response or request
 pub record IsMarked (sent : ike.Mark) (m : Protection) : Type 0 where
   pub keys : KeyRecord
   pub is : m ≡ mark.Ike keys sent.response sent.number
 
--- what a request that goes out again was sealed under
+-- the keys that sealed a retransmitted request
 abbrev pub mark_again : Resent → Option ike.Mark
 mark_again r = if r.encrypted then Some (record { ike = r.ike; response = false; number = r.number }) else None
 
--- a request that goes out again, as it is stored
+-- a retransmitted request, as it is stored
 abbrev pub again_as : End → Machine → Resent → Datagram
 again_as end machine r = datagram_of end (ike_mark machine (mark_again r)) r.octets
 
@@ -115,7 +116,7 @@ abbrev pub requests_in : OutputView → List Resent
 requests_in (Ticked requests closed) = requests
 requests_in _ = []
 
--- the datagram that a step sent, if it was no request that goes out again
+-- the datagram that a step sent, if it was no retransmitted request
 abbrev pub sent_once : {C : Type 0} → End → OutputView → Option ike.Mark → State C → List Datagram
 sent_once end (Reply octets closed) sent gateway = datagram_of end (ike_mark gateway.machine sent) octets ∷ []
 sent_once end (Repeat octets) sent gateway = datagram_of end (ike_mark gateway.machine sent) octets ∷ []
@@ -165,7 +166,7 @@ child_by end None gateway = None
 child_by end (Some made) gateway =
     child_with end made (keys_of_serial made.ike gateway.machine.held.associations) (pair_at gateway.table.pairs made.serial)
 
--- what is stored after a step of an end, of which this is the gateway after
+-- what is stored after a step of an end, whose gateway is then this one
 abbrev pub storing : {C : Type 0} → End → OutputView → Trace → State C → Stored → Stored
 storing end said trace gateway old = record {
   sent = old.sent ++ sent_by end said trace.sent gateway;
@@ -173,12 +174,13 @@ storing end said trace gateway old = record {
   children = old.children ++ option_to_list (child_by end trace.child gateway);
 }
 
--- the octets for sealing that a step is given are 16, as every value of their type has them
+-- the fresh octets for sealing are 16, as for every value of their type
 abbrev pub IsFreshlyGiven : Option ike_steps.InputView → Type 0
 IsFreshlyGiven None = Unit {0}
 IsFreshlyGiven (Some given) = HasFresh given
 
--- One end, of which holds what holds of every gateway, takes a step: what it sent and made is stored, and the other end is as it was.
+-- One end, whose invariant holds, takes a step. What it sent and made is stored, and the other end is as it
+-- was.
 pub record TakesEvent {C : Type 0} (meaning_of : C → Meaning) (event : Event) (old : WorldState C) (said : OutputView) (new : WorldState C) : Type 0 where
   pub sound : IsSoundState (gateway_at event.end old)
   pub fresh : IsFreshlyGiven (for_ike event.input)
@@ -187,7 +189,7 @@ pub record TakesEvent {C : Type 0} (meaning_of : C → Meaning) (event : Event) 
   pub traces : Traces (meaning_of (gateway_at event.end old).caller) event.input (gateway_at event.end old) said trace gateway
   pub content : new ≡ with_gateway event.end gateway (storing event.end said trace gateway old.stored) old
 
--- the octets of the datagram of this place in the order of sending, counted from 1
+-- the octets of the datagram at this place in the order of sending, counted from 1
 abbrev pub datagram_at : List Datagram → ℕ → Option Octets
 datagram_at sent zero = None
 datagram_at sent (suc place) = option_map (λ d. d.octets) (slice_get sent place)

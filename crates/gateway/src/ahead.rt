@@ -1,4 +1,4 @@
-//! Check values of the ESP packets of a group of inputs, computed side by side before any of the inputs is taken.
+//! ICVs of the ESP packets of a group of inputs, computed side by side before any of the inputs is taken.
 ghost use Rattle.std.specs.Prelude.{◌≡◌, ◌≤◌, None, get_or, length, map};
 ghost use Rattle.esp.specs.Precomputed.{ArePrecomputed, AreQuestions};
 ghost use Rattle.gateway.specs.Groups.{packets_in};
@@ -9,7 +9,8 @@ use esp::{GROUP, Precomputed, Question, precompute};
 use sadb::Table;
 use traffic::question;
 
-/// The check values of the ESP packets among these inputs, each at its input's place, where it gains time to compute them side by side.
+/// The ICVs of the ESP packets among these inputs, each at its input's place. Computed only where that is
+/// faster side by side.
 pub fn values_ahead(table: &Table, inputs: &[Input<'_>]) -> [Option<Precomputed>; GROUP]
     requires { length inputs.now ≤ GROUP }
     ensures { ArePrecomputed (packets_in (map input_view inputs.now)) result }
@@ -17,7 +18,7 @@ pub fn values_ahead(table: &Table, inputs: &[Input<'_>]) -> [Option<Precomputed>
     precompute(&questions_of(table, inputs))
 }
 
-// What the check values are computed from, as the table is at the group's head.
+// What the ICVs are computed from, by the table as it is at the group's beginning.
 fn questions_of<'a>(table: &'a Table, inputs: &[Input<'a>]) -> [Option<Question<'a>>; GROUP]
     requires { length inputs.now ≤ GROUP }
     ensures questions { AreQuestions (packets_in (map input_view inputs.now)) result }
@@ -32,7 +33,7 @@ fn questions_of<'a>(table: &'a Table, inputs: &[Input<'a>]) -> [Option<Question<
     questions
 }
 
-/// The value that was computed ahead for the input at a place, if there is one.
+/// The ICV that was computed ahead for the input at a place, if there is one.
 pub fn value_at(ahead: &[Option<Precomputed>], place: usize) -> Option<Precomputed>
     ensures { result ≡ get_or ahead.now place None }
 {

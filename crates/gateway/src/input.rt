@@ -1,8 +1,9 @@
-//! What a gateway is given.
+//! The inputs of a gateway.
 
 use suite::Fresh;
 
-/// What a gateway is given. Octets are lent, so one buffer serves for all that is read; what goes up or on is a part of what was lent.
+/// One input of a gateway. Octets are borrowed, so a host can read everything into one buffer. A packet
+/// that is delivered or passed on is a part of that buffer.
 #[derive(Clone, Copy, Drop)]
 pub enum Input<'a> {
     /// A datagram of IKE that came from an IPv4 address.
@@ -15,42 +16,45 @@ pub enum Input<'a> {
     Esp {
         octets: &'a [u8],
     },
-    /// A packet on its way out.
+    /// A packet from the inside, on its way out.
     Outward {
         packet: &'a [u8],
     },
-    /// A packet that came in unprotected.
+    /// A packet that came from outside without protection.
     Inward {
         packet: &'a [u8],
     },
-    /// The order to ask the peer for a child by an entry of the policy, its number counted from 0: with a new IKE association where
-    /// no serial is given, and otherwise a further child of the one with this serial (RFC 7296, section 1.3.1).
+    /// Command: ask the peer for a Child SA by an entry of the policy, counted from 0. Where `ike` is none,
+    /// with a new IKE SA; otherwise an additional child of the IKE SA with this serial (RFC 7296, section
+    /// 1.3.1).
     Start {
         ike: Option<u32>,
         entry: u32,
         fresh: &'a Fresh,
     },
-    /// The order to ask the peer whether it is there, under the IKE association with this serial (RFC 7296, section 2.4).
+    /// Command: a liveness check, an empty INFORMATIONAL request under the IKE SA with this serial (RFC
+    /// 7296, section 2.4).
     Probe {
         ike: u32,
         fresh: &'a Fresh,
     },
-    /// The order to delete the child with this serial (RFC 7296, section 1.4.1): from then on it carries nothing outward, and it goes with
-    /// the peer's answer.
+    /// Command: delete the Child SA with this serial (RFC 7296, section 1.4.1). It stops sending at once,
+    /// and is removed when the peer answers.
     DeleteChild {
         child: u32,
         fresh: &'a Fresh,
     },
-    /// The order to delete the IKE association with this serial, with all its children (RFC 7296, section 1.4.1).
+    /// Command: delete the IKE SA with this serial and all its children (RFC 7296, section 1.4.1).
     DeleteIke {
         ike: u32,
         fresh: &'a Fresh,
     },
-    /// The order to make cookies under another secret (RFC 7296, section 2.6).
+    /// Command: make cookies under a new secret from now on (RFC 7296, section 2.6).
     Secret {
         secret: &'a [u8; 32],
     },
-    /// The time, in milliseconds from any beginning. An earlier moment than before counts as the one before.
+    /// The time in milliseconds, counted from any beginning. All timers run on it. A time before the
+    /// greatest so far counts as that one.
     Tick {
         moment: u64,
     },

@@ -1,5 +1,5 @@
-//! What follows from the definitions alone. A law is a function that does nothing: its contract is the statement, which stands in
-//! `specs/LawsOf..` under a name of its own, and its sentence stands above it.
+//! Lemmas on the definitions. Each function here does nothing: its contract is the statement, which stands
+//! in `specs/LawsOf..` under a name of its own. The comment above the function says it in words.
 
 mod outputs;
 mod packets;
@@ -17,10 +17,11 @@ pub use packets::{
 };
 pub use runs::{
     every_run_keeps_its_promises, runs_in_a_row_are_one_run, the_premises_of_packets_are_met,
-    the_premises_of_requests_are_met,
+    the_premises_of_requests_are_met, the_established_of_new_gateways_proved_themselves,
 };
 pub use steps::{
     nothing_comes_before_the_next_moment, refusals_change_nothing, steps_are_determined,
+    the_next_moment_brings_something,
     what_is_quiet_changes_nothing,
 };
 pub use together::{

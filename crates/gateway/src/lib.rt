@@ -1,62 +1,240 @@
-//! One gateway (RFC 4301): the machine of IKE and the path of packets, over one association table and one policy. Inputs go in,
-//! datagrams, packets and orders of this end, and outputs come out, packets and named refusals.
+//! One gateway (RFC 4301): the IKE machine and the packet path, over one table of SA pairs (SAD) and one
+//! policy (SPD). Inputs are datagrams, packets, commands and the time; outputs are datagrams, packets and
+//! error codes.
 //!
-//! [`Gateway::step`] takes one input, [`run`] a list of them. [`World`] holds two gateways; [`run_world`] gives each its events in order,
-//! stores what they sent and made, and promises of both together what [`lockstep`] says of two parties, that neither counts a wider
-//! window for the other than that is set to, that the children of one request mirror each other, and that what goes up at one end the
-//! other sealed. What a step does is said by the crates below: [`ike`] of datagrams of IKE and of orders, [`traffic`] of packets. Here it is
-//! said which of them an input goes to, and what stays as it was: the policy and the caller always, and the machine of IKE where a packet
-//! comes. What follows from the definitions alone is in [`laws`].
+//! [`Gateway::step`] takes one input, [`run`] a list of them. What a step does is said by the crates below:
+//! [`ike`] for IKE datagrams and commands, [`traffic`] for packets. This crate says which of them an input
+//! goes to, and what stays unchanged: the policy and the provider always, the IKE machine where a packet
+//! comes. Lemmas on the definitions are in [`laws`].
+//!
+//! [`World`] holds two gateways, for tests and proofs. [`run_world`] gives each its events in order, and
+//! stores what they sent and made. Of both together it promises:
+//!
+//! - Message IDs keep in step, as [`lockstep`] says of two parties;
+//! - neither end assumes a wider window than its peer is configured with;
+//! - the children of one request mirror each other;
+//! - what one end delivers, the other sealed.
+//!
+//! # Inputs and outputs
+//!
+//! A host gives each datagram and packet as an [`Input`] that lends its octets, commands (`Start`, `Probe`,
+//! `DeleteChild`, `DeleteIke`), and moments: milliseconds of a clock of its own, which never goes back.
+//! `Start` names an entry by its place in the policy; with `ike: None` it begins a new IKE SA, with an IKE
+//! SA's serial it asks that one for a further child. Serials count from 1, and
+//! `table().after(0)` is the first child there is. [`Fresh`] is random octets, drawn anew for each input.
+//!
+//! What comes is an [`Output`], which prints as one line:
+//!
+//! - `Request`, `Reply`, `Repeat`, `Ticked` and `Sealed` have something to send:
+//!   [`datagrams`](Output::datagrams) tells what, as `&[u8]`;
+//! - `Up` has a packet for the inside, `Clear` one that the policy lets pass as it is;
+//! - `Counted` is an answer that counted, `Dummy` a packet to be thrown away, `Done` a command that was
+//!   carried out; where `closed` is told, an IKE SA ended, and the host may start anew;
+//! - nothing came of it: `Dropped` where what came or was to be sent doesn't fit (`dropped: E16: the number
+//!   was taken already`), `Refused` where a command can't be carried out or memory ran out, `Discarded`
+//!   where the policy says so, or no entry covers the packet.
+//!
+//! What the examples' errors are is `std::test::Fail`; a program may take `anyhow::Error`. Several gateways of
+//! one host take first SPIs at least 65,536 apart.
+//!
+//! # A whole host
 //!
 //! ```rust
 //! use caller_script::ScriptCaller; // hides nothing: for real peers it is caller_peer::PeerCaller
 //! use gateway::{Address, Config, EndConfig, Entry, Fresh, Gateway, Identity, Input};
-//! use gateway::{Items, Policy, Range, Transmit, first_spi};
+//! use gateway::{Items, Output, Policy, Range, Transmit, first_spi};
+//! use std::alloc::Global;
+//! use std::mem;
+//! use std::test::Fail;
 //!
-//! let own = EndConfig {
-//!     identity: Identity::fqdn(rt.alloc(), "a.example")?,
-//!     address: [192, 0, 2, 1],
-//! };
-//! let peer = EndConfig {
-//!     identity: Identity::fqdn(rt.alloc(), "b.example")?,
-//!     address: [192, 0, 2, 2],
-//! };
-//! let config = Config::new(own, peer, &[0; 32])?;
-//! let local = Range::prefix(Address::v4([10, 0, 0, 0]), 24)?;
-//! let remote = Range::prefix(Address::v4([10, 1, 0, 0]), 24)?;
-//! let entry = Entry::protect(local, remote);
-//! let policy = Policy::new(Items::from_slice(rt.alloc(), &[entry])?)?;
-//! let start = first_spi(4096)?;
-//! let mut gateway = Gateway::new(rt.alloc(), config, policy, start, ScriptCaller);
+//! // What an end sends: by UDP, from port 500 to port 500, or by IP, as protocol 50.
+//! #[derive(Drop)]
+//! enum Sent {
+//!     Udp(Items<u8>),
+//!     Ip(Items<u8>),
+//! }
 //!
-//! gateway.step(rt.alloc(), &Input::Tick { moment: 0 });
-//! // Of random octets, drawn anew for each input that has them.
-//! let fresh = Fresh {
-//!     spi: 1,
-//!     nonce: [9; 32],
-//!     secret: [7; 32],
-//!     seal: [0; 16],
-//! };
-//! let beginning = Input::Start {
-//!     ike: None,
-//!     entry: 0,
-//!     fresh: &fresh,
-//! };
-//! let output = gateway.step(rt.alloc(), &beginning);
-//! for datagram in output.datagrams() {
-//!     match datagram {
-//!         Transmit::Ike(octets) => assert_eq!(rt; octets.len(), 148), // by UDP, to port 500
-//!         Transmit::Esp(_) => return Err(Fail::new("no packet was given")), // by IP, as protocol 50
+//! // The end of a site: site N has the addresses 10.N.0.0/16. A real host has sockets in place of `sent`, an interface in place of `up`,
+//! // and its system's random octets in place of `drawn`.
+//! #[derive(Drop)]
+//! struct Host {
+//!     gateway: Gateway<ScriptCaller>,
+//!     site: u8,
+//!     sent: Vec<Sent>,
+//!     up: Vec<Items<u8>>,
+//!     drawn: u8,
+//! }
+//!
+//! fn end_of(alloc: Global, site: u8) -> Result<EndConfig, Fail> {
+//!     let address = [192, 0, 2, site];
+//!     let identity = Identity::address(alloc, address)?; // or Identity::fqdn(alloc, "a.example")?
+//!     Ok(EndConfig { identity, address })
+//! }
+//!
+//! impl Host {
+//!     fn new(alloc: Global, site: u8, peer: u8) -> Result<Host, Fail> {
+//!         let secret = [site; 32]; // of cookies: random octets too
+//!         let config = Config::new(end_of(alloc, site)?, end_of(alloc, peer)?, &secret)?;
+//!         let local = Range::prefix(Address::v4([10, site, 0, 0]), 16)?;
+//!         let remote = Range::prefix(Address::v4([10, peer, 0, 0]), 16)?;
+//!         let entry = Entry::protect(local, remote);
+//!         let policy = Policy::new(Items::from_slice(alloc, &[entry])?)?;
+//!         let start = first_spi(4096)?;
+//!         Ok(Host {
+//!             gateway: Gateway::new(alloc, config, policy, start, ScriptCaller),
+//!             site,
+//!             sent: Vec::new(alloc),
+//!             up: Vec::new(alloc),
+//!             drawn: site,
+//!         })
+//!     }
+//!
+//!     // Drawn anew for each input that has it.
+//!     fn draw(&mut self) -> Fresh {
+//!         self.drawn = self.drawn.wrapping_add(2);
+//!         Fresh {
+//!             spi: u64::from(self.drawn),
+//!             nonce: [self.drawn; 32],
+//!             secret: [self.drawn; 32],
+//!             seal: [self.drawn; 16],
+//!         }
+//!     }
+//!
+//!     // One input, and what comes of it.
+//!     fn take(&mut self, alloc: Global, input: &Input<'_>) -> Result<(), Fail> {
+//!         let output = self.gateway.step(alloc, input);
+//!         for datagram in output.datagrams() {
+//!             self.sent.push(match datagram {
+//!                 Transmit::Ike(octets) => Sent::Udp(Items::from_slice(alloc, octets)?),
+//!                 Transmit::Esp(octets) => Sent::Ip(Items::from_slice(alloc, octets)?),
+//!             })?;
+//!         }
+//!         if let Output::Up { packet, .. } = output {
+//!             self.up.push(Items::from_slice(alloc, packet)?)?;
+//!         }
+//!         Ok(())
+//!     }
+//!
+//!     fn has_child(&self) -> bool {
+//!         self.gateway.table().after(0).is_some()
 //!     }
 //! }
-//! assert_eq!(rt; gateway.next_moment(), Some(1000)); // until then a host may sleep
+//!
+//! // The wire: what one end sent comes to the other one, but each third datagram is lost.
+//! fn carry(alloc: Global, count: &mut u8, from: &mut Host, to: &mut Host) -> Result<(), Fail> {
+//!     for datagram in mem::replace(&mut from.sent, Vec::new(alloc)) {
+//!         let fresh = to.draw();
+//!         let input = match &datagram {
+//!             Sent::Udp(octets) => Input::Ike {
+//!                 from: [192, 0, 2, from.site],
+//!                 octets: octets.as_slice(),
+//!                 fresh: &fresh,
+//!             },
+//!             Sent::Ip(octets) => Input::Esp {
+//!                 octets: octets.as_slice(),
+//!             },
+//!         };
+//!         *count = *count % 3 + 1;
+//!         if *count != 3 {
+//!             to.take(alloc, &input)?;
+//!         }
+//!     }
+//!     Ok(())
+//! }
+//!
+//! // What waits at both ends is carried.
+//! fn exchange(alloc: Global, count: &mut u8, a: &mut Host, b: &mut Host) -> Result<(), Fail> {
+//!     carry(alloc, count, a, b)?;
+//!     carry(alloc, count, b, a)
+//! }
+//!
+//! // Where nothing is on its way, time jumps to what is due next. A real host sleeps until then, or until a datagram comes.
+//! fn wait(alloc: Global, a: &mut Host, b: &mut Host) -> Result<(), Fail> {
+//!     let due = a.gateway.next_moment().unwrap_or(u64::MAX);
+//!     let moment = b.gateway.next_moment().unwrap_or(due).min(due);
+//!     a.take(alloc, &Input::Tick { moment })?;
+//!     b.take(alloc, &Input::Tick { moment })
+//! }
+//!
+//! // The end `a` begins; done once both hold a child.
+//! fn meet(alloc: Global, count: &mut u8, a: &mut Host, b: &mut Host) -> Result<(), Fail> {
+//!     let fresh = a.draw();
+//!     let beginning = Input::Start {
+//!         ike: None,
+//!         entry: 0,
+//!         fresh: &fresh,
+//!     };
+//!     a.take(alloc, &beginning)?;
+//!     for _ in 0..20u32 {
+//!         exchange(alloc, count, a, b)?;
+//!         if a.has_child() && b.has_child() {
+//!             break;
+//!         }
+//!         if a.sent.is_empty() {
+//!             wait(alloc, a, b)?;
+//!         }
+//!     }
+//!     Ok(())
+//! }
+//!
+//! // A packet goes out at `a`, twice, since nobody sends again what is lost of ESP; what came up at `b` last.
+//! fn send(
+//!     alloc: Global,
+//!     count: &mut u8,
+//!     a: &mut Host,
+//!     b: &mut Host,
+//!     packet: &[u8],
+//! ) -> Result<Items<u8>, Fail> {
+//!     for _ in 0..2u32 {
+//!         a.take(alloc, &Input::Outward { packet })?;
+//!         carry(alloc, count, a, b)?;
+//!     }
+//!     Ok(b.up.pop().ok_or("nothing went up")?)
+//! }
+//!
+//! let alloc = rt.alloc();
+//! let mut a = Host::new(alloc, 1, 2)?;
+//! let mut b = Host::new(alloc, 2, 1)?;
+//! let mut count = 0;
+//! meet(alloc, &mut count, &mut a, &mut b)?;
+//! // From 10.1.0.1 to 10.2.0.1.
+//! let packet = [
+//!     0x45, 0, 0, 20, 0, 0, 0, 0, 64, 1, 0, 0, 10, 1, 0, 1, 10, 2, 0, 1,
+//! ];
+//! let up = send(alloc, &mut count, &mut a, &mut b, &packet)?;
+//! assert_eq!(rt; up.as_slice(), packet.as_slice());
 //! ```
+//!
+//! # How it is proved
+//!
+//! The loops of [`run`] have the run so far as their invariant: one input more within a group, then one
+//! group more. `every_run_keeps_its_promises` does the rest, on lists alone. `proofs/HistoryLemmas` makes
+//! transitions of a run, by induction on the inputs, and follows one IKE SA from one transition to a later
+//! one, by induction on the later one's place. `PromiseLemmas` joins the parts:
+//!
+//! - requests and retransmissions (`RequestLemmas`), from what [`ike`] says of one step. They know no
+//!   message, key or number beside;
+//! - timers (`MomentLemmas`): each gateway is timely before and after each step (`IsTimely`), as [`ike`]
+//!   shows;
+//! - ESP packets (`DeliveryLemmas`): seen from its table, a run is a trail of [`deliveries`], whose theorem
+//!   is carried back;
+//! - who is established (`AuthenticationLemmas`), by induction on the place: each step keeps the keys, or
+//!   its datagram proves the peer;
+//! - what is refused changes nothing but spare capacity (`LawLemmas`).
+//!
+//! Of two gateways, a step is a turn of its party in [`lockstep`] (`TurnLemmas`), and by induction on the
+//! events both parties stay sound (`SoundWorldLemmas`). Windows, children and pairs have invariants of their
+//! own, kept event by event (`WindowWorldLemmas`, `ChildLemmas`, `PairLemmas`). `CarryLemmas` joins these,
+//! with `MirrorLemmas` and what [`traffic`] says of mirrored pairs. `World` reserves all memory before a
+//! step (`FittingLemmas`), so nothing that was sent is lost. The files `Worked..` show that the assumptions
+//! can be met.
 #![tactic(auto)]
 
 mod ahead;
 mod fault;
 mod input;
 pub mod laws;
+mod line;
 mod machine;
 mod output;
 mod running;
@@ -64,7 +242,7 @@ mod stepping;
 mod transmit;
 mod world;
 
-// What a host needs to make a gateway, to read what it tells, and to name why it refuses.
+// What a host needs to make a gateway, to read its outputs, and to name its refusals.
 pub use association::{Association, MessageFault};
 pub use auth::{Identity, IdentityFault};
 pub use base::{Address, Items, PrefixFault, Range, Selector};

@@ -29,8 +29,9 @@ use std::alloc::Global;
 use std::marker::Model;
 use suite::{Agreement, KeyRecord, Proof, Sealer};
 
-/// A gateway: the machine of IKE, the table of associations for ESP that goes with it, the policy, and the caller. What it
-/// remembers of flows is in no contract: each answer is the one that a look-up would find.
+/// A gateway: the IKE machine, the table of SA pairs (SAD), the policy (SPD), and the crypto provider. It
+/// also remembers what is done with flows. No contract speaks of that memory, since each answer is the one
+/// that a look-up would give.
 #[derive(Drop)]
 pub struct Gateway<C> {
     ike: Ike,
@@ -60,8 +61,8 @@ impl<C> Model for Gateway<C> {
 }
 
 impl<C> Gateway<C> {
-    /// A gateway with no association, at the moment 0. Takes no memory. The first inbound SPI for ESP is `start`, from 256 to
-    /// 2^32 - 65,536, as [`first_spi`](crate::first_spi) has it.
+    /// A gateway without SAs, at time 0. Takes no memory. `start` is the first inbound SPI for ESP, from
+    /// 256 to 2^32 - 65,536 ([`first_spi`](crate::first_spi)).
     pub fn new(alloc: Global, config: Config, policy: Policy, start: u32, caller: C) -> Gateway<C>
         requires start { IsStart start }
         ensures { result ≡ new_gateway config policy start caller }
@@ -78,34 +79,37 @@ impl<C> Gateway<C> {
         }
     }
 
-    /// The associations for ESP.
+    /// The table of SA pairs for ESP.
     pub fn table(&self) -> &Table
         ensures { result.now ≡ self.now.table }
     {
         &self.table
     }
 
-    /// The IKE associations, by rising serial.
+    /// The IKE SAs, by rising serial.
     pub fn associations(&self) -> &[Association]
         ensures { result.now ≡ self.now.machine.held.associations }
     {
         self.ike.associations()
     }
 
-    /// The keys of the IKE association with this serial, where both ends have come to them.
+    /// The key record of the IKE SA with this serial. None where the IKE SA is not held, or has no keys
+    /// yet.
     pub fn keys_of(&self, serial: u32) -> Option<&KeyRecord>
         ensures { option_copied result ≡ keys_of_serial serial self.now.machine.held.associations }
     {
         self.ike.keys_of(serial)
     }
 
-    /// The least moment at which [`Input::Tick`] sends, closes or removes anything, in its milliseconds: a request is sent again, one has
-    /// failed, or a half-open or closed association is over (RFC 7296, sections 2.1 and 2.4). None where no moment of 64 bits does. A host
-    /// that has nothing else to do may sleep until then. Takes no memory.
+    /// The earliest time, in milliseconds, at which [`Input::Tick`] does anything: retransmits a request,
+    /// gives a request up, or removes a half-open or closed IKE SA (RFC 7296, sections 2.1 and 2.4). None
+    /// where no time of 64 bits does. A host that has nothing else to do may sleep until then. Takes no
+    /// memory.
     ///
     /// It lies after the greatest moment so far. A step may bring it nearer or put it off, so it is asked for anew after each. Before it a
     /// moment changes nothing else
-    /// ([`nothing_comes_before_the_next_moment`](crate::laws::nothing_comes_before_the_next_moment)).
+    /// ([`nothing_comes_before_the_next_moment`](crate::laws::nothing_comes_before_the_next_moment)), and this one does something, where
+    /// memory doesn't run out ([`the_next_moment_brings_something`](crate::laws::the_next_moment_brings_something)).
     pub fn next_moment(&self) -> Option<u64>
         ensures early { NothingIsDueBefore result self.now.machine.held.associations }
         ensures due { IfSome result (λ moment. SomethingIsDue moment self.now.machine.held.associations) }
@@ -114,8 +118,9 @@ impl<C> Gateway<C> {
         self.ike.next_moment()
     }
 
-    /// What holds of every gateway: its machine is sound with its table, and so is the table; nothing is due that the greatest moment so far
-    /// has reached; and each SPI that is reserved in the table is held by an association for a child that it asked for. Does nothing.
+    /// The invariant of every gateway, as a function that does nothing. Machine and table satisfy theirs.
+    /// Nothing is overdue at the greatest time so far. Each SPI that is reserved in the table is held by an
+    /// IKE SA, for a child that it asked for.
     pub fn invariants_hold(&self)
         ensures machine { IsSoundMachine self.now.machine self.now.table }
         ensures table { IsSoundTable self.now.table }
@@ -127,14 +132,15 @@ impl<C> Gateway<C> {
 }
 
 impl<C: Sealer + Agreement + Proof> Gateway<C> {
-    /// One step: takes an input, and answers its output.
+    /// One step: takes an input, and returns its output.
     ///
-    /// Datagrams of IKE and orders are refused or dropped as [`Ike::step`] says, packets dropped as [`traffic::receive`],
-    /// [`traffic::send`] and [`traffic::admit`] say. A packet on its way out is refused ([`Reason::Memory`](crate::Reason), E20) for want of
-    /// memory for its ESP packet; an ESP packet that came takes none. A moment that brings nothing is never refused. What is done with flows
-    /// outward is remembered, as far as there is memory for it.
+    /// Datagrams of IKE and commands are refused or dropped as [`Ike::step`] says, packets as
+    /// [`traffic::receive`], [`traffic::send`] and [`traffic::admit`] say. An outbound packet is refused
+    /// ([`Reason::Memory`](crate::Reason), E20) where there is no memory for its ESP packet; an ESP packet
+    /// that came takes none. A `Tick` at which nothing is due is never refused. What is done with outbound
+    /// flows is remembered as far as there is memory.
     ///
-    /// What is refused changes nothing but the table's room.
+    /// A refused input changes nothing but the table's spare capacity.
     pub fn step<'a>(&mut self, alloc: Global, input: &Input<'a>) -> Output<'a>
         ensures { Steps
             (meaning_of C.Sealer C.Agreement C.Proof self.old.caller)
@@ -143,7 +149,7 @@ impl<C: Sealer + Agreement + Proof> Gateway<C> {
         self.traced_step(alloc, input).output
     }
 
-    // One step as [`step`](Gateway::step), with an ESP packet's check value where that was computed before.
+    // One step as [`step`](Gateway::step), with an ESP packet's ICV where that was computed ahead.
     pub(crate) fn step_ahead<'a>(
         &mut self,
         alloc: Global,
@@ -158,8 +164,8 @@ impl<C: Sealer + Agreement + Proof> Gateway<C> {
         self.traced_ahead(alloc, input, ahead).output
     }
 
-    /// One step as [`step`](Gateway::step), that also answers which message it sent under which keys of IKE, and which keys and which
-    /// child it made.
+    /// One step as [`step`](Gateway::step), that also returns the trace: which message was sent under which
+    /// IKE keys, and which keys and which child were made.
     pub fn traced_step<'a>(&mut self, alloc: Global, input: &Input<'a>) -> Traced<'a>
         ensures { Traces
             (meaning_of C.Sealer C.Agreement C.Proof self.old.caller)
@@ -168,7 +174,8 @@ impl<C: Sealer + Agreement + Proof> Gateway<C> {
         self.traced_ahead(alloc, input, None)
     }
 
-    // One step as [`traced_step`](Gateway::traced_step), with an ESP packet's check value where that was computed before.
+    // One step as [`traced_step`](Gateway::traced_step), with an ESP packet's ICV where that was computed
+    // ahead.
     fn traced_ahead<'a>(
         &mut self,
         alloc: Global,

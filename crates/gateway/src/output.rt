@@ -1,4 +1,4 @@
-//! What comes of an input.
+//! The outputs of a gateway.
 ghost use Rattle.std.specs.Prelude.{◌≡◌};
 ghost use Rattle.ike.specs.Outputs.{no_trace};
 ghost use Rattle.gateway.specs.Outputs.{output_view, view_of_ike, view_of_outcome};
@@ -8,80 +8,81 @@ use crate::Reason;
 use base::Items;
 use ike::{IkeOutput, Stepped, Trace};
 use moments::{Resent, Ticked};
-use std::fmt;
 use traffic::{Admission, Arrival, Departure};
 
-/// What comes of an input. IKE associations and children are named by their serials.
+/// What comes of one input. IKE SAs and children are named by their serials.
 #[derive(Debug, Drop, PartialEq, Eq)]
 pub enum Output<'a> {
-    /// A request of IKE took effect, and these octets answer it.
+    /// A request of the peer is answered for the first time, by these octets. It took effect, or it is one
+    /// of IKE_SA_INIT that gets a notice alone, such as a cookie.
     Reply {
         octets: Items<u8>,
-        /// The association that it closed.
+        /// The IKE SA that the request closed, if it did.
         closed: Option<u32>,
     },
-    /// A request that took effect before is answered by the same octets again.
+    /// The peer retransmitted a request that took effect before; these are the octets of the first
+    /// response.
     Repeat {
         octets: Items<u8>,
     },
-    /// A request of this end goes out.
+    /// A request of this end is to be sent: for the first time, or that of IKE_SA_INIT again with a cookie.
     Request {
         ike: u32,
         octets: Items<u8>,
     },
-    /// A response was counted.
+    /// A response was matched to its request, which waits no more.
     Counted {
         ike: u32,
-        /// The child that it made.
+        /// The child that it made, if one.
         child: Option<u32>,
-        /// The association that it closed.
+        /// The IKE SA that it closed, if it did.
         closed: Option<u32>,
     },
-    /// What a moment brought.
+    /// What a `Tick` brought.
     Ticked {
-        /// The requests that go out again, in the order of their associations and by rising number.
+        /// The requests to retransmit, in the order of their IKE SAs and by rising Message ID.
         requests: Items<Resent>,
-        /// The IKE associations that were closed, since no answer came, in their order.
+        /// The IKE SAs that were closed because no response came, in their order.
         closed: Items<u32>,
     },
-    /// An order was carried out.
+    /// The cookies are made under the new secret from now on.
     Done,
-    /// What an ESP packet carried goes up: a part of the octets that were lent, from the ninth on
-    /// ([`what_goes_up_is_part_of_what_came`](crate::laws::what_goes_up_is_part_of_what_came)).
+    /// A packet is delivered: the payload of an accepted ESP packet, a part of the borrowed octets from the
+    /// ninth on ([`what_goes_up_is_part_of_what_came`](crate::laws::what_goes_up_is_part_of_what_came)).
     Up {
         child: u32,
-        /// The sequence number of the packet.
+        /// The sequence number of the ESP packet.
         number: u64,
         packet: &'a [u8],
     },
-    /// An ESP packet carried nothing (RFC 4303, section 2.6).
+    /// An accepted ESP packet was a dummy packet: it carries nothing (RFC 4303, section 2.6).
     Dummy {
         child: u32,
         number: u64,
     },
-    /// A packet goes out protected, as these octets.
+    /// An outbound packet, protected: these octets are the ESP packet to send.
     Sealed {
         child: u32,
         number: u64,
         octets: Items<u8>,
     },
-    /// A packet goes on as it is, by the policy.
+    /// A packet passes unchanged, since the policy bypasses it.
     Clear {
         packet: &'a [u8],
     },
-    /// A packet doesn't go on, by the policy.
+    /// A packet is discarded, since the policy says so.
     Discarded,
-    /// What came, or was to go out, is dropped.
+    /// What came, or was to be sent, is dropped for this reason.
     Dropped {
         reason: Reason,
     },
-    /// The input is refused, and nothing but the table's room is changed.
+    /// The input is refused. Nothing but the table's spare capacity changed.
     Refused {
         reason: Reason,
     },
 }
 
-/// An output, and beside it what the step sent under the keys of IKE associations and what it made.
+/// An output, and beside it what the step sent under the keys of IKE associations, what it made, and what the peer declined.
 #[derive(Debug, Drop, PartialEq, Eq)]
 pub struct Traced<'a> {
     pub output: Output<'a>,
@@ -89,7 +90,7 @@ pub struct Traced<'a> {
 }
 
 impl<'a> Traced<'a> {
-    // An output without a trace.
+    // An output with an empty trace.
     pub(crate) fn plain(output: Output<'a>) -> Traced<'a>
         ensures output { output_view result.output ≡ output_view output.entry }
         ensures trace { result.trace ≡ no_trace }
@@ -179,75 +180,5 @@ impl<'a> Output<'a> {
                 reason: Reason::Packet(fault),
             },
         }
-    }
-}
-
-/// A line without its end: what came of the input, with serials, numbers and lengths, and no contents. The text of a [`Reason`] begins
-/// with its number where it has one.
-impl<'a> fmt::Display for Output<'a> {
-    fn fmt<W: fmt::Write>(&self, f: &mut fmt::Formatter<W>) -> fmt::Result {
-        match self {
-            Output::Reply { octets, closed } => {
-                write!(f, "reply, {} octets", octets.len())?;
-                write_closed(f, *closed)
-            }
-            Output::Repeat { octets } => write!(f, "repeat, {} octets", octets.len()),
-            Output::Request { ike, octets } => {
-                write!(f, "request ike {ike}, {} octets", octets.len())
-            }
-            Output::Counted { ike, child, closed } => {
-                write!(f, "counted ike {ike}")?;
-                write_made(f, *child)?;
-                write_closed(f, *closed)
-            }
-            Output::Ticked { requests, closed } => {
-                write!(
-                    f,
-                    "ticked, {} requests again, {} closed",
-                    requests.len(),
-                    closed.len()
-                )
-            }
-            Output::Done => write!(f, "done"),
-            Output::Up {
-                child,
-                number,
-                packet,
-            } => write!(
-                f,
-                "up child {child} number {number}, {} octets",
-                packet.len()
-            ),
-            Output::Dummy { child, number } => write!(f, "dummy child {child} number {number}"),
-            Output::Sealed {
-                child,
-                number,
-                octets,
-            } => write!(
-                f,
-                "sealed child {child} number {number}, {} octets",
-                octets.len()
-            ),
-            Output::Clear { packet } => write!(f, "clear, {} octets", packet.len()),
-            Output::Discarded => write!(f, "discarded"),
-            Output::Dropped { reason } => write!(f, "dropped: {reason}"),
-            Output::Refused { reason } => write!(f, "refused: {reason}"),
-        }
-    }
-}
-
-// The child that was made, if one was.
-fn write_made<W: fmt::Write>(f: &mut fmt::Formatter<W>, child: Option<u32>) -> fmt::Result {
-    match child {
-        Some(serial) => write!(f, ", child {serial} made"),
-        None => Ok(()),
-    }
-}
-
-// The association that was closed, if one was.
-fn write_closed<W: fmt::Write>(f: &mut fmt::Formatter<W>, closed: Option<u32>) -> fmt::Result {
-    match closed {
-        Some(serial) => write!(f, ", ike {serial} closed"),
-        None => Ok(()),
     }
 }

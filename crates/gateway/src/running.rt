@@ -16,20 +16,29 @@ use suite::{Agreement, Proof, Sealer};
 
 /// Takes inputs in order, and appends an output for each.
 ///
-/// [`RunFault::NoRoom`] (E38) with the number of inputs that were taken, where there was no memory for the place of the next output.
-/// The place of an output is reserved before its input is taken: none is taken without its output.
+/// Ends with [`RunFault::NoRoom`] (E38) and the number of inputs taken, where there was no memory for the
+/// place of the next output. That place is reserved before the input is taken: no input is taken without
+/// its output.
 ///
-/// Inputs are taken one after the other. Of up to 64 at a time the check values of ESP packets that came are computed side by side before
-/// that, where it gains time, as the table is then: those of packets that a pair is there for and whose number was not taken. When the turn of
-/// a packet comes it is judged as the table is by then, and a value that was computed with another key or for another number is of no use.
-/// No memory is taken for it.
+/// ICVs of up to 64 inputs at a time are computed side by side, where that is faster, from the table as it
+/// is before them: for ESP packets whose pair is there and whose number is not taken. Each packet is then
+/// verified in its turn, with the table as it is by then. An ICV that was computed under another key or for
+/// another number is not used. This takes no memory.
 ///
-/// Over whatever list: of one association each number of a request under its keys takes effect at most once, exactly where such a request
-/// is delivered new; every repeat that is still remembered is answered by the octets of the first reply; and what is due (a request again,
-/// an association closed or let go) comes with the first moment that has reached it, and with no other input. Each ESP packet that was sent
-/// to a child is judged at most once, exactly at its first arrival while the child's pair stands and its number is rightly recovered and
-/// lies inside or above the window, as long as no check value is forged and its number was not taken before the list, and answered by the
-/// verdict on what it holds; of every other one nothing is handed up. An input that is refused for want of memory counts as not delivered.
+/// Over every list of inputs:
+///
+/// - Under an IKE SA each Message ID takes effect at most once, exactly where such a request is delivered
+///   new.
+/// - Each retransmission that is still remembered gets the octets of the first response.
+/// - What is due (a retransmission, an IKE SA that is closed or removed) comes with the first `Tick` that
+///   reaches it, and with no other input.
+/// - Each ESP packet that was sent to a child is accepted at most once. Where no ICV is forged, that is at
+///   its first arrival while the child's pair is installed. Its number must be rightly recovered, inside or
+///   above the window, and not taken before the list. The output is the verdict on its payload.
+/// - No other ESP packet delivers anything.
+/// - Each IKE SA that is established after an input was so before the list, or its peer proved itself by
+///   one of these inputs, under the same keys.
+/// - An input that is refused for want of memory counts as lost.
 pub fn run<'a, C: Sealer + Agreement + Proof>(
     alloc: Global,
     gateway: &mut Gateway<C>,
@@ -58,7 +67,8 @@ pub fn run<'a, C: Sealer + Agreement + Proof>(
     Ok(())
 }
 
-// Takes a group of inputs in order; answers how many. A list of a few inputs, as most are, needs none of the arrays.
+// Takes a group of inputs in order, and returns how many it took. Most lists have few inputs and need none
+// of the arrays for ICVs.
 fn run_group<'a, C: Sealer + Agreement + Proof>(
     alloc: Global,
     gateway: &mut Gateway<C>,
@@ -81,7 +91,8 @@ fn run_group<'a, C: Sealer + Agreement + Proof>(
     run_with(alloc, gateway, inputs, &ahead, outputs)
 }
 
-// Takes inputs in order, each after the place of its output was reserved, with the check values that were computed ahead; answers how many.
+// Takes inputs in order, with the ICVs that were computed ahead. Reserves the place of an output before its
+// input. Returns how many it took.
 fn run_with<'a, C: Sealer + Agreement + Proof>(
     alloc: Global,
     gateway: &mut Gateway<C>,

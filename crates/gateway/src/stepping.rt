@@ -28,7 +28,7 @@ use suite::{Agreement, Proof, Sealer};
 use traffic::laws::no_pair_comes;
 use traffic::{admit, receive_ahead, send_remembering};
 
-// Takes an input of any kind, an ESP packet with its check value where that was computed before.
+// Takes an input of any kind, an ESP packet with its ICV where that was computed ahead.
 pub(crate) fn take<'a, C: Sealer + Agreement + Proof>(
     alloc: Global,
     input: &Input<'a>,
@@ -122,7 +122,7 @@ pub(crate) fn take<'a, C: Sealer + Agreement + Proof>(
     }
 }
 
-// Has the machine of IKE take a step.
+// Has the IKE machine take a step.
 fn step_ike<'a, C: Sealer + Agreement + Proof>(
     alloc: Global,
     input: &IkeInput<'_>,
@@ -151,7 +151,7 @@ fn step_ike<'a, C: Sealer + Agreement + Proof>(
     traced
 }
 
-// Forgets what is remembered of flows, where a child was made: its pair may carry them from now on.
+// Forgets what is done with flows where a child was made, since its pair may carry them from now on.
 fn forget_with(flows: &mut FlowMemory, child: Option<MadeChild>)
     ensures { MatchOption child (flows.new ≡ flows.old) (λ _. HoldsNone flows.new) }
 {

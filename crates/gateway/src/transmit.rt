@@ -41,9 +41,10 @@ impl<'a> Iterator for Datagrams<'a> {
 }
 
 impl<'a> Output<'a> {
-    /// The datagrams that are to be sent to the peer, in their order. A [`Reply`](Output::Reply), a [`Repeat`](Output::Repeat) and a
-    /// [`Request`](Output::Request) have one message of IKE, and [`Ticked`](Output::Ticked) one for each request that goes out again;
-    /// [`Sealed`](Output::Sealed) has one ESP packet. All others have none. Takes no memory.
+    /// The datagrams that are to be sent to the peer, in their order. A [`Reply`](Output::Reply), a
+    /// [`Repeat`](Output::Repeat) and a [`Request`](Output::Request) have one message of IKE, and
+    /// [`Ticked`](Output::Ticked) one for each request that goes out again; [`Sealed`](Output::Sealed) has
+    /// one ESP packet. All others have none. Takes no memory.
     pub fn datagrams(&self) -> Datagrams<'_>
         ensures { datagrams_left result ≡ datagrams_of (output_view self.now) }
     {
@@ -63,7 +64,7 @@ impl<'a> Output<'a> {
         }
     }
 
-    /// Why what came, or was to go out, is dropped, or the input refused; none where it is not.
+    /// Why the input was dropped or refused. None where it was not.
     pub fn reason(&self) -> Option<Reason>
         ensures { result ≡ reason_of (output_view self.now) }
     {

@@ -1,4 +1,4 @@
-//! Two gateways, and what passed between them.
+//! Two gateways, and what they sent to each other.
 ghost use Rattle.std.specs.Prelude.{◌≡◌, MatchOption, None, Some, IfErr, IfOk};
 ghost use Rattle.base.specs.Octets.{AreOctets, Octets};
 ghost use Rattle.ike.specs.Moves.{HasSeal};
@@ -26,11 +26,12 @@ use std::marker::Model;
 pub use stored::{Child, Datagram, End, Event, Keyed, Protection, Simplex};
 use suite::{Agreement, Fresh, Proof, Sealer};
 
-/// Two gateways; every datagram that they sent, in order, and under what; every key record that they made, and every child. Each may
-/// be set up as the other's peer, which nothing here asks for: an event says what comes to an end, wherever it comes from.
+/// Two gateways, with every datagram that they sent, in order, every key record and every child that they
+/// made. Usually each is configured as the other's peer, but nothing here asks for that. An event says what
+/// arrives at an end, wherever it comes from.
 ///
-/// What is stored is never forgotten: it is what both ends together can be judged by, however the datagrams travel. It holds keys: a
-/// world is for tests, and for what is said of both ends together.
+/// Nothing that is stored is ever forgotten: statements on both ends together compare with it, whatever the
+/// network does. It holds keys, so a world is for tests and for proofs.
 #[derive(Drop)]
 pub struct World<C> {
     a: Gateway<C>,
@@ -53,8 +54,8 @@ impl<C> Model for World<C> {
 }
 
 impl<C> World<C> {
-    /// Two gateways that hold no association and have given no SPI, at the moment 0: nothing was sent yet. Takes no memory. Such a world
-    /// is sound under every key record, and accounts for its windows, its children and its pairs.
+    /// Two gateways without SAs that have given no SPI, at time 0, with nothing sent yet. Takes no memory.
+    /// Such a world satisfies the whole invariant of worlds under every key record.
     pub fn new(alloc: Global, a: Gateway<C>, b: Gateway<C>) -> World<C>
         requires a { HoldsNothing a }
         requires b { HoldsNothing b }
@@ -91,7 +92,7 @@ impl<C> World<C> {
         self.log.sent.as_slice()
     }
 
-    /// The octets of the datagram that was sent as this one, counted from 1 over both ends.
+    /// The octets of one datagram that was sent, counted from 1 over both ends.
     pub fn datagram(&self, place: u64) -> Option<&[u8]>
         ensures { MatchOption result (datagram_at self.now.stored.sent place ≡ None)
             (λ octets. datagram_at self.now.stored.sent place ≡ Some octets.now) }
@@ -117,7 +118,8 @@ impl<C> World<C> {
 }
 
 impl<C: Sealer + Agreement + Proof> World<C> {
-    // What happens at one end. Refused for want of memory for what is stored, and then nothing happens.
+    // An event at one end. Refused where there is no memory for what may be stored of it; then nothing
+    // happens.
     pub(crate) fn happen<'a>(
         &mut self,
         alloc: Global,
@@ -145,7 +147,7 @@ impl<C: Sealer + Agreement + Proof> World<C> {
     }
 }
 
-// Brings that the octets for sealing are 16. Does nothing.
+// Shows the prover that the fresh octets for sealing are 16. Does nothing.
 fn input_is_fresh(input: &Input<'_>)
     ensures { IsFreshlyGiven (for_ike (input_view input.now)) }
 {
@@ -165,7 +167,7 @@ fn seal_is_fresh(fresh: &Fresh)
     octets_fit(&fresh.seal);
 }
 
-// What the type of octets says. Does nothing.
+// Shows the prover that a list of `u8` is of octets. Does nothing.
 fn octets_fit(octets: &[u8])
     ensures { AreOctets octets.now }
 {}

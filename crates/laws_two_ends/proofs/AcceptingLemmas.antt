@@ -1,4 +1,5 @@
--- B takes IKE_AUTH: A is who it is to be, so the association is established, and its first child is made (RFC 7296 sections 1.2 and 2.15).
+-- B takes IKE_AUTH: A is who it is to be, so the association is established, and its first child is made
+-- (RFC 7296 sections 1.2 and 2.15).
 use Rattle.std.proofs.Common.{◌≡◌, ◌<◌, ◌≤◌, ◌∷◌, inl, inr, ℕ, zero, suc, Bool, false, Option, Some, None, [], All, Any, Contains, ap, arith, refl, subst, sym}
 use Rattle.std.specs.Prelude.{replicate, slice_get}
 use Rattle.std.proofs.lemmas.List.Elements.{All-cons}

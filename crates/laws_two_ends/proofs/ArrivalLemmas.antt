@@ -1,4 +1,5 @@
--- A datagram comes to an end that holds one association, which takes it; and what comes under keys had been sent, where the message that comes had.
+-- A datagram comes to an end that holds one association, which takes it; and what comes under keys had been
+-- sent, where the message that comes had.
 use Rattle.std.proofs.Common.{◌≡◌, ◌∷◌, inr, ℕ, Bool, false, List, [], Result, Ok, Contains, ap, refl, subst, sym, ◌∙◌}
 use Rattle.base.specs.Octets.{Octets}
 use Rattle.wire.specs.Messages.{Spells}

@@ -1,4 +1,5 @@
--- A asks whether B is there; that takes effect at B and is answered, and A counts the response, whatever reply B kept before.
+-- A asks whether B is there; that takes effect at B and is answered, and A counts the response, whatever
+-- reply B kept before.
 use Rattle.std.proofs.Common.{◌≡◌, ◌+◌, ◌<◌, inl, ℕ, true, false, List, [], ◌∷◌, Some, Option, ap, arith, refl, sym, ◌∙◌}
 use Rattle.std.proofs.lemmas.Bool.{true≢false}
 use Rattle.std.specs.FinMap as map

@@ -1,4 +1,5 @@
--- The messages of the worked IKE_AUTH (RFC 7296 sections 1.2 and 3.1 to 3.14): what either end tells, and the request.
+-- The messages of the worked IKE_AUTH (RFC 7296 sections 1.2 and 3.1 to 3.14): what either end tells, and
+-- the request.
 use Rattle.std.proofs.Common.{◌≤◌, ◌++◌, ◌∷◌, ℕ, List, [], arith, refl}
 use Rattle.std.specs.Prelude.{false}
 use Rattle.base.specs.Octets.{AreOctets, Octets}

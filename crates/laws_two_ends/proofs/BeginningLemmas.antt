@@ -1,4 +1,5 @@
--- The first three steps: A begins, B answers, and A reads the answer and tells who it is (RFC 7296 sections 1.2 and 2.14).
+-- The first three steps: A begins, B answers, and A reads the answer and tells who it is (RFC 7296 sections
+-- 1.2 and 2.14).
 use Rattle.std.proofs.Common.{◌∷◌, inl, inr, ℕ, Option, None, [], ap, arith, refl, sym}
 use Rattle.std.specs.Prelude.{replicate}
 use Rattle.std.specs.FinMap as map

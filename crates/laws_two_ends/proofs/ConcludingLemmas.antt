@@ -1,6 +1,6 @@
--- A takes the response to IKE_AUTH: B is who it is to be, so the association is established, and its first child is made (RFC 7296 sections 1.2 and
--- 2.15).
-use Rattle.std.proofs.Common.{◌≡◌, ◌∷◌, inl, ℕ, zero, suc, Bool, false, true, Option, Some, [], ap, arith, refl, subst, sym}
+-- A takes the response to IKE_AUTH: B is who it is to be, so the association is established, and its first
+-- child is made (RFC 7296 sections 1.2 and 2.15).
+use Rattle.std.proofs.Common.{None, ◌≡◌, ◌∷◌, inl, ℕ, zero, suc, Bool, false, true, Option, Some, [], ap, arith, refl, subst, sym}
 use Rattle.std.specs.Prelude.{replicate, slice_get}
 use Rattle.std.specs.FinMap as map
 use Rattle.std.specs.FinSet as set
@@ -9,6 +9,7 @@ use Rattle.base.specs.Octets.{Octets}
 use Rattle.base.specs.declared.selector.Selector.{Selector}
 use Rattle.suite.specs.Offers.{count_of_kind, AcceptsAnswer}
 use Rattle.suite.specs.declared.choice.Wanted.TheVariants.{Esp}
+use Rattle.exchange.specs.Chains.{error_of}
 use Rattle.exchange.specs.declared.headers.Role.TheVariants.{Initiator}
 use Rattle.exchange.specs.declared.sealed.Plain.{Plain}
 use Rattle.policy.specs.Narrowing.{AnswersOffer, LiesInOffer}
@@ -131,7 +132,7 @@ request_there : map.get telling.outgoing.outstanding 1 ≡ Some second_request
 request_there = put_there map.empty 1 1 second_request refl
 
 abbrev child_made : Ended
-child_made = record { child = Some 1; closed = false }
+child_made = record { child = Some 1; closed = false; declined = None }
 
 response_takes : TakesMessage run_meaning setup telling before_table response_octets answered (effect.Counted child_made) asking (asking_table 0)
 response_takes = record {
@@ -146,6 +147,7 @@ response_takes = record {
     outgoing = two_answered;
     counted = record { there = request_there; content = refl };
     closed = refl;
+    declined = record { error = error_of (Some response_payloads); told = record { payloads = Some response_payloads; read = response_read; told = refl }; due = refl };
     concluded = record { added = installs; content = refl };
   };
 }

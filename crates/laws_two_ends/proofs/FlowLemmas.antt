@@ -1,4 +1,5 @@
--- The worked payload is an IPv4 packet from 10.0.0.1 to 10.1.0.1, which the policy protects and the pairs cover.
+-- The worked payload is an IPv4 packet from 10.0.0.1 to 10.1.0.1, which the policy protects and the pairs
+-- cover.
 use Rattle.std.proofs.Common.{None, arith, refl, inl, inr}
 use Rattle.base.specs.declared.address.Address.TheVariants as address
 use Rattle.base.specs.declared.address.Family.TheVariants as family

@@ -1,5 +1,5 @@
--- A request of INFORMATIONAL without payloads is answered without any, and the answer is counted (RFC 7296 section 1.4). The association stays as it is, with
--- its pairs.
+-- A request of INFORMATIONAL without payloads is answered without any, and the answer is counted (RFC 7296
+-- section 1.4). The association stays as it is, with its pairs.
 use Rattle.std.proofs.Common.{◌≡◌, ◌+◌, ◌∷◌, ℕ, Bool, true, false, [], Some, None, ap, arith, refl, subst, sym}
 use Rattle.std.specs.FinMap as map
 use Rattle.std.specs.FinSet as set
@@ -41,7 +41,7 @@ abbrev pub reply_by : Octets → Answered
 reply_by octets = record { octets = octets; child = None; closed = false }
 
 abbrev pub nothing_ended : Ended
-nothing_ended = record { child = None; closed = false }
+nothing_ended = record { child = None; closed = false; declined = None }
 
 -- the message of the end of this role
 abbrev pub bare_message : Role → Bool → ℕ → Message
@@ -123,5 +123,6 @@ module _ (setup : Setup) (a : Association) (table : Database) (number : ℕ) whe
           counted = record { there = there; content = refl };
           child = refl;
           closed = refl;
+          declined = record { error = None; told = record { payloads = Some []; read = record { clear = tt; payloads = (refl, refl); octets = tt }; told = refl }; due = refl };
           concluded = none_goes counted;
         })

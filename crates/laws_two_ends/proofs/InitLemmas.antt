@@ -1,4 +1,5 @@
--- The two messages of the worked IKE_SA_INIT (RFC 7296 sections 1.2 and 3.1 to 3.9), as payloads and as octets, and that these spell those.
+-- The two messages of the worked IKE_SA_INIT (RFC 7296 sections 1.2 and 3.1 to 3.9), as payloads and as
+-- octets, and that these spell those.
 use Rattle.std.proofs.Common.{◌≡◌, ◌<◌, ◌++◌, ◌∷◌, ℕ, List, [], ap, arith, refl}
 use Rattle.std.specs.Prelude.{None, false, replicate, true}
 use Rattle.byteorder.specs.Endian.{big_bytes}

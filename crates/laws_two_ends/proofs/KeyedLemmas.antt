@@ -1,4 +1,5 @@
--- Both ends come to the keys in the first three steps, under which nothing comes yet (RFC 7296 sections 1.2 and 2.14).
+-- Both ends come to the keys in the first three steps, under which nothing comes yet (RFC 7296 sections 1.2
+-- and 2.14).
 use Rattle.std.proofs.Common.{◌≡◌, ℕ, Bool, ap, refl, ◌∙◌}
 use Rattle.std.specs.Prelude.{replicate, Some, None}
 use Rattle.base.specs.Octets.{Octets}

@@ -1,5 +1,6 @@
--- The last five steps of the worked run take place: a packet is carried, and a probe is answered and its response counted. What comes under the keys
--- had been sent, both ends hold the association, and of the child they hold what the premises on packets ask for.
+-- The last five steps of the worked run take place: a packet is carried, and a probe is answered and its
+-- response counted. What comes under the keys had been sent, both ends hold the association, and of the
+-- child they hold what the premises on packets ask for.
 use Rattle.std.proofs.Common.{◌≡◌, ◌≤◌, ◌∷◌, inl, ℕ, zero, suc, Bool, true, false, List, [], Option, Some, Contains, ap, arith, refl, subst, sym, ◌∙◌}
 use Rattle.std.specs.FinMap as map
 use Rattle.std.specs.Prelude.{replicate, slice_get}

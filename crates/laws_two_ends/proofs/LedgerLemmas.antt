@@ -1,4 +1,5 @@
--- The worked world is sound under the keys: what each end's numbers say was sent was sent, and what they say came was sent by the other.
+-- The worked world is sound under the keys: what each end's numbers say was sent was sent, and what they
+-- say came was sent by the other.
 use Rattle.std.proofs.Common.{◌≡◌, ◌<◌, ◌≤◌, ◌∷◌, inl, inr, ℕ, zero, suc, Option, Some, None, List, [], Contains, cond, ap, arith, refl, subst, sym, ◌∙◌}
 use Rattle.std.proofs.lemmas.Bool.{true≢false}
 use Rattle.std.proofs.lemmas.Bool.Decides.{eqb_tells}

@@ -1,4 +1,5 @@
--- The messages of the worked world are spelled so, and seal their payloads; the two that made the child open to these.
+-- The messages of the worked world are spelled so, and seal their payloads; the two that made the child
+-- open to these.
 use Rattle.std.proofs.Common.{◌++◌, ◌∷◌, ℕ, Bool, true, false, List, [], arith, refl}
 use Rattle.std.specs.List.{AllByRecursion}
 use Rattle.base.specs.Octets.{AreOctets, IsOctet, Octets}

@@ -1,5 +1,6 @@
--- The messages of IKE_AUTH (RFC 7296 sections 1.2 and 3.1 to 3.14): the request as it is read, and the response as it is sealed and as it is read. The
--- cipher hides nothing, so the octets of the payloads are the body.
+-- The messages of IKE_AUTH (RFC 7296 sections 1.2 and 3.1 to 3.14): the request as it is read, and the
+-- response as it is sealed and as it is read. The cipher hides nothing, so the octets of the payloads are
+-- the body.
 use Rattle.std.proofs.Common.{◌∷◌, ℕ, true, List, [], arith, refl}
 use Rattle.std.specs.List.{AllByRecursion}
 use Rattle.base.specs.Octets.{IsOctet, Octets}

@@ -1,5 +1,6 @@
--- How the worked messages of one encrypted payload are spelled (RFC 7296 sections 3.1 to 3.14), and in it what an end says of the child: its proposal,
--- and all traffic. Free tells what may stand in reserved octets. The cipher hides nothing, so the octets of the payloads are the body.
+-- How the worked messages of one encrypted payload are spelled (RFC 7296 sections 3.1 to 3.14), and in it
+-- what an end says of the child: its proposal, and all traffic. Free tells what may stand in reserved
+-- octets. The cipher hides nothing, so the octets of the payloads are the body.
 use Rattle.std.proofs.Common.{◌≡◌, ◌<◌, ◌≤◌, ◌^◌, ◌++◌, ◌∷◌, ℕ, false, true, [], length, ap, arith, refl, sym}
 use Rattle.std.proofs.lemmas.List.{append-nil}
 use Rattle.byteorder.specs.Endian.{big_bytes}
@@ -22,7 +23,8 @@ use Rattle.laws_two_ends.proofs.InitLemmas.{transform_is}
 
 -- ---- the octets
 
--- of a header in front of the number: the SPIs, an encrypted payload first, version 2.0, the exchange, the flags
+-- of a header in front of the number: the SPIs, an encrypted payload first, version 2.0, the exchange, the
+-- flags
 abbrev fixed_octets : ℕ → ℕ → Octets
 fixed_octets exchange flags = 0 ∷ 0 ∷ 0 ∷ 0 ∷ 0 ∷ 0 ∷ 0 ∷ 1 ∷ 0 ∷ 0 ∷ 0 ∷ 0 ∷ 0 ∷ 0 ∷ 0 ∷ 2 ∷ 46 ∷ 0x20 ∷ exchange ∷ flags ∷ []
 

@@ -110,7 +110,8 @@ agreed_terms = record { spi_i = spi_at A; spi_r = spi_at B; extended = false; ts
 abbrev pub agreed_keys : List Octets
 agreed_keys = first_child_keys worked_record
 
--- the pair of the end of this role in the exchange: the last number that it sealed under, and what it knows of the numbers that came
+-- the pair of the end of this role in the exchange: the last number that it sealed under, and what it knows
+-- of the numbers that came
 abbrev pub pair_of : Role → ℕ → Seen → Pair
 pair_of role last window = record {
   serial = 1;

@@ -1,4 +1,5 @@
--- Of a peer that has one request under way at most, the next one takes effect, and the reply to it takes the place of the one before.
+-- Of a peer that has one request under way at most, the next one takes effect, and the reply to it takes
+-- the place of the one before.
 use Rattle.std.proofs.Common.{◌≡◌, ◌≢◌, ◌+◌, ◌||◌, inl, inr, ℕ, Bool, cond, is_some, Some, ap, arith, refl, subst, sym, ◌∙◌}
 use Rattle.std.proofs.lemmas.Bool.{eq-eqb, ne_eqb}
 use Rattle.std.proofs.lemmas.Bool.Decides.{eqb_tells}

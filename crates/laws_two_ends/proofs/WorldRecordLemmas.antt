@@ -1,4 +1,5 @@
--- The step by which an end of a world comes to its keys is a call that gives them: one that reads a response, or one that takes an offer.
+-- The step by which an end of a world comes to its keys is a call that gives them: one that reads a
+-- response, or one that takes an offer.
 use Rattle.std.proofs.Common.{◌≡◌, ◌⊎◌, ◌++◌, ◌∷◌, inl, inr, ℕ, zero, suc, Bool, true, false, List, [], Option, Some, None, ap, refl, subst, sym, ◌∙◌}
 use Rattle.std.specs.List.{position}
 use Rattle.std.specs.Prelude.{slice_get, slice_set, Result, Ok, Err}

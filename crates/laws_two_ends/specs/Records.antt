@@ -30,8 +30,9 @@ agreeing_by agreement asker = record asker {
   shared_secret = agreement.shared_secret;
 }
 
--- The call by which an end came to these keys as initiator: it read a response, and this is what its association holds of itself, and what the
--- response says of the other. That the first goes out, and stays through a cookie, the calls that begin and go on say.
+-- The call by which an end came to these keys as initiator: it read a response, and this is what its
+-- association holds of itself, and what the response says of the other. That the first goes out, and stays
+-- through a cookie, the calls that begin and go on say.
 pub record ComesToKeysAsInitiator (asker : Asker) (own other : Introduction) (keys : KeyRecord) : Type 0 where
   pub setup : Setup
   pub old : Association
@@ -48,8 +49,8 @@ pub record ComesToKeysAsInitiator (asker : Asker) (own other : Introduction) (ke
   pub complete : HasParts response.payloads parts
   pub other_is : other ≡ record { spi = response.header.spi_r; public = parts.public; nonce = parts.nonce }
 
--- The call by which an end came to these keys as responder: it took an offer, and this is what its answer says of its association, and what
--- the offer says of the other.
+-- The call by which an end came to these keys as responder: it took an offer, and this is what its answer
+-- says of its association, and what the offer says of the other.
 pub record ComesToKeysAsResponder (cipher : Cipher) (group : ℕ) (public_value : Octets → Octets) (shared_secret : Octets → Octets → Option Octets) (own other : Introduction) (keys : KeyRecord) : Type 0 where
   pub fresh : Fresh
   pub moment : ℕ

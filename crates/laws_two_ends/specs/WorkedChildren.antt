@@ -1,6 +1,7 @@
--- A worked world, for which the premises of what is promised of both ends are shown to hold: both ends made one child; A has sealed a packet by
--- its pair of that child, and asked whether B is there. The packet comes to B and goes up; the probe comes to B, takes effect and is answered;
--- and the response comes to A and is counted.
+-- A worked world, for which the premises of what is promised of both ends are shown to hold: both ends made
+-- one child; A has sealed a packet by its pair of that child, and asked whether B is there. The packet
+-- comes to B and goes up; the probe comes to B, takes effect and is answered; and the response comes to A
+-- and is counted.
 use Rattle.std.specs.Prelude.{◌≡◌, ◌++◌, ◌∷◌, ℕ, Bool, true, false, None, List, [], Contains}
 use Rattle.std.specs.FinMap as map
 use Rattle.std.specs.FinSet as set
@@ -72,7 +73,8 @@ asking_association = record (worked_association no_requests) {
 abbrev pub answering_association : Octets → Association
 answering_association reply = worked_association (three_taken reply)
 
--- The probe took effect at B as well, which keeps the reply to it alone, since A had the one before (section 2.3).
+-- The probe took effect at B as well, which keeps the reply to it alone, since A had the one before
+-- (section 2.3).
 abbrev pub four_numbers : NumberSet
 four_numbers = set.insert three_numbers 3
 
@@ -102,7 +104,8 @@ agreed_terms = record { spi_i = 512; spi_r = 256; extended = false; ts_i = any_t
 abbrev pub agreed_keys : List Octets
 agreed_keys = child_keys worked_keys.sk_d (nonce_of 1) (nonce_of 2)
 
--- the pair of the end of this role in the exchange: the last number that it sealed under, and what it knows of the numbers that came
+-- the pair of the end of this role in the exchange: the last number that it sealed under, and what it knows
+-- of the numbers that came
 abbrev pub pair_of : Role → ℕ → Seen → Pair
 pair_of role last window = record {
   serial = 1;
@@ -185,8 +188,8 @@ carrying = outbound_of Initiator agreed_keys agreed_terms
 abbrev pub carried_octets : Octets
 carried_octets = packet carrying 1 4 worked_payload 2
 
--- The end A asked by number 1 and was answered, and asked by number 2 and was answered. Then it sealed a packet under number 1, and asked by
--- number 3.
+-- The end A asked by number 1 and was answered, and asked by number 2 and was answered. Then it sealed a
+-- packet under number 1, and asked by number 3.
 abbrev pub sent_so_far : Octets → Octets → Octets → Octets → Simplex → Octets → Octets → List Datagram
 sent_so_far request reply asks answers by carried probe =
     datagram_of A (mark.Ike worked_keys false 1) request
@@ -258,11 +261,13 @@ abbrev pub all_arrive : {C : Type 0} → Config → C → Octets → Fresh → L
 all_arrive {C} config caller from fresh =
     packet_arrives config caller ∷ probe_arrives config caller from fresh ∷ response_arrives config caller from fresh ∷ []
 
--- This takes place in a world that is sound under the keys and accounts for its windows, children and pairs, of two gateways whose states are
--- sound; no run from new ones leads there, since this caller agrees on no secret (a run from new ones stands in the crate above). The probe and its
--- response come under the keys; no message that does so was forged, and neither end came to them twice. No packet to the child was forged at either end,
--- and it has one sender each way. Both ends made the child, by one request under the keys, and hold a pair of it; and both hold the association
--- afterwards, in both directions. The packet goes up by the pair of the end that answered for the child.
+-- This takes place in a world that is sound under the keys and accounts for its windows, children and
+-- pairs, of two gateways whose states are sound; no run from new ones leads there, since this caller agrees
+-- on no secret (a run from new ones stands in the crate above). The probe and its response come under the
+-- keys; no message that does so was forged, and neither end came to them twice. No packet to the child was
+-- forged at either end, and it has one sender each way. Both ends made the child, by one request under the
+-- keys, and hold a pair of it; and both hold the association afterwards, in both directions. The packet
+-- goes up by the pair of the end that answered for the child.
 pub record IsWorkedLink {C : Type 0} (config : Config) (caller : C) (from : Octets) (fresh : Fresh) : Type 0 where
   pub trail : IsWorldTrail (λ _. worked_meaning) (sealed_world config caller) (all_arrive config caller from fresh) (counted_world config caller)
   pub can_be : CanBeMeant worked_meaning

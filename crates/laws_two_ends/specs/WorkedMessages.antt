@@ -1,5 +1,6 @@
--- The messages of the worked world, as payloads and as octets (RFC 7296 sections 1.3.1, 1.4 and 3.1 to 3.14): the two of number 1, the two of
--- CREATE_CHILD_SA by which the worked child is made, and the two of the probe. The cipher hides nothing, so the octets of the payloads are the body.
+-- The messages of the worked world, as payloads and as octets (RFC 7296 sections 1.3.1, 1.4 and 3.1 to
+-- 3.14): the two of number 1, the two of CREATE_CHILD_SA by which the worked child is made, and the two of
+-- the probe. The cipher hides nothing, so the octets of the payloads are the body.
 use Rattle.std.specs.Prelude.{◌++◌, ◌∷◌, ℕ, false, List, [], replicate}
 use Rattle.base.specs.Octets.{Octets}
 use Rattle.wire.specs.declared.payload.Payload.{Payload}
@@ -25,8 +26,9 @@ proposal_of k = offer_of (Esp false) (spi_octets k)
 abbrev pub payloads_of : ℕ → ℕ → List Payload
 payloads_of k filling = further_payloads (record { proposals = proposal_of k ∷ []; ts_i = any_traffic; ts_r = any_traffic }) (nonce_of filling)
 
--- their spelling: of the payload SA, the nonce behind it; the one proposal, of number 1, for ESP, with an SPI of four octets and three transforms; no
--- encryption, HMAC-SHA-256-128, sequence numbers that are not extended
+-- their spelling: of the payload SA, the nonce behind it; the one proposal, of number 1, for ESP, with an
+-- SPI of four octets and three transforms; no encryption, HMAC-SHA-256-128, sequence numbers that are not
+-- extended
 abbrev pub sa_octets : ℕ → Octets
 sa_octets k =
     40 ∷ 0 ∷ 0 ∷ 40 ∷ 0 ∷ 0 ∷ 0 ∷ 36 ∷ 1 ∷ 3 ∷ 4 ∷ 3 ∷ 0 ∷ 0 ∷ k ∷ 0 ∷ 3 ∷ 0 ∷ 0 ∷ 8 ∷ 1 ∷ 0 ∷ 0 ∷ 11 ∷ 3 ∷ 0 ∷ 0 ∷ 8 ∷ 3 ∷ 0 ∷ 0 ∷ 12
@@ -36,7 +38,8 @@ sa_octets k =
 abbrev pub nonce_octets : ℕ → Octets
 nonce_octets filling = 44 ∷ 0 ∷ 0 ∷ 20 ∷ nonce_of filling
 
--- of one payload of selectors, with this type behind it: one selector, of the addresses 0.0.0.0 to 255.255.255.255, of any protocol and port
+-- of one payload of selectors, with this type behind it: one selector, of the addresses 0.0.0.0 to
+-- 255.255.255.255, of any protocol and port
 abbrev pub selector_octets : ℕ → Octets
 selector_octets next = next ∷ 0 ∷ 0 ∷ 24 ∷ 1 ∷ 0 ∷ 0 ∷ 0 ∷ 7 ∷ 0 ∷ 0 ∷ 16 ∷ 0 ∷ 0 ∷ 255 ∷ 255 ∷ 0 ∷ 0 ∷ 0 ∷ 0 ∷ 255 ∷ 255 ∷ 255 ∷ 255 ∷ []
 
@@ -44,7 +47,8 @@ selector_octets next = next ∷ 0 ∷ 0 ∷ 24 ∷ 1 ∷ 0 ∷ 0 ∷ 0 ∷ 7 ∷
 abbrev pub plain_octets : ℕ → ℕ → Octets
 plain_octets k filling = sa_octets k ++ (nonce_octets filling ++ (selector_octets 45 ++ selector_octets 0))
 
--- a message of this exchange with these flags and this number: the SPIs, an encrypted payload first, version 2.0
+-- a message of this exchange with these flags and this number: the SPIs, an encrypted payload first,
+-- version 2.0
 abbrev pub header_octets : ℕ → ℕ → ℕ → Octets
 header_octets exchange flags number =
     0 ∷ 0 ∷ 0 ∷ 0 ∷ 0 ∷ 0 ∷ 0 ∷ 1 ∷ 0 ∷ 0 ∷ 0 ∷ 0 ∷ 0 ∷ 0 ∷ 0 ∷ 2 ∷ 46 ∷ 0x20 ∷ exchange ∷ flags ∷ 0 ∷ 0 ∷ 0 ∷ number ∷ []
@@ -53,14 +57,16 @@ header_octets exchange flags number =
 abbrev pub bare_octets : ℕ → ℕ → ℕ → Octets
 bare_octets exchange flags number = header_octets exchange flags number ++ (0 ∷ 0 ∷ 0 ∷ 32 ∷ 0 ∷ 0 ∷ 0 ∷ 4 ∷ [])
 
--- What A sent first, and what B answered: IKE_AUTH. Of what proves an identity nothing is looked at here, but that no window is told.
+-- What A sent first, and what B answered: IKE_AUTH. Of what proves an identity nothing is looked at here,
+-- but that no window is told.
 abbrev pub first_asking : Octets
 first_asking = bare_octets 35 0x08 1
 
 abbrev pub first_answering : Octets
 first_answering = bare_octets 35 0x20 1
 
--- what A asks last, whether B is there, and what B answers: INFORMATIONAL of number 3 without payloads (section 1.4)
+-- what A asks last, whether B is there, and what B answers: INFORMATIONAL of number 3 without payloads
+-- (section 1.4)
 abbrev pub probe_octets : Octets
 probe_octets = bare_octets 37 0x08 3
 

@@ -1,4 +1,5 @@
--- A worked pair of calls by which both ends come to one record of keys, for which the premises on such calls are shown to hold.
+-- A worked pair of calls by which both ends come to one record of keys, for which the premises on such
+-- calls are shown to hold.
 use Rattle.std.specs.Prelude.{◌≡◌, ◌≢◌, ◌+◌, ◌<◌, ◌≤◌, ◌^◌, ℕ, Option, Some, None, [], ◌∷◌, length, replicate}
 use Rattle.std.specs.FinMap as map
 use Rattle.base.specs.Octets.{AreOctets, Octets}
@@ -22,8 +23,9 @@ use Rattle.initial.specs.Reading.{Asker}
 use Rattle.initial.specs.declared.beginning.Beginning.{Beginning}
 use Rattle.laws_two_ends.specs.Records.{ComesToKeysAsInitiator, ComesToKeysAsResponder, Introduction}
 
--- What the types and the laws of the traits say of what a caller means by them: its numbers fit; what is sealed opens again, and is as long as is
--- told, at most 128 octets longer than the plain text; both ends come to one secret, or both to none; and public values and proofs fit payloads.
+-- What the types and the laws of the traits say of what a caller means by them: its numbers fit; what is
+-- sealed opens again, and is as long as is told, at most 128 octets longer than the plain text; both ends
+-- come to one secret, or both to none; and public values and proofs fit payloads.
 pub record CanBeMeant (asker : Asker) (plain_of : Keys → Octets → Octets → Option Octets) : Type 0 where
   pub transforms : FitsTransforms asker.cipher asker.group
   pub method : asker.own_method < 256
@@ -45,8 +47,9 @@ pub record IsFresh (fresh : Fresh) : Type 0 where
   pub seal_long : length fresh.seal ≡ 16
   pub seal_octets : AreOctets fresh.seal
 
--- Both calls are of one exchange. The initiator's association is as it began, and no cookie was asked for. The responder judged the very octets that
--- the association sent, and accepted what they offer. The initiator reads the very octets with which the responder's call answers.
+-- Both calls are of one exchange. The initiator's association is as it began, and no cookie was asked for.
+-- The responder judged the very octets that the association sent, and accepted what they offer. The
+-- initiator reads the very octets with which the responder's call answers.
 pub record AreOfOneExchange (asker : Asker) (fresh : Fresh) (own other : Introduction) (keys : KeyRecord) (asks : ComesToKeysAsInitiator asker own other keys)
     (answers : ComesToKeysAsResponder asker.cipher asker.group asker.public_value asker.shared_secret other own keys) : Type 0 where
   pub moment : ℕ
@@ -72,7 +75,8 @@ pub record AreOfOneExchange (asker : Asker) (fresh : Fresh) (own other : Introdu
   pub one_answer : asks.octets ≡ answers.admitted.octets
   pub answer_spelled : Spells asks.response asks.octets
 
--- A cipher that hides nothing, by the number of NULL. A secret is its own public value, and what is shared is the same for all. A proof is one octet.
+-- A cipher that hides nothing, by the number of NULL. A secret is its own public value, and what is shared
+-- is the same for all. A proof is one octet.
 abbrev pub worked_asker : Asker
 worked_asker = record {
   cipher = record { id = 11; key_length = None };
@@ -91,7 +95,8 @@ worked_plain_of keys head body = Some body
 abbrev pub fresh_of : ℕ → Fresh
 fresh_of number = record { spi = number; nonce = replicate 32 number; secret = replicate 32 (number + 16); seal = replicate 16 number }
 
--- the initiator begins with the first, the responder answers with the second, and the initiator goes on with the third
+-- the initiator begins with the first, the responder answers with the second, and the initiator goes on
+-- with the third
 abbrev pub beginning_fresh : Fresh
 beginning_fresh = fresh_of 1
 
@@ -109,8 +114,8 @@ introduction_of fresh = record { spi = fresh.spi; public = worked_asker.public_v
 abbrev pub worked_record : KeyRecord
 worked_record = ike_keys (replicate 32 0) beginning_fresh.nonce answering_fresh.nonce beginning_fresh.spi answering_fresh.spi
 
--- There are both calls by which the ends come to these keys, of one exchange, for a caller that there can be, an initiator that is rightly set up, and
--- words that can be fresh.
+-- There are both calls by which the ends come to these keys, of one exchange, for a caller that there can
+-- be, an initiator that is rightly set up, and words that can be fresh.
 pub record IsWorkedRecord : Type 0 where
   pub can_be : CanBeMeant worked_asker worked_plain_of
   pub beginning_is : IsFresh beginning_fresh

@@ -1,6 +1,7 @@
--- A worked run of a world, for which the premises of what is promised of both ends are shown to hold. It begins with two new gateways: they set up an
--- association and its first child, a packet goes from A to B, and A's probe is answered (RFC 7296 sections 1.2, 1.4, 2.4, 2.14 and 2.15; RFC 4301
--- sections 5.1 and 5.2; RFC 4303 sections 3.3 and 3.4).
+-- A worked run of a world, for which the premises of what is promised of both ends are shown to hold. It
+-- begins with two new gateways: they set up an association and its first child, a packet goes from A to B,
+-- and A's probe is answered (RFC 7296 sections 1.2, 1.4, 2.4, 2.14 and 2.15; RFC 4301 sections 5.1 and 5.2;
+-- RFC 4303 sections 3.3 and 3.4).
 use Rattle.std.specs.Prelude.{◌≡◌, ◌≤◌, ◌∷◌, false, true, ℕ, None, Some, List, [], Contains, length, map, replicate, slice_get}
 use Rattle.base.specs.Octets.{AreOctets, Octets}
 use Rattle.base.specs.declared.address.Range.TheVariants.{V4}
@@ -36,8 +37,8 @@ use Rattle.laws_two_ends.specs.WorldRecords.{CameToKeysAsInitiator, CameToKeysAs
 
 -- ---- how both are set up
 
--- A cipher that hides nothing, and one secret for all, as in the worked calls. Whatever proof of an identity there is is accepted, so identities are not
--- exercised.
+-- A cipher that hides nothing, and one secret for all, as in the worked calls. Whatever proof of an
+-- identity there is is accepted, so identities are not exercised.
 abbrev pub run_meaning : Meaning
 run_meaning = record {
   cipher = worked_asker.cipher;
@@ -95,7 +96,8 @@ new_end {C} end caller = new_gateway (config_at end) all_protected (spi_at end) 
 abbrev pub new_ends : {C : Type 0} → C → C → WorldState C
 new_ends {C} a b = new_world (new_end A a) (new_end B b)
 
--- what the code's types say of a configuration, where nothing else does: addresses are of IPv4, and a secret has 32 octets
+-- what the code's types say of a configuration, where nothing else does: addresses are of IPv4, and a
+-- secret has 32 octets
 pub record IsTyped (config : Config) : Type 0 where
   pub own : AreOctets config.own.address × (length config.own.address ≡ 4)
   pub peer : AreOctets config.peer.address × (length config.peer.address ≡ 4)
@@ -113,12 +115,14 @@ pub record Exchanged : Type 0 where
   pub probe : Octets
   pub probe_response : Octets
 
--- a datagram of IKE comes to this end, from the other's address; what is fresh at the step is told by a number
+-- a datagram of IKE comes to this end, from the other's address; what is fresh at the step is told by a
+-- number
 abbrev pub comes_to : End → Octets → ℕ → Event
 comes_to end octets number = record { end = end; input = input.Ike (config_at (other_end end)).own.address octets (fresh_of number) }
 
--- A is ordered to set up an association with a first child, by the first entry; the four messages come as they were sent. Then a packet goes out at A
--- and comes to B; A is ordered to ask whether B is there, and the request and its response come.
+-- A is ordered to set up an association with a first child, by the first entry; the four messages come as
+-- they were sent. Then a packet goes out at A and comes to B; A is ordered to ask whether B is there, and
+-- the request and its response come.
 abbrev pub events_of : Exchanged → List Event
 events_of e =
     record { end = A; input = input.Start None 0 (fresh_of 1) }
@@ -148,12 +152,15 @@ outputs_of e =
     ∷ Counted 1 None None
     ∷ []
 
--- There is such a run, for a caller that there can be, of two gateways that are rightly set up and hold nothing, whose world is wholly sound under
--- every key record. What comes under the record of keys which both ends come to, the other end had sent before, and neither end comes to it twice: B as
--- responder and A as initiator, each from what the other says of itself. At the end each holds the association, established, with one place counted for
--- the other's requests; A's probe took effect at B, and was answered and counted. Both ends make the child, by the one request of IKE_AUTH, and hold a
--- pair of it at the end, which has one sender each way; what is judged at B was sent by A. The packet goes up by B's pair. Nothing but answers goes from
--- B to A, so of the child at A and of requests of B the premises hold, and say nothing.
+-- There is such a run, for a caller that there can be, of two gateways that are rightly set up and hold
+-- nothing, whose world is wholly sound under every key record. What comes under the record of keys which
+-- both ends come to, the other end had sent before, and neither end comes to it twice: B as responder and A
+-- as initiator, each from what the other says of itself. At the end each holds the association,
+-- established, with one place counted for the other's requests; A's probe took effect at B, and was
+-- answered and counted. Both ends make the child, by the one request of IKE_AUTH, and hold a pair of it at
+-- the end, which has one sender each way; what is judged at B was sent by A. The packet goes up by B's
+-- pair. Nothing but answers goes from B to A, so of the child at A and of requests of B the premises hold,
+-- and say nothing.
 pub record IsRunFromNewGateways {C : Type 0} (a b : C) : Type 0 where
   pub exchanged : Exchanged
   pub happenings : List (Happening C)

@@ -22,7 +22,8 @@ use Rattle.laws_two_ends.specs.Records.{Introduction}
 abbrev pub associations_at : {C : Type 0} → End → WorldState C → List Association
 associations_at {C} end w = (gateway_at end w).machine.held.associations
 
--- The octets are a message with the parts of IKE_SA_INIT, and say this of their sender, whose SPI stands there in the header.
+-- The octets are a message with the parts of IKE_SA_INIT, and say this of their sender, whose SPI stands
+-- there in the header.
 pub record SaysOfSender (spi_of : Header → ℕ) (octets : Octets) (sender : Introduction) : Type 0 where
   pub message : Message
   pub spelled : Spells message octets
@@ -30,8 +31,9 @@ pub record SaysOfSender (spi_of : Header → ℕ) (octets : Octets) (sender : In
   pub complete : HasParts message.payloads parts
   pub is : sender ≡ record { spi = spi_of message.header; public = parts.public; nonce = parts.nonce }
 
--- A datagram came to an end, and an association that waited for the response to IKE_SA_INIT has these keys from then on: this is what the
--- association held of itself, and what the datagram says of its sender. A datagram leaves each association at its place.
+-- A datagram came to an end, and an association that waited for the response to IKE_SA_INIT has these keys
+-- from then on: this is what the association held of itself, and what the datagram says of its sender. A
+-- datagram leaves each association at its place.
 pub record CameToKeysAsInitiator {C : Type 0} (public_value : Octets → Octets) (h : Happening C) (own other : Introduction) (keys : KeyRecord) : Type 0 where
   pub from : Octets
   pub octets : Octets
@@ -49,8 +51,8 @@ pub record CameToKeysAsInitiator {C : Type 0} (public_value : Octets → Octets)
   pub own_is : own ≡ record { spi = old.spi_i; public = public_value sent.secret; nonce = sent.nonce }
   pub other_is : SaysOfSender (λ header. header.spi_r) octets other
 
--- A datagram came to an end, and made an association that has these keys: this is what it holds of itself, which is fresh, and what the
--- datagram says of its sender.
+-- A datagram came to an end, and made an association that has these keys: this is what it holds of itself,
+-- which is fresh, and what the datagram says of its sender.
 pub record CameToKeysAsResponder {C : Type 0} (public_value : Octets → Octets) (h : Happening C) (own other : Introduction) (keys : KeyRecord) : Type 0 where
   pub from : Octets
   pub octets : Octets

@@ -20,6 +20,18 @@
 //! table.seal(serial, 4, payload, &mut packet)?;
 //! table.open(serial, packet_that_came)?;
 //! ```
+//!
+//! # How it is proved
+//!
+//! `Places` has the SPIs in the order in which they were given, `Pairs` the slab with its index by serial.
+//! Each is seen as plain data of its own: a finite map, made of a function on the numbers below a bound.
+//! `proofs/NumberedLemmas` says how the map changes when one value of the function does, `PlacesLemmas` and
+//! `PairsLemmas` what each part shows. What binds the two, `IsTable` (`specs/Storage`), speaks of the views
+//! alone, so each part is proved without the other, and `TableLemmas` puts each call together.
+//!
+//! Each call leads from a table to one that follows it, and following is transitive (`FollowingLemmas`).
+//! From this come the laws over any number of calls: no SPI is given twice, and an SPI names one pair for
+//! ever.
 #![tactic(auto)]
 
 mod fault;

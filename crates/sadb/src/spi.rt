@@ -12,8 +12,8 @@ const START_LEAST: u32 = 256;
 // The greatest SPI from which on 65,536 fit 32 bits.
 const START_MOST: u32 = 0xffff_0000;
 
-/// The number itself, where it can be the first inbound SPI of a table: from 256 to 2^32 - 65,536. Refused as [`SpiFault::Reserved`] below
-/// that, as [`SpiFault::TooHigh`] above. Takes no memory.
+/// The number itself, where it can be the first inbound SPI of a table: from 256 to 2^32 - 65,536. Refused
+/// as [`SpiFault::Reserved`] below that, as [`SpiFault::TooHigh`] above. Takes no memory.
 pub fn first_spi(start: u32) -> Result<u32, SpiFault>
     ensures given { IfOk result (λ spi. (spi ≡ start) × IsStart start) }
     ensures refused { IfErr result (λ fault. IsSpiFault start fault × (¬ IsStart start)) }

@@ -15,7 +15,8 @@ use Rattle.setup.specs.declared.fault.ConfigFault.{ConfigFault}
 use Rattle.setup.specs.declared.fault.ConfigFault.TheVariants as fault
 use Rattle.setup.specs.declared.surroundings.Setup.{Setup as Surroundings}
 
--- what holds of every configuration: the identities fit payloads, the blocks are those of a replay window, and the window is one of 1 to 16
+-- what holds of every configuration: the identities fit payloads, the blocks are those of a replay window,
+-- and the window is one of 1 to 16
 pub record IsConfig (config : Config) : Type 0 where
   pub own : IsIdentity config.own.identity
   pub peer : IsIdentity config.peer.identity

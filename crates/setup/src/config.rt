@@ -22,9 +22,10 @@ pub struct EndConfig {
     pub address: [u8; 4],
 }
 
-/// The configuration of this end. Every value can be used. [`new`](Config::new) makes one of the usual sizes, and
-/// [`with_blocks`](Config::with_blocks), [`with_window`](Config::with_window) and [`with_extended`](Config::with_extended) change one each;
-/// a call that refuses keeps nothing of what it was given.
+/// The configuration of this end. Every value can be used. [`new`](Config::new) makes one of the usual
+/// sizes, and [`with_blocks`](Config::with_blocks), [`with_window`](Config::with_window) and
+/// [`with_extended`](Config::with_extended) change one each; a call that refuses keeps nothing of what it
+/// was given.
 #[derive(Drop)]
 pub struct Config {
     own: EndConfig,
@@ -52,10 +53,11 @@ impl Model for Config {
 const WINDOW_LIMIT: u8 = 16;
 
 impl Config {
-    /// A configuration of these ends: extended sequence numbers allowed, replay windows of two blocks, and one request taken at once.
+    /// A configuration of these ends: extended sequence numbers allowed, replay windows of two blocks, and
+    /// one request taken at once.
     ///
-    /// Refused, in this order, as [`ConfigFault::OwnIdentity`] and [`ConfigFault::PeerIdentity`] where the identity doesn't fit an ID
-    /// payload (RFC 7296, section 3.5). Takes no memory.
+    /// Refused, in this order, as [`ConfigFault::OwnIdentity`] and [`ConfigFault::PeerIdentity`] where the
+    /// identity doesn't fit an ID payload (RFC 7296, section 3.5). Takes no memory.
     pub fn new(
         own: EndConfig,
         peer: EndConfig,
@@ -92,8 +94,8 @@ impl Config {
         Ok(Config { blocks, ..self })
     }
 
-    /// The same configuration with so many requests taken at once. Refused as [`ConfigFault::Window`] where that isn't one of 1 to 16
-    /// (RFC 7296, section 2.3). Takes no memory.
+    /// The same configuration with so many requests taken at once. Refused as [`ConfigFault::Window`] where
+    /// that isn't one of 1 to 16 (RFC 7296, section 2.3). Takes no memory.
     pub fn with_window(self, window: u8) -> Result<Config, ConfigFault>
         ensures set { IfOk result (λ config. (config ≡ record self { window = window }) × IsWindow window) }
         ensures refused { IfErr result (λ why. (why ≡ fault.Window) × (¬ IsWindow window)) }
@@ -157,8 +159,8 @@ impl Config {
         self.window
     }
 
-    /// What holds of every configuration: both identities fit payloads, and blocks and window are as [`blocks`](Config::blocks) and
-    /// [`window`](Config::window) say. Does nothing.
+    /// What holds of every configuration: both identities fit payloads, and blocks and window are as
+    /// [`blocks`](Config::blocks) and [`window`](Config::window) say. Does nothing.
     pub fn invariants_hold(&self)
         ensures { IsConfig self.now }
     {

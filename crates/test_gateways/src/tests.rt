@@ -1,10 +1,13 @@
 mod asserts;
+mod declined;
 mod first_messages;
 mod flood;
 mod lists;
 mod next_moments;
 mod notices;
+mod of_configs;
 mod of_deletions;
 mod of_further;
 mod of_ike;
+mod of_outputs;
 mod of_peers;

@@ -1,10 +1,11 @@
-//! What becomes of the packets that a gateway is given.
+//! What becomes of packets.
 ghost use Rattle.gateway.specs.LawsOfPackets.{DroppedOutwardPacketsChangeNothing, InwardPacketsChangeNothing, JudgedPacketsTakeOneNumber, OnlyTheBypassedComesInInTheClear, OnlyTheBypassedGoesOutInTheClear, TheProtectedGoesSealed, UnjudgedPacketsChangeNothing};
 
 use traffic::laws::{a_packet_takes_one_number, only_the_bypassed_goes_in_the_clear};
 
-/// What is to be protected never goes in the clear, outward or inward: outward it goes sealed or, for want of an association, of a
-/// number (E28, E12) or of memory, not at all. Only what the policy bypasses goes on as it is.
+/// A packet that the policy protects never goes in the clear, outward or inward. Outward it goes sealed or
+/// not at all: there is no SA for it (E28), no sequence number is left (E12), or no memory. Only packets
+/// that the policy bypasses pass unchanged.
 pub fn the_protected_never_goes_in_the_clear<C>()
     ensures outward { OnlyTheBypassedGoesOutInTheClear C }
     ensures protected { TheProtectedGoesSealed C }
@@ -13,8 +14,9 @@ pub fn the_protected_never_goes_in_the_clear<C>()
     only_the_bypassed_goes_in_the_clear();
 }
 
-/// An ESP packet that is dropped changes nothing where it was not judged; else exactly one number was taken, its own (E19, and E21,
-/// E22, E23, E39 for what it carried). Any other packet that is dropped changes nothing.
+/// An ESP packet that is dropped before it is accepted changes nothing. One that is dropped after that (E19
+/// for its padding; E21, E22, E23 or E39 for its payload) takes exactly one sequence number, its own. Any
+/// other packet that is dropped changes nothing.
 pub fn a_dropped_packet_takes_one_number_at_most<C>()
     ensures judged { JudgedPacketsTakeOneNumber C }
     ensures unjudged { UnjudgedPacketsChangeNothing C }

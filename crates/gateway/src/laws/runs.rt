@@ -1,5 +1,5 @@
 //! What is promised of runs, over however many inputs and calls, and that what they ask for is met.
-ghost use Rattle.gateway.specs.LawsOfRuns.{CallsInARowAreOneRun, CallsInARowKeepTheirPromises, EveryRunKeepsItsPromises, HistoriesInARowAreOneHistory, RunsInARowAreOneRun, ThePremisesOfPacketsAreMet, ThePremisesOfRequestsAreMet};
+ghost use Rattle.gateway.specs.LawsOfRuns.{CallsInARowAreOneRun, CallsInARowKeepTheirPromises, EveryRunKeepsItsPromises, HistoriesInARowAreOneHistory, RunsInARowAreOneRun, TheEstablishedOfNewGatewaysProvedThemselves, ThePremisesOfPacketsAreMet, ThePremisesOfRequestsAreMet};
 
 use crate::laws::refusals_change_nothing;
 use deliveries::laws::{
@@ -11,23 +11,24 @@ use moments::laws::some_are_held_on;
 use requests::laws::later_incoming_follow;
 use traffic::laws::a_packet_takes_one_number;
 
-/// What is promised of a run holds of every run, over however many inputs. Each request under SK of an association takes
-/// effect at most once, and exactly where it is delivered new: it opens, its number is not in effect yet and lies in the window, and its
-/// exchange belongs to the phase. And each repeat that is still remembered, of such a request or of one of IKE_SA_INIT, is answered by
-/// the octets of the first reply and changes nothing else; one that is not is E30. What is due comes with the first moment that reaches it.
-/// An input that is refused for want of memory counts as not delivered (RFC 7296, sections 2.1 to 2.4).
+/// Every run keeps all promises of a run, over however many inputs.
 ///
 /// No number of a child is judged at two steps. Each ESP packet that was sent to a child is judged exactly at its first arrival while the
 /// child's pair stands and its number is rightly recovered and lies inside or above the window, as long as no check value is forged and
 /// the number was not taken before the run, and is answered there by the verdict on what it holds. Of every other ESP packet nothing is
 /// handed up, and it changes nothing. An ESP packet takes no memory, and touches the table alone (RFC 4301, section 5.2; RFC 4303,
 /// section 3.4).
+///
+/// Each association that is established after a step was so before the run, or its peer proved itself at a step of it: by a datagram that
+/// opened under its keys, to what the caller's check accepts (RFC 7296, section 2.15).
 pub fn every_run_keeps_its_promises<C>()
     ensures { EveryRunKeepsItsPromises C }
 {
     ike::laws::repeats_are_answered();
     ike::laws::requests_are_remembered();
     ike::laws::requests_take_effect();
+    ike::laws::the_established_proved_themselves();
+    ike::laws::traces_name_what_is_held();
     ike::laws::what_is_due_comes_in_time();
     ike::laws::what_is_quiet_changes_nothing();
     later_incoming_follow();
@@ -37,6 +38,14 @@ pub fn every_run_keeps_its_promises<C>()
     every_list_of_packets_is_judged();
     other_changes_leave_windows();
     a_packet_takes_one_number();
+}
+
+/// So over a list that is given to a new gateway the peer of each association that is established proved itself at a step of that list.
+pub fn the_established_of_new_gateways_proved_themselves<C>()
+    ensures { TheEstablishedOfNewGatewaysProvedThemselves C }
+{
+    ike::laws::the_established_proved_themselves();
+    ike::laws::traces_name_what_is_held();
 }
 
 /// A run over one list of inputs, and a run over the next list from where the first ended, are one run over both, whose steps are those of
@@ -51,8 +60,9 @@ pub fn runs_in_a_row_are_one_run<C>()
     every_run_keeps_its_promises::<C>();
 }
 
-/// The premise on ESP packets is met by steps of a gateway in a row, in which a packet comes twice, with another input between, and no
-/// check value is forged: whatever the configuration, the caller and the numbers that were judged.
+/// Non-vacuity: the assumption on ESP packets can be met. It holds of steps of a gateway in a row at which
+/// one packet comes twice, with another input between, and no ICV is forged. The configuration, the
+/// provider and the numbers taken before may be any.
 pub fn the_premises_of_packets_are_met<C>()
     ensures { ThePremisesOfPacketsAreMet C }
 {
@@ -61,9 +71,10 @@ pub fn the_premises_of_packets_are_met<C>()
     premises_are_met();
 }
 
-/// The premises on requests and on repeats are met by two steps of a gateway in a row: octets open as a new request of an association that
-/// is held, which takes effect and is answered, and come again while the reply is kept. So it is whatever the configuration, the caller's
-/// value, where the octets come from and what is fresh; the caller's cipher hides nothing, and all laws of its traits hold.
+/// Non-vacuity: the assumptions on requests and on retransmissions can be met. They hold of two steps in a
+/// row. A datagram opens as a new request of an IKE SA, takes effect and is answered, and comes again while
+/// the response is kept. Configuration, provider's value, source address and fresh octets may be any. The
+/// provider's cipher hides nothing, and all laws of its traits hold.
 pub fn the_premises_of_requests_are_met<C>()
     ensures { ThePremisesOfRequestsAreMet C }
 {}

@@ -1,4 +1,4 @@
-//! What is promised of both ends together beside their requests: of children, packets and windows.
+//! What two gateways agree on beside their requests: children, packets and windows.
 ghost use Rattle.effects.specs.Taking.{meaning_of};
 ghost use Rattle.gateway.specs.LawsOfBothEnds.{BothEndsKeepTheirPromises, NewWorldsAreWhollySound, WindowsAccountedForFit, WindowsStayAccountedFor};
 
@@ -16,17 +16,17 @@ use traffic::laws::{
 };
 use wire::laws::{octets_spell_one_message, plain_spellings_are_spellings};
 
-/// A world of two gateways that hold nothing is wholly sound under every key record, whatever cipher there is.
+/// A world of two new gateways satisfies the full invariant under every key record, whatever the cipher.
 pub fn new_worlds_are_wholly_sound<C>()
     ensures { NewWorldsAreWhollySound C }
 {
     every_world_stays_sound::<C>();
 }
 
-/// Every list of events keeps what is promised of both ends beside their requests in step, whatever history it has. The children of one
-/// request that both ends made mirror each other, since each was made of the octets of one request and of one response, which were sealed at
-/// one end and opened at the other (RFC 7296, sections 2.9 and 2.17); what goes up from such a child the other end sealed (RFC 4301,
-/// sections 5.1 and 5.2).
+/// Every list of events, whatever its history, keeps what is promised of both ends beside their requests.
+/// The children that both ends made of one request mirror each other. Each was made of the payloads of that
+/// request and of its response, which one end sealed and the other opened (RFC 7296, sections 2.9 and
+/// 2.17). What such a child delivers, the other end sealed (RFC 4301, sections 5.1 and 5.2).
 pub fn both_ends_keep_their_promises<C: Sealer + Agreement + Proof>()
     ensures { BothEndsKeepTheirPromises C C.body_of C.plain_of (meaning_of C.Sealer C.Agreement C.Proof) }
 {
@@ -50,9 +50,10 @@ pub fn both_ends_keep_their_promises<C: Sealer + Agreement + Proof>()
     windows_are_those_told::<C>();
 }
 
-/// The window that an end counts for the other is no wider than the one that the other is set to: over every list of events, where no
-/// message under the key record was forged and neither end came to it twice. Each end tells its own in IKE_AUTH, and what is sealed at one
-/// end is what opens at the other (RFC 7296, section 2.3).
+/// Neither end assumes a wider window than its peer is configured with. This holds over every list of
+/// events in which no message under the key record was forged and neither end came to the record twice.
+/// Each end announces its window in IKE_AUTH, and what one end sealed is what the other opens (RFC 7296,
+/// section 2.3).
 pub fn windows_are_those_told<C: Sealer + Agreement + Proof>()
     ensures stays { WindowsStayAccountedFor C C.body_of C.plain_of (meaning_of C.Sealer C.Agreement C.Proof) }
     ensures fit { WindowsAccountedForFit C C.body_of C.plain_of }

@@ -20,7 +20,7 @@ use std::alloc::{AllocError, Global};
 use suite::{Agreement, KeyRecord, Proof, Sealer};
 use wire::numbers::{MESSAGE_LIMIT, SELECTOR_LIMIT};
 
-// No datagram has more octets: an ESP packet has at most so many, a message of IKE fewer.
+// The longest datagram: an ESP packet has at most so many octets, a message of IKE fewer.
 const DATAGRAM_LIMIT: usize = 16_664;
 
 /// What was sent and made, in order.
@@ -31,7 +31,8 @@ pub struct Log {
     pub children: Vec<Child>,
 }
 
-/// Memory for the octets of one datagram and of the requests that may go out again, and for the selectors of one child.
+/// Memory for what one step may send and make: the octets of one datagram, of the requests that may be
+/// retransmitted, and the selectors of one child.
 #[derive(Drop)]
 pub struct Spare {
     octets: Vec<u8>,
@@ -75,7 +76,7 @@ impl Log {
         }
     }
 
-    /// Makes room for what one step may send and make: one datagram, or so many requests that go out again.
+    /// Reserves what one step may send and make: one datagram, or so many retransmitted requests.
     pub fn prepare(&mut self, alloc: Global, again: usize) -> Result<Spare, AllocError>
         ensures ready { IfOk result (λ spare. IsSpare spare again × HasRoom self.new again) }
         ensures content { stored_by self.new ≡ stored_by self.old }
@@ -87,7 +88,7 @@ impl Log {
     }
 }
 
-/// A step of the gateway of an end, and what is stored of it.
+/// Has the gateway of an end take a step, and stores what it sent and made.
 pub fn take<'a, C: Sealer + Agreement + Proof>(
     alloc: Global,
     end: End,
@@ -126,7 +127,7 @@ pub fn take<'a, C: Sealer + Agreement + Proof>(
     output
 }
 
-/// How many requests may go out again by an input.
+/// The most requests that this input may retransmit.
 pub fn most_again<C>(input: &Input<'_>, gateway: &Gateway<C>) -> usize
     ensures { result ≡ again_by (input_view input.now) gateway.now.machine }
 {
@@ -136,7 +137,7 @@ pub fn most_again<C>(input: &Input<'_>, gateway: &Gateway<C>) -> usize
     }
 }
 
-// The requests that went out again.
+// The requests that were retransmitted.
 fn requests_in<'b>(output: &'b Output<'_>) -> &'b [Resent]
     ensures { result.now ≡ requests_in (output_view output.now) }
 {
@@ -146,7 +147,7 @@ fn requests_in<'b>(output: &'b Output<'_>) -> &'b [Resent]
     }
 }
 
-// Keeps the requests that went out again, for which there is room and memory.
+// Stores the retransmitted requests, for which room and memory were reserved.
 fn keep_all<C>(
     log: &mut Vec<Datagram>,
     end: End,
@@ -188,7 +189,7 @@ fn keep_one<C>(
     });
 }
 
-// Takes the memory for one request.
+// Takes the reserved memory for one request.
 fn spare_one(again: &mut Vec<Vec<u8>>) -> Vec<u8>
     requires { AreSpare again.old 1 }
     ensures memory { IsSpareMessage result }
@@ -198,7 +199,7 @@ fn spare_one(again: &mut Vec<Vec<u8>>) -> Vec<u8>
     again.pop().unwrap()
 }
 
-// What a request that goes out again was sealed under.
+// The keys under which a retransmitted request was sealed.
 fn mark_again(request: &Resent) -> Option<ike::Mark>
     ensures { result ≡ mark_again request.now }
 {
@@ -212,7 +213,7 @@ fn mark_again(request: &Resent) -> Option<ike::Mark>
     })
 }
 
-// Keeps an item, for which there is room.
+// Stores an item, for which room was reserved.
 fn keep<T>(log: &mut Vec<T>, item: Option<T>)
     requires { vec_len log.old < vec_capacity log.old }
     ensures items { log.new.items ≡ log.old.items ++ option_to_list item }
@@ -261,7 +262,7 @@ fn child<C>(
     })
 }
 
-// The datagram that was sent, if one was. Requests that go out again are kept apart.
+// The datagram that was sent, if one was. Retransmitted requests are stored apart.
 fn datagram<C>(
     end: End,
     gateway: &Gateway<C>,
@@ -290,7 +291,7 @@ fn datagram<C>(
     })
 }
 
-// What a message of IKE was sealed under.
+// The keys under which a message of IKE was sealed.
 fn ike_mark<C>(gateway: &Gateway<C>, sent: Option<ike::Mark>) -> Protection
     ensures { result ≡ ike_mark gateway.now.machine sent }
 {
@@ -307,7 +308,7 @@ fn ike_mark<C>(gateway: &Gateway<C>, sent: Option<ike::Mark>) -> Protection
     }
 }
 
-// What an ESP packet was sealed by.
+// The outbound SA that sealed an ESP packet.
 fn esp_mark(table: &Table, child: u32, number: u64) -> Protection
     ensures { result ≡ esp_mark table.now child number }
 {
@@ -340,7 +341,7 @@ fn outbound_of(pair: &Pair) -> Simplex
     }
 }
 
-// The items, in memory that is there; what is not needed of it is given back.
+// The items, in memory that was reserved. What is left of that memory is given back.
 fn filled<T: Copy>(mut memory: Vec<T>, items: &[T]) -> Items<T>
     requires empty { memory.items ≡ [] }
     requires room { length items.now ≤ vec_capacity memory }

@@ -25,37 +25,38 @@ impl End {
     }
 }
 
-/// What is given to an end. It may be any input at any time: datagrams that were sent, or not.
+/// An input for one of the two ends. It may be any input at any time: a datagram that the other end sent,
+/// or not.
 #[derive(Clone, Copy, Drop)]
 pub struct Event<'a> {
     pub end: End,
     pub input: Input<'a>,
 }
 
-/// One direction of a child: the association that its packets name (RFC 4301, section 4.1).
+/// One direction of a child: the SA that its packets name by their SPI (RFC 4301, section 4.1).
 #[derive(Clone, Copy, PartialEq, Eq)]
 pub struct Simplex {
     pub spi: u32,
-    /// The key of the check values.
+    /// The key of the ICVs.
     pub key: [u8; 32],
-    /// Whether sequence numbers have 64 bits.
+    /// Whether it has extended sequence numbers (ESN), of 64 bits.
     pub extended: bool,
 }
 
-/// What a datagram was protected by.
+/// What protects a datagram.
 #[derive(Drop)]
 pub enum Protection {
     /// Nothing: it is a message of IKE_SA_INIT.
     Plain,
-    /// The keys of an IKE association.
+    /// The keys of an IKE SA.
     Ike {
         keys: KeyRecord,
-        /// Whether it answers a request of the other end.
+        /// Whether it is a response.
         response: bool,
-        /// The number of the request that it is or answers.
+        /// The Message ID: of the request that it is or answers.
         number: u32,
     },
-    /// A child's outbound association, under this sequence number.
+    /// A child's outbound SA, under this sequence number.
     Esp {
         by: Simplex,
         number: u64,
@@ -84,11 +85,11 @@ pub struct Child {
     pub end: End,
     /// The serial of its pair at that end.
     pub serial: u32,
-    /// The keys of the IKE association that made it.
+    /// The keys of the IKE SA that made it.
     pub keys: KeyRecord,
     /// Whether this end asked for it.
     pub asked: bool,
-    /// The number of the request that asked.
+    /// The Message ID of the request that asked for it.
     pub number: u32,
     pub inbound: Simplex,
     pub outbound: Simplex,

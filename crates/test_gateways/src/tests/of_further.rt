@@ -7,7 +7,8 @@ use base::{Items, Range, Selector};
 use children::{Asked, MemoryFault};
 use exchange::{ChildAnswer, Notice, Plain, Role, sent_header};
 use further::{
-    Conclusion, Decision, Judgement, answer_payloads, ask, conclude_response, decide, judge,
+    Concluded, Conclusion, Decision, Judgement, answer_payloads, ask, conclude_response, decide,
+    judge,
 };
 use policy::{Action, Entry, Policy};
 use sadb::{Pair, Table};
@@ -288,7 +289,12 @@ fn a_child_at_both_ends(rt: HostRuntime) {
 // The initiator's pair by the answer.
 fn child_of(rt: &impl Abort, alloc: Global, reply: &Plain) -> Pair {
     let made = match concluded(alloc, reply, true) {
-        Ok(Conclusion::Made(pair)) => Some(pair),
+        Ok(
+            Concluded {
+                conclusion: Conclusion::Made(pair),
+                error: None,
+            },
+        ) => Some(pair),
         _ => None,
     };
     made.expect(rt, "a child")
@@ -345,20 +351,22 @@ fn keys() -> KeyRecord {
 }
 
 // What the initiator makes of an answer.
-fn concluded(alloc: Global, plain: &Plain, extended: bool) -> Result<Conclusion, MemoryFault> {
+fn concluded(alloc: Global, plain: &Plain, extended: bool) -> Result<Concluded, MemoryFault> {
     conclude_response(alloc, plain, &asked(extended), &[9; 32], 6, &keys(), 2)
 }
 
-fn conclusion(rt: &impl Abort, alloc: Global, first: u8, body: &[u8]) -> Kind {
+fn conclusion(rt: &impl Abort, alloc: Global, first: u8, body: &[u8]) -> (Kind, Option<u16>) {
     let plain = Plain {
         first,
         octets: octets(rt, alloc, body),
     };
-    match concluded(alloc, &plain, false).expect(rt, "memory") {
+    let Concluded { conclusion, error } = concluded(alloc, &plain, false).expect(rt, "memory");
+    let kind = match conclusion {
         Conclusion::Closes => Kind::Closes,
         Conclusion::Made(_) => Kind::Made,
         Conclusion::NoChild => Kind::NoChild,
-    }
+    };
+    (kind, error)
 }
 
 #[test]
@@ -366,10 +374,10 @@ fn what_ends_the_association(rt: HostRuntime) {
     let alloc = rt.alloc();
     let found = |first, octets: &[u8]| conclusion(&rt, alloc, first, octets);
     // Not in the grammar; no payload; NO_ADDITIONAL_SAS; that, and INVALID_SYNTAX behind it.
-    assert_eq!(rt; found(41, &[0]), Kind::NoChild);
-    assert_eq!(rt; found(0, &[]), Kind::NoChild);
+    assert_eq!(rt; found(41, &[0]), (Kind::NoChild, None));
+    assert_eq!(rt; found(0, &[]), (Kind::NoChild, None));
     let full = [0, 0, 0, 8, 0, 0, 0, 35];
-    assert_eq!(rt; found(41, &full), Kind::NoChild);
+    assert_eq!(rt; found(41, &full), (Kind::NoChild, Some(35)));
     let both = [41, 0, 0, 8, 0, 0, 0, 35, 0, 0, 0, 8, 0, 0, 0, 7];
-    assert_eq!(rt; found(41, &both), Kind::Closes);
+    assert_eq!(rt; found(41, &both), (Kind::Closes, Some(35)));
 }

@@ -1,3 +1,4 @@
+use Rattle.gateway.proofs.AuthenticationLemmas.{AuthenticationFacts}
 use Rattle.gateway.proofs.DeliveryLemmas.{DeliveryFacts}
 use Rattle.gateway.proofs.MomentLemmas.{MomentFacts}
 use Rattle.gateway.proofs.PromiseLemmas.{keeps_promises}
@@ -52,4 +53,5 @@ returns g c =
       up = c.a_packet_takes_one_number.ensures.up;
       dummy = c.a_packet_takes_one_number.ensures.dummy;
     } in
-    λ meaning_of inputs outputs old new run. keeps_promises facts c.refusals_change_nothing.ensures.refused moments packets meaning_of inputs outputs old new run
+    let proved : AuthenticationFacts = record { proved = c.the_established_proved_themselves.ensures; keys = c.traces_name_what_is_held.ensures.keys } in
+    λ meaning_of inputs outputs old new run. keeps_promises facts c.refusals_change_nothing.ensures.refused moments packets proved meaning_of inputs outputs old new run
