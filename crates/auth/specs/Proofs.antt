@@ -1,6 +1,6 @@
--- Identities and their proofs (RFC 7296 sections 2.15, 3.5 and 3.8). The caller enters by what its traits mean:
--- its method, what it proves octets with, and what it accepts of an identity by type and data, a method, octets
--- and a proof.
+-- Identities and their proofs (RFC 7296 sections 2.15, 3.5 and 3.8). The caller enters by what its traits
+-- mean: its method, what it proves octets with, and what it accepts of an identity by type and data, a
+-- method, octets and a proof.
 use Rattle.std.specs.Prelude.{◌≡◌, ◌<◌, ◌==◌, ◌&&◌, ℕ, Bool, false, IsTrue, nat_eq}
 use Rattle.std.specs.Prelude.{List, [], ◌∷◌, Option, Some, None}
 use Rattle.std.specs.Cmp.Lexicographic.{pointwise}
@@ -79,8 +79,8 @@ names peer (Some id) (Some auth) = is_identity peer id.0 id.1
 names peer (Some id) None = false
 names peer None auth = false
 
--- the peer's identity is named, and a proof of it that the caller accepts of just that identity, over just what
--- the peer has to prove
+-- the peer's identity is named, and a proof of it that the caller accepts of just that identity, over just
+-- what the peer has to prove
 pub record ProvesItself (accepts : Accepts) (peer : Identity) (what : ProvingView)
     (id auth : Option (ℕ × Octets)) : Type 0 where
   pub method : ℕ

@@ -87,8 +87,8 @@ IsAuthJudgement accepts peer what payloads (Refused notice) = ⊥
 IsAuthJudgement accepts peer what payloads (Accepted asked) =
     IsAcceptedRequest accepts peer what payloads asked
 
--- A request of which the proof alone decides: no critical payload is unknown, it is complete, and it names the
--- peer. Any other is refused by what it says.
+-- A request of which the proof alone decides: no critical payload is unknown, it is complete, and it names
+-- the peer. Any other is refused by what it says.
 abbrev pub hangs_on_its_proof : Identity → List Payload → Bool
 hangs_on_its_proof peer payloads =
     is_none (unknown_critical payloads) && is_complete payloads

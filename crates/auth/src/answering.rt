@@ -1,4 +1,5 @@
-//! The answer of IKE_AUTH where the peer is accepted (RFC 7296, section 1.2), and what an initiator makes of an answer.
+//! The answer of IKE_AUTH where the peer is accepted (RFC 7296, section 1.2), and what an initiator makes
+//! of an answer.
 ghost use Rattle.std.specs.Prelude.{◌≡◌, Ok, false, IfOk, OnOk};
 ghost use Rattle.exchange.specs.Counting.{only_auth, only_id_r};
 ghost use Rattle.auth.specs.Answers.{auth_answer, is_accepted};
@@ -15,9 +16,9 @@ use std::alloc::{AllocError, Global};
 use suite::Proof;
 use wire::Payload;
 
-/// The payloads of the answer to a request that was accepted (RFC 7296, section 1.2): IDr and AUTH of this end, what answers the
-/// child, and, where its window (1 to 16 requests) is above 1, the notice that tells it. The proof in it fits its payload. An
-/// error is for want of memory alone.
+/// The payloads of the answer to a request that was accepted (RFC 7296, section 1.2): IDr and AUTH of this
+/// end, what answers the child, and, where its window (1 to 16 requests) is above 1, the notice that tells
+/// it. The proof in it fits its payload. An error is for want of memory alone.
 pub fn answer<C: Proof>(
     alloc: Global,
     caller: &C,
@@ -39,13 +40,13 @@ pub fn answer<C: Proof>(
     Ok(payloads)
 }
 
-/// Whether the sender of an answer with these payloads is the peer, and proved it (RFC 7296, section 2.15): there is exactly one
-/// IDr, which is the peer's, and exactly one AUTH, by which it is proved ([`is_proved`]). All else is passed over. That
-/// a critical payload is, too, is a rule of this implementation against section 2.5, which has the initiator ignore such an
-/// answer.
+/// Whether the sender of an answer with these payloads is the peer, and proved it (RFC 7296, section 2.15):
+/// there is exactly one IDr, which is the peer's, and exactly one AUTH, by which it is proved
+/// ([`is_proved`]). All else is passed over. That a critical payload is, too, is a rule of this
+/// implementation against section 2.5, which has the initiator ignore such an answer.
 ///
-/// An error is for want of memory alone, and none comes where an IDr or an AUTH is missing or there twice, or another identity is
-/// named.
+/// An error is for want of memory alone, and none comes where an IDr or an AUTH is missing or there twice,
+/// or another identity is named.
 pub fn is_accepted<C: Proof>(
     alloc: Global,
     caller: &C,

@@ -6,7 +6,8 @@ use crate::proving::are_octets;
 use base::Items;
 use wire::numbers::IDENTITY_LIMIT;
 
-/// The identity of an end (RFC 7296, section 3.5). In a payload it has 1 to 256 octets of data, a limit of this implementation.
+/// The identity of an end (RFC 7296, section 3.5). In a payload it has 1 to 256 octets of data, a limit of
+/// this implementation.
 #[derive(Clone, Debug, PartialEq, Eq, Drop)]
 pub struct Identity {
     /// The number of its type.

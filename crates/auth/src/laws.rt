@@ -22,8 +22,8 @@ pub fn judgements_are_determined()
         → IsAuthJudgement accepts peer what payloads other → one ≡ other }
 {}
 
-/// Who is accepted named the peer's identity in the only ID payload, and the caller accepted of that identity the method and the
-/// proof in the only AUTH payload, over what the peer has to prove.
+/// Who is accepted named the peer's identity in the only ID payload, and the caller accepted of that
+/// identity the method and the proof in the only AUTH payload, over what the peer has to prove.
 pub fn who_is_accepted_proved_itself()
     ensures request { (accepts : Accepts) (peer : Identity) (what : ProvingView) (payloads : List Payload)
         (asked : AskedView) → IsAuthJudgement accepts peer what payloads (Accepted asked)
@@ -33,8 +33,8 @@ pub fn who_is_accepted_proved_itself()
         → ProvesItself accepts peer what (only_id_r payloads) (only_auth payloads) }
 {}
 
-/// Where the identity is one, and the proof and the payloads of the child fit, all payloads that are sent have what their fields
-/// allow, with at most 1308 octets beside those of the child.
+/// Where the identity is one, and the proof and the payloads of the child fit, all payloads that are sent
+/// have what their fields allow, with at most 1308 octets beside those of the child.
 pub fn what_is_sent_fits()
     ensures request { (own_method : ℕ) (proof_of : Octets → Octets) (own : Identity)
         (what : ProvingView) (child : ChildPayloads) (window : ℕ)
@@ -50,7 +50,8 @@ pub fn what_is_sent_fits()
         (auth_answer own_method proof_of own what answer window) }
 {}
 
-/// A request of the peer whose proof is accepted is judged so, with the content of the child and the window that it was made of.
+/// A request of the peer whose proof is accepted is judged so, with the content of the child and the window
+/// that it was made of.
 pub fn requests_are_accepted()
     ensures { (accepts : Accepts) (own_method : ℕ) (proof_of : Octets → Octets) (own : Identity)
         (what : ProvingView) (child : ChildPayloads) (window : ℕ) → IsWindow window

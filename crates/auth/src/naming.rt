@@ -38,10 +38,11 @@ const ID_FQDN: u8 = 2;
 const ID_RFC822_ADDR: u8 = 3;
 
 impl Identity {
-    /// The identity of a name such as `left.example` (ID_FQDN). It has 1 to 256 octets of printable ASCII, without spaces. No more is asked
-    /// of a domain name.
+    /// The identity of a name such as `left.example` (ID_FQDN). It has 1 to 256 octets of printable ASCII,
+    /// without spaces. No more is asked of a domain name.
     ///
-    /// Refused, in this order: [`IdentityFault::Empty`], [`IdentityFault::Long`], [`IdentityFault::Foreign`], [`IdentityFault::Memory`].
+    /// Refused, in this order: [`IdentityFault::Empty`], [`IdentityFault::Long`],
+    /// [`IdentityFault::Foreign`], [`IdentityFault::Memory`].
     pub fn fqdn(alloc: Global, name: &str) -> Result<Identity, IdentityFault>
         ensures named { IfOk result (λ identity. (identity ≡ identity_of ID_FQDN name.now) × IsName name.now) }
         ensures fits { IfOk result IsIdentity }
@@ -50,8 +51,8 @@ impl Identity {
         named(alloc, ID_FQDN, name.as_bytes())
     }
 
-    /// The identity of an address of mail such as `gate@left.example` (ID_RFC822_ADDR). It is refused as [`fqdn`](Identity::fqdn) is:
-    /// nothing looks for its `@`.
+    /// The identity of an address of mail such as `gate@left.example` (ID_RFC822_ADDR). It is refused as
+    /// [`fqdn`](Identity::fqdn) is: nothing looks for its `@`.
     pub fn email(alloc: Global, name: &str) -> Result<Identity, IdentityFault>
         ensures named { IfOk result (λ identity. (identity ≡ identity_of ID_RFC822_ADDR name.now) × IsName name.now) }
         ensures fits { IfOk result IsIdentity }
@@ -60,8 +61,8 @@ impl Identity {
         named(alloc, ID_RFC822_ADDR, name.as_bytes())
     }
 
-    /// The identity of an IPv4 address (ID_IPV4_ADDR), of its octets as they stand in a packet. Refused for want of memory alone
-    /// ([`IdentityFault::Memory`]).
+    /// The identity of an IPv4 address (ID_IPV4_ADDR), of its octets as they stand in a packet. Refused for
+    /// want of memory alone ([`IdentityFault::Memory`]).
     pub fn address(alloc: Global, octets: [u8; 4]) -> Result<Identity, IdentityFault>
         ensures named { IfOk result (λ identity. identity ≡ identity_of ID_IPV4_ADDR octets) }
         ensures fits { IfOk result IsIdentity }

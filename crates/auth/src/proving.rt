@@ -16,7 +16,8 @@ use wire::Payload;
 /// What goes into an end's proof beside its identity (RFC 7296, section 2.15).
 #[derive(Clone, Copy)]
 pub struct Proving<'a> {
-    /// The end's first message, of IKE_SA_INIT: of an initiator that was asked for a cookie, the one that brings it.
+    /// The end's first message, of IKE_SA_INIT: of an initiator that was asked for a cookie, the one that
+    /// brings it.
     pub first: &'a [u8],
     /// The other end's nonce.
     pub nonce: &'a [u8],
@@ -25,9 +26,9 @@ pub struct Proving<'a> {
 }
 
 impl<'a> Proving<'a> {
-    /// What the end of this role in IKE_SA_INIT proves over (RFC 7296, section 2.15), with the keys of the association and the
-    /// first message that this end sent: an initiator over the responder's nonce, with SK_pi, a responder over the
-    /// initiator's, with SK_pr.
+    /// What the end of this role in IKE_SA_INIT proves over (RFC 7296, section 2.15), with the keys of the
+    /// association and the first message that this end sent: an initiator over the responder's nonce, with
+    /// SK_pi, a responder over the initiator's, with SK_pr.
     pub fn of(role: Role, keys: &'a KeyRecord, first: &'a [u8]) -> Proving<'a>
         ensures { proving_view result ≡ proving_of role keys.now first.now }
     {
@@ -76,7 +77,8 @@ fn id_payload(alloc: Global, role: Role, own: &Identity) -> Result<Payload, Allo
     })
 }
 
-/// The AUTH payload by which an end of this identity proves itself (RFC 7296, section 3.8). An error is for want of memory alone.
+/// The AUTH payload by which an end of this identity proves itself (RFC 7296, section 3.8). An error is for
+/// want of memory alone.
 pub fn prove<C: Proof>(
     alloc: Global,
     caller: &C,
@@ -114,9 +116,9 @@ pub(crate) fn are_octets(octets: &[u8])
     let _ = octets;
 }
 
-/// Whether the identity that is named is the peer's, by its type and its data, and the caller accepts of it the AUTH payload's
-/// method and data, `proof`, over what the peer has to prove (RFC 7296, section 2.15). An error is for want of memory alone, and
-/// none comes where another identity is named.
+/// Whether the identity that is named is the peer's, by its type and its data, and the caller accepts of it
+/// the AUTH payload's method and data, `proof`, over what the peer has to prove (RFC 7296, section 2.15).
+/// An error is for want of memory alone, and none comes where another identity is named.
 pub fn is_proved<C: Proof>(
     alloc: Global,
     caller: &C,

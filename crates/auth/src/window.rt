@@ -15,8 +15,8 @@ const WINDOW_LEAST: u8 = 1;
 // The widest window that counts, a limit of this implementation.
 const WINDOW_LIMIT: u8 = 16;
 
-/// The notice SET_WINDOW_SIZE by which an end tells its window, 1 to 16 requests (RFC 7296, section 2.3), with protocol 0 and no
-/// SPI. An error is for want of memory alone.
+/// The notice SET_WINDOW_SIZE by which an end tells its window, 1 to 16 requests (RFC 7296, section 2.3),
+/// with protocol 0 and no SPI. An error is for want of memory alone.
 pub fn window_notice(alloc: Global, window: u8) -> Result<Payload, AllocError>
     requires { IsWindow window }
     ensures { IfOk result (λ payload. payload ≡ window_payload window) }
@@ -44,9 +44,9 @@ pub(crate) fn push_window(
     Ok(())
 }
 
-/// The window that the peer tells in these payloads (RFC 7296, section 2.3): that of the first notice SET_WINDOW_SIZE with four
-/// octets of data, whatever protocol and SPI it names, where 0 counts as 1 and more than 16 as 16. Without one it is 1. Takes no
-/// memory.
+/// The window that the peer tells in these payloads (RFC 7296, section 2.3): that of the first notice
+/// SET_WINDOW_SIZE with four octets of data, whatever protocol and SPI it names, where 0 counts as 1 and
+/// more than 16 as 16. Without one it is 1. Takes no memory.
 pub fn peer_window(payloads: &[Payload]) -> u8
     ensures { result ≡ peer_window payloads.now }
 {

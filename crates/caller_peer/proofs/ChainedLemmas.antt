@@ -1,4 +1,5 @@
--- The recursion over blocks is what section 6.2 of SP 800-38A says of each, and what is decrypted is encrypted to the same blocks.
+-- The recursion over blocks is what section 6.2 of SP 800-38A says of each, and what is decrypted is
+-- encrypted to the same blocks.
 use Rattle.std.proofs.Common.{◌≡◌, ℕ, zero, suc, ◌+◌, ◌*◌, ◌<◌, ◌≤◌, List, ◌++◌, length, take, drop, refl, sym, ap, ◌∙◌, subst, arith}
 use Rattle.std.proofs.lemmas.List.{length-append, length-take-le, length-drop, take_at, drop_at, drop-drop, take-append-drop}
 use Rattle.base.specs.Octets.{AreOctets}

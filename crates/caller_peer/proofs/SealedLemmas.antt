@@ -1,4 +1,5 @@
--- What is made of a plain text is the one body that section 3.14 of RFC 7296 has, with the least padding, of zeros.
+-- What is made of a plain text is the one body that section 3.14 of RFC 7296 has, with the least padding,
+-- of zeros.
 use Rattle.std.proofs.Common.{◌≡◌, ◌↔◌, ℕ, ◌+◌, ◌*◌, ◌%◌, ◌<◌, List, [], ◌∷◌, ◌++◌, length, replicate, sym, ap, ◌∙◌, subst, arith}
 use Rattle.std.proofs.lemmas.List.{length-append, length-replicate, append_assoc}
 use Rattle.mac.specs.Hmac.{icv_sha256}

@@ -1,5 +1,6 @@
--- Bodies of encrypted payloads (RFC 7296, section 3.14) under AES-256 in CBC mode (RFC 3602) and HMAC-SHA-256-128
--- (RFC 4868): initialization vector, encrypted payloads with padding and its length, check value.
+-- Bodies of encrypted payloads (RFC 7296, section 3.14) under AES-256 in CBC mode (RFC 3602) and
+-- HMAC-SHA-256-128 (RFC 4868): initialization vector, encrypted payloads with padding and its length, check
+-- value.
 use Rattle.std.specs.Prelude.{ℕ, ◌+◌, ◌-◌, ◌*◌, ◌/◌, ◌%◌, Bool, ◌&&◌, nat_eq, nat_le, nat_lt, Option, Some, None, List, [], ◌∷◌, ◌++◌, length, take, drop, replicate, slice_index, if◌then◌else◌}
 use Rattle.std.specs.Cmp.Lexicographic.{pointwise}
 use Rattle.mac.specs.Hmac.{icv_sha256}

@@ -5,7 +5,8 @@ use Rattle.mac.specs.Hmac.{icv_sha256}
 use Rattle.suite.specs.declared.keys.Keys.{Keys}
 use Rattle.caller_peer.specs.Chaining.{AreChained}
 
--- plain text, padding of whatever octets, and one octet that tells how many these are, so fewer than 256, fill whole blocks
+-- plain text, padding of whatever octets, and one octet that tells how many these are, so fewer than 256,
+-- fill whole blocks
 pub record IsPadded (plain text : List ℕ) : Type 0 where
   pub padding : List ℕ
   pub is : text ≡ plain ++ padding ++ length padding ∷ []
@@ -22,7 +23,8 @@ pub record IsBodyOf (keys : Keys) (head plain body : List ℕ) : Type 0 where
   pub padded : IsPadded plain text
   pub chained : AreChained keys.encryption vector text blocks
 
--- what is made: the plain text, as few zeros as fill a block, and an octet that tells how many, encrypted behind the fresh octets
+-- what is made: the plain text, as few zeros as fill a block, and an octet that tells how many, encrypted
+-- behind the fresh octets
 pub record IsSealedBody (keys : Keys) (head plain fresh body : List ℕ) : Type 0 where
   pub blocks : List ℕ
   pub text : List ℕ

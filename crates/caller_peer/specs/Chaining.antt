@@ -22,7 +22,8 @@ cbc_decrypted key before (suc n) text = both (decrypted key (take 16 text)) befo
 abbrev pub block_at : List ℕ → ℕ → List ℕ
 block_at octets j = take 16 (drop (16 * j) octets)
 
--- as section 6.2 has it, block by block: each is the encrypted sum of the plain text's and the one before it, the first of which is the vector
+-- as section 6.2 has it, block by block: each is the encrypted sum of the plain text's and the one before
+-- it, the first of which is the vector
 pub record AreChained (key vector plain blocks : List ℕ) : Type 0 where
   pub as_long : length blocks ≡ length plain
   pub each : (j : ℕ) → 16 * j < length plain → block_at blocks j ≡ encrypted key (both (block_at plain j) (block_at (vector ++ blocks) j))

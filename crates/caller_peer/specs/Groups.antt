@@ -15,8 +15,8 @@ base = generator
 unfoldable pub public_of : List ℕ → List ℕ
 public_of secret = number_octets 256 (power base (octets_number secret))
 
--- g^xy likewise, but for 0, 1 and the prime less 1, which are refused: so all powers of the public values are that RFC 6989 section 2.1
--- refuses
+-- g^xy likewise, but for 0, 1 and the prime less 1, which are refused: so all powers of the public values
+-- are that RFC 6989 section 2.1 refuses
 unfoldable pub secret_of : ℕ → Option (List ℕ)
 secret_of element = if is_trivial element then None else Some (number_octets 256 element)
 
@@ -28,8 +28,8 @@ shared_by (Some other) exponent = secret_of (power other exponent)
 unfoldable pub shared_of : List ℕ → List ℕ → Option (List ℕ)
 shared_of secret other = shared_by (element_of other) (octets_number secret)
 
--- the public value is 256 octets that spell a number below the prime, and what is shared are the 256 octets that spell its power by the secret, a
--- number from 2 to the prime less 2 (RFC 6989, section 2.1)
+-- the public value is 256 octets that spell a number below the prime, and what is shared are the 256 octets
+-- that spell its power by the secret, a number from 2 to the prime less 2 (RFC 6989, section 2.1)
 pub record IsSharedBy (secret other shared : List ℕ) : Type 0 where
   pub other_long : length other ≡ 256
   pub element : octets_number other < prime

@@ -12,8 +12,9 @@ use suite::Agreement;
 // The group's number (RFC 3526, section 3).
 const GROUP: u16 = 14;
 
-/// A public value is refused that has not 256 octets or spells no number below the prime, and so is a shared secret of 0, 1 or the prime
-/// less 1: so is each public value whose every power is one of these (RFC 6989, section 2.1), and a secret of 0.
+/// A public value is refused that has not 256 octets or spells no number below the prime, and so is a
+/// shared secret of 0, 1 or the prime less 1: so is each public value whose every power is one of these
+/// (RFC 6989, section 2.1), and a secret of 0.
 impl Agreement for PeerCaller {
     ghost use Rattle.caller_peer.specs.Groups.{group_14, public_of, shared_of};
 

@@ -19,8 +19,9 @@ const AES_CBC: u16 = 12;
 // The octets of a check value (RFC 4868, section 2.3).
 const CHECK_VALUE: usize = 16;
 
-/// The 16 fresh octets are a body's initialization vector: in CBC mode nobody may foretell them (RFC 3602, section 3; RFC 7296, section
-/// 3.14). Padding is zeros, as few as fill a block; in opening any pad length that fits is taken, whatever the padding.
+/// The 16 fresh octets are a body's initialization vector: in CBC mode nobody may foretell them (RFC 3602,
+/// section 3; RFC 7296, section 3.14). Padding is zeros, as few as fill a block; in opening any pad length
+/// that fits is taken, whatever the padding.
 impl Sealer for PeerCaller {
     ghost use Rattle.caller_peer.specs.Bodies.{aes_cbc};
 

@@ -15,18 +15,21 @@ const SHARED_KEY_METHOD: u8 = 2;
 /// A peer that is known by a secret shared with it.
 #[derive(Drop)]
 pub struct Peer {
-    /// The type of its identity, as on the wire: 2 for a name, 1 for an address of IPv4 (RFC 7296, section 3.5).
+    /// The type of its identity, as on the wire: 2 for a name, 1 for an address of IPv4 (RFC 7296, section
+    /// 3.5).
     pub kind: u8,
     /// The identity's data.
     pub id: Items<u8>,
-    /// The secret under which it proves its identity. An empty one proves nothing, since anybody could prove by it.
+    /// The secret under which it proves its identity. An empty one proves nothing, since anybody could
+    /// prove by it.
     pub secret: Items<u8>,
 }
 
 /// A caller that proves its own end's identity under a secret, and accepts the proofs of peers.
 #[derive(Drop)]
 pub struct PeerCaller {
-    /// The secret under which this end proves its identity, to whatever peer: with a stack that has one key for both ways, this key.
+    /// The secret under which this end proves its identity, to whatever peer: with a stack that has one key
+    /// for both ways, this key.
     pub own: Items<u8>,
     /// The peers that are known. Of two with one identity the first counts.
     pub peers: Items<Peer>,

@@ -82,8 +82,8 @@ fn caller(alloc: Global) -> Result<PeerCaller, AllocError> {
     })
 }
 
-// ENCR_AES_CBC with the key length 256, the 2048-bit group, and Shared Key Message Integrity Code (RFC 7296, sections 3.3.2, 3.3.5
-// and 3.8; RFC 3526, section 3).
+// ENCR_AES_CBC with the key length 256, the 2048-bit group, and Shared Key Message Integrity Code (RFC
+// 7296, sections 3.3.2, 3.3.5 and 3.8; RFC 3526, section 3).
 #[test]
 fn names_of_the_suite(rt: HostRuntime) -> Result<(), Fail> {
     let caller = caller(rt.alloc())?;

@@ -1,5 +1,5 @@
--- What the caller of scripts means: a cipher that hides nothing, the exclusive or as key agreement, and a keyed hash
--- under one shared secret as the proof.
+-- What the caller of scripts means: a cipher that hides nothing, the exclusive or as key agreement, and a
+-- keyed hash under one shared secret as the proof.
 use Rattle.std.specs.Prelude.{ℕ, ◌+◌, ◌-◌, Bool, ◌&&◌, nat_eq, nat_le, Option, Some, None, List, [], ◌∷◌, ◌++◌, length, map, take, drop, slice_index, bit_xor, codes, if◌then◌else◌}
 use Rattle.std.specs.List.{range_with_len}
 use Rattle.std.specs.Cmp.Lexicographic.{pointwise}
@@ -7,7 +7,8 @@ use Rattle.mac.specs.Hmac.{hmac_sha256, icv_sha256}
 use Rattle.suite.specs.declared.keys.Keys.{Keys}
 use Rattle.suite.specs.declared.sealer.Cipher.{Cipher}
 
--- its cipher's and its group's numbers, of those for private use (RFC 7296 section 3.3.2); the cipher has no key length
+-- its cipher's and its group's numbers, of those for private use (RFC 7296 section 3.3.2); the cipher has
+-- no key length
 abbrev pub script_cipher : Cipher
 script_cipher = record { id = 65001; key_length = None }
 

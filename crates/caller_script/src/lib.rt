@@ -1,9 +1,11 @@
-//! The caller of scripts and of tests: a cipher that hides nothing, the exclusive or as key agreement, and a keyed hash under
-//! one known secret as proof of identity. It keeps nothing secret and is never to be used on a network.
+//! The caller of scripts and of tests: a cipher that hides nothing, the exclusive or as key agreement, and
+//! a keyed hash under one known secret as proof of identity. It keeps nothing secret and is never to be
+//! used on a network.
 //!
-//! [`ScriptCaller`] meets the traits that `suite` asks of a caller ([`Sealer`](suite::Sealer), [`Agreement`](suite::Agreement),
-//! [`Proof`](suite::Proof)) with all their laws, so that all that stands above them can be run. What it means is said in
-//! `specs/Meaning`: who writes another program for the same scripts needs nothing else.
+//! [`ScriptCaller`] meets the traits that `suite` asks of a caller ([`Sealer`](suite::Sealer),
+//! [`Agreement`](suite::Agreement), [`Proof`](suite::Proof)) with all their laws, so that all that stands
+//! above them can be run. What it means is said in `specs/Meaning`: who writes another program for the same
+//! scripts needs nothing else.
 //!
 //! ```text
 //! let mut body = Vec::new(alloc);

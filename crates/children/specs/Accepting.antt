@@ -15,8 +15,8 @@ use Rattle.children.specs.Terms.{Terms}
 use Rattle.children.specs.declared.asking.Asked.{Asked}
 use Rattle.children.specs.declared.setting.Setting.{Setting}
 
--- The terms of an acceptable answer: one proposal that is due to the offer, and selectors inside those offered, which are not
--- empty.
+-- The terms of an acceptable answer: one proposal that is due to the offer, and selectors inside those
+-- offered, which are not empty.
 pub record AreAcceptedTerms (asked : Asked) (answer : List Payload) (terms : Terms) : Type 0 where
   pub proposal : Proposal
   pub chosen : Chosen
@@ -41,8 +41,8 @@ pub record IsAcceptedChild (setting : Setting) (asked : Asked) (answer : List Pa
 abbrev pub IsUnacceptable : Asked → List Payload → Type 0
 IsUnacceptable asked answer = (terms : Terms) → ¬ AreAcceptedTerms asked answer terms
 
--- The pair keeps to what was asked: it receives under the SPI that was given, its selectors lie inside those asked for, and its
--- numbers are extended only where that was allowed.
+-- The pair keeps to what was asked: it receives under the SPI that was given, its selectors lie inside
+-- those asked for, and its numbers are extended only where that was allowed.
 pub record KeepsToRequest (asked : Asked) (pair : Pair) : Type 0 where
   pub spi : pair.inbound.association.spi ≡ asked.spi
   pub local : AnswersOffer pair.local (asked.local ∷ [])

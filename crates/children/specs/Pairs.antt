@@ -1,4 +1,5 @@
--- The pair of associations that an end has of a child (RFC 7296 sections 1.2 and 2.17, RFC 4301 section 4.4.2).
+-- The pair of associations that an end has of a child (RFC 7296 sections 1.2 and 2.17, RFC 4301 section
+-- 4.4.2).
 use Rattle.std.specs.Prelude.{◌≡◌, ◌≤◌, ℕ, List, [], ◌∷◌, length}
 use Rattle.base.specs.declared.selector.Selector.{Selector}
 use Rattle.wire.specs.Numbers.{SELECTOR_LIMIT}

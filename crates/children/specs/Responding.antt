@@ -62,8 +62,8 @@ made_of setting wanted chosen terms = record {
   pair = new_pair Responder setting terms;
 }
 
--- The terms on which a child is made: the peer's SPI is that of the chosen proposal, this end's the next that the table gives,
--- and the selectors are narrowed to the policy.
+-- The terms on which a child is made: the peer's SPI is that of the chosen proposal, this end's the next
+-- that the table gives, and the selectors are narrowed to the policy.
 pub record AreMadeTerms (extended : Bool) (entries : List Entry) (table : Database) (offer : ChildPayloads)
     (chosen : Chosen) (terms : Terms) : Type 0 where
   pub choice : IsChosenProposal (Esp extended) offer.proposals chosen
@@ -77,8 +77,8 @@ pub record AreMadeTerms (extended : Bool) (entries : List Entry) (table : Databa
   pub not_full : ¬ IsFull table
   pub not_spent : ¬ IsSpent table
 
--- What is made of an offer, by an end that allows extended sequence numbers or doesn't: the answer's payloads, and the
--- responder's pair.
+-- What is made of an offer, by an end that allows extended sequence numbers or doesn't: the answer's
+-- payloads, and the responder's pair.
 pub record IsMadeChild (setting : Setting) (extended : Bool) (entries : List Entry) (table : Database)
     (offer : ChildPayloads) (made : Made) : Type 0 where
   pub chosen : Chosen

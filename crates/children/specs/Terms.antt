@@ -1,4 +1,5 @@
--- What the two ends of a child agree on (RFC 7296 sections 2.9 and 3.3): what the payloads of a request and of its reply say.
+-- What the two ends of a child agree on (RFC 7296 sections 2.9 and 3.3): what the payloads of a request and
+-- of its reply say.
 use Rattle.std.specs.Prelude.{◌≡◌, ◌==◌, ℕ, Bool, List, [], ◌∷◌, Some, length, slice_get}
 use Rattle.std.specs.List.{filter}
 use Rattle.byteorder.specs.Endian.{big_number}
@@ -11,7 +12,8 @@ use Rattle.suite.specs.Choice.{sequence_numbers}
 use Rattle.exchange.specs.Counting.{only_sa, only_ts_i, only_ts_r}
 
 pub record Terms : Type 0 where
-  -- the SPI of what the exchange's responder sends, which the initiator gave, and that of what its initiator sends
+  -- the SPI of what the exchange's responder sends, which the initiator gave, and that of what its
+  -- initiator sends
   pub spi_i : ℕ
   pub spi_r : ℕ
   -- whether sequence numbers have 64 bits, in both directions
@@ -29,8 +31,9 @@ pub record IsForEsp (proposal : Proposal) : Type 0 where
   pub protocol : proposal.protocol ≡ ESP_PROTOCOL
   pub spi : length proposal.spi ≡ 4
 
--- The reply answers one proposal of the request by its number (section 3.3.1), both are for ESP, and each end names the SPI of
--- what it is sent. The reply's selectors count, since they are those offered or narrower (section 2.9).
+-- The reply answers one proposal of the request by its number (section 3.3.1), both are for ESP, and each
+-- end names the SPI of what it is sent. The reply's selectors count, since they are those offered or
+-- narrower (section 2.9).
 pub record AreTermsOf (request reply : List Payload) (terms : Terms) : Type 0 where
   pub offered : List Proposal
   pub place : ℕ

@@ -1,5 +1,6 @@
-//! Facts about the definitions, each the contract of a function that does nothing: the two ends' pairs mirror each other, what a
-//! responder answers is acceptable, keeps to its offer and can be sent, and answers are determined.
+//! Facts about the definitions, each the contract of a function that does nothing: the two ends' pairs
+//! mirror each other, what a responder answers is acceptable, keeps to its offer and can be sent, and
+//! answers are determined.
 ghost use Rattle.std.specs.Prelude.{◌≡◌, ◌<◌, ◌≤◌, ◌^◌, ◌∷◌, [], ℕ, Bool, true, List, Some, length};
 ghost use Rattle.std.specs.List.{AllByRecursion};
 ghost use Rattle.base.specs.declared.selector.Selector.{Selector};
@@ -31,16 +32,18 @@ use policy::laws::{answers_can_be_sent, answers_lie_inside, narrowing_is_determi
 use sadb::laws::later_tables_are_determined;
 use suite::laws::{choices_are_determined, ends_agree};
 
-/// The pairs that the two ends have of the child of one request, which offered one proposal, and its reply mirror each other:
-/// what one sends the other receives, under one SPI and one key, and what is local to one is remote to the other. Does nothing.
+/// The pairs that the two ends have of the child of one request, which offered one proposal, and its reply
+/// mirror each other: what one sends the other receives, under one SPI and one key, and what is local to
+/// one is remote to the other. Does nothing.
 pub fn children_mirror()
     ensures { (keys : List (List ℕ)) (request reply : List Payload) (proposal : Proposal) (a b : Pair)
         → only_sa request ≡ Some (proposal ∷ [])
         → IsChild Initiator keys request reply a → IsChild Responder keys request reply b → Mirrors a b }
 {}
 
-/// The pair that a responder makes is its pair of the child of the request and of any reply that has the payloads which were
-/// made; the pair of an accepted answer is the initiator's, where the request has its offer. Does nothing.
+/// The pair that a responder makes is its pair of the child of the request and of any reply that has the
+/// payloads which were made; the pair of an accepted answer is the initiator's, where the request has its
+/// offer. Does nothing.
 pub fn pairs_are_children()
     ensures made { (setting : Setting) (extended : Bool) (entries : List Entry) (table : Database)
         (offer : ChildPayloads) (made : Made) (request reply : List Payload)
@@ -53,8 +56,9 @@ pub fn pairs_are_children()
         → IsChild Initiator setting.keys request answer pair }
 {}
 
-/// What a responder makes of what an initiator asked is acceptable to that initiator, on the same terms, also where the responder
-/// doesn't allow extended sequence numbers and the initiator does, or the other way round. Does nothing.
+/// What a responder makes of what an initiator asked is acceptable to that initiator, on the same terms,
+/// also where the responder doesn't allow extended sequence numbers and the initiator does, or the other
+/// way round. Does nothing.
 pub fn responses_are_acceptable()
     ensures { (asked : Asked) (setting : Setting) (extended : Bool) (entries : List Entry)
         (table : Database) (made : Made) (reply : List Payload) → asked.spi < 2 ^ 32
@@ -66,9 +70,10 @@ pub fn responses_are_acceptable()
     answers_lie_inside();
 }
 
-/// What is made keeps to its offer and to the policy (RFC 7296, sections 2.7 and 2.9): the selectors lie inside those offered,
-/// and inside one entry that protects; numbers are extended only where that is allowed; the answer's proposal has number and
-/// protocol of one that was offered, and takes its transforms from it. Does nothing.
+/// What is made keeps to its offer and to the policy (RFC 7296, sections 2.7 and 2.9): the selectors lie
+/// inside those offered, and inside one entry that protects; numbers are extended only where that is
+/// allowed; the answer's proposal has number and protocol of one that was offered, and takes its transforms
+/// from it. Does nothing.
 pub fn responses_keep_to_their_offers()
     ensures offer { (setting : Setting) (extended : Bool) (entries : List Entry) (table : Database)
         (offer : ChildPayloads) (made : Made)
@@ -91,15 +96,16 @@ pub fn responses_keep_to_their_offers()
     answers_lie_inside();
 }
 
-/// An accepted pair keeps to what was asked (RFC 7296, sections 2.7 and 2.9): it receives under the SPI that was given, its selectors
-/// lie inside those asked for, and its numbers are extended only where that was allowed. Does nothing.
+/// An accepted pair keeps to what was asked (RFC 7296, sections 2.7 and 2.9): it receives under the SPI
+/// that was given, its selectors lie inside those asked for, and its numbers are extended only where that
+/// was allowed. Does nothing.
 pub fn what_is_accepted_was_asked()
     ensures { (setting : Setting) (asked : Asked) (answer : List Payload) (pair : Pair)
         → IsAcceptedChild setting asked answer pair → KeepsToRequest asked pair }
 {}
 
-/// A pair has at most 16 selectors on either side, as the payloads that it is made of: one that is made, where the offer has no more,
-/// and one that is accepted. Does nothing.
+/// A pair has at most 16 selectors on either side, as the payloads that it is made of: one that is made,
+/// where the offer has no more, and one that is accepted. Does nothing.
 pub fn pairs_have_few_selectors()
     ensures made { (setting : Setting) (extended : Bool) (entries : List Entry) (table : Database)
         (offer : ChildPayloads) (made : Made) → length offer.ts_i ≤ SELECTOR_LIMIT
@@ -126,7 +132,8 @@ pub fn answers_are_determined()
     narrowing_is_determined();
 }
 
-/// The payloads that are asked and answered have what their fields allow, and at most 1400 octets together. Does nothing.
+/// The payloads that are asked and answered have what their fields allow, and at most 1400 octets together.
+/// Does nothing.
 pub fn payloads_fit()
     ensures asked { (asked : Asked) → IsSendableSelector asked.local → IsSendableSelector asked.remote
         → FitMessages (child_request asked) }
@@ -139,8 +146,8 @@ pub fn payloads_fit()
     answers_can_be_sent();
 }
 
-/// An answer is acceptable or it isn't. What is answered goes by what the table holds, whatever room there is, and so do the table
-/// and the serial of a pair after [`install`](crate::install). Does nothing.
+/// An answer is acceptable or it isn't. What is answered goes by what the table holds, whatever room there
+/// is, and so do the table and the serial of a pair after [`install`](crate::install). Does nothing.
 pub fn children_are_determined()
     ensures acceptable { (setting : Setting) (asked : Asked) (answer : List Payload) (pair : Pair)
         → IsAcceptedChild setting asked answer pair → ¬ IsUnacceptable asked answer }

@@ -36,16 +36,18 @@ pub struct Made {
     pub pair: Pair,
 }
 
-/// Answers an offer (RFC 7296, sections 1.3, 2.7 and 2.9); `extended` tells whether this end allows extended sequence numbers
-/// (RFC 4303, section 2.2.1). Refused, in this order: [`Notice::NoProposalChosen`] where no proposal is acceptable,
-/// [`Notice::TsUnacceptable`] where the policy protects nothing of the flows that are offered, [`Notice::NoAdditionalSas`] where
-/// the table is full or its SPIs are spent. Otherwise the answer has the chosen proposal's number, the next SPI of the table and
-/// the selectors narrowed to the policy; the pair receives under that SPI with the initiator's key, and sends under the chosen
-/// proposal's with its own.
+/// Answers an offer (RFC 7296, sections 1.3, 2.7 and 2.9); `extended` tells whether this end allows
+/// extended sequence numbers (RFC 4303, section 2.2.1). Refused, in this order:
+/// [`Notice::NoProposalChosen`] where no proposal is acceptable, [`Notice::TsUnacceptable`] where the
+/// policy protects nothing of the flows that are offered, [`Notice::NoAdditionalSas`] where the table is
+/// full or its SPIs are spent. Otherwise the answer has the chosen proposal's number, the next SPI of the
+/// table and the selectors narrowed to the policy; the pair receives under that SPI with the initiator's
+/// key, and sends under the chosen proposal's with its own.
 ///
-/// Of the table its room alone changes, also after an error; where a pair is made, it can take it, as [`install`] wants it. An
-/// error is for want of memory alone, for a place in the table only where that takes more pairs and has no room, and none comes for an
-/// offer that is refused for its proposals or its selectors.
+/// Of the table its room alone changes, also after an error; where a pair is made, it can take it, as
+/// [`install`] wants it. An error is for want of memory alone, for a place in the table only where that
+/// takes more pairs and has no room, and none comes for an offer that is refused for its proposals or its
+/// selectors.
 pub fn respond(
     alloc: Global,
     offer: &ChildOffer<'_>,
@@ -133,8 +135,9 @@ fn answered_proposals(
     lone(alloc, answer(alloc, wanted, chosen, &own.to_be_bytes())?)
 }
 
-/// Adds the pair that was made of an offer, and answers its serial. The caller asks only for a table that is ready, with a pair
-/// whose inbound SPI is the next that the table gives; so it is after [`respond`]. Takes no memory.
+/// Adds the pair that was made of an offer, and answers its serial. The caller asks only for a table that
+/// is ready, with a pair whose inbound SPI is the next that the table gives; so it is after [`respond`].
+/// Takes no memory.
 pub fn install(table: &mut Table, pair: Pair) -> u32
     requires ready { IsReady table.old }
     requires next { pair.inbound.association.spi ≡ next_spi table.old }

@@ -8,8 +8,8 @@ pub struct Setting {
     /// The serial of the IKE association that makes it.
     pub ike: u32,
     /// The keys of the exchange ([`suite::child_keys`], those of a first child
-    /// [`KeyRecord::first_child_keys`](suite::KeyRecord::first_child_keys)): that of what its initiator sends, then that of what
-    /// its responder sends (RFC 7296, section 2.17).
+    /// [`KeyRecord::first_child_keys`](suite::KeyRecord::first_child_keys)): that of what its initiator
+    /// sends, then that of what its responder sends (RFC 7296, section 2.17).
     pub keys: [[u8; 32]; 2],
     /// The blocks of the replay window, a count that [`replay::is_block_count`] allows.
     pub blocks: u32,

@@ -19,7 +19,8 @@ child_deletion spi = esp_deletion (spi ∷ [])
 abbrev pub association_deletion : List Payload
 association_deletion = Delete IKE_PROTOCOL [] ∷ []
 
--- payloads that have what their fields allow, and few enough octets for a message that is sealed (section 3.14)
+-- payloads that have what their fields allow, and few enough octets for a message that is sealed (section
+-- 3.14)
 pub record CanBeSent (payloads : List Payload) : Type 0 where
   pub fields : AllByRecursion FitsFields payloads
   pub short : sum_by size_of payloads ≤ PAYLOADS_LIMIT

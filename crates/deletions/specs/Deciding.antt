@@ -13,7 +13,8 @@ use Rattle.deletions.specs.declared.deciding.Verdict.{Verdict}
 use Rattle.deletions.specs.declared.deciding.Verdict.TheVariants as verdict
 use Rattle.deletions.specs.declared.naming.DeletedPairs.{DeletedPairs}
 
--- what its deletions ask for: with the IKE association all its children end (section 1.4.1), so those named beside it are not looked at
+-- what its deletions ask for: with the IKE association all its children end (section 1.4.1), so those named
+-- beside it are not looked at
 abbrev pub deletions_in : PairMap → ℕ → List Payload → Verdict
 deletions_in pairs ike payloads = if deletes_association payloads then verdict.Closes else verdict.Deletes (deleted_by pairs ike (esp_spis payloads))
 
@@ -21,7 +22,8 @@ deletions_in pairs ike payloads = if deletes_association payloads then verdict.C
 abbrev pub within_limit : PairMap → ℕ → List Payload → Verdict
 within_limit pairs ike payloads = if nat_lt named_limit (count_of_spis payloads) then verdict.BadSyntax else deletions_in pairs ike payloads
 
--- the first unknown payload that is marked as critical, if there is one, comes before all that is asked for (section 2.5)
+-- the first unknown payload that is marked as critical, if there is one, comes before all that is asked for
+-- (section 2.5)
 abbrev pub verdict_by : Option ℕ → Verdict → Verdict
 verdict_by (Some kind) understood = verdict.Unsupported kind
 verdict_by None understood = understood
@@ -47,7 +49,8 @@ is_closing_verdict (verdict.Unsupported kind) = false
 is_closing_verdict verdict.Closes = true
 is_closing_verdict (verdict.Deletes deleted) = false
 
--- Live pairs of this IKE association, none twice, each with the SPI under which it receives, and no more than a message may name
+-- Live pairs of this IKE association, none twice, each with the SPI under which it receives, and no more
+-- than a message may name
 pub record AreLivePairs (pairs : PairMap) (ike : ℕ) (deleted : DeletedPairs) : Type 0 where
   pub live : All (IsLive pairs) deleted.serials
   pub its_own : All (BelongsTo pairs ike) deleted.serials

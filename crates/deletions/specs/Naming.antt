@@ -12,7 +12,8 @@ use Rattle.deletions.specs.declared.naming.DeletedPairs.{DeletedPairs}
 abbrev pub named_limit : ℕ
 named_limit = 512
 
--- a pair of this IKE association that sends under this SPI; the peer receives under it and names it so (section 3.11)
+-- a pair of this IKE association that sends under this SPI; the peer receives under it and names it so
+-- (section 3.11)
 abbrev pub is_sender : ℕ → ℕ → Pair → Bool
 is_sender ike spi pair = pair.ike == ike && pair.outbound.association.spi == spi
 
@@ -20,8 +21,8 @@ is_sender ike spi pair = pair.ike == ike && pair.outbound.association.spi == spi
 abbrev pub sender : PairMap → ℕ → ℕ → Option (ℕ × Pair)
 sender pairs ike spi = find (λ e. is_sender ike spi e.1) (entries pairs)
 
--- A Live pair goes. A Deleting one carries nothing outward any more, since this end asked for that itself, and its inward half stays until
--- that is answered (section 1.4.1).
+-- A Live pair goes. A Deleting one carries nothing outward any more, since this end asked for that itself,
+-- and its inward half stays until that is answered (section 1.4.1).
 abbrev pub if_live : State → ℕ × Pair → Option (ℕ × Pair)
 if_live Live e = Some e
 if_live Deleting e = None
@@ -35,8 +36,9 @@ abbrev pub left_by : PairMap → Option (ℕ × Pair) → PairMap
 left_by pairs None = pairs
 left_by pairs (Some e) = remove pairs e.0
 
--- The pairs that go for these SPIs, with their serials. The SPIs are worked through in order, a choice of this implementation: a pair that
--- went for one is there no more for those named after it. So an SPI that is named twice takes two pairs, where a peer gave it to two.
+-- The pairs that go for these SPIs, with their serials. The SPIs are worked through in order, a choice of
+-- this implementation: a pair that went for one is there no more for those named after it. So an SPI that
+-- is named twice takes two pairs, where a peer gave it to two.
 abbrev pub deleted_pairs : PairMap → ℕ → List ℕ → List (ℕ × Pair)
 deleted_pairs pairs ike [] = []
 deleted_pairs pairs ike (spi ∷ others) = cons_option (deleted_for pairs ike spi) (deleted_pairs (left_by pairs (deleted_for pairs ike spi)) ike others)

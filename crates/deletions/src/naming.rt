@@ -12,8 +12,8 @@ use std::alloc::{AllocError, Global};
 pub struct DeletedPairs {
     /// Their serials in the table.
     pub serials: Items<u32>,
-    /// The SPIs under which this end receives by them, in the same order: what the answer names, and not what the peer named (RFC 7296,
-    /// section 1.4.1).
+    /// The SPIs under which this end receives by them, in the same order: what the answer names, and not
+    /// what the peer named (RFC 7296, section 1.4.1).
     pub inbound_spis: Items<u32>,
 }
 
@@ -55,7 +55,8 @@ fn deleted_for<'a>(table: &'a Table, ike: u32, spi: u32, gone: &[u32]) -> Option
     }
 }
 
-// The serial of the pair that sends under an SPI where those with some serials went before; of several, the least.
+// The serial of the pair that sends under an SPI where those with some serials went before; of several, the
+// least.
 fn sender_left(table: &Table, ike: u32, spi: u32, gone: &[u32]) -> Option<u32>
     ensures some { IfSome result (IsSenderUnder (without table.now.pairs gone.now) ike spi) }
     ensures none { IfNone result

@@ -1,4 +1,5 @@
--- The steps of a list as deliveries to one child: what holds of the deliveries to one association holds of the child.
+-- The steps of a list as deliveries to one child: what holds of the deliveries to one association holds of
+-- the child.
 use Rattle.std.proofs.Common.{◌≡◌, ◌↔◌, ◌≤◌, ℕ, zero, suc, Bool, cond, Option, Some, None, List, [], ◌∷◌, length, map, refl, sym, ap, ◌∙◌, subst, arith, inl, inr}
 use Rattle.std.specs.Prelude.{nat_eq, slice_get}
 use Rattle.std.specs.Ordering.{nat_cmp}

@@ -148,7 +148,8 @@ module _ (facts : PacketFacts) (child : ℕ) (old : Database) where
 pub number_at : PacketFacts → (child : ℕ) (p : Passage) → IsPassage p → NumberAt child p
 number_at facts child p is = number_by facts child p.before p.received p.after is.leads
 
--- The pair that stands under a serial after a step was there before: it took the number that was judged, or nothing of it changed.
+-- The pair that stands under a serial after a step was there before: it took the number that was judged, or
+-- nothing of it changed.
 pub record Took (child : ℕ) (p : Passage) (was is : Pair) : Type 0 where
   pub number : ℕ
   pub judged : IsJudgedAs child number p

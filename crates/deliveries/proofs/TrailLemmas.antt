@@ -1,4 +1,5 @@
--- Step after step: the numbers of a child that are judged, and that its window shows what it spans of all numbers taken.
+-- Step after step: the numbers of a child that are judged, and that its window shows what it spans of all
+-- numbers taken.
 use Rattle.std.proofs.Common.{◌≡◌, ◌↔◌, ◌≤◌, ℕ, zero, suc, false, Option, Some, None, List, [], ◌∷◌, length, take, refl, sym, ap, ◌∙◌, subst, arith, inl, inr}
 use Rattle.std.specs.Prelude.{slice_get}
 use Rattle.std.specs.Ordering.{nat_cmp}
@@ -66,7 +67,8 @@ are_numbers child ps ns are = record {
   exactly = λ place n p there. (numbered_there child ps ns place n p are there, there_numbered child ps ns place n p are there);
 }
 
--- The child's window shows these numbers, where its pair stands; and where its pair is still to come, none was taken.
+-- The child's window shows these numbers, where its pair stands; and where its pair is still to come, none
+-- was taken.
 pub record Holds (table : Database) (child : ℕ) (taken : set.FinSet nat_cmp) : Type 0 where
   pub shown : (pair : Pair) → pair_at table.pairs child ≡ Some pair → Shows pair.inbound.window pair.inbound.window.size taken
   pub unborn : table.next ≤ child → (n : ℕ) → set.contains taken n ≡ false

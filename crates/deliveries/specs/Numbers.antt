@@ -1,4 +1,5 @@
--- The numbers that a child has taken, of which none is forgotten. A child is a pair of the table, named by its serial.
+-- The numbers that a child has taken, of which none is forgotten. A child is a pair of the table, named by
+-- its serial.
 use Rattle.std.specs.Prelude.{◌≡◌, ◌↔◌, ℕ, Option, Some, None, List, [], ◌∷◌, length, slice_get, take}
 use Rattle.std.specs.FinSet as set
 use Rattle.std.specs.Ordering.{nat_cmp}
@@ -9,7 +10,8 @@ use Rattle.sadb.specs.declared.pair.Pair.{Pair}
 use Rattle.traffic.specs.Receiving.{TakesNumberAt}
 use Rattle.deliveries.specs.Passages.{Passage, Reception}
 
--- at this step a packet is judged as this number of the child's, which the child's window takes; the table changes in nothing else
+-- at this step a packet is judged as this number of the child's, which the child's window takes; the table
+-- changes in nothing else
 pub record IsJudgedAs (child number : ℕ) (p : Passage) : Type 0 where
   pub reception : Reception
   pub received : p.received ≡ Some reception

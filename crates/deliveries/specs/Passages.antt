@@ -1,4 +1,5 @@
--- A table of pairs over steps in a row, of which some are ESP packets that came (RFC 4301 sections 4.4.2 and 5.2).
+-- A table of pairs over steps in a row, of which some are ESP packets that came (RFC 4301 sections 4.4.2
+-- and 5.2).
 use Rattle.std.specs.Prelude.{◌≡◌, ◌⊎◌, ◌<◌, ◌≤◌, ℕ, false, Option, Some, None, List, [], ◌∷◌}
 use Rattle.std.specs.FinSet as set
 use Rattle.base.specs.Octets.{Octets}
@@ -26,8 +27,9 @@ pub record StoodSo (old : Database) (serial : ℕ) (is : Pair) : Type 0 where
   pub local : is.local ≡ was.local
   pub remote : is.remote ≡ was.remote
 
--- What does not come from a packet: pairs go, are marked, seal, and come, and no number is taken. A pair comes under a serial that
--- was not used yet, with a window in which none is taken (RFC 4303 section 3.4.3).
+-- What does not come from a packet: pairs go, are marked, seal, and come, and no number is taken. A pair
+-- comes under a serial that was not used yet, with a window in which none is taken (RFC 4303 section
+-- 3.4.3).
 pub record LeavesWindows (old new : Database) : Type 0 where
   pub next : old.next ≤ new.next
   pub old_pairs : (serial : ℕ) (pair : Pair) → serial < old.next → pair_at new.pairs serial ≡ Some pair → StoodSo old serial pair

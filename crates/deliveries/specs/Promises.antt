@@ -22,14 +22,16 @@ use Rattle.deliveries.specs.Arrivals.{ComesTo, IsFirstArrival, IsToBeJudged, Unf
 use Rattle.deliveries.specs.Numbers.{AreNumbersOf, IsJudgedAs, seen_before, taken_at_first, taken_before}
 use Rattle.deliveries.specs.Passages.{Passage, Reception}
 
--- the packet has contents, and this is the verdict on them by the pair's selectors (RFC 4301 section 5.2, step 4)
+-- the packet has contents, and this is the verdict on them by the pair's selectors (RFC 4301 section 5.2,
+-- step 4)
 pub record HasVerdict (pair : Pair) (packet : Octets) (verdict : Verdict) : Type 0 where
   pub next : ℕ
   pub payload : Octets
   pub contents : IsContents packet next payload
   pub verdict_is : IsVerdict next payload pair.remote pair.local verdict
 
--- The answer to a packet that was judged as this number of the child's: the verdict on its contents, or bad padding where it has none.
+-- The answer to a packet that was judged as this number of the child's: the verdict on its contents, or bad
+-- padding where it has none.
 abbrev pub IsAnswerDue : ℕ → ℕ → Pair → Octets → Outcome → Type 0
 IsAnswerDue child number pair packet (Up by under inner) = (by ≡ child) × (under ≡ number) × HasVerdict pair packet (Packet inner)
 IsAnswerDue child number pair packet (Dummy by under) = (by ≡ child) × (under ≡ number) × HasVerdict pair packet Nothing
@@ -58,14 +60,16 @@ pub record IsRefusedBy (pair : Pair) (w : Seen) (reception : Reception) : Type 0
   pub dropped : reception.outcome ≡ Dropped (Esp fault)
   pub why : IsOpeningRefusal pair.inbound.association w reception.packet fault
 
--- one end of one association, whatever its window took since: its SPI, key and length of numbers, the window's size, and the selectors
+-- one end of one association, whatever its window took since: its SPI, key and length of numbers, the
+-- window's size, and the selectors
 pub record IsSameEnd (was is : Pair) : Type 0 where
   pub association : is.inbound.association ≡ was.inbound.association
   pub size : is.inbound.window.size ≡ was.inbound.window.size
   pub local : is.local ≡ was.local
   pub remote : is.remote ≡ was.remote
 
--- A child is what it was as long as its pair stands, and once gone it never comes back: neither in the list, nor where it went before it.
+-- A child is what it was as long as its pair stands, and once gone it never comes back: neither in the
+-- list, nor where it went before it.
 pub record StaysSame (child : ℕ) (passages : List Passage) : Type 0 where
   pub kept : (first place : ℕ) (p q : Passage) (was is : Pair) → first ≤ place → slice_get passages first ≡ Some p
       → slice_get passages place ≡ Some q → pair_at p.before.pairs child ≡ Some was → pair_at q.after.pairs child ≡ Some is
@@ -98,7 +102,8 @@ pub record ChildIsJudged (child : ℕ) (passages : List Passage) : Type 0 where
       → IsJudgedAs child n p → IsJudgedAs child n q → place ≡ other
   pub new : (place n : ℕ) (p : Passage) → slice_get passages place ≡ Some p → IsJudgedAs child n p
       → set.contains (taken_at_first child passages) n ≡ false
-  -- of a child that is gone, before the list or in it, no packet is judged any more: its serial is not given again
+  -- of a child that is gone, before the list or in it, no packet is judged any more: its serial is not
+  -- given again
   pub gone : (first place n : ℕ) (p q : Passage) → first ≤ place → slice_get passages first ≡ Some p → slice_get passages place ≡ Some q
       → child < p.before.next → pair_at p.before.pairs child ≡ None → ¬ IsJudgedAs child n q
   -- and where no check value was forged, each at the first arrival of what was sent

@@ -1,4 +1,5 @@
--- A worked list of steps, for which the premises are shown to hold: a packet comes, then something else, then the packet again.
+-- A worked list of steps, for which the premises are shown to hold: a packet comes, then something else,
+-- then the packet again.
 use Rattle.std.specs.Prelude.{ℕ, false, Option, Some, None, List, [], ◌∷◌}
 use Rattle.std.specs.FinMap as map
 use Rattle.std.specs.FinSet as set

@@ -24,11 +24,12 @@ struct Note {
     answer: Answer,
 }
 
-/// A memory of what is done with flows on their way out, of 4096 places. Each flow has one place, and takes it from the flow that
-/// had it before. Contracts see what each place holds.
+/// A memory of what is done with flows on their way out, of 4096 places. Each flow has one place, and takes
+/// it from the flow that had it before. Contracts see what each place holds.
 ///
-/// The places are made when it is asked for the first time, in about half a megabyte; where there is no memory for them, it looks up
-/// each time and remembers nothing. It never grows: whoever chooses flows can make it look up, and no more.
+/// The places are made when it is asked for the first time, in about half a megabyte; where there is no
+/// memory for them, it looks up each time and remembers nothing. It never grows: whoever chooses flows can
+/// make it look up, and no more.
 #[derive(Drop)]
 pub struct FlowMemory {
     epoch: u64,
@@ -68,8 +69,8 @@ impl FlowMemory {
         }
     }
 
-    /// What is done with a flow: what was remembered, or else what [`look_up`] finds, which is remembered from now on. Takes
-    /// memory where there are no places yet, and does without where there is none.
+    /// What is done with a flow: what was remembered, or else what [`look_up`] finds, which is remembered
+    /// from now on. Takes memory where there are no places yet, and does without where there is none.
     pub fn treatment(&mut self, table: &Table, policy: &Policy, flow: &Flow) -> Treatment
         requires { AllRight policy.now table.now.pairs self.old }
         ensures right { IsTreatment policy.now table.now.pairs flow.now result }

@@ -10,8 +10,8 @@ pub(crate) const PLACES: usize = 4096;
 // An odd number without a pattern: the golden ratio's fraction, in 64 bits.
 const SCATTER: u64 = 0x9e37_79b9_7f4a_7c15;
 
-// The place of a flow, by a hash of all that it is. Whoever knows the hash can choose flows of one place: each of them costs a
-// look-up, as it would without a memory.
+// The place of a flow, by a hash of all that it is. Whoever knows the hash can choose flows of one place:
+// each of them costs a look-up, as it would without a memory.
 pub(crate) fn place_of(flow: &Flow) -> usize
     ensures { result < 4096 }
 {

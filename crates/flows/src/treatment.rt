@@ -31,7 +31,8 @@ impl Treatment {
     }
 }
 
-/// Looks up what is done with a flow on its way out: what the policy decides, and which pair carries it. Takes no memory.
+/// Looks up what is done with a flow on its way out: what the policy decides, and which pair carries it.
+/// Takes no memory.
 pub fn look_up(table: &Table, policy: &Policy, flow: &Flow) -> Treatment
     ensures { IsTreatment policy.now table.now.pairs flow.now result }
 {

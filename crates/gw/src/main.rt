@@ -1,8 +1,9 @@
-//! `gw`: the gateway's core on the command line. It works on files alone: no socket, no clock, no random source.
+//! `gw`: the gateway's core on the command line. It works on files alone: no socket, no clock, no random
+//! source.
 //!
-//! `gw play FILE` plays a script. Its first line names its kind; each further line is a directive, and what came of it is
-//! printed. A script of kind `one` has the two ends of one ESP association (RFC 4303): its sender seals packets, its
-//! receiver opens them.
+//! `gw play FILE` plays a script. Its first line names its kind; each further line is a directive, and what
+//! came of it is printed. A script of kind `one` has the two ends of one ESP association (RFC 4303): its
+//! sender seals packets, its receiver opens them.
 //!
 //! ```text
 //! $ cat once.gw
@@ -17,15 +18,17 @@
 //! E16
 //! ```
 //!
-//! A script of kind `two` has two gateways, A and B: they make IKE associations (RFC 7296) and children of ESP, and packets go
-//! between them. Each datagram that one sends reaches the other only where a line of the script says so, whole or damaged.
+//! A script of kind `two` has two gateways, A and B: they make IKE associations (RFC 7296) and children of
+//! ESP, and packets go between them. Each datagram that one sends reaches the other only where a line of
+//! the script says so, whole or damaged.
 //!
-//! `gw show FILE` prints an IKE message (RFC 7296 section 3) whose octets the file has as hexadecimal digits.
+//! `gw show FILE` prints an IKE message (RFC 7296 section 3) whose octets the file has as hexadecimal
+//! digits.
 //!
 //! `gw check` computes exact values that are known from elsewhere, and prints how many hold.
 //!
-//! A refusal in a script is printed as its number and is no fault. The exit status is 0 where all was done, 1 where input
-//! was refused or output not written, and 2 where the command line's words are no command.
+//! A refusal in a script is printed as its number and is no fault. The exit status is 0 where all was done,
+//! 1 where input was refused or output not written, and 2 where the command line's words are no command.
 #![tactic(auto)]
 
 mod command;
@@ -39,7 +42,8 @@ use std::io;
 use std::io::{Read, Write};
 use std::process::ExitCode;
 
-// The path at which the runtime's standard input is read, and no file opened: there may be no leave to open it.
+// The path at which the runtime's standard input is read, and no file opened: there may be no leave to open
+// it.
 const STANDARD_INPUT: &str = "/dev/stdin";
 
 fn main(rt: HostRuntime) -> ExitCode {

@@ -64,7 +64,8 @@ stop_text stop.Output = codes "the output was not written"
 abbrev pub stop_line : Stop → List ℕ
 stop_line why = stop_text why ++ codes "\n"
 
--- nothing more goes out where the work is done or the output can't be written; else the line that tells why, or a beginning of it
+-- nothing more goes out where the work is done or the output can't be written; else the line that tells
+-- why, or a beginning of it
 abbrev pub EndsWith : Result Unit Stop → Option (List ℕ) → Option (List ℕ) → Type 0
 EndsWith (Ok _) old new = Keeps old new
 EndsWith (Err stop.Output) old new = Keeps old new

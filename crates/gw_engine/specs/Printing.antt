@@ -54,15 +54,16 @@ EndsBy refuses lines texts last behind (Err stop.Hex) old new = ⊥
 EndsBy refuses lines texts last behind (Err (stop.Message number)) old new = ⊥
 EndsBy refuses lines texts last behind (Err (stop.Payload number offset)) old new = ⊥
 
--- What goes out is what the machine says in turn: at all lines, or up to the first that it refuses, or to where it can't be written.
+-- What goes out is what the machine says in turn: at all lines, or up to the first that it refuses, or to
+-- where it can't be written.
 pub record Prints {M : Type 0} (says : M → List ℕ → List ℕ → M → Type 0) (refuses : M → List ℕ → LineFault → M → Type 0) (machine behind : M) (lines : List Line) (outcome : Result Unit Stop) (old new : Option (List ℕ)) : Type 0 where
   pub texts : List (List ℕ)
   pub last : M
   pub in_turn : SaysInTurn says machine lines texts last
   pub ends : EndsBy refuses lines texts last behind outcome old new
 
--- The status is 0 exactly where all was played and printed. Else the line that tells why goes out, or a beginning of it, unless the
--- output can't be written any more.
+-- The status is 0 exactly where all was played and printed. Else the line that tells why goes out, or a
+-- beginning of it, unless the output can't be written any more.
 pub record Plays {M : Type 0} (says : M → List ℕ → List ℕ → M → Type 0) (refuses : M → List ℕ → LineFault → M → Type 0) (machine behind : M) (lines : List Line) (status : Status) (old new : Option (List ℕ)) : Type 0 where
   pub outcome : Result Unit Stop
   pub printed : Option (List ℕ)

@@ -135,7 +135,8 @@ abbrev pub payload_text : ℕ → Payload → List ℕ
 payload_text offset payload = codes "payload " ++ decimal (type_of payload) ++ codes " at " ++ decimal offset
     ++ codes " length " ++ decimal (usize_of (size_of payload)) ++ codes "\n" ++ body_text payload
 
--- the lines of payloads of which the first begins at the offset; the program's numbers stop at their greatest, which no message comes near
+-- the lines of payloads of which the first begins at the offset; the program's numbers stop at their
+-- greatest, which no message comes near
 abbrev pub payloads_text : ℕ → List Payload → List ℕ
 payloads_text offset [] = []
 payloads_text offset (payload ∷ payloads) = payload_text offset payload ++ payloads_text (usize_of (offset + usize_of (size_of payload))) payloads
@@ -182,8 +183,8 @@ pub record HasNone (file : Option (List ℕ)) (why : Stop) : Type 0 where
   pub whole : IsWholeFile file digits
   pub refused : IsRefusedBy digits why
 
--- all of the message's text goes out, or a beginning of it where the output can't be written, or nothing; that a read failed, or that memory
--- was wanted, can't be said
+-- all of the message's text goes out, or a beginning of it where the output can't be written, or nothing;
+-- that a read failed, or that memory was wanted, can't be said
 abbrev pub ShowsBy : Option (List ℕ) → Result Unit Stop → Option (List ℕ) → Option (List ℕ) → Type 0
 ShowsBy file (Ok _) old new = (text : List ℕ) × HasShown file text × Appends old new text
 ShowsBy file (Err stop.Output) old new = (text : List ℕ) × HasShown file text × AppendsBeginning old new text
@@ -191,8 +192,8 @@ ShowsBy file (Err stop.File) old new = Keeps old new
 ShowsBy file (Err stop.Memory) old new = Keeps old new
 ShowsBy file (Err why) old new = HasNone file why × Keeps old new
 
--- The status is 0 exactly where all was shown. Else the line that tells why goes out, or a beginning of it, unless the output can't be
--- written any more.
+-- The status is 0 exactly where all was shown. Else the line that tells why goes out, or a beginning of it,
+-- unless the output can't be written any more.
 pub record Shows (file : Option (List ℕ)) (status : ℕ) (old new : Option (List ℕ)) : Type 0 where
   pub outcome : Result Unit Stop
   pub printed : Option (List ℕ)

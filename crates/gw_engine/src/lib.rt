@@ -1,9 +1,9 @@
-//! The engine of `gw`: what its commands do, with a file's octets over any reader and any writer. It is a crate of its own, so
-//! that it is checked without the program's command line.
+//! The engine of `gw`: what its commands do, with a file's octets over any reader and any writer. It is a
+//! crate of its own, so that it is checked without the program's command line.
 //!
-//! [`play`] plays a script (`script`). Its first line names its kind; each further line is a directive, and what came of it is printed.
-//! A script of kind `one` has the two ends of one ESP association (RFC 4303): its sender seals packets, its receiver opens
-//! them.
+//! [`play`] plays a script (`script`). Its first line names its kind; each further line is a directive, and
+//! what came of it is printed. A script of kind `one` has the two ends of one ESP association (RFC 4303):
+//! its sender seals packets, its receiver opens them.
 //!
 //! ```text
 //! one
@@ -13,9 +13,9 @@
 //! deliver 1                  E16
 //! ```
 //!
-//! A script of kind `two` has two gateways, A and B, and what goes between them. Its opening lines say what each protects, and
-//! how many requests it takes at once; then one line begins an IKE association (RFC 7296), or brings a datagram or a packet to an
-//! end.
+//! A script of kind `two` has two gateways, A and B, and what goes between them. Its opening lines say what
+//! each protects, and how many requests it takes at once; then one line begins an IKE association (RFC
+//! 7296), or brings a datagram or a packet to an end.
 //!
 //! ```text
 //! two
@@ -33,6 +33,14 @@
 //! [`check`] computes exact values that are known from elsewhere ([`vectors`]), and prints how many hold.
 //!
 //! Each answers the exit status, and prints why it stopped ([`Stop`]).
+//!
+//! # How it is proved
+//!
+//! The model of a message's text (`specs/Showing`) is a function from a message to its text, and each
+//! function of `showing/lines.rt` is proved to give its part. A line with more than one number is written
+//! by a function of its own from numbers and texts. A loop appends the text of one item at a time; its
+//! invariant is that the text so far is `flat_map` of the items so far. `shown` goes from digits to text,
+//! apart from reading and writing.
 #![tactic(auto)]
 
 mod checking;

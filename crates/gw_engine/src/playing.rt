@@ -12,10 +12,10 @@ use std::io::{Read, Write};
 
 /// Plays the script that the reader has, prints to the writer, and answers the exit status.
 ///
-/// The script is read whole before anything is played: where a read fails or there are more than 1,048,576 octets,
-/// `refused file` is printed. A line that is no directive, or can't be followed, prints `line N refused`, want of memory
-/// `no memory`, and nothing is played after either. The status is then 1, as it is where a write fails, after which nothing
-/// more is printed; else it is 0.
+/// The script is read whole before anything is played: where a read fails or there are more than 1,048,576
+/// octets, `refused file` is printed. A line that is no directive, or can't be followed, prints `line N
+/// refused`, want of memory `no memory`, and nothing is played after either. The status is then 1, as it is
+/// where a write fails, after which nothing more is printed; else it is 0.
 pub fn play<R: Read, W: Write>(alloc: Global, reader: &mut R, writer: &mut W) -> u8
     ensures { result ≤ 1 }
 {
@@ -41,11 +41,12 @@ fn play_script<R: Read, W: Write>(
     }
 }
 
-/// Plays the lines, prints what the machine says at each one before the next is played, and, where a line is refused, why; and answers
-/// the status.
+/// Plays the lines, prints what the machine says at each one before the next is played, and, where a line
+/// is refused, why; and answers the status.
 ///
-/// Whatever the machine: what goes out, where the writer tells its octets, is what the machine says in turn, at all lines, or up to the
-/// first that it refuses, and then the line that tells why; where a write fails, a beginning of that, and nothing more.
+/// Whatever the machine: what goes out, where the writer tells its octets, is what the machine says in
+/// turn, at all lines, or up to the first that it refuses, and then the line that tells why; where a write
+/// fails, a beginning of that, and nothing more.
 pub fn play_lines<P: Player, W: Write>(player: &mut P, lines: &[Line], writer: &mut W) -> Status
     ensures plays { Plays P.says P.refuses player.old player.new lines.now result
         (W.contents writer.old) (W.contents writer.new) }

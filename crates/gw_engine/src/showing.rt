@@ -10,13 +10,14 @@ use std::alloc::Global;
 use std::io::{Read, Write};
 use wire::decode_message;
 
-/// Prints the IKE message (RFC 7296 section 3) whose octets the reader has as hexadecimal digits, and answers the exit
-/// status.
+/// Prints the IKE message (RFC 7296 section 3) whose octets the reader has as hexadecimal digits, and
+/// answers the exit status.
 ///
-/// The reader is read whole first: where a read fails or there are more than 1,048,576 octets, `refused file` is printed.
-/// Then `refused hex` where the text is not digits, blanks and line ends, or the digits are odd in number; `refused E1`, or
-/// `refused E5 at 28` with the offset of the payload at fault, where the octets are no message; `no memory` for want of it.
-/// The status is 1 after each of these and where a write fails, after which nothing more is printed; else it is 0.
+/// The reader is read whole first: where a read fails or there are more than 1,048,576 octets, `refused
+/// file` is printed. Then `refused hex` where the text is not digits, blanks and line ends, or the digits
+/// are odd in number; `refused E1`, or `refused E5 at 28` with the offset of the payload at fault, where
+/// the octets are no message; `no memory` for want of it. The status is 1 after each of these and where a
+/// write fails, after which nothing more is printed; else it is 0.
 pub fn show<R: Read, W: Write>(alloc: Global, reader: &mut R, writer: &mut W) -> u8
     ensures shows { Shows (R.remaining reader.old) result
         (W.contents writer.old) (W.contents writer.new) }

@@ -128,8 +128,9 @@ impl From<HexFault> for Stop {
     }
 }
 
-/// Ends a command: prints why it stopped, if it did, and answers the status. Where the work is done, or the output can't be written
-/// any more, nothing is written. Where a write fails here, a beginning of that line was written.
+/// Ends a command: prints why it stopped, if it did, and answers the status. Where the work is done, or the
+/// output can't be written any more, nothing is written. Where a write fails here, a beginning of that line
+/// was written.
 pub fn end<W: Write>(outcome: Result<(), Stop>, writer: &mut W) -> Status
     ensures status { result ≡ status_of outcome }
     ensures code { exit_code result ≤ 1 }

@@ -12,8 +12,8 @@ use ends::Ends;
 use preset::Preset;
 use std::alloc::Global;
 
-/// Plays a script of kind `two`. Its first directives, as long as they set an end up, are what the gateways are made with; the
-/// first other one makes them.
+/// Plays a script of kind `two`. Its first directives, as long as they set an end up, are what the gateways
+/// are made with; the first other one makes them.
 #[derive(Drop)]
 pub struct Two {
     alloc: Global,

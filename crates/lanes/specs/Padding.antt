@@ -11,7 +11,8 @@ after_a_block message = message ++ padding (64 + length message)
 abbrev pub filled : List ℕ → List ℕ
 filled octets = octets ++ replicate (128 - length octets) 0
 
--- the octets after the last whole block need one block or two: a bit and the length of 8 octets stand behind them
+-- the octets after the last whole block need one block or two: a bit and the length of 8 octets stand
+-- behind them
 pub record IsEndLen (used size : ℕ) : Type 0 where
   pub one : used < 56 → size ≡ 64
   pub two : 56 ≤ used → size ≡ 128

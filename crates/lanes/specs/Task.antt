@@ -30,7 +30,8 @@ abbrev pub AreQueued : List Task → List ℕ → ℕ → List (List ℕ) → Li
 AreQueued tasks places count values queue queued = (k : ℕ) → k < count → k < length places
     → IsRight tasks values (slice_index places k) ⊎ ((i : ℕ) × ((i < queued) × (slice_index queue i ≡ slice_index places k)))
 
--- The places before one are shared out: their values are written, or they stand in the queue. Those before `start` are written in any case.
+-- The places before one are shared out: their values are written, or they stand in the queue. Those before
+-- `start` are written in any case.
 pub record AreShared (tasks : List Task) (places : List ℕ) (before values : List (List ℕ)) (queue : List ℕ) (queued at start : ℕ) : Type 0 where
   pub long : length queue ≡ 64
   pub few : queued ≤ at

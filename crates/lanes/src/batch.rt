@@ -1,4 +1,5 @@
-//! Any number of messages: eight that have as many blocks at once, the others as a queue, and alone those that make lanes wait.
+//! Any number of messages: eight that have as many blocks at once, the others as a queue, and alone those
+//! that make lanes wait.
 ghost use Rattle.std.specs.Prelude.{◌≡◌, ℕ, ◌<◌, ◌≤◌, [], IsTrue, Some, length, map, slice_get, slice_index, slice_index_or};
 ghost use Rattle.lanes.specs.Lane.{IsLane};
 ghost use Rattle.lanes.specs.Task.{AreWritten, FitsALane, icv_of};
@@ -9,8 +10,9 @@ use crate::order::{BATCH, blocks_at, next_eight, places_by_blocks};
 use crate::stream::inner_digests;
 use crate::task::Task;
 
-// From how many messages of one length on eight lanes take less time than one lane alone. The default build gains 1.7 times by
-// full lanes, so eight lanes take there the time of 4.7 messages; a build for AVX2 gains 4 times.
+// From how many messages of one length on eight lanes take less time than one lane alone. The default build
+// gains 1.7 times by full lanes, so eight lanes take there the time of 4.7 messages; a build for AVX2 gains
+// 4 times.
 const MESSAGES_LEAST: usize = 5;
 
 // Writes the check values of the messages at these places, each computed alone.
@@ -64,7 +66,8 @@ fn are_even(tasks: &[Task<'_>], places: &[usize], start: usize) -> bool
         && blocks_at(tasks, places[start]) == blocks_at(tasks, places[start + 7])
 }
 
-// How many of the first messages keep the other lanes waiting for longer than the lanes gain, so that they go faster alone.
+// How many of the first messages keep the other lanes waiting for longer than the lanes gain, so that they
+// go faster alone.
 fn count_alone(tasks: &[Task<'_>], queue: &[usize]) -> usize
     ensures { result ≤ length queue.now }
 {
@@ -132,7 +135,8 @@ fn write_uneven(tasks: &[Task<'_>], values: &mut [[u8; 16]], queue: &[usize])
     }
 }
 
-// Writes the check values of messages in lanes: eight that have as many blocks side by side, and the others as a queue.
+// Writes the check values of messages in lanes: eight that have as many blocks side by side, and the others
+// as a queue.
 fn write_in_lanes(tasks: &[Task<'_>], values: &mut [[u8; 16]], places: &[usize])
     requires same { length values.old ≡ length tasks.now }
     requires few { length tasks.now ≤ BATCH }

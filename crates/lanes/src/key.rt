@@ -9,7 +9,8 @@ use std::marker::Model;
 ///
 /// A contract sees the key's octets.
 ///
-/// It keeps SHA-256 as it stands behind each pad (RFC 2104, section 4), so a message costs no compression for its key.
+/// It keeps SHA-256 as it stands behind each pad (RFC 2104, section 4), so a message costs no compression
+/// for its key.
 #[derive(Drop)]
 pub struct LaneKey {
     key: IcvKey,
@@ -45,7 +46,8 @@ impl LaneKey {
         }
     }
 
-    /// The integrity check value of a message in two parts: the first 16 octets of HMAC-SHA-256 (RFC 4868, section 2.3).
+    /// The integrity check value of a message in two parts: the first 16 octets of HMAC-SHA-256 (RFC 4868,
+    /// section 2.3).
     pub fn icv(&self, octets: &[u8], more: &[u8]) -> [u8; 16]
         ensures { result ≡ icv_sha256 self.now (octets.now ++ more.now) }
     {

@@ -29,7 +29,8 @@ fn all_places() -> [usize; BATCH]
     places
 }
 
-// The places of the messages, those of messages with as many blocks side by side, and those of the longest first.
+// The places of the messages, those of messages with as many blocks side by side, and those of the longest
+// first.
 pub(crate) fn places_by_blocks(tasks: &[Task<'_>]) -> [usize; BATCH]
     requires { length tasks.now ≤ BATCH }
     ensures { IsPermutation (range_with_len 0 (length tasks.now)) (take (length tasks.now) result) }

@@ -1,4 +1,5 @@
-//! Messages that follow one another in lanes: where one ends, the next takes its lane, so that no lane waits while there are more.
+//! Messages that follow one another in lanes: where one ends, the next takes its lane, so that no lane
+//! waits while there are more.
 ghost use Rattle.std.specs.Prelude.{◌≡◌, ◌≢◌, ℕ, ◌+◌, ◌-◌, ◌^◌, ◌<◌, ◌≤◌, List, [], Some, length, slice_get, slice_index, slice_index_or, slice_set};
 ghost use Rattle.mac.specs.Hmac.{hmac_block, pad_with};
 ghost use Rattle.lanes.specs.Key.{state_behind};

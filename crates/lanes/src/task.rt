@@ -9,7 +9,8 @@ pub struct Task<'a> {
     pub key: &'a LaneKey,
     /// The octets of the message.
     pub octets: &'a [u8],
-    /// Octets that follow them, as the half of an extended sequence number that is not sent (RFC 4303, section 2.2.1).
+    /// Octets that follow them, as the half of an extended sequence number that is not sent (RFC 4303,
+    /// section 2.2.1).
     pub more: &'a [u8],
 }
 
@@ -34,7 +35,8 @@ impl<'a> Task<'a> {
         Message::new(self.octets, self.more)
     }
 
-    // The blocks that the message and its padding take behind the key's, where its second part is short enough for a lane.
+    // The blocks that the message and its padding take behind the key's, where its second part is short
+    // enough for a lane.
     pub(crate) fn block_count(&self) -> usize
         ensures { length self.now.more.now ≤ MORE_LIMIT → result ≡ (length (message_of self.now) + 72) / 64 }
     {

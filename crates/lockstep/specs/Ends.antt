@@ -1,4 +1,5 @@
--- One end of an association that has keys: its numbers, and what it sent under these keys (RFC 7296 sections 2.1 to 2.3).
+-- One end of an association that has keys: its numbers, and what it sent under these keys (RFC 7296
+-- sections 2.1 to 2.3).
 use Rattle.std.specs.Prelude.{◌≡◌, ◌+◌, ◌++◌, ◌∷◌, ℕ, Bool, true, false, Option, Some, None, List, []}
 use Rattle.std.specs.List.{AllByRecursion}
 use Rattle.base.specs.Octets.{Octets}

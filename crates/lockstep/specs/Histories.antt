@@ -1,4 +1,5 @@
--- Two ends over a list of steps of either, in any order, and what is asked of it: neither is told what the other did not send.
+-- Two ends over a list of steps of either, in any order, and what is asked of it: neither is told what the
+-- other did not send.
 use Rattle.std.specs.Prelude.{◌≡◌, ◌≤◌, ◌++◌, ◌∷◌, ℕ, List, [], Contains}
 use Rattle.base.specs.Octets.{Octets}
 use Rattle.effects.specs.Moves.{Close, Count, Issue, Make, Move, Remove, TakeEffect}
@@ -44,8 +45,8 @@ abbrev pub AreGenuine : List Entry → List Move → Type 0
 AreGenuine sent [] = Unit {0}
 AreGenuine sent (move ∷ others) = IsGenuineMove sent move × AreGenuine sent others
 
--- The premise that no message was forged: what takes effect or is counted at one end was sent by the other. It asks for what was sent till
--- the list ends, which these ends tell.
+-- The premise that no message was forged: what takes effect or is counted at one end was sent by the other.
+-- It asks for what was sent till the list ends, which these ends tell.
 abbrev pub IsGenuine : Ends → List Step → Type 0
 IsGenuine last [] = Unit {0}
 IsGenuine last (AtOne deed ∷ steps) = AreGenuine last.other.sent deed.moves × IsGenuine last steps
@@ -57,8 +58,8 @@ IsGenuineAtOnce one other [] = Unit {0}
 IsGenuineAtOnce one other (AtOne deed ∷ steps) = AreGenuine other deed.moves × IsGenuineAtOnce (one ++ sent_in deed.moves ++ deed.again) other steps
 IsGenuineAtOnce one other (AtOther deed ∷ steps) = AreGenuine one deed.moves × IsGenuineAtOnce one (other ++ sent_in deed.moves ++ deed.again) steps
 
--- These steps lead from the old ends to the new ones, no message was forged, and neither end came to keys more than once. (Of many
--- associations see Parties, which counts by key record.)
+-- These steps lead from the old ends to the new ones, no message was forged, and neither end came to keys
+-- more than once. (Of many associations see Parties, which counts by key record.)
 pub record IsHistory (old : Ends) (steps : List Step) (new : Ends) : Type 0 where
   pub run : IsRun old steps new
   pub genuine : IsGenuine new steps

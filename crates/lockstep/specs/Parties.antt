@@ -1,5 +1,6 @@
--- An end that holds many associations, and what it stores of them: all that it sent under any keys, and all keys that it came to. Of what
--- it does under one key record is said what is said of an end that holds one association (RFC 7296 sections 2.1 to 2.4 and 2.14).
+-- An end that holds many associations, and what it stores of them: all that it sent under any keys, and all
+-- keys that it came to. Of what it does under one key record is said what is said of an end that holds one
+-- association (RFC 7296 sections 2.1 to 2.4 and 2.14).
 use Rattle.std.specs.Prelude.{◌≡◌, ◌⊎◌, ◌+◌, ◌≤◌, ◌++◌, ◌∷◌, ℕ, Bool, Option, Some, None, List, [], Contains, length, nat_eq, if◌then◌else◌}
 use Rattle.std.specs.Cmp.Lexicographic.{pointwise}
 use Rattle.base.specs.Octets.{Octets}
@@ -65,8 +66,8 @@ pub record IsSentNow (turn : Turn) (old new : Party) (keys : KeyRecord) (entry :
   pub holds : Holds new keys serial ledger
   pub by : (Contains (sent_in (turn.moves serial)) entry) ⊎ (GoesOutAgain (old.ledgers serial) entry)
 
--- The moves lead each association from its old ledger to its new one, two at most, and leave it the keys that it has. Keys come where the
--- step says so, and what is sent is what the moves say, or goes out again.
+-- The moves lead each association from its old ledger to its new one, two at most, and leave it the keys
+-- that it has. Keys come where the step says so, and what is sent is what the moves say, or goes out again.
 pub record TakesTurn (turn : Turn) (old new : Party) : Type 0 where
   pub few : (serial : ℕ) → length (turn.moves serial) ≤ 2
   pub lead : (serial : ℕ) → Lead (turn.moves serial) (old.ledgers serial) (new.ledgers serial)
@@ -88,8 +89,8 @@ pub record HasNone (p : Party) (keys : KeyRecord) : Type 0 where
   pub held : (serial : ℕ) (l : Ledger) → ¬ Holds p keys serial l
   pub sent : (entry : Entry) → ¬ Contains (under keys p.sent) entry
 
--- What holds of a party under these keys, where this is what the peer sent under them till now, or till later: one association at most
--- is held under them, which came to them, and it is sound.
+-- What holds of a party under these keys, where this is what the peer sent under them till now, or till
+-- later: one association at most is held under them, which came to them, and it is sound.
 pub record IsSoundParty (keys : KeyRecord) (p : Party) (others : List Entry) : Type 0 where
   pub unmade : times keys p.made ≡ 0 → HasNone p keys
   pub alone : (s t : ℕ) (l m : Ledger) → Holds p keys s l → Holds p keys t m → s ≡ t
@@ -111,7 +112,8 @@ pub record IsNewParty (p : Party) : Type 0 where
   pub made : p.made ≡ []
   pub sent : p.sent ≡ []
 
--- Each of two parties holds an association under these keys, one of them as its initiator and one as its responder.
+-- Each of two parties holds an association under these keys, one of them as its initiator and one as its
+-- responder.
 pub record AreHeldUnder (keys : KeyRecord) (parties : Parties) (asking answering : Ledger) : Type 0 where
   pub asks : ℕ
   pub answers : ℕ

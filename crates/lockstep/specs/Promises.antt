@@ -1,4 +1,5 @@
--- What is promised of two ends that hold one association, in each direction: of the requests of one of them (RFC 7296 sections 2.1 to 2.3).
+-- What is promised of two ends that hold one association, in each direction: of the requests of one of them
+-- (RFC 7296 sections 2.1 to 2.3).
 use Rattle.std.specs.Prelude.{◌≡◌, ◌⊎◌, ◌↔◌, ◌+◌, ◌<◌, ◌≤◌, ℕ, zero, suc, Some, if◌then◌else◌}
 use Rattle.std.specs.FinSet as set
 use Rattle.exchange.specs.Headers.{other_role}
@@ -7,12 +8,14 @@ use Rattle.effects.specs.Moves.{Ledger}
 use Rattle.lockstep.specs.Histories.{Ends}
 use Rattle.lockstep.specs.Soundness.{IsWide}
 
--- One end holds the association by the one ledger and the other by the other, one of them as its initiator and one as its responder.
+-- One end holds the association by the one ledger and the other by the other, one of them as its initiator
+-- and one as its responder.
 pub record AreHeld (ends : Ends) (asking answering : Ledger) : Type 0 where
   pub held : ((ends.one.ledger ≡ Some asking) × (ends.other.ledger ≡ Some answering)) ⊎ ((ends.other.ledger ≡ Some asking) × (ends.one.ledger ≡ Some answering))
   pub roles : answering.role ≡ other_role asking.role
 
--- Of the requests of the end that asks: what is in effect at the other was issued by it, and what it counts as answered is in effect there.
+-- Of the requests of the end that asks: what is in effect at the other was issued by it, and what it counts
+-- as answered is in effect there.
 pub record AreIssuedAndInEffect (asking answering : Ledger) : Type 0 where
   pub issued : (n : ℕ) → HasNumber answering.in_effect n → n < asking.next
   pub in_effect : (n : ℕ) → HasNumber asking.answered n → HasNumber answering.in_effect n
@@ -27,9 +30,9 @@ abbrev pub lacking_below : NumberSet → ℕ → ℕ
 lacking_below numbers zero = 0
 lacking_below numbers (suc n) = (if set.contains numbers n then 0 else 1) + lacking_below numbers n
 
--- The windows: at the end that answers all numbers below the gap are in effect, and none from a window above it on. At the one that asks,
--- what is under way lies in the window that it counts for its peer, which begins at the least number that is not answered, and so is no
--- more than that window.
+-- The windows: at the end that answers all numbers below the gap are in effect, and none from a window
+-- above it on. At the one that asks, what is under way lies in the window that it counts for its peer,
+-- which begins at the least number that is not answered, and so is no more than that window.
 pub record AreWithinWindows (asking answering : Ledger) : Type 0 where
   pub gap : ℕ
   pub is_gap : IsGap answering.in_effect gap
@@ -44,8 +47,9 @@ pub record AreWithinWindows (asking answering : Ledger) : Type 0 where
   -- the end that asks is never ahead of the other
   pub behind : unanswered ≤ gap
 
--- Step by step: the requests in effect at the other end are the first `taken`, those that are answered the first `counted`, none skipped,
--- and at most one is under way. IKE_SA_INIT is counted in both for the initiator's requests.
+-- Step by step: the requests in effect at the other end are the first `taken`, those that are answered the
+-- first `counted`, none skipped, and at most one is under way. IKE_SA_INIT is counted in both for the
+-- initiator's requests.
 pub record AreInStep (asking answering : Ledger) : Type 0 where
   pub taken : ℕ
   pub in_effect : (n : ℕ) → HasNumber answering.in_effect n ↔ (n < taken)

@@ -11,7 +11,8 @@ use Rattle.effects.specs.Moves.{Ledger}
 use Rattle.lockstep.specs.Ends.{fresh_end, made_end, request_of, response_of, End, Entry}
 use Rattle.lockstep.specs.Histories.{Ends, HasRequest, HasResponse}
 
--- IKE_SA_INIT is the initiator's request of number 0. It went out before there were keys (sections 1.2 and 2.2).
+-- IKE_SA_INIT is the initiator's request of number 0. It went out before there were keys (sections 1.2 and
+-- 2.2).
 pub record IsInitial (asking : Role) (number : ℕ) : Type 0 where
   pub role : asking ≡ Initiator
   pub first : number ≡ 0
@@ -29,9 +30,9 @@ pub record IsWide (size : ℕ) : Type 0 where
   pub some : 1 ≤ size
   pub most : size ≤ 16
 
--- What one end knows of its own numbers (sections 2.2 and 2.3). The peer's requests: all below the gap are in effect, and none from a
--- window above it on. Its own: what waits or is answered was issued, and not both, and none is issued from the end of the window on that it
--- counts for its peer.
+-- What one end knows of its own numbers (sections 2.2 and 2.3). The peer's requests: all below the gap are
+-- in effect, and none from a window above it on. Its own: what waits or is answered was issued, and not
+-- both, and none is issued from the end of the window on that it counts for its peer.
 pub record IsWithinWindows (l : Ledger) : Type 0 where
   pub size : IsWide l.size
   pub gap : ℕ

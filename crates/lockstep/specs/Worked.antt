@@ -1,4 +1,5 @@
--- A worked pair of ends, for which the premises are shown to hold: both come to the keys, and one request is answered.
+-- A worked pair of ends, for which the premises are shown to hold: both come to the keys, and one request
+-- is answered.
 use Rattle.std.specs.Prelude.{◌∷◌, ◌==◌, Some, None, List, [], if◌then◌else◌}
 use Rattle.std.specs.FinMap as map
 use Rattle.std.specs.FinSet as set
@@ -38,7 +39,8 @@ answered_ledger keys reply = record (first_ledger keys Responder) {
   kept = map.insert map.empty 1 reply;
 }
 
--- The responder comes to the keys first, and the initiator by its answer, and asks at once. The reply goes out twice.
+-- The responder comes to the keys first, and the initiator by its answer, and asks at once. The reply goes
+-- out twice.
 abbrev pub worked_steps : KeyRecord → Octets → Octets → List Step
 worked_steps keys request reply =
     AtOther (record { moves = Make keys ∷ []; again = [] })

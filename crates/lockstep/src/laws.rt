@@ -12,8 +12,8 @@ ghost use Rattle.lockstep.specs.Promises.{AreHeld, AreInStep, AreIssuedAndInEffe
 ghost use Rattle.lockstep.specs.Soundness.{AreNewEnds, AreSoundEnds, HasAnswered, HasAsked, IsSoundEnd, IsSoundLedger, SendsOnce};
 ghost use Rattle.lockstep.specs.Worked.{answered_ledger, asked_ledger, asking_party, fresh_ends, new_party, worked_ends, worked_steps, worked_turn};
 
-/// Two ends that never came to the keys, or came to them just now, are sound, and stay so over every history, and over one step where what it
-/// takes was sent till then.
+/// Two ends that never came to the keys, or came to them just now, are sound, and stay so over every
+/// history, and over one step where what it takes was sent till then.
 pub fn ends_stay_sound()
     ensures begun { (ends : Ends) → AreNewEnds ends → AreSoundEnds ends }
     ensures kept { (old new : Ends) (steps : List Step) → AreSoundEnds old → IsHistory old steps new
@@ -23,8 +23,8 @@ pub fn ends_stay_sound()
         → AreSoundEnds new }
 {}
 
-/// Each end stays sound by what it does alone, where what it takes is among what the other will have sent, and it comes to the keys once. It is
-/// so too where the other will have sent more.
+/// Each end stays sound by what it does alone, where what it takes is among what the other will have sent,
+/// and it comes to the keys once. It is so too where the other will have sent more.
 pub fn each_end_stays_sound()
     ensures kept { (deed : Deed) (old new : End) (others : List Entry) → IsSoundEnd old others
         → Does deed old new
@@ -47,7 +47,8 @@ pub fn what_was_sent_before_is_sent()
         → IsGenuine new steps }
 {}
 
-/// In each direction, what is in effect at one end was issued by the other, and what is answered there is in effect here.
+/// In each direction, what is in effect at one end was issued by the other, and what is answered there is
+/// in effect here.
 pub fn requests_are_issued_and_in_effect()
     ensures sound { (ends : Ends) (asking answering : Ledger) → AreSoundEnds ends
         → AreHeld ends asking answering
@@ -57,8 +58,8 @@ pub fn requests_are_issued_and_in_effect()
         → AreHeld new asking answering → AreIssuedAndInEffect asking answering }
 {}
 
-/// In each direction, all numbers below a gap are in effect and none from a window above it on, and no more are issued and unanswered than
-/// the window that the asking end counts for its peer.
+/// In each direction, all numbers below a gap are in effect and none from a window above it on, and no more
+/// are issued and unanswered than the window that the asking end counts for its peer.
 pub fn windows_hold()
     ensures sound { (ends : Ends) (asking answering : Ledger) → AreSoundEnds ends
         → AreHeld ends asking answering
@@ -68,8 +69,9 @@ pub fn windows_hold()
         → AreHeld new asking answering → AreWithinWindows asking answering }
 {}
 
-/// In each direction, where the end that asks counts one place for its peer: the requests in effect at the other end are the first ones, those
-/// that it counts as answered are the same or all but the last, and none is skipped. Windows only widen, so it counted one all along.
+/// In each direction, where the end that asks counts one place for its peer: the requests in effect at the
+/// other end are the first ones, those that it counts as answered are the same or all but the last, and
+/// none is skipped. Windows only widen, so it counted one all along.
 pub fn windows_of_one_keep_in_step()
     ensures sound { (ends : Ends) (asking answering : Ledger) → AreSoundEnds ends
         → AreHeld ends asking answering
@@ -79,7 +81,8 @@ pub fn windows_of_one_keep_in_step()
         → AreHeld new asking answering → asking.window ≡ 1 → AreInStep asking answering }
 {}
 
-/// With a window of one the requests take effect in the order of their numbers, and so are they answered: each is the least that was not yet.
+/// With a window of one the requests take effect in the order of their numbers, and so are they answered:
+/// each is the least that was not yet.
 pub fn windows_of_one_keep_order()
     ensures taken { (old new : Ledger) (sent others : List Entry) (number : ℕ) (reply : Octets)
         → IsSoundLedger old sent others
@@ -89,7 +92,8 @@ pub fn windows_of_one_keep_order()
         → old.window ≡ 1 → Moves (Count number) (Some old) (Some new) → IsGap old.answered number }
 {}
 
-/// What a sound end put into effect or counts as answered was sent by the other, also where that one let the association go.
+/// What a sound end put into effect or counts as answered was sent by the other, also where that one let
+/// the association go.
 pub fn what_is_taken_was_sent()
     ensures in_effect { (e : End) (l : Ledger) (others : List Entry) (n : ℕ) → IsSoundEnd e others
         → e.ledger ≡ Some l
@@ -120,8 +124,9 @@ pub fn what_was_sent_under_keys_is_told()
         → times keys (made ++ more) ≡ times keys made + times keys more }
 {}
 
-/// A party that holds many associations stays sound under each key record by its turns alone, where what they take under it is among what the
-/// peer will have sent under it, and the party comes to it once. It is so too where the peer will have sent more.
+/// A party that holds many associations stays sound under each key record by its turns alone, where what
+/// they take under it is among what the peer will have sent under it, and the party comes to it once. It is
+/// so too where the peer will have sent more.
 pub fn each_party_stays_sound()
     ensures kept { (keys : KeyRecord) (turn : Turn) (old new : Party) (others : List Entry)
         → IsSoundParty keys old others
@@ -131,8 +136,9 @@ pub fn each_party_stays_sound()
         → ((entry : Entry) → Contains others entry → Contains later entry) → IsSoundParty keys p later }
 {}
 
-/// Two parties that hold nothing are sound under each key record, and stay so over each turn of either, where what it takes under the record was
-/// sent under it by the other till then, and it came to the record once at most.
+/// Two parties that hold nothing are sound under each key record, and stay so over each turn of either,
+/// where what it takes under the record was sent under it by the other till then, and it came to the record
+/// once at most.
 pub fn parties_stay_sound()
     ensures begun { (keys : KeyRecord) (parties : Parties) → IsNewParty parties.one → IsNewParty parties.other
         → AreSoundParties keys parties }
@@ -146,7 +152,8 @@ pub fn parties_stay_sound()
         → times keys new.other.made ≤ 1 → AreSoundParties keys new }
 {}
 
-/// Where two sound parties hold an association each under the same keys, it is with these as with two ends, in each direction.
+/// Where two sound parties hold an association each under the same keys, it is with these as with two ends,
+/// in each direction.
 pub fn parties_keep_in_step()
     ensures issued { (keys : KeyRecord) (parties : Parties) (asking answering : Ledger)
         → AreSoundParties keys parties
@@ -159,8 +166,9 @@ pub fn parties_keep_in_step()
         → AreHeldUnder keys parties asking answering → asking.window ≡ 1 → AreInStep asking answering }
 {}
 
-/// The premises are met by two ends that come to the same keys, of which one asks and the other answers, twice with the same octets; and what
-/// is asked of a turn by a party whose first association comes to keys and asks.
+/// The premises are met by two ends that come to the same keys, of which one asks and the other answers,
+/// twice with the same octets; and what is asked of a turn by a party whose first association comes to keys
+/// and asks.
 pub fn premises_are_met()
     ensures history { (keys : KeyRecord) (request reply : Octets)
         → IsHistory fresh_ends (worked_steps keys request reply) (worked_ends keys request reply) }

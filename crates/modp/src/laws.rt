@@ -23,8 +23,8 @@ pub fn octets_tell_numbers()
     ensures element { (m : ℕ) → m < prime → element_of (number_octets 256 m) ≡ Some m }
 {}
 
-/// Powers of 0, 1 and the prime less 1 are among these: who refuses a shared secret that is one of them has refused a public
-/// value that is (RFC 6989, section 2.1).
+/// Powers of 0, 1 and the prime less 1 are among these: who refuses a shared secret that is one of them has
+/// refused a public value that is (RFC 6989, section 2.1).
 pub fn powers_of_trivial_are_trivial()
     ensures { (n exponent : ℕ) → is_trivial n ≡ true → is_trivial (power n exponent) ≡ true }
 {}

@@ -14,7 +14,8 @@ pub record IsSoundEntry (e : Entry) : Type 0 where
   pub remote_ports : IsPortRange e.remote_ports.0 e.remote_ports.1
   pub family : family_of_range e.local ≡ family_of_range e.remote
 
--- the entry at this place is at fault: it is not sound, or it comes after 256 others, a limit of this implementation
+-- the entry at this place is at fault: it is not sound, or it comes after 256 others, a limit of this
+-- implementation
 pub record IsEntryAtFault (entries : List Entry) (place : ℕ) : Type 0 where
   pub entry : Entry
   pub there : slice_get entries place ≡ Some entry

@@ -1,5 +1,5 @@
--- What a responder makes of the selectors that it is offered (RFC 7296 section 2.9): TSi are the initiator's, which is remote
--- to it, TSr its own.
+-- What a responder makes of the selectors that it is offered (RFC 7296 section 2.9): TSi are the
+-- initiator's, which is remote to it, TSr its own.
 use Rattle.std.specs.Prelude.{◌≡◌, ◌<◌, ◌≤◌, ◌⊎◌, ◌↔◌, ℕ, List, [], ◌∷◌, Some, length, slice_get}
 use Rattle.base.specs.Addresses.{IsOrdered}
 use Rattle.base.specs.Lists.{HoldsOfNone, IsFirst}
@@ -21,7 +21,8 @@ HoldsFirst side (first ∷ others) = IsNonempty (HoldsPoint first) × LiesIn (Ho
 abbrev pub MeetsOffer : Selector → List Selector → Type 0
 MeetsOffer side offered = Meets (HoldsAny offered) (HoldsPoint side)
 
--- an entry that protects what the first selectors of both lists ask for, which may be a packet's own addresses and ports
+-- an entry that protects what the first selectors of both lists ask for, which may be a packet's own
+-- addresses and ports
 pub record FitsFirst (initiator responder : List Selector) (e : Entry) : Type 0 where
   pub protects : e.action ≡ Protect
   pub remote : HoldsFirst (remote_side e) initiator
@@ -33,7 +34,8 @@ pub record FitsSome (initiator responder : List Selector) (e : Entry) : Type 0 w
   pub remote : MeetsOffer (remote_side e) initiator
   pub local : MeetsOffer (local_side e) responder
 
--- the entry that an offer is narrowed to: the first that fits both first selectors, else the first that fits something
+-- the entry that an offer is narrowed to: the first that fits both first selectors, else the first that
+-- fits something
 abbrev pub IsChosenEntry : List Entry → List Selector → List Selector → ℕ → Entry → Type 0
 IsChosenEntry entries initiator responder place e =
     IsFirst (FitsFirst initiator responder) entries place e
@@ -49,7 +51,8 @@ pub record IsKeptPart (side offered : Selector) (Others : List Selector → Type
   pub common : IsCommonPart (HoldsPoint offered) (HoldsPoint side) part
   pub rest : Others others
 
--- an offer narrowed to a side: in the offered order the part of each selector inside the side, those without points left out
+-- an offer narrowed to a side: in the offered order the part of each selector inside the side, those
+-- without points left out
 abbrev pub IsNarrowed : Selector → List Selector → List Selector → Type 0
 IsNarrowed side [] answer = answer ≡ []
 IsNarrowed side (offered ∷ others) answer =
@@ -109,8 +112,8 @@ pub record LieInsidePolicy (entries : List Entry) (answer_i answer_r : List Sele
   pub side_i : LieInSide answer_i (remote_side entry)
   pub side_r : LieInSide answer_r (local_side entry)
 
--- a payload of traffic selectors can carry it (RFC 7296 section 3.13.1): its fields have room for the numbers, and no range ends
--- before it starts
+-- a payload of traffic selectors can carry it (RFC 7296 section 3.13.1): its fields have room for the
+-- numbers, and no range ends before it starts
 pub record IsSendableSelector (s : Selector) : Type 0 where
   pub fields : FitsSelectorFields s
   pub ports : IsPortRange s.start_port s.end_port

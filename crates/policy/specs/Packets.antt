@@ -1,5 +1,5 @@
--- The flow of an IP packet: IPv4 by RFC 791 section 3.1, IPv6 by RFC 8200 section 3; ports by RFC 9293 section 3.1 and RFC 768.
--- Packets have at most 16,384 octets, a limit of this implementation.
+-- The flow of an IP packet: IPv4 by RFC 791 section 3.1, IPv6 by RFC 8200 section 3; ports by RFC 9293
+-- section 3.1 and RFC 768. Packets have at most 16,384 octets, a limit of this implementation.
 use Rattle.std.specs.Prelude.{◌≡◌, ◌≢◌, ◌<◌, ◌≤◌, ◌^◌, ◌+◌, ◌*◌, ◌/◌, ◌%◌, ◌⊎◌, ◌==◌, ◌∷◌, [], ℕ, Option, Some, None, if◌then◌else◌, length, drop, slice_index}
 use Rattle.byteorder.specs.Endian.{big_number}
 use Rattle.base.specs.Octets.{Octets}
@@ -25,7 +25,8 @@ abbrev pub family_of_packet : Octets → Option Family
 family_of_packet [] = None
 family_of_packet (first ∷ others) = family_of_version (first / 16)
 
--- TCP and UDP begin with the source's and the target's port, in two octets each; of other protocols no ports are read
+-- TCP and UDP begin with the source's and the target's port, in two octets each; of other protocols no
+-- ports are read
 abbrev pub ArePorts : ℕ → Octets → Option Ports → Type 0
 ArePorts protocol content None = ¬ HasPorts protocol
 ArePorts protocol content (Some ports) =
@@ -59,7 +60,8 @@ pub record IsIpv4Packet (b : Octets) : Type 0 where
   pub fits : ipv4_header_length b ≤ length b
   pub total : big_number 2 (drop 2 b) ≡ length b
 
--- the bit "more fragments" and the fragment offset in octets 6 and 7, behind a reserved bit and "don't fragment"
+-- the bit "more fragments" and the fragment offset in octets 6 and 7, behind a reserved bit and "don't
+-- fragment"
 abbrev pub more_fragments : Octets → ℕ
 more_fragments b = big_number 2 (drop 6 b) / 2 ^ 13 % 2
 
@@ -107,8 +109,8 @@ pub record IsIpv6Packet (b : Octets) : Type 0 where
   pub version : version_of b ≡ 6
   pub payload : big_number 2 (drop 4 b) + 40 ≡ length b
 
--- Extension headers (RFC 8200 section 4): hop-by-hop options, routing, fragment, authentication (RFC 4302), destination options.
--- They are not read, a limit of this implementation.
+-- Extension headers (RFC 8200 section 4): hop-by-hop options, routing, fragment, authentication (RFC 4302),
+-- destination options. They are not read, a limit of this implementation.
 abbrev pub IsExtensionHeader : ℕ → Type 0
 IsExtensionHeader number = (number ≡ 0) ⊎ ((number ≡ 43) ⊎ ((number ≡ 44) ⊎ ((number ≡ 51) ⊎ (number ≡ 60))))
 
@@ -139,8 +141,8 @@ IsIpv6Refusal b ExtensionHeader = IsIpv6Packet b × IsExtensionHeader (next_head
 abbrev pub IsFlowOf : Octets → Flow → Type 0
 IsFlowOf b f = IsIpv4Flow b f ⊎ IsIpv6Flow b f
 
--- which octets are refused, and for what: E21 where neither version has a packet that can be read, and a packet of one version is
--- none of the other
+-- which octets are refused, and for what: E21 where neither version has a packet that can be read, and a
+-- packet of one version is none of the other
 abbrev pub IsInnerRefusal : Octets → InnerFault → Type 0
 IsInnerRefusal b BadInner = IsIpv4Refusal b BadInner × IsIpv6Refusal b BadInner
 IsInnerRefusal b Fragment = IsIpv4Refusal b Fragment

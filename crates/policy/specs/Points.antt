@@ -1,12 +1,13 @@
--- Traffic selectors as sets of points (RFC 4301 section 4.4.1.1, RFC 7296 section 3.13.1). A point is one end of a flow: an
--- IP protocol, an address, and a port where the protocol has ports.
+-- Traffic selectors as sets of points (RFC 4301 section 4.4.1.1, RFC 7296 section 3.13.1). A point is one
+-- end of a flow: an IP protocol, an address, and a port where the protocol has ports.
 use Rattle.std.specs.Prelude.{◌≡◌, ◌<◌, ◌≤◌, ◌^◌, ◌⊎◌, ◌↔◌, ℕ, List, Option, Some, None, slice_get}
 use Rattle.base.specs.Addresses.{FitsRange, HoldsAddress, IsAddress}
 use Rattle.base.specs.declared.selector.Selector.{Selector}
 use Rattle.policy.specs.declared.point.Point.{Point}
 
--- Of the protocols with ports (RFC 4301 section 4.4.1.1) TCP and UDP count alone. ICMP types, mobility header types and OPAQUE
--- ports are not understood: the points of every other protocol have no port, a limit of this implementation.
+-- Of the protocols with ports (RFC 4301 section 4.4.1.1) TCP and UDP count alone. ICMP types, mobility
+-- header types and OPAQUE ports are not understood: the points of every other protocol have no port, a
+-- limit of this implementation.
 abbrev pub HasPorts : ℕ → Type 0
 HasPorts protocol = (protocol ≡ 6) ⊎ (protocol ≡ 17)
 
@@ -28,8 +29,8 @@ FitsProtocol wanted protocol = (wanted ≡ 0) ⊎ (wanted ≡ protocol)
 abbrev pub IsPortRange : ℕ → ℕ → Type 0
 IsPortRange start end = start ≤ end
 
--- Where there is no port, only the range of all ports fits. So a selector of protocol 0 with a narrower range has points of TCP
--- and UDP alone, and one of another protocol has none.
+-- Where there is no port, only the range of all ports fits. So a selector of protocol 0 with a narrower
+-- range has points of TCP and UDP alone, and one of another protocol has none.
 abbrev pub FitsPort : ℕ → ℕ → Option ℕ → Type 0
 FitsPort start end None = (start ≡ 0) × (end ≡ 65535)
 FitsPort start end (Some port) = (start ≤ port) × (port ≤ end)

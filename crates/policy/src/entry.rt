@@ -18,8 +18,9 @@ pub enum Action {
     Discard,
 }
 
-/// One rule of a policy: an IP protocol (0 for any), on each side a range of addresses and one of ports, both ends included,
-/// and what is done with the flows between the sides. The addresses of both sides are of one family.
+/// One rule of a policy: an IP protocol (0 for any), on each side a range of addresses and one of ports,
+/// both ends included, and what is done with the flows between the sides. The addresses of both sides are
+/// of one family.
 #[derive(Clone, Copy, Debug, PartialEq, Eq)]
 pub struct Entry {
     pub protocol: u8,
@@ -93,7 +94,8 @@ impl Entry {
         }
     }
 
-    /// The points of the local side: what an initiator offers as its own selector (TSi), and a responder narrows TSr to.
+    /// The points of the local side: what an initiator offers as its own selector (TSi), and a responder
+    /// narrows TSr to.
     pub fn local_side(&self) -> Selector
         ensures { result ≡ local_side self.now }
     {
@@ -105,7 +107,8 @@ impl Entry {
         }
     }
 
-    /// The points of the remote side: what an initiator offers as its peer's selector (TSr), and a responder narrows TSi to.
+    /// The points of the remote side: what an initiator offers as its peer's selector (TSr), and a
+    /// responder narrows TSi to.
     pub fn remote_side(&self) -> Selector
         ensures { result ≡ remote_side self.now }
     {

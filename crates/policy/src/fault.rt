@@ -7,8 +7,8 @@ use thiserror::Error;
 /// Why entries are no policy.
 #[derive(Clone, Copy, Debug, PartialEq, Eq, Error)]
 pub enum PolicyFault {
-    /// The first entry, counted from 0, that has a range whose end is below its start or sides of two families, or that
-    /// comes after 256 others.
+    /// The first entry, counted from 0, that has a range whose end is below its start or sides of two
+    /// families, or that comes after 256 others.
     #[error("E6: policy entry {index} is at fault")]
     BadEntry { index: usize },
 }
@@ -36,10 +36,10 @@ impl PolicyFault {
 /// Why octets have no flow.
 #[derive(Clone, Copy, Debug, PartialEq, Eq, Error)]
 pub enum InnerFault {
-    /// Another version than 4 and 6, or more than 16,384 octets. Of version 4 fewer than 20 octets, a header of fewer than 20
-    /// octets or one that doesn't fit, or a total length that is not that of the octets. Of version 6 fewer than 40 octets, or
-    /// a payload length that with the header's 40 is not that of the octets. Of either, for TCP and UDP, fewer than four
-    /// octets behind the IP header.
+    /// Another version than 4 and 6, or more than 16,384 octets. Of version 4 fewer than 20 octets, a
+    /// header of fewer than 20 octets or one that doesn't fit, or a total length that is not that of the
+    /// octets. Of version 6 fewer than 40 octets, or a payload length that with the header's 40 is not that
+    /// of the octets. Of either, for TCP and UDP, fewer than four octets behind the IP header.
     #[error("E21: not a whole IP packet")]
     BadInner,
     /// The packet of version 4 is a fragment: more follow it, or its offset is not 0.

@@ -13,9 +13,10 @@ pub struct Ports {
     pub target: u16,
 }
 
-/// What a packet's selectors are: its IP protocol, its source's and its target's address, and its ports, which are there
-/// exactly where the protocol is TCP or UDP (6 or 17); a limit of this implementation. No selector holds a flow whose ports do
-/// not fit its protocol, and no policy protects one whose addresses differ in family.
+/// What a packet's selectors are: its IP protocol, its source's and its target's address, and its ports,
+/// which are there exactly where the protocol is TCP or UDP (6 or 17); a limit of this implementation. No
+/// selector holds a flow whose ports do not fit its protocol, and no policy protects one whose addresses
+/// differ in family.
 #[derive(Clone, Copy, Debug, PartialEq, Eq)]
 pub struct Flow {
     pub protocol: u8,

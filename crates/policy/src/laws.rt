@@ -1,5 +1,6 @@
-//! Facts about the definitions, each the contract of a function that does nothing: what is answered or refused is determined,
-//! what is narrowed lies inside its offer and can be sent, first choices are kept, and families of addresses are apart.
+//! Facts about the definitions, each the contract of a function that does nothing: what is answered or
+//! refused is determined, what is narrowed lies inside its offer and can be sent, first choices are kept,
+//! and families of addresses are apart.
 ghost use Rattle.std.specs.Prelude.{◌≡◌, ◌≢◌, ◌≤◌, ◌∷◌, ℕ, List, Some, length, slice_get};
 ghost use Rattle.base.specs.Addresses.{family_of, family_of_range};
 ghost use Rattle.base.specs.Octets.{Octets};
@@ -23,8 +24,8 @@ pub fn families_are_apart()
         → ¬ Meets (HoldsPoint one) (HoldsPoint other) }
 {}
 
-/// What [`Policy::new`](crate::Policy::new) and [`Policy::decide`](crate::Policy::decide) answer is determined: entries are a
-/// policy or have one first fault, and a flow has one decision.
+/// What [`Policy::new`](crate::Policy::new) and [`Policy::decide`](crate::Policy::decide) answer is
+/// determined: entries are a policy or have one first fault, and a flow has one decision.
 pub fn policies_are_determined()
     ensures sound { (entries : List Entry) (place : ℕ)
         → IsSoundPolicy entries → ¬ IsFirstEntryAtFault entries place }
@@ -40,7 +41,8 @@ pub fn flows_between_families_are_discarded()
         → family_of f.source ≢ family_of f.target → IsDecision entries f d a → a ≡ Discard }
 {}
 
-/// What [`inner`](crate::inner) answers is determined: octets have one flow, between addresses of one family, or one refusal.
+/// What [`inner`](crate::inner) answers is determined: octets have one flow, between addresses of one
+/// family, or one refusal.
 pub fn flows_are_determined()
     ensures flow { (b : Octets) (f g : Flow) → IsFlowOf b f → IsFlowOf b g → f ≡ g }
     ensures one_family { (b : Octets) (f : Flow) → IsFlowOf b f → family_of f.source ≡ family_of f.target }
@@ -50,7 +52,8 @@ pub fn flows_are_determined()
         → IsFlowOf b f → ¬ IsInnerRefusal b fault }
 {}
 
-/// What [`narrow`](crate::narrow) answers is determined, and where it may answer it may not refuse but for want of memory.
+/// What [`narrow`](crate::narrow) answers is determined, and where it may answer it may not refuse but for
+/// want of memory.
 pub fn narrowing_is_determined()
     ensures narrowed { (entries : List Entry) (i r answer_i answer_r other_i other_r : List Selector)
         → IsNarrowing entries i r answer_i answer_r → IsNarrowing entries i r other_i other_r
@@ -59,8 +62,8 @@ pub fn narrowing_is_determined()
         → IsNarrowing entries i r answer_i answer_r → ¬ IsNarrowRefusal entries i r Unacceptable }
 {}
 
-/// What [`narrow`](crate::narrow) answers can be sent: of an offer of at most 16 selectors in a list, each answered list is one
-/// that a message can carry.
+/// What [`narrow`](crate::narrow) answers can be sent: of an offer of at most 16 selectors in a list, each
+/// answered list is one that a message can carry.
 pub fn answers_can_be_sent()
     ensures { (entries : List Entry) (i r answer_i answer_r : List Selector)
         → length i ≤ SELECTOR_LIMIT → length r ≤ SELECTOR_LIMIT → IsNarrowing entries i r answer_i answer_r
@@ -68,8 +71,8 @@ pub fn answers_can_be_sent()
 {}
 
 /// What [`narrow`](crate::narrow) answers lies inside what was offered, as the initiator asks by
-/// [`are_inside`](crate::are_inside), and inside the policy: each answered selector has points, all of them in one offered
-/// selector and on its side of one entry that protects, the same for both lists.
+/// [`are_inside`](crate::are_inside), and inside the policy: each answered selector has points, all of them
+/// in one offered selector and on its side of one entry that protects, the same for both lists.
 pub fn answers_lie_inside()
     ensures offer { (entries : List Entry) (i r answer_i answer_r : List Selector)
         → IsNarrowing entries i r answer_i answer_r → AnswersOffer answer_i i × AnswersOffer answer_r r }
@@ -77,8 +80,9 @@ pub fn answers_lie_inside()
         → IsNarrowing entries i r answer_i answer_r → LieInsidePolicy entries answer_i answer_r }
 {}
 
-/// Where an entry protects the whole of the first selector of each list, both come first in the answer, unchanged (RFC 7296
-/// section 2.9: a responder that can accept the first selectors narrows to a set that has them).
+/// Where an entry protects the whole of the first selector of each list, both come first in the answer,
+/// unchanged (RFC 7296 section 2.9: a responder that can accept the first selectors narrows to a set that
+/// has them).
 pub fn first_choices_are_kept()
     ensures { (entries : List Entry) (place : ℕ) (e : Entry) (first_i first_r : Selector)
         (i r answer_i answer_r : List Selector)

@@ -1,17 +1,18 @@
-//! The security policy of a gateway (RFC 4301 section 4.4.1): which flows are protected, bypassed or discarded, and what
-//! selectors a responder agrees to (RFC 7296 section 2.9).
+//! The security policy of a gateway (RFC 4301 section 4.4.1): which flows are protected, bypassed or
+//! discarded, and what selectors a responder agrees to (RFC 7296 section 2.9).
 //!
-//! A traffic selector is a set of [`Point`]s. A point is one end of a flow: an IP protocol, an address of either family, and a
-//! port where the protocol has ports: of these TCP and UDP alone count, and ICMP types, mobility header types and OPAQUE ports
-//! are not understood, a limit of this implementation. A list of selectors is the union of its members. A point of one family
-//! is in no set of the other.
+//! A traffic selector is a set of [`Point`]s. A point is one end of a flow: an IP protocol, an address of
+//! either family, and a port where the protocol has ports: of these TCP and UDP alone count, and ICMP
+//! types, mobility header types and OPAQUE ports are not understood, a limit of this implementation. A list
+//! of selectors is the union of its members. A point of one family is in no set of the other.
 //!
-//! [`inner`] finds the [`Flow`] of an IP packet, [`family_of_packet`] the family that its version names, [`Policy::decide`] what is done
-//! with a flow, [`covers`] whether selectors hold it, [`narrow`] what an offer becomes under a policy, and [`are_inside`] whether an answer keeps to its offer. Only [`narrow`]
+//! [`inner`] finds the [`Flow`] of an IP packet, [`family_of_packet`] the family that its version names,
+//! [`Policy::decide`] what is done with a flow, [`covers`] whether selectors hold it, [`narrow`] what an
+//! offer becomes under a policy, and [`are_inside`] whether an answer keeps to its offer. Only [`narrow`]
 //! takes memory. [`laws`] has facts about these answers.
 //!
-//! The sets stand in `specs/Points`, decisions in `specs/Decisions`, the responder's choice in `specs/Narrowing`, and the
-//! layout of packets in `specs/Packets`.
+//! The sets stand in `specs/Points`, decisions in `specs/Decisions`, the responder's choice in
+//! `specs/Narrowing`, and the layout of packets in `specs/Packets`.
 //!
 //! ```rust
 //! use base::{Address, Items, Range};
@@ -30,6 +31,18 @@
 //!     Decision::Protect
 //! );
 //! ```
+//!
+//! # How it is proved
+//!
+//! Contracts speak of points, and the code compares ends of ranges. `proofs/PointLemmas` goes between the
+//! two:
+//!
+//! - a selector has a point exactly if its ranges are in order and its ports fit its protocol;
+//! - one lies in another exactly if its ends do, where it has a point;
+//! - two have a common point exactly if their ranges overlap and the ports of the common protocol fit.
+//!
+//! A narrowed list is said selector by selector (`IsNarrowed`), and beside it of the whole union
+//! (`HasAllCommonPoints`).
 #![tactic(auto)]
 
 mod entry;

@@ -5,8 +5,8 @@ ghost use Rattle.policy.specs.Narrowing.{AnswersOffer, LiesInOffer};
 use crate::selectors::{has_point, lies_in};
 use base::Selector;
 
-/// Whether an answer keeps to the offer (RFC 7296 section 2.9): it is not empty, each of its selectors has a point, and all
-/// points of the selector lie in one that was offered. Takes no memory.
+/// Whether an answer keeps to the offer (RFC 7296 section 2.9): it is not empty, each of its selectors has
+/// a point, and all points of the selector lie in one that was offered. Takes no memory.
 pub fn are_inside(answer: &[Selector], offered: &[Selector]) -> bool
     ensures { IsTrue result ↔ AnswersOffer answer.now offered.now }
 {

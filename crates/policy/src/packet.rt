@@ -17,13 +17,14 @@ pub(crate) const INNER_LIMIT: usize = 16_384;
 // The two ports that TCP and UDP begin with, in octets.
 const PORTS: usize = 4;
 
-/// The flow of a packet of IP version 4 or 6, whose addresses are both of the packet's version. The checksum of an IPv4
-/// header is not looked at.
+/// The flow of a packet of IP version 4 or 6, whose addresses are both of the packet's version. The
+/// checksum of an IPv4 header is not looked at.
 ///
-/// Refused, in this order: [`InnerFault::BadInner`] (E21) for another version, more than 16,384 octets, a header that is
-/// shorter than its version's (20 or 40 octets) or doesn't fit, or a length in it that is not that of the octets;
-/// [`InnerFault::Fragment`] (E22) for a fragment of IPv4; [`InnerFault::ExtensionHeader`] (E39) for IPv6 with an extension
-/// header; E21 for TCP and UDP with fewer than four octets behind the IP header.
+/// Refused, in this order: [`InnerFault::BadInner`] (E21) for another version, more than 16,384 octets, a
+/// header that is shorter than its version's (20 or 40 octets) or doesn't fit, or a length in it that is
+/// not that of the octets; [`InnerFault::Fragment`] (E22) for a fragment of IPv4;
+/// [`InnerFault::ExtensionHeader`] (E39) for IPv6 with an extension header; E21 for TCP and UDP with fewer
+/// than four octets behind the IP header.
 pub fn inner(octets: &[u8]) -> Result<Flow, InnerFault>
     ensures flow { IfOk result (IsFlowOf octets.now) }
     ensures one_family { IfOk result (λ f. family_of f.source ≡ family_of f.target) }
@@ -39,9 +40,9 @@ pub fn inner(octets: &[u8]) -> Result<Flow, InnerFault>
     }
 }
 
-/// The family that a packet's version names, `None` where it is neither 4 nor 6 or there is no octet. Nothing else of the packet is
-/// looked at: so the next header of ESP is compared with the packet that it came with before anything else of it is judged
-/// (RFC 4303 section 2.6). Takes no memory.
+/// The family that a packet's version names, `None` where it is neither 4 nor 6 or there is no octet.
+/// Nothing else of the packet is looked at: so the next header of ESP is compared with the packet that it
+/// came with before anything else of it is judged (RFC 4303 section 2.6). Takes no memory.
 pub fn family_of_packet(packet: &[u8]) -> Option<Family>
     ensures { result ≡ family_of_packet packet.now }
 {

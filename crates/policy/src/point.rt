@@ -4,7 +4,8 @@ ghost use Rattle.policy.specs.Points.{HasPorts};
 
 use base::Address;
 
-/// One end of a flow: an IP protocol, an address, and a port exactly where the protocol is TCP or UDP (6 or 17).
+/// One end of a flow: an IP protocol, an address, and a port exactly where the protocol is TCP or UDP (6 or
+/// 17).
 #[derive(Clone, Copy, Debug, PartialEq, Eq)]
 pub struct Point {
     pub protocol: u8,

@@ -45,8 +45,9 @@ impl Model for Policy {
 }
 
 impl Policy {
-    /// A policy of at most 256 entries, which takes no memory. [`PolicyFault::BadEntry`] (E6) tells the first entry that has a
-    /// range whose end is below its start or sides of two families, or that comes after 256 others.
+    /// A policy of at most 256 entries, which takes no memory. [`PolicyFault::BadEntry`] (E6) tells the
+    /// first entry that has a range whose end is below its start or sides of two families, or that comes
+    /// after 256 others.
     pub fn new(entries: Items<Entry>) -> Result<Policy, PolicyFault>
         ensures policy { IfOk result (λ policy. policy ≡ entries) }
         ensures sound { IfOk result (λ policy. IsSoundPolicy policy) }
@@ -68,8 +69,9 @@ impl Policy {
         self.entries.as_slice()
     }
 
-    /// What is done with a flow: the action of the first entry that holds its source and its target, [`Action::Discard`]
-    /// where none does. Outward the source is on the local side of an entry, inward on the remote one.
+    /// What is done with a flow: the action of the first entry that holds its source and its target,
+    /// [`Action::Discard`] where none does. Outward the source is on the local side of an entry, inward on
+    /// the remote one.
     pub fn decide(&self, flow: &Flow, direction: Direction) -> Decision
         ensures { IsDecision self.now flow.now direction result }
     {

@@ -10,8 +10,8 @@ use crate::point::{ANY_PROTOCOL, Point};
 use crate::ports::PortRange;
 use base::{Range, Selector};
 
-/// Whether the sources hold the source of a flow, and the targets its target: protocol and address fit, and the port lies in
-/// the range. Where the flow's protocol has no ports, only the range of all ports fits.
+/// Whether the sources hold the source of a flow, and the targets its target: protocol and address fit, and
+/// the port lies in the range. Where the flow's protocol has no ports, only the range of all ports fits.
 pub fn covers(sources: &[Selector], targets: &[Selector], flow: &Flow) -> bool
     ensures { IsTrue result ↔ Covers sources.now targets.now flow.now }
 {
@@ -110,7 +110,8 @@ fn ports_of(selector: &Selector) -> PortRange
     PortRange::new(selector.start_port, selector.end_port)
 }
 
-// The range itself. It is taken apart and put together, so that it is known of its numbers that they fit their family.
+// The range itself. It is taken apart and put together, so that it is known of its numbers that they fit
+// their family.
 fn range_of(addresses: Range) -> Range
     ensures same { result ≡ addresses }
     ensures fits { FitsRange result }

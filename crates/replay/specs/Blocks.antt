@@ -1,4 +1,5 @@
--- The numbers taken, kept as a ring of blocks of 64 bits (RFC 6479 section 2): number n stands in block n / 64, counted round the ring.
+-- The numbers taken, kept as a ring of blocks of 64 bits (RFC 6479 section 2): number n stands in block n /
+-- 64, counted round the ring.
 use Rattle.std.specs.Prelude.{◌≡◌, ℕ, ◌*◌, ◌-◌, ◌/◌, ◌%◌, ◌^◌, ◌<◌, ◌≤◌, Bool, true, false, List, [], ◌∷◌, length, get_or, filter, ◌&&◌, nat_eq, zero, suc}
 use Rattle.std.specs.Int.{bit_at}
 use Rattle.replay.specs.Window.{Seen, listed}

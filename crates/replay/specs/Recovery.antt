@@ -2,9 +2,10 @@
 use Rattle.std.specs.Prelude.{◌≡◌, ℕ, ◌+◌, ◌%◌, ◌^◌, ◌<◌, ◌≤◌}
 use Rattle.std.proofs.Common.{arith}
 
--- n is what a packet with this low half is taken to be, where top is the greatest number taken so far and window the
--- window's size. The 2 ^ 32 candidates begin at the window's lower edge, top - window + 1; bounds are stated by sums, since
--- that edge may lie below 0. No number is 0, and none has more than 64 bits.
+-- n is what a packet with this low half is taken to be, where top is the greatest number taken so far and
+-- window the window's size. The 2 ^ 32 candidates begin at the window's lower edge, top - window + 1;
+-- bounds are stated by sums, since that edge may lie below 0. No number is 0, and none has more than 64
+-- bits.
 pub record IsRecovered (top window low n : ℕ) : Type 0 where
   pub low_half : n % 2 ^ 32 ≡ low
   pub from_the_edge : top + 1 ≤ n + window

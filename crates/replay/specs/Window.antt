@@ -5,7 +5,8 @@ use Rattle.std.specs.FinSet as set
 use Rattle.replay.specs.declared.window.Judgement.{Judgement}
 use Rattle.replay.specs.declared.window.Judgement.TheVariants.{Zero, Old, Taken, Fresh}
 
--- a window, seen as the greatest number taken (0 where none was), how many numbers it spans, and those of them that were taken
+-- a window, seen as the greatest number taken (0 where none was), how many numbers it spans, and those of
+-- them that were taken
 pub record Seen : Type 0 where
   pub top : ℕ
   pub size : ℕ
@@ -35,7 +36,8 @@ judgement w n =
     else if set.contains w.taken n then Taken
     else Fresh
 
--- The window new is old with n taken: the span may move up, what falls out of it is forgotten, and nothing else changes.
+-- The window new is old with n taken: the span may move up, what falls out of it is forgotten, and nothing
+-- else changes.
 pub record Takes (old : Seen) (n : ℕ) (new : Seen) : Type 0 where
   pub top : new.top ≡ max old.top n
   pub size : new.size ≡ old.size

@@ -9,9 +9,10 @@ use std::alloc::Global;
 // The numbers of one block.
 const BLOCK: u64 = 64;
 
-/// A window that keeps a bit for each number, in a ring of blocks of 64 bits (RFC 6479). Moving up clears the blocks that
-/// are passed over and shifts nothing, so asking and taking cost the same whatever the window holds, and a jump costs
-/// at most as many writes as there are blocks. Memory is taken when it is made, and never again.
+/// A window that keeps a bit for each number, in a ring of blocks of 64 bits (RFC 6479). Moving up clears
+/// the blocks that are passed over and shifts nothing, so asking and taking cost the same whatever the
+/// window holds, and a jump costs at most as many writes as there are blocks. Memory is taken when it is
+/// made, and never again.
 #[derive(Drop)]
 pub struct BlockWindow {
     top: u64,
@@ -21,8 +22,9 @@ pub struct BlockWindow {
 }
 
 impl BlockWindow {
-    /// A window of `blocks` blocks of 64 numbers, a count that [`is_block_count`](crate::is_block_count) allows. It spans
-    /// 64 (blocks - 1) numbers. [`ReplayFault::Memory`] where there is no memory for the blocks, 8 octets each.
+    /// A window of `blocks` blocks of 64 numbers, a count that [`is_block_count`](crate::is_block_count)
+    /// allows. It spans 64 (blocks - 1) numbers. [`ReplayFault::Memory`] where there is no memory for the
+    /// blocks, 8 octets each.
     pub fn new(alloc: Global, blocks: u32) -> Result<BlockWindow, ReplayFault>
         requires { IsBlockCount blocks }
         ensures { IfOk result (λ window. ⟦<BlockWindow as Window>⟧.seen window ≡ unused_window blocks) }

@@ -26,7 +26,8 @@ pub fn is_block_count(m: u32) -> bool
 
 /// The numbers of an association that were taken, as far as they are remembered (RFC 4303 section 3.4.3).
 ///
-/// Asking about a number is apart from taking it: a receiver asks, checks the packet's integrity, and only then takes.
+/// Asking about a number is apart from taking it: a receiver asks, checks the packet's integrity, and only
+/// then takes.
 pub trait Window {
     ghost use Rattle.std.specs.Prelude.{ℕ};
     ghost use Rattle.replay.specs.Window.{Seen, IsSoundWindow, judgement, Takes};
@@ -49,8 +50,8 @@ pub trait Window {
     fn judge(&self, n: u64) -> Judgement
         ensures { result ≡ judgement (seen self.now) n };
 
-    /// Takes a number that [`Window::judge`] calls fresh. A greater number than all before moves the span up, and what
-    /// falls out of it is forgotten. [`ReplayFault::Memory`] leaves the window as it was.
+    /// Takes a number that [`Window::judge`] calls fresh. A greater number than all before moves the span
+    /// up, and what falls out of it is forgotten. [`ReplayFault::Memory`] leaves the window as it was.
     fn take(&mut self, n: u64) -> Result<(), ReplayFault>
         requires { judgement (seen self.old) n ≡ Judgement.Fresh }
         ensures taken { OnOk result (Takes (seen self.old) n (seen self.new)) }

@@ -1,4 +1,5 @@
--- What the numbers of an association say. For how many more replies or requests there is room is no part of it.
+-- What the numbers of an association say. For how many more replies or requests there is room is no part of
+-- it.
 use Rattle.requests.specs.Incoming.{PeerRequests}
 use Rattle.requests.specs.Outgoing.{OwnRequests}
 

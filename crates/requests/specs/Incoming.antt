@@ -1,5 +1,5 @@
--- The peer's requests of one association, as the set of the numbers in effect and a finite map of the kept replies
--- (RFC 7296 sections 2.1 to 2.3).
+-- The peer's requests of one association, as the set of the numbers in effect and a finite map of the kept
+-- replies (RFC 7296 sections 2.1 to 2.3).
 use Rattle.std.specs.Prelude.{◌≡◌, ◌+◌, ◌^◌, ◌<◌, ◌≤◌, ◌↔◌, ℕ, Some, None, IsSome, refl}
 use Rattle.std.specs.Ordering.{nat_cmp}
 use Rattle.std.specs.Coded.{Coded, code_by, coded×, coded_ℕ, coded_list}
@@ -13,7 +13,8 @@ use Rattle.requests.specs.Numbers.{NumberSet, HasNumber, LacksNumber, IsGap}
 pub record PeerRequests : Type 0 where
   -- the numbers of the requests that took effect
   pub in_effect : NumberSet
-  -- how many requests the peer may have under way (RFC 7296 section 2.3), and so how many replies are kept at most
+  -- how many requests the peer may have under way (RFC 7296 section 2.3), and so how many replies are kept
+  -- at most
   pub size : ℕ
   -- the replies that are kept, by the numbers of their requests
   pub kept : map.FinMap nat_cmp Octets
@@ -43,12 +44,13 @@ pub record IsPassed (numbers : NumberSet) (size n : ℕ) : Type 0 where
   pub in_effect : HasNumber numbers later
   pub far : n + size ≤ later
 
--- Some request that took effect lies at least a window above this number: the peer had the answer to it, or it would not have sent
--- that one (RFC 7296 section 2.3).
+-- Some request that took effect lies at least a window above this number: the peer had the answer to it, or
+-- it would not have sent that one (RFC 7296 section 2.3).
 abbrev pub IsLeftBehind : PeerRequests → ℕ → Type 0
 IsLeftBehind r n = IsPassed r.in_effect r.size n
 
--- a request of this number takes effect if it comes: it did not yet, and lies in the window, which begins at the gap
+-- a request of this number takes effect if it comes: it did not yet, and lies in the window, which begins
+-- at the gap
 pub record IsFreshRequest (r : PeerRequests) (n : ℕ) : Type 0 where
   pub not_in_effect : LacksNumber r.in_effect n
   pub gap : ℕ
@@ -82,8 +84,8 @@ pub record HasSameRequests (old new : PeerRequests) : Type 0 where
   pub content : new ≡ record old { room = new.room }
   pub room : old.room ≤ new.room
 
--- the request of this number takes effect and its reply is kept; the replies of the numbers left behind are given up, and no
--- others
+-- the request of this number takes effect and its reply is kept; the replies of the numbers left behind are
+-- given up, and no others
 pub record TakesRequest (old : PeerRequests) (number : ℕ) (reply : Octets) (new : PeerRequests) : Type 0 where
   pub fresh : IsFreshRequest old number
   pub in_effect : new.in_effect ≡ set.insert old.in_effect number

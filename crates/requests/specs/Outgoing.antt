@@ -1,5 +1,5 @@
--- This end's requests of one association, as the set of the numbers answered and a finite map of the outstanding requests
--- (RFC 7296 sections 2.1 to 2.3).
+-- This end's requests of one association, as the set of the numbers answered and a finite map of the
+-- outstanding requests (RFC 7296 sections 2.1 to 2.3).
 use Rattle.std.specs.Prelude.{◌≡◌, ◌+◌, ◌^◌, ◌<◌, ◌≤◌, ℕ, Bool, true, false, Option, Some, None, IsSome, nat_lt, refl}
 use Rattle.std.specs.Ordering.{nat_cmp}
 use Rattle.std.specs.Coded.{Coded, code_by, coded×, coded_ℕ}
@@ -42,7 +42,8 @@ number_0_answered = record { next = 1; answered = set.insert set.empty 0; window
 abbrev pub IsOutstanding : {T : Type 0} → OwnRequests T → ℕ → Type 0
 IsOutstanding r number = IsSome (map.get r.outstanding number)
 
--- the next number lies at the end of the peer's window, which begins at the least unanswered number, or above it
+-- the next number lies at the end of the peer's window, which begins at the least unanswered number, or
+-- above it
 pub record IsBusy {T : Type 0} (r : OwnRequests T) : Type 0 where
   pub gap : ℕ
   pub is_gap : IsGap r.answered gap
@@ -79,7 +80,8 @@ pub record IssuesRequest {T : Type 0} (old : OwnRequests T) (request : T) (numbe
   }
   pub room : old.room ≡ new.room + 1
 
--- an answer came to an outstanding request, which is answered from then on and outstanding no more; its room is free again
+-- an answer came to an outstanding request, which is answered from then on and outstanding no more; its
+-- room is free again
 pub record CountsAnswer {T : Type 0} (old : OwnRequests T) (number : ℕ) (request : T) (new : OwnRequests T) : Type 0 where
   pub there : map.get old.outstanding number ≡ Some request
   pub content : new ≡ record old {
@@ -93,7 +95,8 @@ pub record ReplacesRequest {T : Type 0} (old : OwnRequests T) (number : ℕ) (wa
   pub there : map.get old.outstanding number ≡ Some was
   pub content : new ≡ record old { outstanding = map.insert old.outstanding number is }
 
--- what a change makes of an outstanding request stands for it, where what is made of one stands in a relation to it
+-- what a change makes of an outstanding request stands for it, where what is made of one stands in a
+-- relation to it
 pub record ChangesRequest {T : Type 0} (Makes : T → T → Type 0) (old : OwnRequests T) (number : ℕ) (new : OwnRequests T) : Type 0 where
   pub was : T
   pub is : T

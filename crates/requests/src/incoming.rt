@@ -21,13 +21,15 @@ pub enum Judgement<'a> {
     Outside,
 }
 
-/// The peer's requests of one association: the numbers of those that took effect, and the replies that are kept to be sent again
-/// (RFC 7296 sections 2.1 to 2.3).
+/// The peer's requests of one association: the numbers of those that took effect, and the replies that are
+/// kept to be sent again (RFC 7296 sections 2.1 to 2.3).
 ///
-/// The window begins at the gap, the least number that did not take effect yet, and spans as many numbers as the peer may have
-/// under way: 1 to begin with, and up to 16. A reply is kept until a request takes effect that lies a window above its own.
+/// The window begins at the gap, the least number that did not take effect yet, and spans as many numbers
+/// as the peer may have under way: 1 to begin with, and up to 16. A reply is kept until a request takes
+/// effect that lies a window above its own.
 ///
-/// What it keeps beside the replies doesn't grow with the numbers, and each call costs the same whatever they are.
+/// What it keeps beside the replies doesn't grow with the numbers, and each call costs the same whatever
+/// they are.
 #[derive(Drop)]
 pub struct Incoming {
     in_effect: NumberSet,
@@ -54,7 +56,8 @@ impl Model for Incoming {
 }
 
 impl Incoming {
-    /// No request took effect yet, and the window is 1: the end of the association that sent IKE_SA_INIT. Takes no memory.
+    /// No request took effect yet, and the window is 1: the end of the association that sent IKE_SA_INIT.
+    /// Takes no memory.
     pub fn new(alloc: Global) -> Incoming
         ensures { result ≡ no_requests }
     {
@@ -65,8 +68,8 @@ impl Incoming {
         }
     }
 
-    /// Number 0 is in effect, with no reply kept, and the window is 1: the end that answered the peer's IKE_SA_INIT, whose
-    /// number that was. Takes no memory.
+    /// Number 0 is in effect, with no reply kept, and the window is 1: the end that answered the peer's
+    /// IKE_SA_INIT, whose number that was. Takes no memory.
     pub fn after_initial(alloc: Global) -> Incoming
         ensures { result ≡ after_number_0 }
     {
@@ -100,8 +103,8 @@ impl Incoming {
         }
     }
 
-    /// Makes room for one more reply. Nothing else is changed. Where there is room already, as right after another `prepare`, it
-    /// takes no memory. Refused where there was none, with nothing changed.
+    /// Makes room for one more reply. Nothing else is changed. Where there is room already, as right after
+    /// another `prepare`, it takes no memory. Refused where there was none, with nothing changed.
     pub fn prepare(&mut self) -> Result<(), AllocError>
         ensures content { HasSameRequests self.old self.new }
         ensures ok { OnOk result (1 ≤ self.new.room) }
@@ -111,9 +114,9 @@ impl Incoming {
         self.kept.make_room()
     }
 
-    /// A request took effect: its number counts from now on, and its reply is kept. The replies of the numbers that it leaves
-    /// behind are given up. The caller asks only for a number that [`judge`](Incoming::judge) calls Fresh, after
-    /// [`prepare`](Incoming::prepare). Takes no memory.
+    /// A request took effect: its number counts from now on, and its reply is kept. The replies of the
+    /// numbers that it leaves behind are given up. The caller asks only for a number that
+    /// [`judge`](Incoming::judge) calls Fresh, after [`prepare`](Incoming::prepare). Takes no memory.
     pub fn take(&mut self, number: u32, reply: Items<u8>)
         requires fresh { IsFreshRequest self.old number }
         requires room { 1 ≤ self.old.room }
@@ -133,8 +136,8 @@ impl Incoming {
         self.size
     }
 
-    /// Lets the peer have more requests under way, up to 16. Nothing else is changed. The caller asks for no fewer than before,
-    /// so no kept reply is lost. Takes no memory.
+    /// Lets the peer have more requests under way, up to 16. Nothing else is changed. The caller asks for
+    /// no fewer than before, so no kept reply is lost. Takes no memory.
     pub fn set_size(&mut self, size: u8)
         requires grows { self.old.size ≤ size }
         requires most { size ≤ 16 }

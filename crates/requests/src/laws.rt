@@ -1,5 +1,5 @@
-//! Facts about the definitions, each the contract of a function that does nothing: what becomes of the numbers over many calls, that
-//! answers are determined, and how often a request is sent.
+//! Facts about the definitions, each the contract of a function that does nothing: what becomes of the
+//! numbers over many calls, that answers are determined, and how often a request is sent.
 ghost use Rattle.std.specs.Prelude.{◌≡◌, ◌≢◌, ◌+◌, ◌≤◌, ℕ, Option};
 ghost use Rattle.base.specs.Octets.{Octets};
 ghost use Rattle.requests.specs.Contents.{incoming_content, outgoing_content};
@@ -13,9 +13,9 @@ ghost use Rattle.requests.specs.declared.incoming.Judgement.{Judgement};
 ghost use Rattle.requests.specs.declared.timer.Due.{Due};
 ghost use Rattle.requests.specs.declared.timer.Timer.{Timer};
 
-/// Each call leads from the peer's requests to ones that follow them: a number in effect stays in effect, no reply but the first
-/// is kept for it, and that one as long as no request a window above it took effect. Following is transitive, so this holds of
-/// any number of calls.
+/// Each call leads from the peer's requests to ones that follow them: a number in effect stays in effect,
+/// no reply but the first is kept for it, and that one as long as no request a window above it took effect.
+/// Following is transitive, so this holds of any number of calls.
 pub fn later_incoming_follow()
     ensures reflexive { (a : PeerRequests) → FollowsIncoming a a }
     ensures transitive { (a b c : PeerRequests)
@@ -34,8 +34,8 @@ pub fn no_number_takes_effect_twice()
         → first ≢ second }
 {}
 
-/// Each call leads from this end's requests to ones that follow them: an answered number stays answered, and what was given up
-/// stays unanswered. Following is transitive, so this holds of any number of calls.
+/// Each call leads from this end's requests to ones that follow them: an answered number stays answered,
+/// and what was given up stays unanswered. Following is transitive, so this holds of any number of calls.
 pub fn later_outgoing_follow<T>()
     ensures reflexive { (a : OwnRequests T) → FollowsOutgoing a a }
     ensures transitive { (a b c : OwnRequests T)
@@ -61,8 +61,8 @@ pub fn no_number_is_issued_twice<T>()
         → first ≢ second }
 {}
 
-/// A set has one gap. What [`Incoming::judge`](crate::Incoming::judge) answers is determined, and so is what the requests are after
-/// [`take`](crate::Incoming::take).
+/// A set has one gap. What [`Incoming::judge`](crate::Incoming::judge) answers is determined, and so is
+/// what the requests are after [`take`](crate::Incoming::take).
 pub fn judgements_are_determined()
     ensures gap { (numbers : NumberSet) (a b : ℕ) → IsGap numbers a → IsGap numbers b → a ≡ b }
     ensures judgement { (r : PeerRequests) (n : ℕ) (a b : Judgement)
@@ -87,7 +87,8 @@ pub fn a_moment_sends_once()
         → IsDue (record { sent = now; repeats = timer.repeats + 1 }) now Due.Nothing }
 {}
 
-/// What is said of the peer's requests, and what they are after a call, goes by what they are, whatever room there is.
+/// What is said of the peer's requests, and what they are after a call, goes by what they are, whatever
+/// room there is.
 pub fn later_incoming_are_determined()
     ensures prepared { (old new : PeerRequests) → HasSameRequests old new
         → incoming_content new ≡ incoming_content old }

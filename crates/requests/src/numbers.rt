@@ -6,8 +6,8 @@ ghost use Rattle.requests.specs.Numbers.{HasNumber, LacksNumber, IsGap};
 
 use std::marker::Model;
 
-// Request numbers that came mostly in order: all below the gap, which is the least number that is missing, and those of the 15
-// behind it whose bits are set. Its size doesn't grow with the numbers.
+// Request numbers that came mostly in order: all below the gap, which is the least number that is missing,
+// and those of the 15 behind it whose bits are set. Its size doesn't grow with the numbers.
 #[derive(Drop)]
 pub(crate) struct NumberSet {
     gap: u64,

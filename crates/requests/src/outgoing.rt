@@ -13,13 +13,15 @@ use crate::numbers::NumberSet;
 use std::alloc::Global;
 use std::marker::Model;
 
-/// This end's requests of one association: the numbers issued, those answered, and the requests that wait for an answer, each
-/// with what the caller keeps of it (RFC 7296 sections 2.1 to 2.3).
+/// This end's requests of one association: the numbers issued, those answered, and the requests that wait
+/// for an answer, each with what the caller keeps of it (RFC 7296 sections 2.1 to 2.3).
 ///
-/// A request comes in two steps, so that nothing is issued in vain: [`prepare`](Outgoing::prepare) makes room and tells the
-/// number, by which the caller makes the message, and [`issue`](Outgoing::issue) cannot be refused. No number is issued twice.
+/// A request comes in two steps, so that nothing is issued in vain: [`prepare`](Outgoing::prepare) makes
+/// room and tells the number, by which the caller makes the message, and [`issue`](Outgoing::issue) cannot
+/// be refused. No number is issued twice.
 ///
-/// What it keeps beside the outstanding requests doesn't grow with the numbers, and each call costs the same whatever they are.
+/// What it keeps beside the outstanding requests doesn't grow with the numbers, and each call costs the
+/// same whatever they are.
 #[derive(Drop)]
 pub struct Outgoing<T> {
     next: u64,
@@ -60,8 +62,8 @@ impl<T> Outgoing<T> {
         }
     }
 
-    /// Number 0 was issued and answered, and the peer's window is 1: the end of the association whose IKE_SA_INIT that was.
-    /// Takes no memory.
+    /// Number 0 was issued and answered, and the peer's window is 1: the end of the association whose
+    /// IKE_SA_INIT that was. Takes no memory.
     pub fn after_initial(alloc: Global) -> Self
         ensures { result ≡ number_0_answered }
     {
@@ -87,8 +89,8 @@ impl<T> Outgoing<T> {
         self.window
     }
 
-    /// The peer lets this end have more requests under way, up to 16. Nothing else is changed. The caller asks for no fewer than
-    /// before. Takes no memory.
+    /// The peer lets this end have more requests under way, up to 16. Nothing else is changed. The caller
+    /// asks for no fewer than before. Takes no memory.
     pub fn set_window(&mut self, window: u8)
         requires grows { self.old.window ≤ window }
         requires most { window ≤ 16 }
@@ -99,8 +101,9 @@ impl<T> Outgoing<T> {
 
     /// The number that the next request is to have, the least that was never issued. Takes no memory.
     ///
-    /// Refused, in this order: [`RequestFault::Busy`] where it lies at the end of the peer's window or above it, which begins at
-    /// the least unanswered number; [`RequestFault::NumbersSpent`] where it is 2^32.
+    /// Refused, in this order: [`RequestFault::Busy`] where it lies at the end of the peer's window or
+    /// above it, which begins at the least unanswered number; [`RequestFault::NumbersSpent`] where it is
+    /// 2^32.
     pub fn may_issue(&self) -> Result<u32, RequestFault>
         ensures ok { IfOk result (λ number. (number ≡ self.now.next) × MayIssue self.now) }
         ensures refused { IfErr result (λ fault.
@@ -115,10 +118,12 @@ impl<T> Outgoing<T> {
         }
     }
 
-    /// Makes room for one more request, and tells the number that [`issue`](Outgoing::issue) gives it. Nothing else is changed.
-    /// Where there is room already, as right after another `prepare`, it takes no memory.
+    /// Makes room for one more request, and tells the number that [`issue`](Outgoing::issue) gives it.
+    /// Nothing else is changed. Where there is room already, as right after another `prepare`, it takes no
+    /// memory.
     ///
-    /// Refused as [`may_issue`](Outgoing::may_issue) is, and then by [`RequestFault::Memory`] where there was no memory for the room.
+    /// Refused as [`may_issue`](Outgoing::may_issue) is, and then by [`RequestFault::Memory`] where there
+    /// was no memory for the room.
     pub fn prepare(&mut self) -> Result<u32, RequestFault>
         ensures content { HasSameOwnRequests self.old self.new }
         ensures ok { IfOk result (λ number.
@@ -133,8 +138,8 @@ impl<T> Outgoing<T> {
         Ok(number)
     }
 
-    /// Issues a request, which is outstanding from now on, and answers its number. The caller asks only after a
-    /// [`prepare`](Outgoing::prepare) that answered Ok. Takes no memory.
+    /// Issues a request, which is outstanding from now on, and answers its number. The caller asks only
+    /// after a [`prepare`](Outgoing::prepare) that answered Ok. Takes no memory.
     pub fn issue(&mut self, request: T) -> u32
         requires allowed { MayIssue self.old }
         requires room { 1 ≤ self.old.room }
@@ -146,8 +151,8 @@ impl<T> Outgoing<T> {
         number
     }
 
-    /// The answer to a request came: the request is answered from now on and outstanding no more, and what was kept of it is given
-    /// back. The caller asks only for an outstanding number. Takes no memory.
+    /// The answer to a request came: the request is answered from now on and outstanding no more, and what
+    /// was kept of it is given back. The caller asks only for an outstanding number. Takes no memory.
     pub fn count(&mut self, number: u32) -> T
         requires { IsOutstanding self.old number }
         ensures { CountsAnswer self.old number result self.new }
@@ -156,8 +161,9 @@ impl<T> Outgoing<T> {
         self.outstanding.remove(number)
     }
 
-    /// Takes an outstanding request back unanswered, and what was kept of it with it: its number stays unanswered and is never issued
-    /// again. The caller asks only for an outstanding number. Takes no memory.
+    /// Takes an outstanding request back unanswered, and what was kept of it with it: its number stays
+    /// unanswered and is never issued again. The caller asks only for an outstanding number. Takes no
+    /// memory.
     pub fn withdraw(&mut self, issued: u32) -> T
         requires { IsOutstanding self.old issued }
         ensures { WithdrawsRequest self.old issued result self.new }
@@ -172,8 +178,8 @@ impl<T> Outgoing<T> {
         self.outstanding.get(number)
     }
 
-    /// Puts something else in the place of what is kept of an outstanding request, which it gives back: a timer that runs anew.
-    /// The caller asks only for an outstanding number. Takes no memory.
+    /// Puts something else in the place of what is kept of an outstanding request, which it gives back: a
+    /// timer that runs anew. The caller asks only for an outstanding number. Takes no memory.
     pub fn replace(&mut self, number: u32, request: T) -> T
         requires { IsOutstanding self.old number }
         ensures { ReplacesRequest self.old number result request self.new }
@@ -181,8 +187,8 @@ impl<T> Outgoing<T> {
         self.outstanding.replace(number, request)
     }
 
-    /// Changes what is kept of an outstanding request, as its timer that runs anew. The caller asks only for an outstanding
-    /// number. Takes no memory, but for what the change takes.
+    /// Changes what is kept of an outstanding request, as its timer that runs anew. The caller asks only
+    /// for an outstanding number. Takes no memory, but for what the change takes.
     pub fn update<F: FnOnce(T) -> T>(&mut self, number: u32, change: F)
         requires outstanding { IsOutstanding self.old number }
         requires callable { F.IsAlwaysCallable change }
@@ -200,8 +206,8 @@ impl<T> Outgoing<T> {
         self.outstanding.len()
     }
 
-    /// The next outstanding request by number, the first for None. From None on, one after the other, all are found. Takes no
-    /// memory.
+    /// The next outstanding request by number, the first for None. From None on, one after the other, all
+    /// are found. Takes no memory.
     pub fn after(&self, number: Option<u32>) -> Option<(u32, &T)>
         ensures some { IfSome result (λ next. IsNextOutstanding self.now number next.0 next.1.now) }
         ensures none { IfNone result ((other : ℕ)

@@ -6,7 +6,8 @@ ghost use Rattle.requests.specs.Outstanding.{numbered, requests_left};
 
 use crate::Outgoing;
 
-/// The requests that wait for an answer, each with its number, by rising number: what [`Outgoing::iter`] gives.
+/// The requests that wait for an answer, each with its number, by rising number: what [`Outgoing::iter`]
+/// gives.
 #[derive(Drop)]
 pub struct Outstanding<'a, T> {
     requests: &'a Outgoing<T>,

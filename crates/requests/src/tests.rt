@@ -1,4 +1,5 @@
-//! The last numbers of 32 bits. No public call comes near them, so these two stand here; the other tests stand in `test_packet_calls`.
+//! The last numbers of 32 bits. No public call comes near them, so these two stand here; the other tests
+//! stand in `test_packet_calls`.
 ghost use Rattle.std.specs.Prelude.{IsTrue, IsSome};
 ghost use Rattle.requests.specs.Incoming.{IsFreshRequest};
 

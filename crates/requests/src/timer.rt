@@ -20,8 +20,9 @@ pub enum Due {
     Over,
 }
 
-/// The timer of one request: when its octets go out again, and when no answer is waited for any more (RFC 7296 sections 2.1 and
-/// 2.4). Moments are in milliseconds from any beginning, and may take any value of 64 bits.
+/// The timer of one request: when its octets go out again, and when no answer is waited for any more (RFC
+/// 7296 sections 2.1 and 2.4). Moments are in milliseconds from any beginning, and may take any value of 64
+/// bits.
 #[derive(Clone, Copy, Debug, PartialEq, Eq)]
 pub struct Timer {
     /// The moment at which it was sent last.
@@ -41,8 +42,9 @@ impl Timer {
         }
     }
 
-    /// What is due at a moment: nothing before the last sending and the wait that stands next, then one more sending, or the
-    /// end after the fifth. The waits are 1000, 2000, 4000, 8000 and 16,000 ms, and 16,000 ms after the last sending.
+    /// What is due at a moment: nothing before the last sending and the wait that stands next, then one
+    /// more sending, or the end after the fifth. The waits are 1000, 2000, 4000, 8000 and 16,000 ms, and
+    /// 16,000 ms after the last sending.
     pub fn due(&self, now: u64) -> Due
         ensures { IsDue self.now now result }
     {
@@ -56,8 +58,8 @@ impl Timer {
         }
     }
 
-    /// The least moment at which something is due ([`due`](Timer::due)), in milliseconds. None where that would be past 64 bits:
-    /// then nothing is due at any moment.
+    /// The least moment at which something is due ([`due`](Timer::due)), in milliseconds. None where that
+    /// would be past 64 bits: then nothing is due at any moment.
     pub fn moment(&self) -> Option<u64>
         ensures { SomeIff result (due_from self.now < 2 ^ 64) (due_from self.now) }
     {
@@ -74,7 +76,8 @@ impl Timer {
         }
     }
 
-    /// The timer after a sending at a moment at which one is due. However late the moment, the next wait counts from it.
+    /// The timer after a sending at a moment at which one is due. However late the moment, the next wait
+    /// counts from it.
     pub fn sent_again(self, now: u64) -> Timer
         requires { IsDue self now Due.Again }
         ensures { result ≡ record { sent = now; repeats = self.repeats + 1 } }

@@ -44,7 +44,8 @@ abbrev pub FitsCookie : Option Octets → Type 0
 FitsCookie None = Unit {0}
 FitsCookie (Some octets) = FitsData 0 64 octets
 
--- an offer with a nonce of 16 to 256 octets (section 3.9) and a number from 1 on (section 3.3.1), as a message has them
+-- an offer with a nonce of 16 to 256 octets (section 3.9) and a number from 1 on (section 3.3.1), as a
+-- message has them
 pub record FitsOffer (offer : OfferView) : Type 0 where
   pub ni : IsNonce offer.nonce
   pub number : 1 ≤ offer.chosen.number

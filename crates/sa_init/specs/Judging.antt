@@ -114,8 +114,8 @@ pub record IsAccepted (cipher : Cipher) (group : ℕ) (secrets : CookieSecrets) 
   pub value : offer.public ≡ parts.public
   pub ni : offer.nonce ≡ parts.nonce
 
--- Each judgement and when it is given: a critical payload is looked at first (section 2.5), then whether the request is whole,
--- then the cookie, then the room, and at last what is offered.
+-- Each judgement and when it is given: a critical payload is looked at first (section 2.5), then whether
+-- the request is whole, then the cookie, then the room, and at last what is offered.
 abbrev pub IsJudgement : Cipher → ℕ → CookieSecrets → Sender → ℕ → ℕ → List Payload → JudgementView → Type 0
 IsJudgement cipher group secrets sender half_open held payloads (Answered (UnsupportedCriticalPayload kind)) = unknown_critical payloads ≡ Some kind
 IsJudgement cipher group secrets sender half_open held payloads (Answered (Cookie octets)) = WantsCookie secrets sender half_open payloads octets

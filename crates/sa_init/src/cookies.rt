@@ -7,8 +7,9 @@ use std::fmt;
 use std::marker::Model;
 use thiserror::Error;
 
-/// The secret under which a responder makes its cookies, and the one before it, whose cookies are still right (RFC 7296,
-/// section 2.6). Secrets are counted from 1 on, and a cookie begins with the number of its own, its version.
+/// The secret under which a responder makes its cookies, and the one before it, whose cookies are still
+/// right (RFC 7296, section 2.6). Secrets are counted from 1 on, and a cookie begins with the number of its
+/// own, its version.
 #[derive(Drop)]
 pub struct Cookies {
     current: [u8; 32],
@@ -53,8 +54,8 @@ impl Cookies {
         }
     }
 
-    /// Makes cookies under another secret from now on. Those of the secret so far stay right, those of the one before it
-    /// are right no longer. Refused where the version is 2^32 - 1.
+    /// Makes cookies under another secret from now on. Those of the secret so far stay right, those of the
+    /// one before it are right no longer. Refused where the version is 2^32 - 1.
     pub fn change(&mut self, secret: &[u8; 32]) -> Result<(), SecretsSpent>
         ensures changed { OnOk result (self.new ≡ changed self.old secret.now) }
         ensures exactly { IsOk result ↔ (self.old.version + 1 < 2 ^ 32) }
@@ -76,8 +77,8 @@ impl Cookies {
         cookie(self.version, &self.current, nonce, address, spi_i)
     }
 
-    /// Whether octets are the cookie for an initiator's nonce, its address and its SPI, under the secret of its version, which
-    /// is the current one or the one before it.
+    /// Whether octets are the cookie for an initiator's nonce, its address and its SPI, under the secret of
+    /// its version, which is the current one or the one before it.
     pub fn is_right(&self, octets: &[u8], nonce: &[u8], address: &[u8], spi_i: u64) -> bool
         ensures { IsTrue result ↔ IsRightCookie self.now nonce.now address.now spi_i octets.now }
     {

@@ -51,15 +51,17 @@ pub enum Judgement<'a> {
     Accepted(Offer<'a>),
 }
 
-/// What a responder makes of the payloads of a request, with so many associations half open, of so many that it holds. The
-/// first that applies, in this order:
+/// What a responder makes of the payloads of a request, with so many associations half open, of so many
+/// that it holds. The first that applies, in this order:
 ///
-/// 1. An unknown payload is marked as critical: the notice UNSUPPORTED_CRITICAL_PAYLOAD (RFC 7296, section 2.5).
+/// 1. An unknown payload is marked as critical: the notice UNSUPPORTED_CRITICAL_PAYLOAD (RFC 7296, section
+///    2.5).
 /// 2. There is not one SA, one KE and one Nonce: [`Judgement::Incomplete`].
-/// 3. [`COOKIE_THRESHOLD`] or more are half open, and the first payload is no right cookie: the notice COOKIE (section 2.6). With
-///    fewer a cookie isn't looked at.
+/// 3. [`COOKIE_THRESHOLD`] or more are half open, and the first payload is no right cookie: the notice
+///    COOKIE (section 2.6). With fewer a cookie isn't looked at.
 /// 4. [`HALF_OPEN_LIMIT`] are half open, or [`ASSOCIATION_LIMIT`] are held: [`Judgement::Full`].
-/// 5. No proposal is acceptable, or the KE is of another group than the caller's: the notice NO_PROPOSAL_CHOSEN (section 2.7).
+/// 5. No proposal is acceptable, or the KE is of another group than the caller's: the notice
+///    NO_PROPOSAL_CHOSEN (section 2.7).
 /// 6. [`Judgement::Accepted`].
 ///
 /// Takes no memory.

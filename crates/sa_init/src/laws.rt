@@ -29,7 +29,8 @@ use wire::laws::{
     octets_spell_one_message, plain_spellings_are_determined, plain_spellings_are_spellings,
 };
 
-/// The nonce of a message that was decoded has 16 to 256 octets, and its proposals are numbered from 1. Does nothing.
+/// The nonce of a message that was decoded has 16 to 256 octets, and its proposals are numbered from 1.
+/// Does nothing.
 pub fn spelled_parts_fit()
     ensures nonce { (m : Message) (parts : PartsView) → IsSpelled m → HasParts m.payloads parts
         → IsNonce parts.nonce }
@@ -57,8 +58,8 @@ pub fn judgements_are_determined()
     choices_are_determined();
 }
 
-/// While many associations are half open, nothing is accepted but with a right cookie; and nothing where there is no room. Does
-/// nothing.
+/// While many associations are half open, nothing is accepted but with a right cookie; and nothing where
+/// there is no room. Does nothing.
 pub fn acceptance_is_limited()
     ensures cookie { (cipher : Cipher) (group : ℕ) (secrets : CookieSecrets) (sender : Sender)
         (half_open held : ℕ) (payloads : List Payload) (offer : OfferView) → COOKIE_THRESHOLD ≤ half_open
@@ -70,8 +71,9 @@ pub fn acceptance_is_limited()
         → (half_open < HALF_OPEN_LIMIT) × (held < ASSOCIATION_LIMIT) }
 {}
 
-/// Where an initiator reads the very answer that a responder gave to its offer, both have one record of keys: it has no other,
-/// and it does have that one, where the answer was chosen of its own offer and the fresh SPI is not zero. Does nothing.
+/// Where an initiator reads the very answer that a responder gave to its offer, both have one record of
+/// keys: it has no other, and it does have that one, where the answer was chosen of its own offer and the
+/// fresh SPI is not zero. Does nothing.
 pub fn both_ends_have_one_record<C: Agreement>(caller: &C)
     ensures one { (cipher : Cipher) (group : ℕ) (sent : WaitingView) (offer : OfferView) (fresh : Fresh)
         (agreed : Agreed) (m : Message) (keys : KeyRecord) → IsSecret sent.secret → IsSecret fresh.secret
@@ -94,7 +96,8 @@ pub fn both_ends_have_one_record<C: Agreement>(caller: &C)
     ends_agree();
 }
 
-/// A response means one thing, a cookie told by its octets; and an offer has one answer and one record of keys. Does nothing.
+/// A response means one thing, a cookie told by its octets; and an offer has one answer and one record of
+/// keys. Does nothing.
 pub fn answers_are_determined()
     ensures response { (cipher : Cipher) (group : ℕ) (shared_secret : Octets → Octets → Option Octets)
         (sent : WaitingView)

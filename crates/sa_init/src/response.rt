@@ -42,10 +42,11 @@ pub enum Response<'a> {
 
 /// What an initiator makes of a response to its request. An error is for want of memory alone.
 ///
-/// [`Response::Cookie`] where a cookie is the only payload, the responder's SPI is zero, the request did not carry the same cookie,
-/// and fewer than [`COOKIES_TAKEN_LIMIT`] were taken. [`Response::Keys`] where there is one SA, one KE and one Nonce, the SA accepts what
-/// was offered, the group is the caller's, the responder's SPI is not zero, and the agreement takes the public value.
-/// [`Response::Unfit`] otherwise. A payload that is not known is passed over, also where it is marked as critical: a rule of this
+/// [`Response::Cookie`] where a cookie is the only payload, the responder's SPI is zero, the request did
+/// not carry the same cookie, and fewer than [`COOKIES_TAKEN_LIMIT`] were taken. [`Response::Keys`] where
+/// there is one SA, one KE and one Nonce, the SA accepts what was offered, the group is the caller's, the
+/// responder's SPI is not zero, and the agreement takes the public value. [`Response::Unfit`] otherwise. A
+/// payload that is not known is passed over, also where it is marked as critical: a rule of this
 /// implementation against RFC 7296 section 2.5, which has the initiator ignore such a response.
 ///
 /// The message is what some octets spell, so its nonce has 16 to 256 octets.

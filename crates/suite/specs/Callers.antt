@@ -1,4 +1,5 @@
--- What the caller's key agreement and proofs of identity are held to (RFC 7296, sections 2.14, 2.15, 3.4 and 3.8).
+-- What the caller's key agreement and proofs of identity are held to (RFC 7296, sections 2.14, 2.15, 3.4
+-- and 3.8).
 use Rattle.std.specs.Prelude.{◌≡◌, ◌≤◌, ℕ, List, length}
 use Rattle.base.specs.Octets.{AreOctets}
 

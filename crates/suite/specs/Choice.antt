@@ -62,7 +62,8 @@ pub record IsFirstAcceptable (wanted : Wanted) (kind : ℕ) (transforms : List T
   pub acceptable : IsAcceptableTransform wanted kind transform
   pub first : (k : ℕ) (other : Transform) → k < place → slice_get transforms k ≡ Some other → ¬ IsAcceptableTransform wanted kind other
 
--- Of all types but one a single transform is acceptable. Of sequence numbers two may be, and the first decides.
+-- Of all types but one a single transform is acceptable. Of sequence numbers two may be, and the first
+-- decides.
 abbrev pub ChoosesNumbers : Wanted → List Transform → Bool → Type 0
 ChoosesNumbers (Ike encr key_length group) transforms extended = extended ≡ false
 ChoosesNumbers (Esp allowed) transforms extended = IsFirstAcceptable (Esp allowed) ESN transforms (sequence_numbers extended)

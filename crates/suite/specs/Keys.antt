@@ -1,6 +1,6 @@
--- The keys of an IKE association and of its children (RFC 7296, sections 2.14 and 2.17), with HMAC-SHA-256 as the
--- pseudorandom function. Every key has 32 octets, that of the cipher too, which is a rule of
--- this implementation.
+-- The keys of an IKE association and of its children (RFC 7296, sections 2.14 and 2.17), with HMAC-SHA-256
+-- as the pseudorandom function. Every key has 32 octets, that of the cipher too, which is a rule of this
+-- implementation.
 use Rattle.std.specs.Prelude.{ℕ, ◌*◌, List, [], ◌∷◌, ◌++◌, take, drop}
 use Rattle.byteorder.specs.Endian.{big_bytes}
 use Rattle.mac.specs.Hmac.{hmac_sha256}
@@ -43,8 +43,8 @@ ike_keys shared ni nr spi_i spi_r =
 unfoldable pub child_material : List ℕ → List ℕ → List ℕ → List ℕ
 child_material sk_d ni nr = prf_plus sk_d (ni ++ nr) 64
 
--- section 2.17: the integrity key of what the exchange's initiator sends, then that of what its responder sends; NULL
--- encryption has no key
+-- section 2.17: the integrity key of what the exchange's initiator sends, then that of what its responder
+-- sends; NULL encryption has no key
 abbrev pub child_keys : List ℕ → List ℕ → List ℕ → List (List ℕ)
 child_keys sk_d ni nr = key_at 0 (child_material sk_d ni nr) ∷ key_at 1 (child_material sk_d ni nr) ∷ []
 
@@ -52,7 +52,8 @@ child_keys sk_d ni nr = key_at 0 (child_material sk_d ni nr) ∷ key_at 1 (child
 abbrev pub first_child_keys : KeyRecord → List (List ℕ)
 first_child_keys r = child_keys r.sk_d r.nonce_i r.nonce_r
 
--- section 2.14: SK_ei and SK_ai protect what the original initiator sends, SK_er and SK_ar what the responder sends
+-- section 2.14: SK_ei and SK_ai protect what the original initiator sends, SK_er and SK_ar what the
+-- responder sends
 abbrev pub initiator_keys : KeyRecord → Keys
 initiator_keys r = record { encryption = r.sk_ei; integrity = r.sk_ai }
 

@@ -36,7 +36,8 @@ answer_of wanted chosen spi = record { number = chosen.number; protocol = wanted
 abbrev pub count_of_kind : List Transform → ℕ → ℕ
 count_of_kind transforms kind = count_by (λ t. t.kind == kind) transforms
 
--- The answer to what this end offered: of its number, with one acceptable transform of each type and nothing else.
+-- The answer to what this end offered: of its number, with one acceptable transform of each type and
+-- nothing else.
 pub record IsAcceptableAnswer (wanted : Wanted) (proposal : Proposal) : Type 0 where
   pub acceptable : IsAcceptableProposal wanted proposal
   pub number : proposal.number ≡ 1

@@ -10,7 +10,8 @@ pub record AreKeys (keys : Keys) : Type 0 where
   pub encryption_octets : AreOctets keys.encryption
   pub integrity_octets : AreOctets keys.integrity
 
--- what the code's types say of keys, head, plain text and the 16 fresh octets: a cipher is a function on these alone
+-- what the code's types say of keys, head, plain text and the 16 fresh octets: a cipher is a function on
+-- these alone
 pub record AreSealable (keys : Keys) (head plain fresh : List ℕ) : Type 0 where
   pub keyed : AreKeys keys
   pub head_octets : AreOctets head
@@ -18,7 +19,8 @@ pub record AreSealable (keys : Keys) (head plain fresh : List ℕ) : Type 0 wher
   pub fresh_octets : AreOctets fresh
   pub fresh_long : length fresh ≡ 16
 
--- a body was opened or not, and a list that was so before became so: what the body opens to stands behind it, or nothing
+-- a body was opened or not, and a list that was so before became so: what the body opens to stands behind
+-- it, or nothing
 abbrev pub Opens : Option (List ℕ) → Bool → List ℕ → List ℕ → Type 0
 Opens None opens before after = (opens ≡ false) × (after ≡ before)
 Opens (Some plain) opens before after = (opens ≡ true) × (after ≡ before ++ plain)

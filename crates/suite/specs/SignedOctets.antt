@@ -2,7 +2,8 @@
 use Rattle.std.specs.Prelude.{ℕ, List, ◌∷◌, ◌++◌}
 use Rattle.mac.specs.Hmac.{hmac_sha256}
 
--- RestOfIDPayload: the payload's type, three reserved octets, which are zeros, and the identity's data (section 3.5)
+-- RestOfIDPayload: the payload's type, three reserved octets, which are zeros, and the identity's data
+-- (section 3.5)
 abbrev pub rest_of_id : ℕ → List ℕ → List ℕ
 rest_of_id kind id = kind ∷ 0 ∷ 0 ∷ 0 ∷ id
 

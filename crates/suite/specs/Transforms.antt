@@ -1,5 +1,5 @@
--- The numbers of protocols, transforms and attributes that are understood here (RFC 7296, section 3.3), those of the format by their
--- short names. Code has the same names in `transforms`.
+-- The numbers of protocols, transforms and attributes that are understood here (RFC 7296, section 3.3),
+-- those of the format by their short names. Code has the same names in `transforms`.
 use Rattle.std.specs.Prelude.{ℕ}
 use Rattle.wire.specs.Numbers.{ENCRYPTION_TRANSFORM, ESP_PROTOCOL, GROUP_TRANSFORM, IKE_PROTOCOL, INTEGRITY_TRANSFORM, PRF_TRANSFORM, SEQUENCE_NUMBERS_TRANSFORM}
 

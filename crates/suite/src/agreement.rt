@@ -6,8 +6,8 @@ use std::alloc::{AllocError, Global};
 
 /// The agreement by which two ends come to a shared secret (RFC 7296, sections 2.14 and 3.4).
 ///
-/// Public values and shared secrets depend on the arguments alone, never on the value. A secret has 32 octets. That both
-/// ends are refused is allowed, but not one alone.
+/// Public values and shared secrets depend on the arguments alone, never on the value. A secret has 32
+/// octets. That both ends are refused is allowed, but not one alone.
 pub trait Agreement {
     ghost use Rattle.std.specs.Prelude.{ℕ, List, Option};
     ghost use Rattle.suite.specs.Callers.{FitsPayload, IsSecret};
@@ -18,8 +18,8 @@ pub trait Agreement {
     /// The public value of a secret.
     ghost public_value: { List ℕ → List ℕ };
 
-    /// The secret shared by the owner of this secret and the owner of that public value; none where the agreement refuses
-    /// the public value.
+    /// The secret shared by the owner of this secret and the owner of that public value; none where the
+    /// agreement refuses the public value.
     ghost shared_secret: { List ℕ → List ℕ → Option (List ℕ) };
 
     /// The number by which peers name this group.

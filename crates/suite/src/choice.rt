@@ -12,15 +12,15 @@ use wire::{Attribute, Proposal, Transform};
 /// What a proposal is to be for.
 #[derive(Clone, Copy, Debug, PartialEq, Eq)]
 pub enum Wanted {
-    /// An IKE association with the caller's cipher, its key length in bits where there is to be one, and the caller's
-    /// group. The other transforms are PRF_HMAC_SHA2_256 and AUTH_HMAC_SHA2_256_128.
+    /// An IKE association with the caller's cipher, its key length in bits where there is to be one, and
+    /// the caller's group. The other transforms are PRF_HMAC_SHA2_256 and AUTH_HMAC_SHA2_256_128.
     Ike {
         encr: u16,
         key_length: Option<u16>,
         group: u16,
     },
-    /// A child with ENCR_NULL and AUTH_HMAC_SHA2_256_128, with extended sequence numbers or without; with them only
-    /// where `extended` allows it.
+    /// A child with ENCR_NULL and AUTH_HMAC_SHA2_256_128, with extended sequence numbers or without; with
+    /// them only where `extended` allows it.
     Esp {
         extended: bool,
     },
@@ -66,7 +66,8 @@ impl Wanted {
         }
     }
 
-    /// The types of transforms that a proposal has, one or more of each and no other (RFC 7296, section 3.3.3).
+    /// The types of transforms that a proposal has, one or more of each and no other (RFC 7296, section
+    /// 3.3.3).
     pub fn kinds(&self) -> &'static [u8]
         ensures { result.now ≡ kinds self.now }
     {
@@ -112,11 +113,13 @@ impl Wanted {
     }
 }
 
-/// The first acceptable proposal, `None` where there is none (RFC 7296, sections 2.7 and 3.3). Takes no memory.
+/// The first acceptable proposal, `None` where there is none (RFC 7296, sections 2.7 and 3.3). Takes no
+/// memory.
 ///
-/// A proposal is acceptable if it is for the wanted protocol, its SPI has the protocol's form (none for IKE; for ESP 4
-/// octets, from 256 on), and it has an acceptable transform of each type that the protocol wants and no transform of
-/// another type. A transform with another attribute than the wanted key length is not acceptable.
+/// A proposal is acceptable if it is for the wanted protocol, its SPI has the protocol's form (none for
+/// IKE; for ESP 4 octets, from 256 on), and it has an acceptable transform of each type that the protocol
+/// wants and no transform of another type. A transform with another attribute than the wanted key length is
+/// not acceptable.
 pub fn choose(proposals: &[Proposal], wanted: &Wanted) -> Option<Chosen>
     ensures { MatchOption result
         (All (λ proposal. ¬ IsAcceptableProposal wanted.now proposal) proposals.now)
@@ -224,7 +227,8 @@ fn is_plain(transform: &Transform, id: u16) -> bool
     transform.id == id && transform.attributes.is_empty()
 }
 
-// Whether the transform's one attribute is this key length, or, where there is to be none, it has no attribute.
+// Whether the transform's one attribute is this key length, or, where there is to be none, it has no
+// attribute.
 fn has_key_length(transform: &Transform, key_length: Option<u16>) -> bool
     ensures { IsTrue result ↔ (transform.now.attributes ≡ key_length_attribute key_length) }
 {

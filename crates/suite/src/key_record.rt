@@ -64,8 +64,9 @@ impl KeyRecord {
         }
     }
 
-    /// The keys of the child that is made with the association, whose nonces are the association's own (RFC 7296,
-    /// section 2.17): the integrity key of what the original initiator sends, then that of what the responder sends.
+    /// The keys of the child that is made with the association, whose nonces are the association's own (RFC
+    /// 7296, section 2.17): the integrity key of what the original initiator sends, then that of what the
+    /// responder sends.
     pub fn first_child_keys(&self) -> [[u8; 32]; 2]
         ensures { result ≡ first_child_keys self.now }
     {
@@ -86,8 +87,8 @@ impl fmt::Debug for KeyRecord {
 
 ghost use Rattle.suite.specs.Keys.{child_keys, child_material, ike_keys, ike_material, key_at, seed_key};
 
-/// The record of an association, from the shared secret of the agreement, both nonces of 16 to 256 octets and both SPIs
-/// (RFC 7296, section 2.14). Takes no memory.
+/// The record of an association, from the shared secret of the agreement, both nonces of 16 to 256 octets
+/// and both SPIs (RFC 7296, section 2.14). Takes no memory.
 pub fn ike_keys(shared: &[u8], ni: &[u8], nr: &[u8], spi_i: u64, spi_r: u64) -> KeyRecord
     requires nonce_i { IsNonce ni.now }
     requires nonce_r { IsNonce nr.now }
@@ -109,9 +110,9 @@ pub fn ike_keys(shared: &[u8], ni: &[u8], nr: &[u8], spi_i: u64, spi_r: u64) -> 
     }
 }
 
-/// The two keys of a child, from its association's SK_d and the nonces of the exchange that makes it (RFC 7296,
-/// section 2.17): the integrity key of what that exchange's initiator sends, then that of what its responder sends. Takes
-/// no memory.
+/// The two keys of a child, from its association's SK_d and the nonces of the exchange that makes it (RFC
+/// 7296, section 2.17): the integrity key of what that exchange's initiator sends, then that of what its
+/// responder sends. Takes no memory.
 pub fn child_keys(sk_d: &[u8; 32], ni: &[u8], nr: &[u8]) -> [[u8; 32]; 2]
     ensures { result ≡ child_keys sk_d.now ni.now nr.now }
 {

@@ -11,8 +11,8 @@ ghost use Rattle.suite.specs.declared.choice.Wanted.TheVariants.{Esp};
 
 use mac::laws::key_material_is_octets;
 
-/// The keys under which both ends of an association seal (RFC 7296, section 2.14) have 32 octets each, as the laws of a
-/// [`Sealer`](crate::Sealer) ask for.
+/// The keys under which both ends of an association seal (RFC 7296, section 2.14) have 32 octets each, as
+/// the laws of a [`Sealer`](crate::Sealer) ask for.
 pub fn derived_keys_are_keys()
     ensures initiator { (shared ni nr : List ℕ) (spi_i spi_r : ℕ)
         → AreKeys (initiator_keys (ike_keys shared ni nr spi_i spi_r)) }
@@ -22,14 +22,15 @@ pub fn derived_keys_are_keys()
     key_material_is_octets();
 }
 
-/// Of a list of proposals one at most is chosen, with one number and one answer on sequence numbers (RFC 7296, section 2.7).
+/// Of a list of proposals one at most is chosen, with one number and one answer on sequence numbers (RFC
+/// 7296, section 2.7).
 pub fn choices_are_determined()
     ensures { (wanted : Wanted) (proposals : List Proposal) (one other : Chosen)
         → IsChosenProposal wanted proposals one → IsChosenProposal wanted proposals other → one ≡ other }
 {}
 
-/// What is offered is acceptable to an end that wants the same. What answers a proposal of number 1 is an answer to the one who
-/// wanted the same, with the sequence numbers that were chosen.
+/// What is offered is acceptable to an end that wants the same. What answers a proposal of number 1 is an
+/// answer to the one who wanted the same, with the sequence numbers that were chosen.
 pub fn offers_are_answered()
     ensures offers { (wanted : Wanted) (spi : List ℕ) → HasSpi wanted spi
         → IsAcceptableProposal wanted (offer_of wanted spi) }
@@ -42,8 +43,9 @@ pub fn offers_are_answered()
         → ChoosesNumbers wanted (answer_of wanted chosen spi).transforms chosen.extended }
 {}
 
-/// What one end offers for a child is acceptable to the other, also where only one of them allows extended sequence numbers. What
-/// an end chooses of an offer is answered by what the one who offered takes for that choice, whatever the chooser allows.
+/// What one end offers for a child is acceptable to the other, also where only one of them allows extended
+/// sequence numbers. What an end chooses of an offer is answered by what the one who offered takes for that
+/// choice, whatever the chooser allows.
 pub fn ends_agree()
     ensures offers { (ours theirs : Bool) (spi : List ℕ) → HasSpi (Esp ours) spi
         → IsAcceptableProposal (Esp theirs) (offer_of (Esp ours) spi) }

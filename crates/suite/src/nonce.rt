@@ -8,7 +8,8 @@ use std::marker::Model;
 // The octets of the longest nonce.
 const NONCE_LIMIT: usize = 256;
 
-/// The data of a nonce, 16 to 256 octets, kept without memory of its own (RFC 7296, section 3.9). Contracts see its octets.
+/// The data of a nonce, 16 to 256 octets, kept without memory of its own (RFC 7296, section 3.9). Contracts
+/// see its octets.
 #[derive(Clone, Copy, PartialEq, Eq)]
 pub struct Nonce {
     octets: [u8; NONCE_LIMIT],

@@ -18,9 +18,9 @@ use wire::{Attribute, Items, Proposal, Transform};
 // The number of the one proposal that an end offers (section 3.3.1).
 const OFFERED: u8 = 1;
 
-/// The one proposal that an end offers (RFC 7296, section 3.3), with its SPI: none for IKE, that of its inbound association for
-/// a child. Where extended sequence numbers are wanted, they are offered before those of 32 bits. An error is for want of memory
-/// alone.
+/// The one proposal that an end offers (RFC 7296, section 3.3), with its SPI: none for IKE, that of its
+/// inbound association for a child. Where extended sequence numbers are wanted, they are offered before
+/// those of 32 bits. An error is for want of memory alone.
 pub fn offer(alloc: Global, wanted: &Wanted, spi: &[u8]) -> Result<Proposal, AllocError>
     ensures { IfOk result (λ proposal. proposal ≡ offer_of wanted.now spi.now) }
 {
@@ -34,8 +34,8 @@ pub fn offer(alloc: Global, wanted: &Wanted, spi: &[u8]) -> Result<Proposal, All
     proposal(alloc, OFFERED, wanted, spi, transforms)
 }
 
-/// The proposal that answers a chosen one (RFC 7296, sections 2.7 and 3.3.1), with its number, this end's SPI and one transform
-/// of each type. An error is for want of memory alone.
+/// The proposal that answers a chosen one (RFC 7296, sections 2.7 and 3.3.1), with its number, this end's
+/// SPI and one transform of each type. An error is for want of memory alone.
 pub fn answer(
     alloc: Global,
     wanted: &Wanted,
@@ -56,8 +56,9 @@ pub fn answer(
     proposal(alloc, chosen.number, wanted, spi, transforms)
 }
 
-/// What an answer to this end's offer chose (RFC 7296, section 2.7), `None` where it is none: it has one proposal, of number 1,
-/// with an SPI of the protocol's form, one acceptable transform of each type and no other. Takes no memory.
+/// What an answer to this end's offer chose (RFC 7296, section 2.7), `None` where it is none: it has one
+/// proposal, of number 1, with an SPI of the protocol's form, one acceptable transform of each type and no
+/// other. Takes no memory.
 pub fn accept(proposals: &[Proposal], wanted: &Wanted) -> Option<Chosen>
     ensures { MatchOption result
         ((proposal : Proposal) → proposals.now ≡ proposal ∷ [] → ¬ IsAcceptableAnswer wanted.now proposal)

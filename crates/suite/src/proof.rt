@@ -6,9 +6,10 @@ use std::alloc::{AllocError, Global};
 
 /// How an end proves its identity and checks its peer's (RFC 7296, sections 2.15 and 3.8).
 ///
-/// What is proved and what is accepted depends on the value too, which holds secrets and knows whom it trusts. A proof is
-/// a function of the value and the octets, so a method that draws random numbers has to derive them from these. Where the
-/// length of proofs depends on the value, a ghost field of it can say that they fit.
+/// What is proved and what is accepted depends on the value too, which holds secrets and knows whom it
+/// trusts. A proof is a function of the value and the octets, so a method that draws random numbers has to
+/// derive them from these. Where the length of proofs depends on the value, a ghost field of it can say
+/// that they fit.
 pub trait Proof {
     ghost use Rattle.std.specs.Prelude.{ℕ, Bool, List};
     ghost use Rattle.base.specs.Octets.{AreOctets};
@@ -20,19 +21,21 @@ pub trait Proof {
     /// What this end proves octets with.
     ghost proof_of: { Self → List ℕ → List ℕ };
 
-    /// Whether the peer with an identity, told by its type and its data, has proved octets by a method and that method's data.
+    /// Whether the peer with an identity, told by its type and its data, has proved octets by a method and
+    /// that method's data.
     ghost accepts: { Self → ℕ → List ℕ → ℕ → List ℕ → List ℕ → Bool };
 
     /// The number of this end's method, which its AUTH payload names.
     fn method(&self) -> u8
         ensures { result ≡ own_method self.now };
 
-    /// What this end proves octets with, which its AUTH payload carries. An error is for want of memory alone.
+    /// What this end proves octets with, which its AUTH payload carries. An error is for want of memory
+    /// alone.
     fn prove(&self, alloc: Global, octets: &[u8]) -> Result<Items<u8>, AllocError>
         ensures { IfOk result (λ proved. proved ≡ proof_of self.now octets.now) };
 
-    /// Whether the peer whose identity has this type and this data has proved the octets by the method that its AUTH
-    /// payload names and the data in it, `proof`. An error is for want of memory alone.
+    /// Whether the peer whose identity has this type and this data has proved the octets by the method that
+    /// its AUTH payload names and the data in it, `proof`. An error is for want of memory alone.
     fn check(
         &self,
         alloc: Global,

@@ -14,12 +14,14 @@ pub struct Cipher {
 
 /// The cipher with which the bodies of encrypted payloads are sealed and opened (RFC 7296, section 3.14).
 ///
-/// What a body is and what it opens to depends on keys and octets alone, never on the value. The head is what stands
-/// before the body in the message, from its first octet through the encrypted payload's header. It is not sealed; a
-/// cipher is to authenticate it with the body, which no law says, nor that nothing else opens.
+/// What a body is and what it opens to depends on keys and octets alone, never on the value. The head is
+/// what stands before the body in the message, from its first octet through the encrypted payload's header.
+/// It is not sealed; a cipher is to authenticate it with the body, which no law says, nor that nothing else
+/// opens.
 ///
-/// Both keys have 32 octets, whatever the cipher, a rule of this implementation. A cipher that wants fewer can use a part of
-/// them, but then agrees with no other implementation: RFC 7296 section 2.14 takes each key with its cipher's length.
+/// Both keys have 32 octets, whatever the cipher, a rule of this implementation. A cipher that wants fewer
+/// can use a part of them, but then agrees with no other implementation: RFC 7296 section 2.14 takes each
+/// key with its cipher's length.
 pub trait Sealer {
     ghost use Rattle.std.specs.Prelude.{◌≤◌, ℕ, List, Option, Some, length};
     ghost use Rattle.suite.specs.declared.keys.Keys.{Keys};
@@ -47,7 +49,8 @@ pub trait Sealer {
         requires { plain + 128 < 2 ^ 64 }
         ensures { result ≡ sealed_size plain };
 
-    /// Appends the body that a plain text becomes. An error is for want of memory alone, and leaves `out` as it was.
+    /// Appends the body that a plain text becomes. An error is for want of memory alone, and leaves `out`
+    /// as it was.
     fn seal(
         &self,
         keys: &Keys,
@@ -60,8 +63,8 @@ pub trait Sealer {
             (out.new.items ≡ out.old.items ++ body_of keys.now head.now plain.now fresh.now) }
         ensures refused { OnErr result (out.new.items ≡ out.old.items) };
 
-    /// Appends the plain text that a body opens to, and answers whether it opens. `false` and an error, which is
-    /// for want of memory alone, leave `out` as it was.
+    /// Appends the plain text that a body opens to, and answers whether it opens. `false` and an error,
+    /// which is for want of memory alone, leave `out` as it was.
     fn open(
         &self,
         keys: &Keys,

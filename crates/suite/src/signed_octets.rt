@@ -5,9 +5,9 @@ ghost use Rattle.suite.specs.SignedOctets.{proved_octets};
 use crate::SuiteFault;
 use mac::hmac;
 
-/// Appends to `out` what an end proves of itself (RFC 7296, section 2.15): its first message, the other end's nonce, and
-/// the keyed hash of its identity under its SK_p. `kind` is the type of the identity and `id` its data; between them the
-/// hash covers three octets of zeros.
+/// Appends to `out` what an end proves of itself (RFC 7296, section 2.15): its first message, the other
+/// end's nonce, and the keyed hash of its identity under its SK_p. `kind` is the type of the identity and
+/// `id` its data; between them the hash covers three octets of zeros.
 ///
 /// [`SuiteFault::Memory`] leaves `out` as it was.
 pub fn proof_octets(

@@ -1,5 +1,5 @@
-//! Numbers of protocols, transforms and attributes (RFC 7296, section 3.3), of those that are understood here;
-//! those of the format, which [`wire::numbers`] has too, by their short names.
+//! Numbers of protocols, transforms and attributes (RFC 7296, section 3.3), of those that are understood
+//! here; those of the format, which [`wire::numbers`] has too, by their short names.
 
 use wire::numbers::{
     ENCRYPTION_TRANSFORM, ESP_PROTOCOL, GROUP_TRANSFORM, IKE_PROTOCOL, INTEGRITY_TRANSFORM,

@@ -24,7 +24,8 @@ abbrev pub receiver_of : ℕ → List ℕ → ℕ → ℕ → End
 receiver_of spi key extended blocks =
     Receiver (record { association = record { spi = spi; key = key; extended = is_set extended }; window = unused_window blocks })
 
--- Why no end was made, each where those before it don't apply: the handle is in use, the SPI is reserved, memory.
+-- Why no end was made, each where those before it don't apply: the handle is in use, the SPI is reserved,
+-- memory.
 abbrev pub IsSenderRefusal : Option End → ℕ → ℕ → Type 0
 IsSenderRefusal (Some end) spi code = code ≡ 102
 IsSenderRefusal None spi code = ((spi < 256) × (code ≡ 107)) ⊎ ((256 ≤ spi) × (code ≡ 20))
@@ -35,7 +36,8 @@ IsReceiverRefusal (Some end) spi blocks code = code ≡ 102
 IsReceiverRefusal None spi blocks code =
     ((spi < 256) × (code ≡ 107)) ⊎ (((256 ≤ spi) × (¬ IsBlockCount blocks) × (code ≡ 104)) ⊎ ((256 ≤ spi) × IsBlockCount blocks × (code ≡ 20)))
 
--- One packet is sealed at the beginning of a room that had enough octets for any packet with the payload. What is behind stays.
+-- One packet is sealed at the beginning of a room that had enough octets for any packet with the payload.
+-- What is behind stays.
 pub record SealsIntoRoom (old : Sending) (next : ℕ) (payload room : List ℕ) (new : Sending) (told : SukSealed) (filled : List ℕ) : Type 0 where
   pub enough : length payload + 29 ≤ length room
   pub packet : List ℕ
@@ -43,7 +45,8 @@ pub record SealsIntoRoom (old : Sending) (next : ℕ) (payload room : List ℕ) 
   pub length_told : told.length ≡ length packet
   pub written : filled ≡ packet ++ drop (length packet) room
 
--- why no packet was sealed: the room is too short for some packet with the payload, or else as the association says
+-- why no packet was sealed: the room is too short for some packet with the payload, or else as the
+-- association says
 abbrev pub IsSealingRefusalAt : Sending → List ℕ → List ℕ → refused.Refusal → Type 0
 IsSealingRefusalAt old payload room (refusal.ShortRoom) = length room < length payload + 29
 IsSealingRefusalAt old payload room (refusal.Esp fault) = (length payload + 29 ≤ length room) × IsSealRefusal old payload fault

@@ -20,7 +20,8 @@ fresh_spelled given = record { spi = given.spi; nonce = given.nonce; secret = gi
 abbrev pub serial_named : ℕ → Option ℕ
 serial_named serial = if nat_eq serial 0 then None else Some serial
 
--- The gateway takes one step. What is told and what is left to be taken are those of its output and its trace.
+-- The gateway takes one step. What is told and what is left to be taken are those of its output and its
+-- trace.
 pub record TakesInput (given : Input) (old new : Hosted) (told : SukOutput) : Type 0 where
   pub said : OutputView
   pub trace : Trace

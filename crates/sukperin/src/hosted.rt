@@ -93,7 +93,8 @@ impl Hosted {
         self.left = Left::of(traced.output);
     }
 
-    // Takes a packet on its way out, and writes its ESP packet at the beginning of the room where it goes protected.
+    // Takes a packet on its way out, and writes its ESP packet at the beginning of the room where it goes
+    // protected.
     pub fn take_outward(
         &mut self,
         alloc: Global,

@@ -40,8 +40,8 @@ impl SukFresh {
 
 /// A datagram of IKE that came from an IPv4 address.
 ///
-/// Answers 0 with what came of it, or 101 where the handle leads to no gateway. What a datagram is refused for is told as an output of kind
-/// 12 or 13; then the gateway is as it was. So it is with all inputs.
+/// Answers 0 with what came of it, or 101 where the handle leads to no gateway. What a datagram is refused
+/// for is told as an output of kind 12 or 13; then the gateway is as it was. So it is with all inputs.
 #[unsafe(no_mangle)]
 pub extern "C" fn suk_ike(
     alloc: Global,
@@ -66,8 +66,8 @@ pub extern "C" fn suk_ike(
     )
 }
 
-/// The order to ask the peer for a child by an entry of the policy, counted from 0: with a new IKE association where `ike` is 0, else a
-/// further child of the one with this serial.
+/// The order to ask the peer for a child by an entry of the policy, counted from 0: with a new IKE
+/// association where `ike` is 0, else a further child of the one with this serial.
 #[unsafe(no_mangle)]
 pub extern "C" fn suk_start(
     alloc: Global,
@@ -197,8 +197,8 @@ pub extern "C" fn suk_inward(
     give(alloc, handle, &Input::Inward { packet }, out)
 }
 
-/// A packet on its way out. Where it goes protected its ESP packet stands at the beginning of the room, and what stood behind stands there
-/// still; else the room is as it was.
+/// A packet on its way out. Where it goes protected its ESP packet stands at the beginning of the room, and
+/// what stood behind stands there still; else the room is as it was.
 ///
 /// 103, with nothing done, where the room is shorter than the packet and 29 octets; 101 before that.
 #[unsafe(no_mangle)]

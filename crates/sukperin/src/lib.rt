@@ -1,9 +1,10 @@
 //! The core as a library for C: a gateway, or one ESP association by itself under a given key.
 //!
-//! A handle of 16 octets lies in the caller's storage. All zeros is none. `suk_new`, `suk_sender` and `suk_receiver` make it lead
-//! to an end; `suk_end` and `suk_end_association` free that, and the handle is none again. Each other call answers 0, or a code
-//! that says why it did nothing: a refusal's E number, or one from 101 on ([`Refusal`](refusal::Refusal)). A call for an end of another
-//! kind is refused as one for none.
+//! A handle of 16 octets lies in the caller's storage. All zeros is none. `suk_new`, `suk_sender` and
+//! `suk_receiver` make it lead to an end; `suk_end` and `suk_end_association` free that, and the handle is
+//! none again. Each other call answers 0, or a code that says why it did nothing: a refusal's E number, or
+//! one from 101 on ([`Refusal`](refusal::Refusal)). A call for an end of another kind is refused as one for
+//! none.
 //!
 //! ```c
 //! suk_handle sender = {0};
@@ -13,31 +14,37 @@
 //! suk_end_association(&sender);
 //! ```
 //!
-//! What a gateway makes of an input is told by a record ([`SukOutput`](output::SukOutput)). What an ESP packet carried is told as a place
-//! in the packet; a packet on its way out is sealed into the caller's room; messages of IKE are kept until the next input, and taken by
-//! `suk_message`.
+//! What a gateway makes of an input is told by a record ([`SukOutput`](output::SukOutput)). What an ESP
+//! packet carried is told as a place in the packet; a packet on its way out is sealed into the caller's
+//! room; messages of IKE are kept until the next input, and taken by `suk_message`.
 //!
 //! # What is proved
-//! - `suk_sender` and `suk_receiver` make the end that their arguments spell. A refused call leaves the handle.
-//! - `suk_seal` writes the packet that [`esp::Outbound::seal`] seals at the beginning of the room, tells its number and length, and
-//!   leaves what stood in the room behind it. Refused, it changes neither sender, room nor what is told.
-//! - `suk_open` judges a packet as [`esp::Inbound::open`] does, and tells the payload as a place in the packet. Refused, it
-//!   changes nothing, but that bad padding (19) leaves the packet's number taken.
-//! - Each input but `suk_outward` takes one step of the gateway ([`gateway::Gateway::traced_step`]) with the input that its arguments
-//!   spell; the record tells the step's output and trace, and what is left to be taken are that output's messages.
+//! - `suk_sender` and `suk_receiver` make the end that their arguments spell. A refused call leaves the
+//!   handle.
+//! - `suk_seal` writes the packet that [`esp::Outbound::seal`] seals at the beginning of the room, tells
+//!   its number and length, and leaves what stood in the room behind it. Refused, it changes neither
+//!   sender, room nor what is told.
+//! - `suk_open` judges a packet as [`esp::Inbound::open`] does, and tells the payload as a place in the
+//!   packet. Refused, it changes nothing, but that bad padding (19) leaves the packet's number taken.
+//! - Each input but `suk_outward` takes one step of the gateway ([`gateway::Gateway::traced_step`]) with
+//!   the input that its arguments spell; the record tells the step's output and trace, and what is left to
+//!   be taken are that output's messages.
 //! - Views leave what the handle leads to as it was.
-//! - Every call returns, whatever the octets and the codes, and each end that is made is freed at most once.
+//! - Every call returns, whatever the octets and the codes, and each end that is made is freed at most
+//!   once.
 //!
-//! Not proved, beyond that they return and touch nothing else: what `suk_outward` does, what views tell, and that a new gateway is
-//! the one that its terms spell.
+//! Not proved, beyond that they return and touch nothing else: what `suk_outward` does, what views tell,
+//! and that a new gateway is the one that its terms spell.
 //!
 //! # What is trusted to C
-//! - A handle begins as all zeros and is changed by these calls alone. It has one owner: it may be moved, and is never copied.
-//! - No two pointers of one call overlap, and nothing else touches what a call was given until it returns. A handle stays
-//!   on the thread that made it: nothing proves that it may move.
-//! - A pointer is good for the length that is given with it, is not null, and is aligned for its type. No length is above
-//!   2^63 - 1.
-//! - Fresh octets are drawn anew, so that nobody can guess them, for each input that has them, also for one that is refused.
+//! - A handle begins as all zeros and is changed by these calls alone. It has one owner: it may be moved,
+//!   and is never copied.
+//! - No two pointers of one call overlap, and nothing else touches what a call was given until it returns.
+//!   A handle stays on the thread that made it: nothing proves that it may move.
+//! - A pointer is good for the length that is given with it, is not null, and is aligned for its type. No
+//!   length is above 2^63 - 1.
+//! - Fresh octets are drawn anew, so that nobody can guess them, for each input that has them, also for one
+//!   that is refused.
 //! - Who counts on numbers that never repeat gives a new sender the last number that the key was used with.
 //!
 //! What is freed isn't overwritten first, so keys and secrets may stand in memory that was given back.

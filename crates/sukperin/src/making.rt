@@ -9,12 +9,13 @@ use crate::terms::{SukEntry, SukTerms, caller_of, config_of, is_start, policy_of
 use gateway::Gateway;
 use std::alloc::Global;
 
-/// Makes a gateway of these terms, with identities of 1 to 256 octets, the secrets by which both ends prove who they are, and the entries of
-/// its policy in their order. An empty secret of the peer's proves nothing.
+/// Makes a gateway of these terms, with identities of 1 to 256 octets, the secrets by which both ends prove
+/// who they are, and the entries of its policy in their order. An empty secret of the peer's proves
+/// nothing.
 ///
-/// Refused, with the handle as it was: 102 where it leads to an end already; 107 where the inbound SPIs can't begin so; 104 where an
-/// identity, the window or the blocks can't be used; 106 where an entry spells none, ends before it starts or mixes families, or there are
-/// more than 256; 20.
+/// Refused, with the handle as it was: 102 where it leads to an end already; 107 where the inbound SPIs
+/// can't begin so; 104 where an identity, the window or the blocks can't be used; 106 where an entry spells
+/// none, ends before it starts or mixes families, or there are more than 256; 20.
 #[unsafe(no_mangle)]
 pub extern "C" fn suk_new(
     alloc: Global,

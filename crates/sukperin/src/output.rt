@@ -9,11 +9,13 @@ use gateway::{Output, Reason, Trace};
 #[repr(C)]
 #[derive(Clone, Copy)]
 pub struct SukOutput {
-    /// 1 a reply, 2 a repeat, 3 a request, 4 counted, 5 ticked, 6 done, 7 up, 8 a dummy, 9 sealed, 10 clear, 11 discarded, 12 dropped, 13 refused.
+    /// 1 a reply, 2 a repeat, 3 a request, 4 counted, 5 ticked, 6 done, 7 up, 8 a dummy, 9 sealed, 10
+    /// clear, 11 discarded, 12 dropped, 13 refused.
     pub kind: u32,
     /// Why it was dropped or refused: an E number.
     pub code: u32,
-    /// The IKE association that a request or what was counted is of; of a reply and a repeat, that under whose keys it was sent.
+    /// The IKE association that a request or what was counted is of; of a reply and a repeat, that under
+    /// whose keys it was sent.
     pub ike: u32,
     /// The child that a packet is of, or that was made.
     pub child: u32,
@@ -29,7 +31,8 @@ pub struct SukOutput {
     pub number: u64,
     /// Where octets begin: of what goes up, in the packet that came.
     pub offset: u64,
-    /// How many octets there are: of what goes up, of what was sealed, of what goes on as it is, or of one message of IKE.
+    /// How many octets there are: of what goes up, of what was sealed, of what goes on as it is, or of one
+    /// message of IKE.
     pub length: u64,
 }
 

@@ -7,7 +7,8 @@ use esp::EspFault;
 /// Why a call did nothing.
 #[derive(Clone, Copy, Debug, PartialEq, Eq)]
 pub enum Refusal {
-    /// 12 to 20: a packet was not sealed or not opened. Of [`EspFault::BadPadding`] alone the number stays taken.
+    /// 12 to 20: a packet was not sealed or not opened. Of [`EspFault::BadPadding`] alone the number stays
+    /// taken.
     Esp(EspFault),
     /// 20: there was no memory.
     Memory,
@@ -19,9 +20,11 @@ pub enum Refusal {
     InUse,
     /// 103: the room is shorter than what may have to be written.
     ShortRoom,
-    /// 104: an identity's length, the window of requests or the blocks of a replay window are not such as can be used.
+    /// 104: an identity's length, the window of requests or the blocks of a replay window are not such as
+    /// can be used.
     Configuration,
-    /// 106: an entry of the policy spells none, ends before it starts or mixes families, or comes after 256 others.
+    /// 106: an entry of the policy spells none, ends before it starts or mixes families, or comes after 256
+    /// others.
     Policy,
     /// 107: the SPI is not one that may be used.
     Spi,

@@ -47,11 +47,11 @@ const SPI_LEAST: u32 = 256;
 // A packet is its payload and at most so many octets more.
 const PACKET_MORE: usize = 29;
 
-/// Makes a sender under a key of 32 octets, whose last packet had the number `last`, 0 where there was none. Numbers have 64 bits where
-/// `extended` is not 0, else 32.
+/// Makes a sender under a key of 32 octets, whose last packet had the number `last`, 0 where there was
+/// none. Numbers have 64 bits where `extended` is not 0, else 32.
 ///
-/// Refused, with the handle as it was, in this order: 102 where it leads to an end already; 107 where the SPI is below 256 (RFC 4303
-/// section 2.1); 20.
+/// Refused, with the handle as it was, in this order: 102 where it leads to an end already; 107 where the
+/// SPI is below 256 (RFC 4303 section 2.1); 20.
 #[unsafe(no_mangle)]
 pub extern "C" fn suk_sender(
     alloc: Global,
@@ -76,11 +76,12 @@ pub extern "C" fn suk_sender(
     code_of(handle.make(alloc, End::Sender(sender)))
 }
 
-/// Makes a receiver under a key of 32 octets, which has taken no number, with a replay window of `blocks` blocks of 64 numbers: 2, 4, 8,
-/// 16, 32, 64 or 128. Numbers have 64 bits where `extended` is not 0, else 32.
+/// Makes a receiver under a key of 32 octets, which has taken no number, with a replay window of `blocks`
+/// blocks of 64 numbers: 2, 4, 8, 16, 32, 64 or 128. Numbers have 64 bits where `extended` is not 0, else
+/// 32.
 ///
-/// Refused, with the handle as it was, in this order: 102 where it leads to an end already; 107 where the SPI is below 256 (RFC 4303
-/// section 2.1); 104 where there can't be so many blocks; 20.
+/// Refused, with the handle as it was, in this order: 102 where it leads to an end already; 107 where the
+/// SPI is below 256 (RFC 4303 section 2.1); 104 where there can't be so many blocks; 20.
 #[unsafe(no_mangle)]
 pub extern "C" fn suk_receiver(
     alloc: Global,
@@ -111,11 +112,13 @@ pub extern "C" fn suk_receiver(
     code_of(handle.make(alloc, End::Receiver(receiver)))
 }
 
-/// Seals one packet with the payload under a next header at the beginning of the room, with the number after the last, and tells number
-/// and length. What stood in the room behind the packet stands there still.
+/// Seals one packet with the payload under a next header at the beginning of the room, with the number
+/// after the last, and tells number and length. What stood in the room behind the packet stands there
+/// still.
 ///
-/// Refused, with the sender, the room and what is told as they were, in this order: 101 where the handle leads to no sender; 103 where the
-/// room is shorter than the payload and 29 octets; 12 where the numbers are spent; 13 above 16,384 octets; 20.
+/// Refused, with the sender, the room and what is told as they were, in this order: 101 where the handle
+/// leads to no sender; 103 where the room is shorter than the payload and 29 octets; 12 where the numbers
+/// are spent; 13 above 16,384 octets; 20.
 #[unsafe(no_mangle)]
 pub extern "C" fn suk_seal(
     alloc: Global,
@@ -138,10 +141,12 @@ pub extern "C" fn suk_seal(
     code
 }
 
-/// Opens one packet: judges it, takes its number, and tells the number, the next header and where in the packet its payload stands.
+/// Opens one packet: judges it, takes its number, and tells the number, the next header and where in the
+/// packet its payload stands.
 ///
-/// Refused, with what is told as it was, in this order: 101 where the handle leads to no receiver; 28 where the packet has four octets and
-/// does not begin with the SPI; 14 to 19 as [`Inbound::open`] says. Of 19 alone the number stays taken; else the receiver is as it was.
+/// Refused, with what is told as it was, in this order: 101 where the handle leads to no receiver; 28 where
+/// the packet has four octets and does not begin with the SPI; 14 to 19 as [`Inbound::open`] says. Of 19
+/// alone the number stays taken; else the receiver is as it was.
 #[unsafe(no_mangle)]
 pub extern "C" fn suk_open(
     alloc: Global,

@@ -108,8 +108,8 @@ pub extern "C" fn suk_next(alloc: Global, handle: &mut SukHandle, moment: &mut u
     code
 }
 
-/// The message of IKE at a place, counted from 0, of those that the last input left. 108 where there is none; 103, with the length told, where
-/// the room is shorter.
+/// The message of IKE at a place, counted from 0, of those that the last input left. 108 where there is
+/// none; 103, with the length told, where the room is shorter.
 #[unsafe(no_mangle)]
 pub extern "C" fn suk_message(
     alloc: Global,
@@ -128,7 +128,8 @@ pub extern "C" fn suk_message(
     code
 }
 
-/// The serial of the IKE association at a place, counted from 0, of those that the last moment closed. 108 where there is none.
+/// The serial of the IKE association at a place, counted from 0, of those that the last moment closed. 108
+/// where there is none.
 #[unsafe(no_mangle)]
 pub extern "C" fn suk_closing(
     alloc: Global,
@@ -146,7 +147,8 @@ pub extern "C" fn suk_closing(
     code
 }
 
-/// The child of the least serial above this one; from 0 on, one after the other, all are found. 108 where there is none.
+/// The child of the least serial above this one; from 0 on, one after the other, all are found. 108 where
+/// there is none.
 #[unsafe(no_mangle)]
 pub extern "C" fn suk_child_after(
     alloc: Global,
@@ -164,8 +166,8 @@ pub extern "C" fn suk_child_after(
     code
 }
 
-/// The selector at a place, counted from 0, of the child with this serial: of the peer's side where `remote` is not 0, else of this end's.
-/// 108 where there is none.
+/// The selector at a place, counted from 0, of the child with this serial: of the peer's side where
+/// `remote` is not 0, else of this end's. 108 where there is none.
 #[unsafe(no_mangle)]
 pub extern "C" fn suk_selector(
     alloc: Global,
@@ -185,7 +187,8 @@ pub extern "C" fn suk_selector(
     code
 }
 
-/// The IKE associations, by rising serial, and how many there are. 103, with their number told and the room as it was, where it is shorter.
+/// The IKE associations, by rising serial, and how many there are. 103, with their number told and the room
+/// as it was, where it is shorter.
 #[unsafe(no_mangle)]
 pub extern "C" fn suk_associations(
     alloc: Global,

@@ -29,7 +29,8 @@ const TABLES: [(u32, Table); 6] = [
     (53, Table::Offers),
 ];
 
-/// Whether the entry at a place, counted from 0 over all tables, comes to what it should. There is none past the last.
+/// Whether the entry at a place, counted from 0 over all tables, comes to what it should. There is none
+/// past the last.
 pub fn holds(alloc: Global, place: u32) -> Result<bool, AllocError> {
     for (first, table) in TABLES.iter().rev() {
         if let Some(row) = place.checked_sub(*first) {

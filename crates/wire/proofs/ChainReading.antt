@@ -1,5 +1,5 @@
--- A chain of payloads: what is read is spelled, what is spelled is read, and the fault is that of the first payload that
--- is not allowed.
+-- A chain of payloads: what is read is spelled, what is spelled is read, and the fault is that of the first
+-- payload that is not allowed.
 use Rattle.std.proofs.Common.{◌≡◌, ◌≢◌, ℕ, zero, suc, ◌-◌, ◌<◌, ◌≤◌, Bool, true, false, cond, eqb, List, [], ◌∷◌, ◌++◌, length, Result, Ok, Err, refl, sym, ap, subst, ◌∙◌, append_assoc, inl, inr, arith}
 use Rattle.std.specs.List.{AllByRecursion}
 use Rattle.std.proofs.lemmas.Bool.{eqb-true, eqb-false, ne_eqb}

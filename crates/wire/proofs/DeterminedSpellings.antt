@@ -1,4 +1,5 @@
--- With zeros in all that is reserved there is one spelling: of each part, and so of payloads, chains and messages.
+-- With zeros in all that is reserved there is one spelling: of each part, and so of payloads, chains and
+-- messages.
 use Rattle.std.proofs.Common.{◌≡◌, ℕ, ◌+◌, Bool, cond, List, [], ◌∷◌, ◌++◌, length, Result, Ok, Err, sym, ap, subst, ◌∙◌, inl, inr, arith}
 use Rattle.std.proofs.lemmas.List.{length-append}
 use Rattle.byteorder.specs.Endian.{big_bytes}

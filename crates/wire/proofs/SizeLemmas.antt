@@ -274,7 +274,8 @@ body_made (Sealed first body) fits short = absurd fits
 body_made (Skipped kind octets) fits short = record { octets = octets; spelled = refl; long = refl; fits = fits }
 body_made (Unknown kind critical octets) fits short = record { octets = octets; spelled = refl; long = refl; fits = fits.1 }
 
--- what the chain takes of a payload that fits: a type of an octet, and a header that is followed by the next type
+-- what the chain takes of a payload that fits: a type of an octet, and a header that is followed by the
+-- next type
 record Chained (p : Payload) (next : ℕ) : Type 0 where
   low : type_of p < 256
   second : ℕ

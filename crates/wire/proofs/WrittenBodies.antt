@@ -1,4 +1,5 @@
--- The insides of payloads: what is appended is spelled, what is refused has no spelling, and all spellings are as long.
+-- The insides of payloads: what is appended is spelled, what is refused has no spelling, and all spellings
+-- are as long.
 use Rattle.std.proofs.Common.{◌≡◌, ℕ, ◌+◌, ◌^◌, Bool, true, false, eqb, ltb, List, [], ◌∷◌, ◌++◌, length, Option, refl, sym, ap, ◌∙◌, append_assoc, inl, inr, arith}
 use Rattle.std.specs.Prelude.{◌&&◌}
 use Rattle.std.proofs.lemmas.Bool.{eqb-true, ltb-false, ltb-true, lt-ltb}

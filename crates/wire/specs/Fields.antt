@@ -15,8 +15,8 @@ pub record SpellsKe (Free : ℕ → Type 0) (group : ℕ) (octets body : List �
   pub some : 1 ≤ length octets
   pub few : length octets ≤ KEY_EXCHANGE_LIMIT
 
--- Sections 3.5 and 3.8: the identity's type or the method, three reserved octets, and data of 1 octet up to a limit of
--- this implementation.
+-- Sections 3.5 and 3.8: the identity's type or the method, three reserved octets, and data of 1 octet up to
+-- a limit of this implementation.
 pub record SpellsTyped (Free : ℕ → Type 0) (limit : ℕ) (kind : ℕ) (octets body : List ℕ) : Type 0 where
   pub reserved_1 : ℕ
   pub reserved_2 : ℕ
@@ -38,8 +38,8 @@ pub record SpellsNotify (protocol : ℕ) (spi : List ℕ) (kind : ℕ) (octets b
   pub spi_fits : length spi < 2 ^ 8
   pub kind_fits : kind < 2 ^ 16
 
--- The size of each SPI of a deletion: there is none of the IKE association itself (protocol 1), and those of AH and ESP
--- (2 and 3) have four octets.
+-- The size of each SPI of a deletion: there is none of the IKE association itself (protocol 1), and those
+-- of AH and ESP (2 and 3) have four octets.
 abbrev pub HasSpiSize : ℕ → ℕ → List ℕ → Type 0
 HasSpiSize protocol size spis =
     ((protocol ≡ IKE_PROTOCOL) × (size ≡ 0) × (spis ≡ [])) ⊎ (((protocol ≡ AH_PROTOCOL) ⊎ (protocol ≡ ESP_PROTOCOL)) × (size ≡ SPI_LENGTH))

@@ -21,8 +21,9 @@ pub record HasFlags (Free : ℕ → Type 0) (f : Flags) (octet : ℕ) : Type 0 w
   pub high_bits : high < 4
   pub free : Free low × Free high
 
--- The 28 octets in front of the payloads, without the last four, of the length: both SPIs, the type of the first payload,
--- major version 2 and the minor version in one octet, the exchange, the flags, the message ID.
+-- The 28 octets in front of the payloads, without the last four, of the length: both SPIs, the type of the
+-- first payload, major version 2 and the minor version in one octet, the exchange, the flags, the message
+-- ID.
 pub record SpellsHeader (Free : ℕ → Type 0) (h : Header) (first : ℕ) (x : List ℕ) : Type 0 where
   pub flags : ℕ
   pub has_flags : HasFlags Free h.flags flags
@@ -32,7 +33,8 @@ pub record SpellsHeader (Free : ℕ → Type 0) (h : Header) (first : ℕ) (x : 
   pub minor : h.minor < 16
   pub id : h.id < 2 ^ 32
 
--- A message of up to 3000 octets, a limit of this implementation. What stands in reserved octets and bits, Free tells.
+-- A message of up to 3000 octets, a limit of this implementation. What stands in reserved octets and bits,
+-- Free tells.
 pub record SpellsWith (Free : ℕ → Type 0) (m : Message) (b : List ℕ) : Type 0 where
   pub first : ℕ
   pub header : List ℕ

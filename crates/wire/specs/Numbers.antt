@@ -1,4 +1,5 @@
--- The numbers of RFC 7296 that messages are made of, and this implementation's limits. Code has the same names in `numbers`.
+-- The numbers of RFC 7296 that messages are made of, and this implementation's limits. Code has the same
+-- names in `numbers`.
 use Rattle.std.specs.Prelude.{ℕ}
 
 -- Payload types (section 3.2).
@@ -135,7 +136,8 @@ MORE_TRANSFORMS = 3
 abbrev pub MAJOR_VERSION : ℕ
 MAJOR_VERSION = 2
 
--- Lengths in octets: of a header (section 3.1), of a nonce (section 3.9), of an SPI of AH or ESP, and of selectors of both types.
+-- Lengths in octets: of a header (section 3.1), of a nonce (section 3.9), of an SPI of AH or ESP, and of
+-- selectors of both types.
 abbrev pub HEADER_LENGTH : ℕ
 HEADER_LENGTH = 28
 
@@ -154,8 +156,8 @@ IPV4_RANGE_LENGTH = 16
 abbrev pub IPV6_RANGE_LENGTH : ℕ
 IPV6_RANGE_LENGTH = 40
 
--- This implementation's limits: the octets of a message, the selectors of a payload, the octets of data of a key exchange, an
--- identity and an authentication.
+-- This implementation's limits: the octets of a message, the selectors of a payload, the octets of data of
+-- a key exchange, an identity and an authentication.
 abbrev pub MESSAGE_LIMIT : ℕ
 MESSAGE_LIMIT = 3000
 

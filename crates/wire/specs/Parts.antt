@@ -6,8 +6,8 @@ use Rattle.byteorder.specs.Endian.{big_bytes}
 abbrev pub IsZero : ℕ → Type 0
 IsZero o = o ≡ 0
 
--- The header that payloads, proposals, transforms and traffic selectors share, and what it heads: an octet, a second
--- octet, and the length of the whole with these four octets (sections 3.2, 3.3.1, 3.3.2, 3.13.1).
+-- The header that payloads, proposals, transforms and traffic selectors share, and what it heads: an octet,
+-- a second octet, and the length of the whole with these four octets (sections 3.2, 3.3.1, 3.3.2, 3.13.1).
 pub record IsPart (first second : ℕ) (inside x : List ℕ) : Type 0 where
   pub spelled : x ≡ first ∷ second ∷ big_bytes 2 (4 + length inside) ++ inside
   pub fits : 4 + length inside < 2 ^ 16
@@ -25,8 +25,8 @@ abbrev pub SpellsEach : {A : Type 0} → (A → List ℕ → Type 0) → List A 
 SpellsEach Spelled [] x = x ≡ []
 SpellsEach Spelled (a ∷ others) x = Joins (Spelled a) (SpellsEach Spelled others) x
 
--- A part whose first octet is a mark and whose second one is reserved. What is in a reserved octet, Free tells: any octet
--- for who reads, none but 0 for who writes.
+-- A part whose first octet is a mark and whose second one is reserved. What is in a reserved octet, Free
+-- tells: any octet for who reads, none but 0 for who writes.
 pub record IsMarked (Free : ℕ → Type 0) (mark : ℕ) (Inside : List ℕ → Type 0) (x : List ℕ) : Type 0 where
   pub reserved : ℕ
   pub inside : List ℕ

@@ -62,8 +62,9 @@ pub record HasCriticalBit (Free : ℕ → Type 0) (critical : Bool) (second : �
   pub free : Free reserved
   pub value : second ≡ (if critical then 128 else 0) + reserved
 
--- The octets of the payload's header before its length: the type that it names next, which an encrypted payload has of
--- the first payload inside it, and a second octet, of which only an unknown payload keeps the critical bit.
+-- The octets of the payload's header before its length: the type that it names next, which an encrypted
+-- payload has of the first payload inside it, and a second octet, of which only an unknown payload keeps
+-- the critical bit.
 abbrev pub HasHeader : (ℕ → Type 0) → Payload → ℕ → ℕ → Type 0
 HasHeader Free (Sealed first body) next second = (next ≡ first) × Free second
 HasHeader Free (Unknown kind critical octets) next second = IsUnknownType kind × HasCriticalBit Free critical second

@@ -8,8 +8,8 @@ use Rattle.wire.specs.declared.proposal.Transform.{Transform}
 use Rattle.wire.specs.declared.proposal.Attribute.{Attribute}
 use Rattle.wire.specs.declared.proposal.Attribute.TheVariants.{Short, Long}
 
--- Section 3.3.5: the top bit tells the short form, of a value in two octets, from the long one, of a length and as many
--- octets.
+-- Section 3.3.5: the top bit tells the short form, of a value in two octets, from the long one, of a length
+-- and as many octets.
 abbrev pub SpellsAttribute : Attribute → List ℕ → Type 0
 SpellsAttribute (Short kind value) x = (x ≡ big_bytes 2 (2 ^ 15 + kind) ++ big_bytes 2 value) × (kind < 2 ^ 15) × (value < 2 ^ 16)
 SpellsAttribute (Long kind value) x = (x ≡ big_bytes 2 kind ++ big_bytes 2 (length value) ++ value) × (kind < 2 ^ 15) × (length value < 2 ^ 16)
@@ -23,8 +23,8 @@ pub record SpellsTransform (Free : ℕ → Type 0) (t : Transform) (inside : Lis
   pub id : t.id < 2 ^ 16
   pub each : SpellsEach SpellsAttribute t.attributes attributes
 
--- Section 3.3.1, behind the proposal's first four octets: number, protocol, size of the SPI, count of the transforms, the
--- SPI, the transforms. The mark of a transform with another behind it is 3.
+-- Section 3.3.1, behind the proposal's first four octets: number, protocol, size of the SPI, count of the
+-- transforms, the SPI, the transforms. The mark of a transform with another behind it is 3.
 pub record SpellsProposal (Free : ℕ → Type 0) (p : Proposal) (inside : List ℕ) : Type 0 where
   pub transforms : List ℕ
   pub spelled : inside ≡ p.number ∷ p.protocol ∷ length p.spi ∷ length p.transforms ∷ p.spi ++ transforms
@@ -37,7 +37,8 @@ abbrev pub NumberedFrom : ℕ → List Proposal → Type 0
 NumberedFrom n [] = Unit {0}
 NumberedFrom n (p ∷ ps) = (p.number ≡ n) × NumberedFrom (n + 1) ps
 
--- a lone proposal has any number from 1, since an answer keeps the number of the one chosen; more are 1, 2, 3, ..
+-- a lone proposal has any number from 1, since an answer keeps the number of the one chosen; more are 1, 2,
+-- 3, ..
 abbrev pub AreNumbered : List Proposal → Type 0
 AreNumbered [] = ⊥
 AreNumbered (p ∷ []) = 1 ≤ p.number

@@ -1,4 +1,5 @@
--- What the readers of the code give, step by step: private contracts cite it, and lemmas lead from it to the grammar.
+-- What the readers of the code give, step by step: private contracts cite it, and lemmas lead from it to
+-- the grammar.
 use Rattle.std.specs.Prelude.{◌≡◌, ℕ, zero, suc, ◌+◌, ◌-◌, ◌*◌, ◌^◌, Bool, true, false, List, [], ◌∷◌, length, take, drop, Option, Some, None, Result, Ok, Err, nat_lt, nat_le, ◌==◌, ◌||◌, ◌&&◌, if◌then◌else◌, option_and_then, slice_index, ok_or, not, ◌≢◌, ◌/◌, ◌%◌}
 use Rattle.byteorder.specs.Endian.{big_number}
 use Rattle.base.specs.declared.address.Range.{Range}

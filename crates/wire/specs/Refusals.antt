@@ -11,7 +11,8 @@ use Rattle.wire.specs.declared.message.Message.{Message}
 use Rattle.wire.specs.declared.fault.WireFault.{WireFault}
 use Rattle.wire.specs.declared.fault.WireFault.TheVariants.{Short, BadLength, BadVersion, BadChain, BadProposal, BadSelector, BadNonce, BadField, TooLong, Memory}
 
--- payloads that the octets begin with, none of them encrypted: the first has the type t, and the last names the type u
+-- payloads that the octets begin with, none of them encrypted: the first has the type t, and the last names
+-- the type u
 abbrev pub LeadsTo : ℕ → List Payload → ℕ → List ℕ → Type 0
 LeadsTo t [] u x = (u ≡ t) × (x ≡ [])
 LeadsTo t (p ∷ ps) u x = (t ≡ type_of p) × IsClear p × (next : ℕ) × Joins (SpellsPayload IsOctet p next) (LeadsTo next ps u) x
@@ -26,7 +27,8 @@ pub record BeginsPart (x : List ℕ) : Type 0 where
   pub joined : x ≡ front ++ after
   pub part : IsPart first second inside front
 
--- the octets begin with a payload of the type t; an encrypted one has to be the last, where there may be one at all
+-- the octets begin with a payload of the type t; an encrypted one has to be the last, where there may be
+-- one at all
 pub record BeginsPayload (encrypted : Bool) (t : ℕ) (x : List ℕ) : Type 0 where
   pub payload : Payload
   pub next : ℕ
@@ -37,7 +39,8 @@ pub record BeginsPayload (encrypted : Bool) (t : ℕ) (x : List ℕ) : Type 0 wh
   pub spelled : SpellsPayload IsOctet payload next front
   pub last : t ≡ SEALED_TYPE → IsTrue encrypted × (after ≡ [])
 
--- no case of the grammar allows a payload of type t here, though there are a header and as many octets as it says
+-- no case of the grammar allows a payload of type t here, though there are a header and as many octets as
+-- it says
 abbrev pub IsRefused : Bool → ℕ → List ℕ → Type 0
 IsRefused encrypted t x = BeginsPart x × (BeginsPayload encrypted t x → ⊥)
 
@@ -59,8 +62,8 @@ IsBroken t x = ((t ≡ NO_PAYLOAD) × (x ≢ [])) ⊎ ((t ≢ NO_PAYLOAD) × (Be
 abbrev pub IsFaultAt : Bool → ℕ → List ℕ → ℕ → WireFault → Type 0
 IsFaultAt encrypted t x offset f = (IsBroken t x × (f ≡ BadChain offset)) ⊎ ((t ≢ NO_PAYLOAD) × IsRefused encrypted t x × (f ≡ fault_of_type t offset))
 
--- A chain whose first payload has the type first begins at the offset start: payloads that the grammar allows, and then
--- one that it does not, or octets behind the last.
+-- A chain whose first payload has the type first begins at the offset start: payloads that the grammar
+-- allows, and then one that it does not, or octets behind the last.
 pub record IsChainFault (encrypted : Bool) (start first : ℕ) (x : List ℕ) (f : WireFault) : Type 0 where
   pub payloads : List Payload
   pub kind : ℕ
@@ -93,7 +96,8 @@ IsFaultOf b f = HasVersion b × IsChainFault true HEADER_LENGTH (slice_index b 1
 abbrev pub IsUnlessMemory : {T : Type 0} → Result T WireFault → Result T WireFault → Type 0
 IsUnlessMemory answer wanted = (answer ≡ wanted) ⊎ (answer ≡ Err Memory)
 
--- The fault of a payload that has no spelling, which would begin at the offset. An unknown one may have the type of another form.
+-- The fault of a payload that has no spelling, which would begin at the offset. An unknown one may have the
+-- type of another form.
 abbrev pub fault_in : Payload → ℕ → WireFault
 fault_in (Unknown kind critical octets) offset = BadChain offset
 fault_in p offset = fault_of_type (type_of p) offset
@@ -102,7 +106,8 @@ fault_in p offset = fault_of_type (type_of p) offset
 abbrev pub HasNoSpelling : Payload → List Payload → Type 0
 HasNoSpelling p after = ((next : ℕ) (x : List ℕ) → SpellsPayload IsOctet p next x → ⊥) ⊎ ((type_of p ≡ SEALED_TYPE) × (after ≢ []))
 
--- The first payload that has no spelling; those before it are spelled by some octets, so it would begin behind them.
+-- The first payload that has no spelling; those before it are spelled by some octets, so it would begin
+-- behind them.
 pub record IsPayloadFault (start : ℕ) (ps : List Payload) (f : WireFault) : Type 0 where
   pub before : List Payload
   pub payload : Payload
@@ -118,7 +123,8 @@ pub record IsPayloadFault (start : ℕ) (ps : List Payload) (f : WireFault) : Ty
 abbrev pub PassesLimit : List Payload → Type 0
 PassesLimit ps = (first : ℕ) × (x : List ℕ) × SpellsPayloads IsOctet first ps x × (MESSAGE_LIMIT < HEADER_LENGTH + length x)
 
--- the first fault of a message that is to be encoded: of its version, then of its payloads, then of its length
+-- the first fault of a message that is to be encoded: of its version, then of its payloads, then of its
+-- length
 abbrev pub IsEncodingFaultOf : Message → WireFault → Type 0
 IsEncodingFaultOf m Short = ⊥
 IsEncodingFaultOf m BadLength = ⊥

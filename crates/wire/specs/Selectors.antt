@@ -18,8 +18,8 @@ abbrev pub ends_octets : Range → List ℕ
 ends_octets (range.V4 start end) = big_bytes 4 start ++ big_bytes 4 end
 ends_octets (range.V6 start end) = big_bytes 16 start ++ big_bytes 16 end
 
--- Section 3.13.1: the type, the IP protocol, the length, the ports, the addresses. So the length is 16 or 40. No start is
--- above its end: of ports, OPAQUE (65535 to 0) is not understood here.
+-- Section 3.13.1: the type, the IP protocol, the length, the ports, the addresses. So the length is 16 or
+-- 40. No start is above its end: of ports, OPAQUE (65535 to 0) is not understood here.
 pub record SpellsSelector (s : Selector) (x : List ℕ) : Type 0 where
   pub part : IsPart (selector_type s.addresses) s.protocol (big_bytes 2 s.start_port ++ big_bytes 2 s.end_port ++ ends_octets s.addresses) x
   pub ports : s.start_port ≤ s.end_port
@@ -27,8 +27,8 @@ pub record SpellsSelector (s : Selector) (x : List ℕ) : Type 0 where
   pub addresses : IsOrdered s.addresses
   pub fits : FitsRange s.addresses
 
--- Section 3.13: their count, three reserved octets, and 1 to 16 selectors, a limit of this implementation. Selectors of both
--- families may stand in one payload.
+-- Section 3.13: their count, three reserved octets, and 1 to 16 selectors, a limit of this implementation.
+-- Selectors of both families may stand in one payload.
 pub record SpellsSelectors (Free : ℕ → Type 0) (ss : List Selector) (body : List ℕ) : Type 0 where
   pub reserved_1 : ℕ
   pub reserved_2 : ℕ

@@ -106,7 +106,8 @@ pub record FitsNotify (protocol : ℕ) (spi : List ℕ) (kind : ℕ) (octets : L
 abbrev pub NamesSpis : ℕ → List ℕ → Type 0
 NamesSpis protocol spis = ((protocol ≡ IKE_PROTOCOL) × (spis ≡ [])) ⊎ ((protocol ≡ AH_PROTOCOL) ⊎ (protocol ≡ ESP_PROTOCOL))
 
--- What each field of a payload allows. Not of an encrypted payload, which the cipher makes and which has to be the last.
+-- What each field of a payload allows. Not of an encrypted payload, which the cipher makes and which has to
+-- be the last.
 abbrev pub FitsFields : Payload → Type 0
 FitsFields (Sa proposals) = AreNumbered proposals × AllByRecursion FitsProposal proposals
 FitsFields (Ke group octets) = (group < 2 ^ 16) × FitsData 1 KEY_EXCHANGE_LIMIT octets

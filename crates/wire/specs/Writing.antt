@@ -1,5 +1,5 @@
--- What the writers of the code make of the octets so far, step by step: private contracts cite it, and lemmas lead from it
--- to the grammar.
+-- What the writers of the code make of the octets so far, step by step: private contracts cite it, and
+-- lemmas lead from it to the grammar.
 use Rattle.std.specs.Prelude.{◌≡◌, ◌≢◌, ℕ, ◌+◌, ◌-◌, ◌*◌, ◌^◌, ◌<◌, Bool, List, [], ◌∷◌, ◌++◌, length, take, drop, Option, Some, None, Result, Ok, Err, nat_lt, nat_le, ◌==◌, ◌||◌, ◌&&◌, not, if◌then◌else◌, ok_or}
 use Rattle.byteorder.specs.Endian.{big_bytes}
 use Rattle.base.specs.declared.address.Range.{Range}
@@ -143,8 +143,9 @@ body_onto (Unknown kind critical octets) old = Some (old ++ octets)
 abbrev pub is_unknown : ℕ → Bool
 is_unknown kind = (nat_lt NO_PAYLOAD kind && nat_lt kind SA_TYPE) || (nat_lt EAP_TYPE kind && nat_lt kind 256)
 
--- The first two octets of a payload's header, where next is the type of the payload behind it: an encrypted one names the
--- type of the first payload inside it, and an unknown one has its critical bit. An unknown type has no form of its own.
+-- The first two octets of a payload's header, where next is the type of the payload behind it: an encrypted
+-- one names the type of the first payload inside it, and an unknown one has its critical bit. An unknown
+-- type has no form of its own.
 abbrev pub header_octets : Payload → ℕ → Option (ℕ × ℕ)
 header_octets (Sealed first body) next = Some (first, 0)
 header_octets (Unknown kind critical octets) next = if is_unknown kind then Some (next, if critical then 128 else 0) else None

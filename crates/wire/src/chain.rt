@@ -15,8 +15,8 @@ use crate::reader::Reader;
 use base::Items;
 use std::alloc::Global;
 
-// The payloads that are left to read, of which the first has the type `first`. An encrypted one may end them where
-// `encrypted` says so.
+// The payloads that are left to read, of which the first has the type `first`. An encrypted one may end
+// them where `encrypted` says so.
 pub(crate) fn read_chain(
     alloc: Global,
     first: u8,
@@ -52,11 +52,12 @@ fn read_all(alloc: Global, first: u8, octets: &[u8]) -> Result<Items<Payload>, W
     read_chain(alloc, first, false, Reader::new(octets))
 }
 
-/// The payloads that the octets spell, all of them, of which the first has the type `first` (0 for none). There is no
-/// encrypted payload among them.
+/// The payloads that the octets spell, all of them, of which the first has the type `first` (0 for none).
+/// There is no encrypted payload among them.
 ///
-/// The first payload that the grammar does not allow decides: [`WireFault::BadChain`] to [`WireFault::BadField`] with
-/// its offset from the first octet. An encrypted payload is [`WireFault::BadChain`] at its offset.
+/// The first payload that the grammar does not allow decides: [`WireFault::BadChain`] to
+/// [`WireFault::BadField`] with its offset from the first octet. An encrypted payload is
+/// [`WireFault::BadChain`] at its offset.
 pub fn decode_chain(alloc: Global, first: u8, octets: &[u8]) -> Result<Items<Payload>, WireFault>
     // What is read is spelled by the octets.
     ensures found { IfOk result (λ ps. SpellsChain first ps octets.now) }

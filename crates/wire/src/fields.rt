@@ -1,5 +1,5 @@
-//! The payloads of a few fields: key exchange, identification, authentication, nonce (RFC 7296 sections 3.4, 3.5, 3.8
-//! and 3.9).
+//! The payloads of a few fields: key exchange, identification, authentication, nonce (RFC 7296 sections
+//! 3.4, 3.5, 3.8 and 3.9).
 ghost use Rattle.std.specs.Prelude.{◌≡◌};
 ghost use Rattle.wire.specs.Writing.{Writes, data_onto, ke_onto, typed_onto, nonce_onto};
 ghost use Rattle.wire.specs.Reading.{Gives, data_of, ke_of, typed_of, nonce_of};

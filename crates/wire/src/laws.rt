@@ -1,5 +1,6 @@
-//! Facts about the definitions, each the contract of a function that does nothing: what octets spell and what is wrong with
-//! them is determined, sizes are lengths, and a message whose fields and size fit has a spelling.
+//! Facts about the definitions, each the contract of a function that does nothing: what octets spell and
+//! what is wrong with them is determined, sizes are lengths, and a message whose fields and size fit has a
+//! spelling.
 ghost use Rattle.std.specs.Prelude.{◌≡◌, ◌≤◌, ◌+◌, ℕ, List, length, false};
 ghost use Rattle.std.specs.List.{AllByRecursion, sum_by};
 ghost use Rattle.base.specs.Octets.{IsOctet, AreOctets, Octets};
@@ -36,8 +37,8 @@ pub fn plain_spellings_are_spellings()
         → SpellsPayloads IsZero first ps x → SpellsPayloads IsOctet first ps x }
 {}
 
-/// Whatever stands in reserved octets and bits, each spelling of a payload has its size, and each of a message 28 octets and
-/// the sizes of its payloads.
+/// Whatever stands in reserved octets and bits, each spelling of a payload has its size, and each of a
+/// message 28 octets and the sizes of its payloads.
 pub fn spellings_have_their_size()
     ensures payload { (p : Payload) (next : ℕ) (x : Octets)
         → SpellsPayload IsOctet p next x → length x ≡ size_of p }
@@ -47,7 +48,8 @@ pub fn spellings_have_their_size()
         → Spells m b → length b ≡ HEADER_LENGTH + sum_by size_of m.payloads }
 {}
 
-/// A message whose header and payloads have what their fields allow, and which has at most 3000 octets, has a spelling.
+/// A message whose header and payloads have what their fields allow, and which has at most 3000 octets, has
+/// a spelling.
 pub fn messages_that_fit_are_spelled()
     ensures { (m : Message) → FitsHeaderFields m.header → AllByRecursion FitsFields m.payloads
         → HEADER_LENGTH + sum_by size_of m.payloads ≤ MESSAGE_LIMIT
@@ -60,7 +62,8 @@ pub fn what_is_read_fits()
         → SpellsChain first ps b → AllByRecursion FitsFields ps }
 {}
 
-/// With zeros in all that is reserved a message has one spelling at most, and a chain of payloads one, of one first type.
+/// With zeros in all that is reserved a message has one spelling at most, and a chain of payloads one, of
+/// one first type.
 pub fn plain_spellings_are_determined()
     ensures message { (m : Message) (a b : Octets) → SpellsPlainly m a → SpellsPlainly m b → a ≡ b }
     ensures payloads { (first other : ℕ) (ps : List Payload) (a b : Octets)

@@ -1,13 +1,15 @@
 //! IKEv2 messages (RFC 7296 section 3), read and written exactly.
 //!
-//! [`decode_message`] reads a datagram, [`decode_chain`] the payloads inside an encrypted one, and [`encode_message`]
-//! writes a message. What is read is what the octets spell, whatever stands in reserved octets and bits; what is written
-//! has zeros there, and is read as the same message again. A refusal is a [`WireFault`] with the offset of the first
-//! payload at fault; none of the three changes anything when it refuses.
+//! [`decode_message`] reads a datagram, [`decode_chain`] the payloads inside an encrypted one, and
+//! [`encode_message`] writes a message. What is read is what the octets spell, whatever stands in reserved
+//! octets and bits; what is written has zeros there, and is read as the same message again. A refusal is a
+//! [`WireFault`] with the offset of the first payload at fault; none of the three changes anything when it
+//! refuses.
 //!
-//! The grammar stands in `specs/`, apart from reader and writer: `Messages` (section 3.1), `Payloads` (3.2, 3.14),
-//! `Proposals` (3.3), `Fields` (3.4, 3.5, 3.8 to 3.11), `Selectors` (3.13), what is refused in `Refusals`, how long payloads are
-//! in `Sizes`, and the numbers that all of them cite in `Numbers`. What follows from these alone is in [`laws`].
+//! The grammar stands in `specs/`, apart from reader and writer: `Messages` (section 3.1), `Payloads` (3.2,
+//! 3.14), `Proposals` (3.3), `Fields` (3.4, 3.5, 3.8 to 3.11), `Selectors` (3.13), what is refused in
+//! `Refusals`, how long payloads are in `Sizes`, and the numbers that all of them cite in `Numbers`. What
+//! follows from these alone is in [`laws`].
 //!
 //! ```rust
 //! use base::Items;
@@ -38,6 +40,15 @@
 //!     }
 //! }
 //! ```
+//!
+//! # How it is proved
+//!
+//! One reader serves all payloads, and one header of four octets (`IsPart`) serves payloads, proposals,
+//! transforms and selectors. The grammar is a relation by cases. `specs/Reading` and `specs/Writing` are
+//! the functions that the code follows, and only private contracts cite them. `proofs/` shows that what is
+//! read so is spelled, that nothing else is, and that the first fault is the one found. `encode_message`
+//! fills a buffer of its own, sets each length in place, and appends it to the caller's vector at the end.
+//! So a refusal never touches that vector.
 #![tactic(auto)]
 
 mod chain;

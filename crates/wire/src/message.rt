@@ -19,8 +19,8 @@ use crate::writer::{Unwritten, push_octets, push_u32, push_u64, set_u32};
 use base::Items;
 use std::alloc::Global;
 
-/// An IKE message. The version's major number is 2, and the lengths and types that its octets name follow from the
-/// payloads.
+/// An IKE message. The version's major number is 2, and the lengths and types that its octets name follow
+/// from the payloads.
 #[derive(Clone, Debug, PartialEq, Eq, Drop)]
 pub struct Message {
     pub header: Header,
@@ -148,10 +148,11 @@ fn read_message(alloc: Global, octets: &[u8]) -> Result<Message, WireFault>
 
 /// The message that a datagram spells.
 ///
-/// Refused in this order: fewer than 28 octets [`WireFault::Short`], more than 3000 [`WireFault::TooLong`], a length
-/// field that is not the datagram's length [`WireFault::BadLength`], a major version that is not 2
-/// [`WireFault::BadVersion`]. Then the first payload that the grammar does not allow decides: [`WireFault::BadChain`] to
-/// [`WireFault::BadField`] with its offset. An encrypted payload has to be the last.
+/// Refused in this order: fewer than 28 octets [`WireFault::Short`], more than 3000 [`WireFault::TooLong`],
+/// a length field that is not the datagram's length [`WireFault::BadLength`], a major version that is not 2
+/// [`WireFault::BadVersion`]. Then the first payload that the grammar does not allow decides:
+/// [`WireFault::BadChain`] to [`WireFault::BadField`] with its offset. An encrypted payload has to be the
+/// last.
 pub fn decode_message(alloc: Global, octets: &[u8]) -> Result<Message, WireFault>
     // What is read is spelled by the octets.
     ensures found { IfOk result (λ m. Spells m octets.now) }
@@ -226,12 +227,12 @@ fn octets_of(alloc: Global, message: &Message) -> Result<Vec<u8>, WireFault>
     Ok(octets)
 }
 
-/// Appends the octets of a message, with zeros in reserved octets and bits, so that they are read as the same message
-/// again.
+/// Appends the octets of a message, with zeros in reserved octets and bits, so that they are read as the
+/// same message again.
 ///
-/// Refused in this order: a minor version above 15 [`WireFault::BadVersion`], the first payload that has no spelling
-/// ([`WireFault::BadChain`] to [`WireFault::BadField`] at the offset where it would begin), more than 3000 octets
-/// [`WireFault::TooLong`]. After a refusal, for want of memory too, `out` is as it was.
+/// Refused in this order: a minor version above 15 [`WireFault::BadVersion`], the first payload that has no
+/// spelling ([`WireFault::BadChain`] to [`WireFault::BadField`] at the offset where it would begin), more
+/// than 3000 octets [`WireFault::TooLong`]. After a refusal, for want of memory too, `out` is as it was.
 pub fn encode_message(message: &Message, out: &mut Vec<u8>) -> Result<(), WireFault>
     ensures ok { OnOk result (Appends (λ b. SpellsPlainly message.now b × Spells message.now b)
         out.old.items out.new.items) }

@@ -1,5 +1,5 @@
-//! The numbers of RFC 7296 that messages are made of, and this implementation's limits. Contracts cite them by the same names
-//! in `specs/Numbers`.
+//! The numbers of RFC 7296 that messages are made of, and this implementation's limits. Contracts cite them
+//! by the same names in `specs/Numbers`.
 
 /// Names no payload: what ends a chain (section 3.2).
 pub const NO_PAYLOAD: u8 = 0;

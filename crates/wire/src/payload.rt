@@ -25,21 +25,21 @@ use crate::writer::{Unwritten, close_part, open_part, push_octets};
 use base::{Items, Selector};
 use std::alloc::Global;
 
-/// A payload without its header. Of a payload that is known by its type, only what the form itself fixes is kept:
-/// the critical bit and the reserved octets are not.
+/// A payload without its header. Of a payload that is known by its type, only what the form itself fixes is
+/// kept: the critical bit and the reserved octets are not.
 #[derive(Clone, Debug, PartialEq, Eq, Drop)]
 pub enum Payload {
-    /// Security association, type 33 (section 3.3): at least one proposal. One alone has any number from 1; two or more
-    /// are numbered 1, 2, 3, and so on.
+    /// Security association, type 33 (section 3.3): at least one proposal. One alone has any number from 1;
+    /// two or more are numbered 1, 2, 3, and so on.
     Sa(Items<Proposal>),
-    /// Key exchange, type 34 (section 3.4): the Diffie-Hellman group and 1 to 1024 octets of data, the limits being this
-    /// implementation's.
+    /// Key exchange, type 34 (section 3.4): the Diffie-Hellman group and 1 to 1024 octets of data, the
+    /// limits being this implementation's.
     Ke {
         group: u16,
         data: Items<u8>,
     },
-    /// Identification of the initiator, type 35 (section 3.5): the identity's type and 1 to 256 octets of data,
-    /// the limits being this implementation's.
+    /// Identification of the initiator, type 35 (section 3.5): the identity's type and 1 to 256 octets of
+    /// data, the limits being this implementation's.
     IdI {
         kind: u8,
         data: Items<u8>,
@@ -57,15 +57,16 @@ pub enum Payload {
     },
     /// Nonce, type 40 (section 3.9): 16 to 256 octets.
     Nonce(Items<u8>),
-    /// Notification, type 41 (section 3.10): protocol, SPI of up to 255 octets, the notice's type and its data.
+    /// Notification, type 41 (section 3.10): protocol, SPI of up to 255 octets, the notice's type and its
+    /// data.
     Notify {
         protocol: u8,
         spi: Items<u8>,
         kind: u16,
         data: Items<u8>,
     },
-    /// Deletion, type 42 (section 3.11): of the IKE association itself (protocol 1, no SPI), or of the associations
-    /// with these SPIs (protocol 2 or 3).
+    /// Deletion, type 42 (section 3.11): of the IKE association itself (protocol 1, no SPI), or of the
+    /// associations with these SPIs (protocol 2 or 3).
     Delete {
         protocol: u8,
         spis: Items<u32>,
@@ -75,8 +76,8 @@ pub enum Payload {
     TsI(Items<Selector>),
     /// Traffic selectors of the responder's side, type 45 (section 3.13): 1 to 16 of them.
     TsR(Items<Selector>),
-    /// Encrypted payloads, type 46 (section 3.14), always the last of a message: the type of the first payload
-    /// inside, and the body as the cipher wrote it, which may be empty.
+    /// Encrypted payloads, type 46 (section 3.14), always the last of a message: the type of the first
+    /// payload inside, and the body as the cipher wrote it, which may be empty.
     Sealed {
         first: u8,
         body: Items<u8>,
@@ -158,8 +159,8 @@ fn read_body(alloc: Global, form: Form, kind: u8, part: Part) -> Result<Payload,
     }
 }
 
-// The next payload, which has the type `kind`, and the type of the payload behind it. An encrypted payload has to be
-// the last, where there may be one; nothing follows it (section 3.14).
+// The next payload, which has the type `kind`, and the type of the payload behind it. An encrypted payload
+// has to be the last, where there may be one; nothing follows it (section 3.14).
 #[tactic(auto, unfolding(crate::specs::Reading::payload_at))]
 pub(crate) fn read_payload(
     alloc: Global,
@@ -275,8 +276,9 @@ fn is_unknown(kind: u8) -> bool
     kind > NO_PAYLOAD && kind < SA_TYPE || kind > EAP_TYPE
 }
 
-// The first two octets of the payload's header, where `next` is the type of the payload behind it: an encrypted payload
-// names the first one inside it. There are none for an unknown payload of a type with a form of its own.
+// The first two octets of the payload's header, where `next` is the type of the payload behind it: an
+// encrypted payload names the first one inside it. There are none for an unknown payload of a type with a
+// form of its own.
 fn header_octets(payload: &Payload, next: u8) -> Option<(u8, u8)>
     ensures { result ≡ header_octets payload.now next }
 {

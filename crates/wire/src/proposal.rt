@@ -10,7 +10,8 @@ use crate::writer::{Unwritten, close_part, mark_at, open_part, push_octets, push
 use base::Items;
 use std::alloc::Global;
 
-/// A proposal (section 3.3.1): its number, the protocol, the sender's SPI of up to 255 octets, and 1 to 255 transforms.
+/// A proposal (section 3.3.1): its number, the protocol, the sender's SPI of up to 255 octets, and 1 to 255
+/// transforms.
 #[derive(Clone, Debug, PartialEq, Eq, Drop)]
 pub struct Proposal {
     pub number: u8,

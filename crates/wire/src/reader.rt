@@ -44,7 +44,8 @@ impl<T: Drop> From<AllocFailed<T>> for Unread {
     }
 }
 
-// What is left to read of some octets. Where a value does not fit in, the octets are malformed; reading takes no memory.
+// What is left to read of some octets. Where a value does not fit in, the octets are malformed; reading
+// takes no memory.
 #[derive(Clone, Copy)]
 pub(crate) struct Reader<'a> {
     pub(crate) rest: &'a [u8],
@@ -53,8 +54,8 @@ pub(crate) struct Reader<'a> {
     ghost within: { length rest.now ≤ end },
 }
 
-// A header of four octets and what it heads (RFC 7296 section 3.2): its first two octets, and what stands behind it, of
-// the length that the other two give.
+// A header of four octets and what it heads (RFC 7296 section 3.2): its first two octets, and what stands
+// behind it, of the length that the other two give.
 #[derive(Clone, Copy)]
 pub(crate) struct Part<'a> {
     pub(crate) first: u8,

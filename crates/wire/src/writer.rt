@@ -88,7 +88,8 @@ pub(crate) fn set_u32(octets: &mut [u8], place: usize, number: u32)
     octets[place..place + 4].copy_from_slice(&number.to_be_bytes());
 }
 
-// The mark of the part at this place of so many: 0 of the last, and else what marks one with another behind it.
+// The mark of the part at this place of so many: 0 of the last, and else what marks one with another behind
+// it.
 pub(crate) fn mark_at(place: usize, count: usize, more: u8) -> u8
     requires { place < count }
     ensures { result ≡ (if place + 1 == count then 0 else more) }

@@ -1,5 +1,5 @@
-//! Runs that pass whether an allocation fails or not: what was refused for want of memory left `out` as it was, and goes well at the next
-//! try. Each is to be run with every allocation failing in turn.
+//! Runs that pass whether an allocation fails or not: what was refused for want of memory left `out` as it
+//! was, and goes well at the next try. Each is to be run with every allocation failing in turn.
 use super::{
     FIRST, HEAD, KEYS, OCTETS, THEIR_PROOF, VECTOR, body_of_21, caller, holds, padding_too_long,
 };

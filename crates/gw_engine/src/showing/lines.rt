@@ -1,5 +1,5 @@
-//! The lines that a message is shown by. A line with more than one number is written by a function of its own, which is
-//! proved apart from what its parts are made of.
+//! The lines that a message is shown by. A line with more than one number is written by a function of its
+//! own, which is proved apart from what its parts are made of.
 ghost use Rattle.std.specs.Prelude.{◌≡◌, flat_map, string_bytes, IfOk};
 ghost use Rattle.gw_console.specs.Digits.{hexadecimal, text_of};
 ghost use Rattle.gw_engine.specs.Showing.{attribute_text, attribute_words, body_text, data_line, deletion_line, end_of, exchange_line, flags_text, header_text, ike_line, message_text, notice_line, numbered_line, octets_line, payload_text, payloads_text, proposal_text, proposal_words, range_text, sealed_line, selector_text, selector_words, spis_text, start_of, transform_text};

@@ -20,7 +20,8 @@ pub struct Ends {
 }
 
 impl Ends {
-    /// Two ends that agree on these terms, before the first packet. Refused where no window has so many blocks.
+    /// Two ends that agree on these terms, before the first packet. Refused where no window has so many
+    /// blocks.
     pub fn new(alloc: Global, terms: Terms) -> Result<Ends, LineFault> {
         if !is_block_count(terms.blocks) {
             return Err(LineFault::Refused);

@@ -40,8 +40,8 @@ impl Preset {
         }
     }
 
-    /// Takes one term more. Refused are an entry that no policy may have, a window outside 1 to 16, and what is said of sequence
-    /// numbers behind any other term.
+    /// Takes one term more. Refused are an entry that no policy may have, a window outside 1 to 16, and
+    /// what is said of sequence numbers behind any other term.
     pub fn take(&mut self, alloc: Global, term: Term) -> Result<(), LineFault> {
         match term {
             Term::NotExtended if !self.is_untouched => return Err(LineFault::Refused),

@@ -5,7 +5,8 @@ use moments::Resent;
 use sadb::{Pair, State, Table};
 use std::alloc::{AllocError, Global};
 
-/// The lines of what came of an input. The first datagram that is sent is known by this place among all, from 1.
+/// The lines of what came of an input. The first datagram that is sent is known by this place among all,
+/// from 1.
 pub fn of_output(alloc: Global, output: &Output<'_>, place: usize) -> Result<String, AllocError> {
     match output {
         Output::Request { ike, octets } => {

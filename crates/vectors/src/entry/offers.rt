@@ -1,4 +1,5 @@
-//! Flows, decisions, and what offers are narrowed to (RFC 4301, sections 4.4.1 and 5.1; RFC 7296, section 2.9).
+//! Flows, decisions, and what offers are narrowed to (RFC 4301, sections 4.4.1 and 5.1; RFC 7296, section
+//! 2.9).
 use base::{Items, Range, Selector};
 use policy::{Action, Decision, Direction, Entry, InnerFault, NarrowFault, Policy, inner, narrow};
 use std::alloc::{AllocError, Global};

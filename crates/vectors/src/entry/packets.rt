@@ -18,7 +18,8 @@ const INNER: [u8; 20] = [
     0x45, 0, 0, 20, 0, 0, 0, 0, 0x40, 1, 0, 0, 10, 0, 0, 1, 10, 1, 0, 1,
 ];
 
-// As far as the check value, the packet of number 1 that carries it: SPI, number, packet, padding, its length, next header.
+// As far as the check value, the packet of number 1 that carries it: SPI, number, packet, padding, its
+// length, next header.
 const SEALED: [u8; 32] = [
     0, 0, 1, 0, 0, 0, 0, 1, 0x45, 0, 0, 20, 0, 0, 0, 0, 0x40, 1, 0, 0, 10, 0, 0, 1, 10, 1, 0, 1, 1,
     2, 2, 4,

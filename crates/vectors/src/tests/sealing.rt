@@ -123,7 +123,8 @@ fn seals_no_payload(rt: HostRuntime) {
     same(&rt, octets.as_slice(), wanted.as_slice());
 }
 
-/// What an encrypted message holds: the type of its first payload, and the octets of them all; none if it does not open.
+/// What an encrypted message holds: the type of its first payload, and the octets of them all; none if it
+/// does not open.
 fn opened(rt: &impl Abort, alloc: Global, octets: &[u8]) -> Option<Plain> {
     let came = decode_message(alloc, octets).expect(rt, "a message");
     open_message(alloc, &ScriptCaller, &KEYS, octets, &came).expect(rt, "memory")

@@ -1,4 +1,5 @@
--- The blocks behind the start, up to this one, are cleared; the others less than a round back are as they were.
+-- The blocks behind the start, up to this one, are cleared; the others less than a round back are as they
+-- were.
 use Rattle.std.proofs.Common.{◌≡◌, ℕ, ◌+◌, ◌%◌, ◌<◌, ◌≤◌, length, get_or}
 use Rattle.replay.proofs.block.clear_passed.Given as goal
 

@@ -282,7 +282,8 @@ fn one_of_each_type_and_extended_numbers_for_esp(rt: HostRuntime) {
     );
 }
 
-/// The first protocol and SPI, filled up to 8 octets behind its length, with which the offer is chosen otherwise.
+/// The first protocol and SPI, filled up to 8 octets behind its length, with which the offer is chosen
+/// otherwise.
 fn first_spi_differing(
     rt: &impl Abort,
     alloc: Global,
