@@ -1,7 +1,7 @@
 #!/usr/bin/env python3
 """Looks whether README, CONTRIBUTING and docs/ say what the tree says: each link leads to a file and a heading that are there, each quoted output is
-that of the example that it quotes, each quoted contract stands in the file that its block names, each mutant that is named is there, and each figure of
-FIGURES is the one of the source that it names.
+that of the example that it quotes, each quoted contract stands in the file that its block names, each file of a crate is there and has the words that the page places in it, each mutant
+that is named is there, and each figure of FIGURES is the one of the source that it names.
 
 python3 tools/documents.py prints what is wrong, and ends with status 1 where something is.
 """
@@ -18,6 +18,9 @@ HEADING = re.compile(r"^#+ (.*)$", re.M)
 NAMED = re.compile(r"\bcrates/([a-z_0-9]+)")
 MUTANTS = re.compile(r"^\*\*Mutants\.\*\*.*?(?=^$)", re.M | re.S)
 NAME = re.compile(r"`([a-z_0-9]+)/([a-z_0-9]+)`")
+PIECE = re.compile(r"`([^`\n]*)`")
+PLACE = re.compile(r"crates/[a-z_0-9]+/(?:src|specs|proofs|must-fail)/[\w/.-]+\.(?:rt|antt|edit)")
+WORD = re.compile(r"[A-Za-z_]\w*(?:::\w+)*")
 
 # What a page says, with its figure as the group, and where the tree has that figure: a file and a form whose group it is.
 FIGURES = [
@@ -72,6 +75,21 @@ def wrong_names(page):
             yield f"crates/{name} is no crate"
 
 
+def wrong_places(page):
+    """Files that a page names, and words that it places in one of them: the pieces of code behind the file's name in the same line or cell."""
+    for cell in re.split(r"(?<!\\)\||\n", FENCE.sub("", page.read_text())):
+        file = None
+        for found in PIECE.finditer(cell):
+            piece, before = found[1], cell[: found.start()].rstrip()
+            if PLACE.fullmatch(piece):
+                file = ROOT / piece
+                if not file.is_file():
+                    yield f"{piece} is no file"
+            elif file and file.is_file() and WORD.fullmatch(piece) and not before.endswith(("proved:", "law")) and not (ROOT / "crates" / piece.split("::")[0]).is_dir():
+                if not re.search(rf"\b{piece.split('::')[-1]}\b", file.read_text()):
+                    yield f"{file.relative_to(ROOT)} has no {piece}"
+
+
 def wrong_contracts(page):
     for block in FENCE.findall(page.read_text()):
         head, *lines = block.split("\n")[:-1]
@@ -123,7 +141,7 @@ def wrong_quotes():
 def main():
     wrong = [*wrong_quotes(), *unsaid_figures()]
     for page in PAGES:
-        for look in (wrong_links, wrong_names, wrong_contracts, wrong_mutants, wrong_figures):
+        for look in (wrong_links, wrong_names, wrong_places, wrong_contracts, wrong_mutants, wrong_figures):
             wrong += [f"{page.relative_to(ROOT)}: {it}" for it in look(page)]
     print("\n".join(wrong) or f"{len(PAGES)} pages say what the tree says")
     return 1 if wrong else 0
