@@ -166,6 +166,12 @@ impl<C: Core> Site<C> {
             return self.tell(around, event);
         }
         if association.phase != Phase::Established {
+            if closed {
+                self.log_change(
+                    around,
+                    "an association that the peer began was declined: secret or identities",
+                );
+            }
             return Ok(());
         }
         gateway.established.insert(ike, around.now);
