@@ -17,8 +17,9 @@ pub record IsEstablishedWith {C : Type 0} (s : State C) (serial : ℕ) (keys : K
   pub there : association_in s serial ≡ Some association
   pub established : association.phase ≡ Established keys
 
--- With the step at this place the peer of the IKE association with this serial proves itself as the configured one, under these keys: the
--- input is a datagram that opens under them, which the association had before, and the caller's check accepts what it opens to.
+-- With the step at this place the peer of the IKE association with this serial proves itself as the
+-- configured one, under these keys: the input is a datagram that opens under them, which the association had
+-- before, and the caller's check accepts what it opens to.
 pub record ProvesItselfAt {C : Type 0} (meaning_of : C → Meaning) (passages : List (Passage C)) (place serial : ℕ) (keys : KeyRecord) : Type 0 where
   pub passage : Passage C
   pub there : slice_get passages place ≡ Some passage
@@ -41,7 +42,8 @@ pub record WasEstablished {C : Type 0} (passages : List (Passage C)) (serial : �
   pub there : slice_get passages 0 ≡ Some first
   pub established : IsEstablishedWith first.before serial keys
 
--- Who is established under keys after a step was so before the first one, or proved itself under them with this step or an earlier one.
+-- Who is established under keys after a step was so before the first one, or proved itself under them with
+-- this step or an earlier one.
 pub record OnlyTheProvedAreEstablished {C : Type 0} (meaning_of : C → Meaning) (passages : List (Passage C)) : Type 0 where
   pub each : (place serial : ℕ) (keys : KeyRecord) (p : Passage C) → slice_get passages place ≡ Some p → IsEstablishedWith p.after serial keys
       → WasEstablished passages serial keys ⊎ ProvedItselfUpTo meaning_of passages place serial keys

@@ -34,8 +34,8 @@
 //!   was taken already`), `Refused` where a command can't be carried out or memory ran out, `Discarded`
 //!   where the policy says so, or no entry covers the packet.
 //!
-//! What the examples' errors are is `std::test::Fail`; a program may take `anyhow::Error`. Several gateways of
-//! one host take first SPIs at least 65,536 apart.
+//! What the examples' errors are is `std::test::Fail`; a program may take `anyhow::Error`. Several gateways
+//! of one host take first SPIs at least 65,536 apart.
 //!
 //! # A whole host
 //!
@@ -54,8 +54,8 @@
 //!     Ip(Items<u8>),
 //! }
 //!
-//! // The end of a site: site N has the addresses 10.N.0.0/16. A real host has sockets in place of `sent`, an interface in place of `up`,
-//! // and its system's random octets in place of `drawn`.
+//! // The end of a site: site N has the addresses 10.N.0.0/16. A real host has sockets in place of `sent`,
+//! // an interface in place of `up`, and its system's random octets in place of `drawn`.
 //! #[derive(Drop)]
 //! struct Host {
 //!     gateway: Gateway<ScriptCaller>,
@@ -148,7 +148,8 @@
 //!     carry(alloc, count, b, a)
 //! }
 //!
-//! // Where nothing is on its way, time jumps to what is due next. A real host sleeps until then, or until a datagram comes.
+//! // Where nothing is on its way, time jumps to what is due next. A real host sleeps until then, or until
+//! // a datagram comes.
 //! fn wait(alloc: Global, a: &mut Host, b: &mut Host) -> Result<(), Fail> {
 //!     let due = a.gateway.next_moment().unwrap_or(u64::MAX);
 //!     let moment = b.gateway.next_moment().unwrap_or(due).min(due);
@@ -177,7 +178,7 @@
 //!     Ok(())
 //! }
 //!
-//! // A packet goes out at `a`, twice, since nobody sends again what is lost of ESP; what came up at `b` last.
+//! // A packet goes out at `a`, twice, since nobody sends lost ESP again; what came up at `b` last.
 //! fn send(
 //!     alloc: Global,
 //!     count: &mut u8,

@@ -4,8 +4,9 @@ use base::Items;
 use moments::Resent;
 use std::fmt;
 
-/// A line without its end: what came of the input, with serials, numbers and lengths, and no contents. The text of a
-/// [`Reason`](crate::Reason) begins with its number where it has one; of it the contract says nothing.
+/// A line without its end: what came of the input, with serials, numbers and lengths, and no contents. The
+/// text of a [`Reason`](crate::Reason) begins with its number where it has one; of it the contract says
+/// nothing.
 impl<'a> fmt::Display for Output<'a> {
     ghost use Rattle.gateway.specs.Lines.{line_of};
     ghost use Rattle.gateway.specs.Outputs.{output_view};

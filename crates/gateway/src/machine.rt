@@ -106,10 +106,11 @@ impl<C> Gateway<C> {
     /// where no time of 64 bits does. A host that has nothing else to do may sleep until then. Takes no
     /// memory.
     ///
-    /// It lies after the greatest moment so far. A step may bring it nearer or put it off, so it is asked for anew after each. Before it a
-    /// moment changes nothing else
-    /// ([`nothing_comes_before_the_next_moment`](crate::laws::nothing_comes_before_the_next_moment)), and this one does something, where
-    /// memory doesn't run out ([`the_next_moment_brings_something`](crate::laws::the_next_moment_brings_something)).
+    /// It lies after the greatest moment so far. A step may bring it nearer or put it off, so it is asked for
+    /// anew after each. Before it a moment changes nothing else
+    /// ([`nothing_comes_before_the_next_moment`](crate::laws::nothing_comes_before_the_next_moment)), and
+    /// this one does something, where memory doesn't run out
+    /// ([`the_next_moment_brings_something`](crate::laws::the_next_moment_brings_something)).
     pub fn next_moment(&self) -> Option<u64>
         ensures early { NothingIsDueBefore result self.now.machine.held.associations }
         ensures due { IfSome result (λ moment. SomethingIsDue moment self.now.machine.held.associations) }

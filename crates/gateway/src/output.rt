@@ -82,7 +82,8 @@ pub enum Output<'a> {
     },
 }
 
-/// An output, and beside it what the step sent under the keys of IKE associations, what it made, and what the peer declined.
+/// An output, and beside it what the step sent under the keys of IKE associations, what it made, and what the
+/// peer declined.
 #[derive(Debug, Drop, PartialEq, Eq)]
 pub struct Traced<'a> {
     pub output: Output<'a>,

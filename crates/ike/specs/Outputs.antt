@@ -1,5 +1,5 @@
--- What comes of a step: its output, which messages were sent under which keys, which keys and which child were made, and by which
--- notice the peer declined what was asked.
+-- What comes of a step: its output, which messages were sent under which keys, which keys and which child
+-- were made, and by which notice the peer declined what was asked.
 use Rattle.std.specs.Prelude.{ℕ, Bool, true, false, Option, Some, None}
 use Rattle.base.specs.Octets.{Octets}
 use Rattle.effects.specs.declared.taking.Effect.{Effect}

@@ -1,5 +1,6 @@
--- What holds of every step that is done, whichever exchange its datagram belongs to: who reads `Ike::step` meets here what a step may do.
--- Each field is a law of src/laws/ of its own, said there of every case (`EachStep`).
+-- What holds of every step that is done, whichever exchange its datagram belongs to: who reads `Ike::step`
+-- meets here what a step may do. Each field is a law of src/laws/ of its own, said there of every case
+-- (`EachStep`).
 use Rattle.std.specs.Prelude.{◌≡◌, ◌<◌, ◌≤◌, ℕ, Option, Some, None, true, false, List}
 use Rattle.base.specs.Octets.{Octets}
 use Rattle.policy.specs.declared.entry.Entry.{Entry}
@@ -28,8 +29,8 @@ use Rattle.ike.specs.declared.output.MadeChild.{MadeChild}
 use Rattle.ike.specs.declared.output.Mark.{Mark}
 use Rattle.ike.specs.declared.output.Stepped.{Stepped}
 
--- What an answer may hold that this step sent: an SA with one proposal of those offered, and one of its transforms of each type (RFC 7296,
--- section 3.3.1), where it answers an offer; else none.
+-- What an answer may hold that this step sent: an SA with one proposal of those offered, and one of its
+-- transforms of each type (RFC 7296, section 3.3.1), where it answers an offer; else none.
 pub record AnswersKeepToOffers (octets : Octets) (fresh : Fresh) (it : StepCase) (reply : Octets) : Type 0 where
   pub initial : (ike : ℕ) → it.stepped.trace.keyed ≡ Some ike → AnswersFirstOffer octets reply
   pub sealed : (mark : Mark) → it.stepped.trace.sent ≡ Some mark
@@ -38,7 +39,8 @@ pub record AnswersKeepToOffers (octets : Octets) (fresh : Fresh) (it : StepCase)
 
 -- What holds of a step that took a datagram.
 pub record KeepsLawsOfDatagrams (from octets : Octets) (fresh : Fresh) (it : StepCase) : Type 0 where
-  -- a child is made of what its exchange's two messages say, under the association's keys (sections 1.2, 1.3.1, 2.9 and 2.17)
+  -- a child is made of what its exchange's two messages say, under the association's keys (sections 1.2,
+  -- 1.3.1, 2.9 and 2.17)
   pub made : (made : MadeChild) → it.stepped.trace.child ≡ Some made
       → MakesChildOf it.meaning (setup_at it.old it.entries fresh) octets it.old.held it.table it.stepped made it.new.held it.new_table
   -- and has extended sequence numbers only where the configuration allows them (RFC 4303, section 2.2.1)
@@ -56,7 +58,8 @@ pub record KeepsLawsOfDatagrams (from octets : Octets) (fresh : Fresh) (it : Ste
 pub record KeepsLaws (it : StepCase) : Type 0 where
   -- of each association with keys: at most two moves, and nothing is told beside them
   pub moves : (serial : ℕ) → MovesAt it.meaning it.input it.old.held it.stepped it.new.held serial
-  -- who is established was so before this step under the same keys, or proves the configured peer's identity now (section 2.15)
+  -- who is established was so before this step under the same keys, or proves the configured peer's identity
+  -- now (section 2.15)
   pub established : (ike : ℕ) (a : Association) (keys : KeyRecord)
       → association_of ike it.new.held.associations ≡ Some a → a.phase ≡ phase.Established keys
       → WasKnown it.meaning it.entries it.input it.old ike keys

@@ -71,7 +71,8 @@ impl Datagram<'_> {
         header.spi_r == 0 && !header.flags.response && header.exchange == IKE_SA_INIT
     }
 
-    // Whether such a request comes from the original initiator, has the number 0, and names an SPI (RFC 7296, sections 2.2 and 3.1).
+    // Whether such a request comes from the original initiator, has the number 0, and names an SPI (RFC 7296,
+    // sections 2.2 and 3.1).
     pub fn is_sound_initial(&self) -> bool
         ensures { result ≡ is_sound_initial self.now.message.header }
     {

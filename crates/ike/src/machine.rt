@@ -92,9 +92,11 @@ impl Ike {
     /// request, gives one up, or removes an IKE SA that expires. None where no time of 64 bits does. Takes
     /// no memory.
     ///
-    /// Before it a moment changes nothing ([`nothing_comes_before_the_next_moment`](crate::laws::nothing_comes_before_the_next_moment)), and
+    /// Before it a moment changes nothing
+    /// ([`nothing_comes_before_the_next_moment`](crate::laws::nothing_comes_before_the_next_moment)), and
     /// this one does something, where memory doesn't run out
-    /// ([`the_next_moment_brings_something`](crate::laws::the_next_moment_brings_something)). It lies after the greatest moment so far, where nothing is due that this one has reached
+    /// ([`the_next_moment_brings_something`](crate::laws::the_next_moment_brings_something)). It lies after
+    /// the greatest moment so far, where nothing is due that this one has reached
     /// ([`what_is_due_comes_in_time`](crate::laws::what_is_due_comes_in_time)).
     pub fn next_moment(&self) -> Option<u64>
         ensures early { NothingIsDueBefore result self.now.held.associations }
@@ -114,9 +116,10 @@ impl Ike {
     ///
     /// A command to ask for a child is refused by the first of these:
     ///
-    /// What is refused changes nothing but the table's room. Beside what each input does (`stepped`), `laws` says what every step keeps to: its
-    /// moves, who is established, what the trace names and what goes in clear, of what a child is made, what an answer may hold, that one
-    /// association is changed but for a moment, and that under load no datagram makes a half-open one without a right cookie.
+    /// What is refused changes nothing but the table's room. Beside what each input does (`stepped`), `laws`
+    /// says what every step keeps to: its moves, who is established, what the trace names and what goes in
+    /// clear, of what a child is made, what an answer may hold, that one association is changed but for a
+    /// moment, and that under load no datagram makes a half-open one without a right cookie.
     pub fn step<C: Sealer + Agreement + Proof>(
         &mut self,
         alloc: Global,

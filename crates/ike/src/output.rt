@@ -69,10 +69,11 @@ pub struct Trace {
     /// The IKE SA whose keys it made.
     pub keyed: Option<u32>,
     pub child: Option<MadeChild>,
-    /// The notice by which the peer declined what this end had asked of it: the type of the first error notice, one below 16384, in a
-    /// response that was counted (RFC 7296, section 3.10.1), where no child was made of that. So it is 38 for TS_UNACCEPTABLE, 35 for
-    /// NO_ADDITIONAL_SAS, 14 for NO_PROPOSAL_CHOSEN, 7 for INVALID_SYNTAX, and 24 for AUTHENTICATION_FAILED. `None` where the response
-    /// has no such notice or is not in the grammar, and in every other step.
+    /// The notice by which the peer declined what this end had asked of it: the type of the first error
+    /// notice, one below 16384, in a response that was counted (RFC 7296, section 3.10.1), where no child was
+    /// made of that. So it is 38 for TS_UNACCEPTABLE, 35 for NO_ADDITIONAL_SAS, 14 for NO_PROPOSAL_CHOSEN, 7
+    /// for INVALID_SYNTAX, and 24 for AUTHENTICATION_FAILED. `None` where the response has no such notice or
+    /// is not in the grammar, and in every other step.
     pub declined: Option<u16>,
 }
 

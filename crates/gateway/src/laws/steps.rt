@@ -36,17 +36,18 @@ pub fn steps_are_determined<C>()
     outcomes_go_by_content();
 }
 
-/// No moment of 64 bits before the one that [`next_moment`](crate::Gateway::next_moment) tells sends, closes or removes anything, and none
-/// is refused: the gateway is as it was but for its greatest moment. The premise on what is due holds of every gateway
-/// ([`invariants_hold`](crate::Gateway::invariants_hold)).
+/// No moment of 64 bits before the one that [`next_moment`](crate::Gateway::next_moment) tells sends, closes
+/// or removes anything, and none is refused: the gateway is as it was but for its greatest moment. The
+/// premise on what is due holds of every gateway ([`invariants_hold`](crate::Gateway::invariants_hold)).
 pub fn nothing_comes_before_the_next_moment<C>()
     ensures { NothingComesBeforeTheNextMoment C }
 {
     ike::laws::nothing_comes_before_the_next_moment();
 }
 
-/// And the moment that it tells does something, where it isn't refused for want of memory: a request goes out again, an association is
-/// closed, or not as many are held from then on. Both premises stand in the contract of [`next_moment`](crate::Gateway::next_moment).
+/// And the moment that it tells does something, where it isn't refused for want of memory: a request goes out
+/// again, an association is closed, or not as many are held from then on. Both premises stand in the contract
+/// of [`next_moment`](crate::Gateway::next_moment).
 pub fn the_next_moment_brings_something<C>()
     ensures { TheNextMomentBringsSomething C }
 {

@@ -1,4 +1,5 @@
-//! What a step does to what the machine holds: one thing, by few moves, and but for a moment to one association.
+//! What a step does to what the machine holds: one thing, by few moves, and but for a moment to one
+//! association.
 ghost use Rattle.ike.specs.LawsOfSteps.{FreshOctetsOpen, OneAssociationIsChanged, RefusalsAreDetermined, StepsAreDetermined, StepsAreMoves, StepsKeepTheirLaws, WhatIsDoneIsNotRefused, WhatIsQuietChangesNothing};
 
 use crate::laws::{
@@ -94,9 +95,10 @@ pub fn fresh_octets_open<S: Sealer>(sealer: &S)
     what_is_sealed_opens(sealer);
 }
 
-/// What [`Ike::step`](crate::Ike::step) promises beside what its input does: the moves, who is established, what the trace names and what goes
-/// in clear, of what a child is made and what an answer holds, that one association is changed but for a moment, and that no datagram
-/// makes a half-open one without a right cookie under load. Each is a law of its own.
+/// What [`Ike::step`](crate::Ike::step) promises beside what its input does: the moves, who is established,
+/// what the trace names and what goes in clear, of what a child is made and what an answer holds, that one
+/// association is changed but for a moment, and that no datagram makes a half-open one without a right cookie
+/// under load. Each is a law of its own.
 pub fn steps_keep_their_laws()
     ensures { StepsKeepTheirLaws }
 {

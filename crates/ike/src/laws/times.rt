@@ -35,8 +35,9 @@ pub fn what_is_due_comes_in_time()
 }
 
 /// At a machine at which nothing is due that its moment has reached, no moment of 64 bits before the one that
-/// [`next_moment`](crate::Ike::next_moment) tells sends, closes or removes anything: the machine is as it was but for its greatest moment,
-/// and so is the table (`nothing`). Such a moment is never refused (`unrefused`).
+/// [`next_moment`](crate::Ike::next_moment) tells sends, closes or removes anything: the machine is as it was
+/// but for its greatest moment, and so is the table (`nothing`). Such a moment is never refused
+/// (`unrefused`).
 pub fn nothing_comes_before_the_next_moment()
     ensures nothing { NothingComesBeforeTheNextMoment }
     ensures unrefused { MomentsBeforeTheNextAreNotRefused }
@@ -44,8 +45,8 @@ pub fn nothing_comes_before_the_next_moment()
     moments::laws::nothing_comes_before_its_time();
 }
 
-/// And a moment at which something is due does something, where it isn't refused for want of memory: a request goes out again, an
-/// association is closed, or not as many are held from then on.
+/// And a moment at which something is due does something, where it isn't refused for want of memory: a
+/// request goes out again, an association is closed, or not as many are held from then on.
 pub fn the_next_moment_brings_something()
     ensures { TheNextMomentBringsSomething }
 {

@@ -39,8 +39,8 @@ fn the_page_of_gateway(rt: HostRuntime) -> Result<(), Fail> {
         Ip(Items<u8>),
     }
 
-    // The end of a site: site N has the addresses 10.N.0.0/16. A real host has sockets in place of `sent`, an interface in place of `up`,
-    // and its system's random octets in place of `drawn`.
+    // The end of a site: site N has the addresses 10.N.0.0/16. A real host has sockets in place of `sent`,
+    // an interface in place of `up`, and its system's random octets in place of `drawn`.
     #[derive(Drop)]
     struct Host {
         gateway: Gateway<ScriptCaller>,
@@ -133,7 +133,8 @@ fn the_page_of_gateway(rt: HostRuntime) -> Result<(), Fail> {
         carry(alloc, count, b, a)
     }
 
-    // Where nothing is on its way, time jumps to what is due next. A real host sleeps until then, or until a datagram comes.
+    // Where nothing is on its way, time jumps to what is due next. A real host sleeps until then, or until
+    // a datagram comes.
     fn wait(alloc: Global, a: &mut Host, b: &mut Host) -> Result<(), Fail> {
         let due = a.gateway.next_moment().unwrap_or(u64::MAX);
         let moment = b.gateway.next_moment().unwrap_or(due).min(due);
@@ -162,7 +163,7 @@ fn the_page_of_gateway(rt: HostRuntime) -> Result<(), Fail> {
         Ok(())
     }
 
-    // A packet goes out at `a`, twice, since nobody sends again what is lost of ESP; what came up at `b` last.
+    // A packet goes out at `a`, twice, since nobody sends lost ESP again; what came up at `b` last.
     fn send(
         alloc: Global,
         count: &mut u8,
