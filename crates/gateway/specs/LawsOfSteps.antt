@@ -103,4 +103,4 @@ module _ (C : Type 0) where
       → Steps meaning (input.Tick moment) old said new
       → wants_memory said ≡ false
       → ¬ ((said ≡ Ticked [] [])
-        × (length new.machine.held.associations ≡ length old.machine.held.associations))
+      × (length new.machine.held.associations ≡ length old.machine.held.associations))

@@ -16,13 +16,13 @@ pub use packets::{
     a_dropped_packet_takes_one_number_at_most, the_protected_never_goes_in_the_clear,
 };
 pub use runs::{
-    every_run_keeps_its_promises, runs_in_a_row_are_one_run, the_premises_of_packets_are_met,
-    the_premises_of_requests_are_met, the_established_of_new_gateways_proved_themselves,
+    every_run_keeps_its_promises, runs_in_a_row_are_one_run,
+    the_established_of_new_gateways_proved_themselves, the_premises_of_packets_are_met,
+    the_premises_of_requests_are_met,
 };
 pub use steps::{
     nothing_comes_before_the_next_moment, refusals_change_nothing, steps_are_determined,
-    the_next_moment_brings_something,
-    what_is_quiet_changes_nothing,
+    the_next_moment_brings_something, what_is_quiet_changes_nothing,
 };
 pub use together::{
     both_ends_keep_their_promises, new_worlds_are_wholly_sound, windows_are_those_told,

@@ -82,4 +82,4 @@ TheNextMomentBringsSomething = (moment : ℕ) (old : Machine) (table : Database)
     → SomethingIsDue (max old.moment moment) old.held.associations
     → TakesMoment moment old table stepped new new_table
     → ¬ ((stepped ≡ plain_step (output.Ticked (record { requests = []; closed = [] })))
-      × (length new.held.associations ≡ length old.held.associations))
+    × (length new.held.associations ≡ length old.held.associations))
