@@ -167,6 +167,17 @@ fn a_probe_is_told_bad_syntax(rt: HostRuntime) {
     same(&rt, found, Some((None, Some(1), Some(7))));
 }
 
+/// Two errors answer a probe: the answer is counted, and the first one is told.
+#[test]
+fn a_probe_is_told_two_errors(rt: HostRuntime) {
+    let alloc = rt.alloc();
+    let mut payloads = Vec::new(alloc);
+    add(&rt, &mut payloads, &notice(NOTIFY, [0, 35]));
+    add(&rt, &mut payloads, &notice(NONE, [0, 38]));
+    let found = answered(&rt, alloc, &probe(1), NOTIFY, &payloads);
+    same(&rt, found, Some((None, None, Some(35))));
+}
+
 /// B, set to what this end is set to, with this end's policy.
 fn other(alloc: Global, set_as: End, policy_of: End) -> Result<Gateway<ScriptCaller>, SampleFault> {
     let config = config(alloc, set_as, 1)?;

@@ -25,6 +25,18 @@ fn a_name_is_of_type_2(rt: HostRuntime) {
     is_identity(&rt, &identity, 2, b"left.example");
 }
 
+/// A name of 256 octets, the most that an identity has.
+const LONG: &str = "aaaaaaaaaaaaaaaaaaaaaaaaaaaaaaaaaaaaaaaaaaaaaaaaaaaaaaaaaaaaaaaa\
+    aaaaaaaaaaaaaaaaaaaaaaaaaaaaaaaaaaaaaaaaaaaaaaaaaaaaaaaaaaaaaaaa\
+    aaaaaaaaaaaaaaaaaaaaaaaaaaaaaaaaaaaaaaaaaaaaaaaaaaaaaaaaaaaaaaaa\
+    aaaaaaaaaaaaaaaaaaaaaaaaaaaaaaaaaaaaaaaaaaaaaaaaaaaaaaaaaaaaaaaa";
+
+#[test]
+fn the_longest_name_is_made(rt: HostRuntime) {
+    let identity = Identity::fqdn(rt.alloc(), LONG).expect(&rt, "an identity");
+    same(&rt, identity.data.len(), 256);
+}
+
 #[test]
 fn an_address_is_of_type_1(rt: HostRuntime) {
     let identity = Identity::address(rt.alloc(), [192, 0, 2, 1]).expect(&rt, "an identity");

@@ -4,7 +4,7 @@ use gateway::{End, Input, Output};
 use std::alloc::Global;
 use std::panic::Expect;
 use std::process::Abort;
-use test_samples::{Both, gateway, inner, order};
+use test_samples::{Both, fresh, gateway, inner, order};
 
 /// Finds the line of an output.
 fn reads(rt: &impl Abort, alloc: Global, output: &Output<'_>, wanted: &str) {
@@ -70,5 +70,23 @@ fn what_is_dropped_reads_with_its_number(rt: HostRuntime) {
         rt.alloc(),
         &output,
         "dropped: E28: no association is there for the packet",
+    );
+}
+
+#[test]
+fn what_is_refused_reads_with_its_number(rt: HostRuntime) {
+    let mut a = gateway(rt.alloc(), End::A).expect(&rt, "a gateway");
+    let drawn = fresh(9);
+    let input = Input::Start {
+        ike: None,
+        entry: 7,
+        fresh: &drawn,
+    };
+    let output = a.step(rt.alloc(), &input);
+    reads(
+        &rt,
+        rt.alloc(),
+        &output,
+        "refused: E23: no entry that protects",
     );
 }
